@@ -1,0 +1,17 @@
+/// The facts of the ring at one time, in microseconds.
+#[derive(Clone, Copy, Debug, PartialEq, Eq, Drop)]
+pub struct AuditLine {
+    pub time: u64,
+    /// How many nodes are members.
+    pub members: u32,
+    /// How many members know no other that is one.
+    pub dead: u32,
+    /// How many members come back to themselves by best successors.
+    pub ring: u32,
+    /// Whether no member of a ring is passed over by another.
+    pub ordered: bool,
+    /// How many members no other passes over.
+    pub principals: u32,
+    /// Whether there are more principals than a successor list has entries, and no dead member.
+    pub sufficient: bool,
+}

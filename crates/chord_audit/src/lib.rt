@@ -1,0 +1,6 @@
+//! The audit of a ring: what is right and wrong with it at one time.
+#![tactic(auto)]
+
+mod audit_line;
+
+pub use audit_line::AuditLine;

@@ -1,0 +1,6 @@
+use Rattle.std.proofs.Common.{arith}
+use Rattle.chord_circle.proofs.Distance.{distance-ahead}
+use Rattle.chord_circle.proofs.circle.Circle.distance.Goals as goal
+
+pub returns-then-le : goal.returns-then-le
+returns-then-le c = grind (arith, distance-ahead)

@@ -1,0 +1,11 @@
+use crate::key::Key;
+use crate::line::Line;
+use crate::listed::Listed;
+
+/// What one event left in the trace: its lines, in the order made, under its key and its target.
+#[derive(Drop)]
+pub struct Block {
+    pub key: Key,
+    pub target: u32,
+    pub lines: Listed<Line>,
+}

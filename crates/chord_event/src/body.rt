@@ -1,0 +1,119 @@
+ghost use Rattle.std.specs.Prelude.{◌≡◌, IfOk};
+
+use crate::error::Memory;
+use crate::listed::Listed;
+use chord_circle::Ident;
+
+/// What a node answers to one step of a search: the owner of the key, whom to ask next, or that it
+/// knows no way on.
+#[derive(Clone, Copy, Debug, PartialEq, Eq, Drop)]
+pub enum Answer {
+    Owner(u32),
+    Next(u32),
+    Stuck,
+}
+
+/// What an event asks of its target: a command, a timer of its own, or a message. A message is sent
+/// by the node of its key's origin; requests and replies carry the number of their call.
+#[derive(Drop)]
+pub enum Body {
+    CmdJoin {
+        via: u32,
+    },
+    CmdCrash,
+    CmdLookup {
+        key: Ident,
+    },
+    StabilizeTick {
+        epoch: u64,
+    },
+    FingerTick {
+        epoch: u64,
+    },
+    TrafficTick {
+        epoch: u64,
+    },
+    LifeEnd {
+        epoch: u64,
+    },
+    Rise {
+        epoch: u64,
+    },
+    Timeout {
+        call: u64,
+    },
+    Step {
+        call: u64,
+        key: Ident,
+        avoid: Listed<u32>,
+    },
+    GetState {
+        call: u64,
+    },
+    GetList {
+        call: u64,
+    },
+    Ping {
+        call: u64,
+    },
+    Notify,
+    StepReply {
+        call: u64,
+        answer: Answer,
+    },
+    StateReply {
+        call: u64,
+        prdc: u32,
+        list: Listed<u32>,
+    },
+    ListReply {
+        call: u64,
+        list: Listed<u32>,
+    },
+    Pong {
+        call: u64,
+    },
+}
+
+impl Body {
+    /// An equal body.
+    pub fn try_clone(&self) -> Result<Body, Memory>
+        ensures { IfOk result (λ copy. copy ≡ self.now) }
+    {
+        let copy = match self {
+            Body::CmdJoin { via } => Body::CmdJoin { via: *via },
+            Body::CmdCrash => Body::CmdCrash,
+            Body::CmdLookup { key } => Body::CmdLookup { key: *key },
+            Body::StabilizeTick { epoch } => Body::StabilizeTick { epoch: *epoch },
+            Body::FingerTick { epoch } => Body::FingerTick { epoch: *epoch },
+            Body::TrafficTick { epoch } => Body::TrafficTick { epoch: *epoch },
+            Body::LifeEnd { epoch } => Body::LifeEnd { epoch: *epoch },
+            Body::Rise { epoch } => Body::Rise { epoch: *epoch },
+            Body::Timeout { call } => Body::Timeout { call: *call },
+            Body::Step { call, key, avoid } => Body::Step {
+                call: *call,
+                key: *key,
+                avoid: avoid.try_clone()?,
+            },
+            Body::GetState { call } => Body::GetState { call: *call },
+            Body::GetList { call } => Body::GetList { call: *call },
+            Body::Ping { call } => Body::Ping { call: *call },
+            Body::Notify => Body::Notify,
+            Body::StepReply { call, answer } => Body::StepReply {
+                call: *call,
+                answer: *answer,
+            },
+            Body::StateReply { call, prdc, list } => Body::StateReply {
+                call: *call,
+                prdc: *prdc,
+                list: list.try_clone()?,
+            },
+            Body::ListReply { call, list } => Body::ListReply {
+                call: *call,
+                list: list.try_clone()?,
+            },
+            Body::Pong { call } => Body::Pong { call: *call },
+        };
+        Ok(copy)
+    }
+}

@@ -1,0 +1,26 @@
+ghost use Rattle.std.specs.Prelude.{◌≡◌, IfOk};
+
+use crate::body::Body;
+use crate::error::Memory;
+use crate::key::Key;
+
+/// An event, and the node at which it takes place.
+#[derive(Drop)]
+pub struct Event<B = Body> {
+    pub key: Key,
+    pub target: u32,
+    pub body: B,
+}
+
+impl Event {
+    /// An equal event.
+    pub fn try_clone(&self) -> Result<Event, Memory>
+        ensures { IfOk result (λ copy. copy ≡ self.now) }
+    {
+        Ok(Event {
+            key: self.key,
+            target: self.target,
+            body: self.body.try_clone()?,
+        })
+    }
+}

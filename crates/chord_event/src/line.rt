@@ -1,0 +1,72 @@
+use chord_circle::Ident;
+
+/// The kinds of message between nodes.
+#[derive(Clone, Copy, Debug, PartialEq, Eq, Drop)]
+pub enum MessageKind {
+    Step,
+    GetState,
+    GetList,
+    Ping,
+    Notify,
+    StepReply,
+    StateReply,
+    ListReply,
+    Pong,
+}
+
+/// The kinds of command in a scenario.
+#[derive(Clone, Copy, Debug, PartialEq, Eq, Drop)]
+pub enum CommandKind {
+    Join,
+    Crash,
+    Lookup,
+}
+
+/// One line of an event's block. Nodes are named by their numbers, `us` is microseconds.
+#[derive(Clone, Copy, Debug, PartialEq, Eq, Drop)]
+pub enum Line {
+    Join {
+        via: u32,
+    },
+    Member {
+        predecessor: u32,
+    },
+    JoinFailed,
+    Crash,
+    Stranded {
+        via: u32,
+    },
+    Drop {
+        kind: MessageKind,
+        sender: u32,
+    },
+    Late {
+        kind: MessageKind,
+        sender: u32,
+    },
+    Timeout {
+        silent: u32,
+    },
+    Lookup {
+        key: Ident,
+    },
+    Found {
+        key: Ident,
+        owner: u32,
+        hops: u32,
+        timeouts: u32,
+        us: u64,
+    },
+    Lost {
+        key: Ident,
+        hops: u32,
+        timeouts: u32,
+        us: u64,
+    },
+    Busy {
+        key: Ident,
+    },
+    Ignored {
+        command: CommandKind,
+    },
+}

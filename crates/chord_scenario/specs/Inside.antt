@@ -1,0 +1,25 @@
+-- What the fields of a scenario say.
+use Rattle.chord_scenario.specs.declared.scenario.Scenario.TheInside.{Inside}
+use Rattle.chord_scenario.specs.Setup.{Setup}
+
+abbrev pub setup_of : Inside → Setup
+setup_of s = record {
+  profile = s.profile;
+  bits = s.circle;
+  list = s.list;
+  seed = s.seed;
+  duration = s.duration;
+  window = s.window;
+  latency = s.latency;
+  timeout = s.timeout;
+  audit = s.audit;
+  stabilize = s.stabilize;
+  finger = s.finger;
+  jitter = s.jitter;
+  max_events = s.max_events;
+  churn = s.churn;
+  lookups = s.lookups;
+  nodes = s.nodes.items;
+  commands = s.commands.items;
+  latencies = s.latencies.items;
+}

@@ -1,0 +1,4 @@
+pub mod Setup
+pub mod World
+pub mod Range
+pub mod Inside

@@ -1,0 +1,85 @@
+-- What holds of every scenario.
+use Rattle.std.specs.Prelude.{ℕ, ◌≡◌, ◌≢◌, ◌+◌, ◌*◌, ◌<◌, ◌≤◌, ◌^◌, true, length, count_by, IfSome, IsSome}
+use Rattle.std.specs.List.{All}
+use Rattle.chord_scenario.specs.declared.setting.Action.{Action}
+use Rattle.chord_scenario.specs.declared.setting.Action.TheVariants as action
+use Rattle.chord_scenario.specs.declared.setting.Churn.{Churn}
+use Rattle.chord_scenario.specs.declared.setting.Command.{Command}
+use Rattle.chord_scenario.specs.declared.setting.Span.{Span}
+use Rattle.chord_scenario.specs.Setup.{Setup}
+use Rattle.chord_scenario.specs.World.{node_count, ident_of, is_churn_node, latency}
+
+-- a span of at least one microsecond and at most so many
+pub record IsSpanUpTo (most : ℕ) (span : Span) : Type 0 where
+  pub positive : 1 ≤ span.least
+  pub ordered : span.least ≤ span.greatest
+  pub bounded : span.greatest ≤ most
+
+-- a span of times that a scenario names
+abbrev pub IsSpan : Span → Type 0
+IsSpan span = IsSpanUpTo 1000000000 span
+
+pub record IsChurn (churn : Churn) : Type 0 where
+  pub life : IsSpan churn.life
+  pub down : IsSpan churn.down
+
+-- a time of at least one microsecond and at most 1,000 seconds
+pub record IsInterval (time : ℕ) : Type 0 where
+  pub least : 1 ≤ time
+  pub greatest : time ≤ 1000000000
+
+-- what a command asks is asked of nodes and places that are there
+abbrev pub IsActionOf : Setup → Action → Type 0
+IsActionOf sc (action.Join via) = via < node_count sc
+IsActionOf sc action.Crash = Unit {0}
+IsActionOf sc (action.Lookup key) = key < 2 ^ sc.bits
+
+pub record IsCommandOf (sc : Setup) (command : Command) : Type 0 where
+  pub in_time : command.at < sc.duration
+  pub node : command.node < node_count sc
+  pub action : IsActionOf sc command.action
+
+-- the numbers of a scenario lie in the ranges of the file format
+pub record NumbersInRange (sc : Setup) : Type 0 where
+  pub bits_least : 3 ≤ sc.bits
+  pub bits_greatest : sc.bits ≤ 64
+  pub list_least : 1 ≤ sc.list
+  pub list_greatest : sc.list ≤ 16
+  pub duration_least : 1 ≤ sc.duration
+  pub duration_greatest : sc.duration ≤ 1000000000000
+  pub window : IsInterval sc.window
+  pub latency : IsInterval sc.latency
+  pub timeout : IsInterval sc.timeout
+  pub audit : IsInterval sc.audit
+  pub audits : sc.duration ≤ 1000000 * sc.audit
+  pub stabilize : IsInterval sc.stabilize
+  pub finger : IsInterval sc.finger
+  pub jitter : sc.jitter ≤ 1000000000
+  pub max_events_least : 1 ≤ sc.max_events
+  pub max_events_greatest : sc.max_events ≤ 50000000
+
+-- the nodes stand apart on the circle
+pub record NodesInRange (sc : Setup) : Type 0 where
+  pub least : 2 ≤ node_count sc
+  pub greatest : node_count sc ≤ 512
+  pub on_circle : (i : ℕ) → i < node_count sc → ident_of sc i < 2 ^ sc.bits
+  pub apart : (i j : ℕ) → i < node_count sc → j < node_count sc → ident_of sc i ≡ ident_of sc j → i ≡ j
+  pub initial : sc.list + 1 ≤ count_by (λ n. n.initial) sc.nodes
+
+-- messages take their time, and between different nodes at least a window
+pub record LatenciesInRange (sc : Setup) : Type 0 where
+  pub square : length sc.latencies ≡ node_count sc * node_count sc
+  pub positive : (from to : ℕ) → 1 ≤ latency sc from to
+  pub bounded : (from to : ℕ) → from < node_count sc → to < node_count sc → latency sc from to ≤ 1000000000
+  pub window : (from to : ℕ) → from < node_count sc → to < node_count sc → from ≢ to → sc.window ≤ latency sc from to
+
+-- every scenario has this
+pub record IsInRange (sc : Setup) : Type 0 where
+  pub numbers : NumbersInRange sc
+  pub nodes : NodesInRange sc
+  pub latencies : LatenciesInRange sc
+  pub churn : IfSome sc.churn IsChurn
+  pub churn_is_set : (i : ℕ) → is_churn_node sc i ≡ true → IsSome sc.churn
+  pub lookups : IfSome sc.lookups IsSpan
+  pub few_commands : length sc.commands ≤ 100000
+  pub commands : All (IsCommandOf sc) sc.commands

@@ -1,0 +1,236 @@
+ghost use Rattle.std.specs.Prelude.{◌≡◌, ◌<◌, ◌≤◌, ◌^◌, length, slice_get, Some};
+ghost use Rattle.chord_scenario.specs.Range.{IsInRange};
+ghost use Rattle.chord_scenario.specs.World.{node_count, name_of, ident_of, is_initial, is_churn_node, latency};
+
+use crate::setting::{Churn, Command, Node, Span};
+use chord_circle::{Circle, Ident};
+use std::marker::Model;
+
+/// A scenario that the file format allows, with all that a run of it needs. Contracts see it as
+/// what it sets; times are in microseconds.
+#[derive(Drop)]
+pub struct Scenario {
+    pub(crate) profile: u32,
+    pub(crate) circle: Circle,
+    pub(crate) list: u32,
+    pub(crate) seed: u64,
+    pub(crate) duration: u64,
+    pub(crate) window: u64,
+    pub(crate) latency: u64,
+    pub(crate) timeout: u64,
+    pub(crate) audit: u64,
+    pub(crate) stabilize: u64,
+    pub(crate) finger: u64,
+    pub(crate) jitter: u64,
+    pub(crate) max_events: u64,
+    pub(crate) churn: Option<Churn>,
+    pub(crate) lookups: Option<Span>,
+    pub(crate) nodes: Vec<Node>,
+    pub(crate) commands: Vec<Command>,
+    /// For each node in turn its latency to each node, and 0 where no row names the two.
+    pub(crate) latencies: Vec<u32>,
+}
+
+impl Model for Scenario {
+    ghost use Rattle.chord_scenario.specs.Inside.{setup_of};
+    ghost use Rattle.chord_scenario.specs.Range.{IsInRange};
+    ghost use Rattle.chord_scenario.specs.Setup.{Setup};
+
+    ghost Value = { Setup };
+
+    ghost view = { λ s. setup_of s };
+
+    ghost invariant = { λ s. IsInRange (setup_of s) };
+}
+
+impl Scenario {
+    /// What holds of every scenario.
+    pub fn is_in_range(&self)
+        ensures { IsInRange self.now }
+    {
+        let _ = &self.circle;
+    }
+
+    /// Which rules the world follows.
+    pub fn profile(&self) -> u32
+        ensures { result ≡ self.now.profile }
+    {
+        self.profile
+    }
+
+    /// The circle of the identifiers.
+    pub fn circle(&self) -> Circle
+        ensures { result ≡ self.now.bits }
+    {
+        self.circle
+    }
+
+    /// The most entries of a successor list.
+    pub fn list(&self) -> u32
+        ensures { result ≡ self.now.list }
+    {
+        self.list
+    }
+
+    /// The seed of all random words.
+    pub fn seed(&self) -> u64
+        ensures { result ≡ self.now.seed }
+    {
+        self.seed
+    }
+
+    /// How long a run lasts.
+    pub fn duration(&self) -> u64
+        ensures { result ≡ self.now.duration }
+    {
+        self.duration
+    }
+
+    /// How long a window of a run is at most: no message between different nodes takes less.
+    pub fn window(&self) -> u64
+        ensures { result ≡ self.now.window }
+    {
+        self.window
+    }
+
+    /// How long a node waits for the answer to a request.
+    pub fn timeout(&self) -> u64
+        ensures { result ≡ self.now.timeout }
+    {
+        self.timeout
+    }
+
+    /// The time from one audit to the next.
+    pub fn audit(&self) -> u64
+        ensures { result ≡ self.now.audit }
+    {
+        self.audit
+    }
+
+    /// The time from one stabilization of a node to its next, without the jitter.
+    pub fn stabilize(&self) -> u64
+        ensures { result ≡ self.now.stabilize }
+    {
+        self.stabilize
+    }
+
+    /// The time from one finger look-up of a node to its next, without the jitter.
+    pub fn finger(&self) -> u64
+        ensures { result ≡ self.now.finger }
+    {
+        self.finger
+    }
+
+    /// How much later than its period a timer may come.
+    pub fn jitter(&self) -> u64
+        ensures { result ≡ self.now.jitter }
+    {
+        self.jitter
+    }
+
+    /// The most events that a run may have.
+    pub fn max_events(&self) -> u64
+        ensures { result ≡ self.now.max_events }
+    {
+        self.max_events
+    }
+
+    /// How long churn nodes live and stay down, where the scenario says so.
+    pub fn churn_times(&self) -> Option<Churn>
+        ensures { result ≡ self.now.churn }
+    {
+        self.churn
+    }
+
+    /// How long a node waits between lookups of its own, where the scenario has these.
+    pub fn lookups(&self) -> Option<Span>
+        ensures { result ≡ self.now.lookups }
+    {
+        self.lookups
+    }
+
+    /// How many nodes there are.
+    pub fn nodes(&self) -> u32
+        ensures { result ≡ node_count self.now }
+    {
+        self.nodes.len() as u32
+    }
+
+    /// The name of a node.
+    #[tactic(auto, unfolding(crate::specs::World::name_of))]
+    pub fn name(&self, node: u32) -> &str
+        requires { node < node_count self.now }
+        ensures { result.now ≡ name_of self.now node }
+    {
+        self.nodes[node as usize].name.as_str()
+    }
+
+    /// Where a node stands on the circle.
+    pub fn ident(&self, node: u32) -> Ident
+        requires { node < node_count self.now }
+        ensures value { result ≡ ident_of self.now node }
+        ensures on_circle { result < 2 ^ self.now.bits }
+    {
+        self.is_in_range();
+        self.place_of(node)
+    }
+
+    #[tactic(auto, unfolding(crate::specs::World::ident_of))]
+    fn place_of(&self, node: u32) -> Ident
+        requires { node < node_count self.now }
+        ensures { result ≡ ident_of self.now node }
+    {
+        self.nodes[node as usize].ident
+    }
+
+    /// Whether a node is a member of the ring at the start.
+    #[tactic(auto, unfolding(crate::specs::World::is_initial))]
+    pub fn initial(&self, node: u32) -> bool
+        requires { node < node_count self.now }
+        ensures { result ≡ is_initial self.now node }
+    {
+        self.nodes[node as usize].initial
+    }
+
+    /// Whether a node crashes and rises by itself.
+    #[tactic(auto, unfolding(crate::specs::World::is_churn_node))]
+    pub fn churn(&self, node: u32) -> bool
+        requires { node < node_count self.now }
+        ensures { result ≡ is_churn_node self.now node }
+    {
+        self.nodes[node as usize].churn
+    }
+
+    /// How many commands there are.
+    pub fn commands(&self) -> usize
+        ensures { result ≡ length self.now.commands }
+    {
+        self.commands.len()
+    }
+
+    /// A command, counted from 0 in the order of the file.
+    pub fn command(&self, place: usize) -> Command
+        requires { place < length self.now.commands }
+        ensures { slice_get self.now.commands place ≡ Some result }
+    {
+        self.commands[place]
+    }
+
+    /// How long a message from one node to another is on its way, which is 1 to the node itself.
+    #[tactic(auto, unfolding(crate::specs::World::latency))]
+    pub fn latency(&self, from: u32, to: u32) -> u64
+        requires from { from < node_count self.now }
+        requires to { to < node_count self.now }
+        ensures { result ≡ latency self.now from to }
+    {
+        if from == to {
+            return 1;
+        }
+        let given = self.latencies[from as usize * self.nodes.len() + to as usize];
+        if given == 0 {
+            self.latency
+        } else {
+            u64::from(given)
+        }
+    }
+}

@@ -1,0 +1,45 @@
+//! What a scenario sets. Nodes are named by their numbers, from 0 in the order of the file; times
+//! are in microseconds.
+
+use crate::name::Name;
+use chord_circle::Ident;
+
+/// A node: its name, its place on the circle, whether it is a member of the ring at the start, and
+/// whether it crashes and rises by itself.
+#[derive(Drop)]
+pub struct Node {
+    pub name: Name,
+    pub ident: Ident,
+    pub initial: bool,
+    pub churn: bool,
+}
+
+/// The times from one to another, both among them.
+#[derive(Clone, Copy, Debug, PartialEq, Eq, Drop)]
+pub struct Span {
+    pub least: u64,
+    pub greatest: u64,
+}
+
+/// How long churn nodes live, and how long they stay down.
+#[derive(Clone, Copy, Debug, PartialEq, Eq, Drop)]
+pub struct Churn {
+    pub life: Span,
+    pub down: Span,
+}
+
+/// What a command asks of its node.
+#[derive(Clone, Copy, Debug, PartialEq, Eq, Drop)]
+pub enum Action {
+    Join { via: u32 },
+    Crash,
+    Lookup { key: Ident },
+}
+
+/// A command, and when it is given to which node.
+#[derive(Clone, Copy, Debug, PartialEq, Eq, Drop)]
+pub struct Command {
+    pub at: u64,
+    pub node: u32,
+    pub action: Action,
+}
