@@ -5,8 +5,8 @@ use Rattle.chord_event.specs.declared.body.Body.{Body}
 use Rattle.chord_event.specs.declared.event.Event.{Event}
 use Rattle.chord_event.specs.declared.key.Key.{Key}
 use Rattle.chord_model.proofs.Members.{contains_none, contains_cons, AllPairs_none, AllPairs_cons}
-use Rattle.chord_node.specs.declared.scenario.Scenario.{Scenario}
-use Rattle.chord_node.specs.Scenario.{latency}
+use Rattle.chord_scenario.specs.declared.scenario.Scenario.{Scenario}
+use Rattle.chord_scenario.specs.World.{latency}
 use Rattle.chord_ops.specs.Growth.{AreMade}
 use Rattle.std.proofs.Common.{subst, ⊎_elim}
 

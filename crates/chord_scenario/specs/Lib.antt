@@ -2,3 +2,4 @@ pub mod Setup
 pub mod World
 pub mod Range
 pub mod Inside
+pub mod Start

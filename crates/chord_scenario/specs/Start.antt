@@ -1,0 +1,79 @@
+-- The events that a run starts with: the commands, and the first timers of the nodes that are members at the start.
+use Rattle.std.specs.Prelude.{ℕ, ◌+◌, ◌-◌, ◌%◌, List, [], ◌∷◌, ◌++◌, map, filter, flat_map, Option, Some, None, if◌then◌else◌}
+use Rattle.std.specs.List.{enumerate_from, range_with_len}
+use Rattle.chord_event.specs.declared.body.Body.{Body}
+use Rattle.chord_event.specs.declared.body.Body.TheVariants as body
+use Rattle.chord_event.specs.declared.event.Event.{Event}
+use Rattle.chord_scenario.specs.declared.setting.Action.{Action}
+use Rattle.chord_scenario.specs.declared.setting.Action.TheVariants as action
+use Rattle.chord_scenario.specs.declared.setting.Churn.{Churn}
+use Rattle.chord_scenario.specs.declared.setting.Command.{Command}
+use Rattle.chord_scenario.specs.declared.setting.Span.{Span}
+use Rattle.chord_scenario.specs.Setup.{Setup}
+use Rattle.chord_scenario.specs.World.{node_count, is_initial, is_churn_node}
+use Rattle.chord_stream.specs.Word.{word}
+
+-- what a command asks of its node, as the body of an event
+abbrev pub command_body : Action → Body
+command_body (action.Join via) = body.CmdJoin via
+command_body action.Crash = body.CmdCrash
+command_body (action.Lookup key) = body.CmdLookup key
+
+-- a command of this number as an event: commands have origin 1
+abbrev pub command_event : (number : ℕ) → Command → Event Body
+command_event number command = record {
+  key = record { time = command.at; origin = 1; number = number };
+  target = command.node;
+  body = command_body command.action;
+}
+
+-- the commands as events, numbered from 1 in the order of the file
+unfoldable pub command_events : Setup → List (Event Body)
+command_events sc = map (λ p. command_event p.0 p.1) (enumerate_from 1 sc.commands)
+
+-- a period, and up to the jitter more
+abbrev pub jittered : Setup → (period : ℕ) → Span
+jittered sc period = record { least = period; greatest = period + sc.jitter }
+
+-- only where the scenario has lookups of the nodes' own
+abbrev pub traffic_timers : Option Span → List (Span × Body)
+traffic_timers None = []
+traffic_timers (Some gap) = (gap, body.TrafficTick 1) ∷ []
+
+-- only at a churn node
+abbrev pub life_timers : Option Churn → List (Span × Body)
+life_timers None = []
+life_timers (Some churn) = (churn.life, body.LifeEnd 1) ∷ []
+
+-- the first timers of node n, in order: after which times each may come, and what it is
+unfoldable pub timers : Setup → (n : ℕ) → List (Span × Body)
+timers sc n =
+    (jittered sc sc.stabilize, body.StabilizeTick 1)
+    ∷ (jittered sc sc.finger, body.FingerTick 1)
+    ∷ []
+    ++ traffic_timers sc.lookups
+    ++ (if is_churn_node sc n then life_timers sc.churn else [])
+
+-- a time of the span, drawn at a place of the stream of node n
+abbrev pub delay : Setup → (n place : ℕ) → Span → ℕ
+delay sc n place span = span.least + word sc.seed n place % (span.greatest - span.least + 1)
+
+-- the timer at this place, from 0, among the first ones of node n; nodes number their events from 1
+abbrev pub timer_event : Setup → (n place : ℕ) → Span × Body → Event Body
+timer_event sc n place timer = record {
+  key = record { time = delay sc n place timer.0; origin = 2 + n; number = place + 1 };
+  target = n;
+  body = timer.1;
+}
+
+-- the first timers of node n as events
+unfoldable pub first_timers : Setup → (n : ℕ) → List (Event Body)
+first_timers sc n = map (λ p. timer_event sc n p.0 p.1) (enumerate_from 0 (timers sc n))
+
+-- the nodes that are members at the start, in the order of the file
+unfoldable pub initial_nodes : Setup → List ℕ
+initial_nodes sc = filter (is_initial sc) (range_with_len 0 (node_count sc))
+
+-- the commands, and then the first timers of each node that is a member at the start
+unfoldable pub start_events : Setup → List (Event Body)
+start_events sc = command_events sc ++ flat_map (first_timers sc) (initial_nodes sc)
