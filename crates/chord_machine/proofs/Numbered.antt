@@ -4,7 +4,7 @@ use Rattle.std.specs.List.{AllPairs, Contains}
 use Rattle.chord_event.specs.declared.body.Body.{Body}
 use Rattle.chord_event.specs.declared.event.Event.{Event}
 use Rattle.chord_event.specs.declared.key.Key.{Key}
-use Rattle.chord_model.proofs.Members.{contains_none, contains_cons, AllPairs_none, AllPairs_cons}
+use Rattle.chord_event.proofs.Members.{contains_none, contains_cons, AllPairs_none, AllPairs_cons}
 use Rattle.chord_scenario.specs.declared.scenario.Scenario.{Scenario}
 use Rattle.chord_scenario.specs.World.{latency}
 use Rattle.chord_ops.specs.Growth.{AreMade}

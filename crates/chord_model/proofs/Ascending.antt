@@ -12,7 +12,7 @@ use Rattle.chord_model.specs.Histories.{state, effect_after}
 use Rattle.chord_model.specs.WellFormed.{IsWellFormed}
 use Rattle.chord_model.specs.Windows.{Division, part_of, pieces_since}
 use Rattle.chord_model.specs.Laws.{Commutes}
-use Rattle.chord_model.proofs.Members.{contains_none, contains_here, contains_there, contains_cons, contains_left, contains_right, contains_append, contains_filter, filter_contains, All_at, AllPairs_none, AllPairs_cons, AllPairs_at, AllPairs_rest, AllPairs_append, AllPairs_front}
+use Rattle.chord_event.proofs.Members.{contains_none, contains_here, contains_there, contains_cons, contains_left, contains_right, contains_append, contains_filter, filter_contains, All_at, AllPairs_none, AllPairs_cons, AllPairs_at, AllPairs_rest, AllPairs_append, AllPairs_front}
 use Rattle.chord_model.proofs.Distinct.{state_other}
 use Rattle.chord_model.proofs.Runs.{legal_ascends}
 

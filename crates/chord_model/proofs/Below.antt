@@ -8,7 +8,7 @@ use Rattle.chord_event.specs.declared.event.Event.{Event}
 use Rattle.chord_model.specs.Machine.{Machine}
 use Rattle.chord_model.specs.Histories.{pending, below, next, IsNext, IsLegal, history}
 use Rattle.chord_model.specs.WellFormed.{IsWellFormed}
-use Rattle.chord_model.proofs.Members.{contains_none, contains_here, contains_there, contains_cons, filter_contains}
+use Rattle.chord_event.proofs.Members.{contains_none, contains_here, contains_there, contains_cons, filter_contains}
 use Rattle.chord_model.proofs.Pending.{Waits, waits_from, pending_from}
 use Rattle.chord_model.proofs.Runs.{history_is_legal, history_is_whole, legal_is_history, taken_before, none_next, legal_rest}
 

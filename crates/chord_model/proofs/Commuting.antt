@@ -10,7 +10,7 @@ use Rattle.chord_model.specs.Histories.{least, IsPossible, state, all_events, pe
 use Rattle.chord_model.specs.WellFormed.{IsWellFormed}
 use Rattle.chord_model.specs.Windows.{Division, part_of, Divides, restrict, waiting, IsPartRun, IsSealedRun, made_since, pieces_since, opened, after_picks, IsClosed, ran_by, left_by, merged, events_run}
 use Rattle.chord_model.specs.Laws.{MayOpen, Commutes}
-use Rattle.chord_model.proofs.Members.{All_at, All_from, AllPairs_front, contains_left, contains_right, contains_append}
+use Rattle.chord_event.proofs.Members.{All_at, All_from, AllPairs_front, contains_left, contains_right, contains_append}
 use Rattle.chord_model.proofs.Pending.{Waits, waits_from, pending_from}
 use Rattle.chord_model.proofs.Runs.{none_next, history_is_whole, legal_is_history, legal_known, possible_from_legal, legal_ascends, taken_before}
 use Rattle.chord_model.proofs.Below.{below_contains, length_below, next_of_rest, goes_on, length_history, below_is_legal, below_is_done}

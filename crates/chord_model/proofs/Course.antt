@@ -10,13 +10,13 @@ use Rattle.chord_model.specs.Machine.{Machine}
 use Rattle.chord_model.specs.Histories.{state, all_events, effect_after, pending, IsPossible, IsNext, next, history, full_history, IsOverLimit}
 use Rattle.chord_model.specs.WellFormed.{IsWellFormed}
 use Rattle.chord_model.specs.Worlds.{IsFirstAt, AreStatesAfter, IsWorld, event_pieces}
-use Rattle.chord_model.proofs.Members.{All_at, contains_at, contains_left, contains_right, contains_append, AllPairs_append}
+use Rattle.chord_event.proofs.Members.{All_at, contains_at, contains_left, contains_right, contains_append, AllPairs_append}
 use Rattle.chord_model.proofs.Distinct.{made_fresh, state_here, state_other, sound_state, fit_event, made_apart}
 use Rattle.chord_model.proofs.Pending.{waits_from}
 use Rattle.chord_model.proofs.Runs.{none_from_late, next-Some, next_is, possible_from_legal, history_is_legal}
 use Rattle.chord_model.proofs.Rest.{pending_is_rest, pending_moves}
 use Rattle.chord_model.proofs.Horizons.{whole_from}
-use Rattle.chord_model.proofs.Members.{contains_none}
+use Rattle.chord_event.proofs.Members.{contains_none}
 use Rattle.chord_model.proofs.Removed.{remove_gone, remove_kept, remove_apart}
 
 pub same_read : {A : Type 0} (xs : List A) (i : ℕ) (d d' : A) → i < length xs → get_or xs i d ≡ get_or xs i d'

@@ -10,7 +10,7 @@ use Rattle.chord_model.specs.Histories.{state, effect_after, all_events, IsPossi
 use Rattle.chord_model.specs.WellFormed.{IsWellFormed}
 use Rattle.chord_model.specs.Laws.{Meets}
 use Rattle.chord_model.proofs.Pending.{waits_from}
-use Rattle.chord_model.proofs.Members.{All_from, All_at, contains_append, AllPairs_append, same_by_key}
+use Rattle.chord_event.proofs.Members.{All_from, All_at, contains_append, AllPairs_append, same_by_key}
 
 module _ {State Body Piece : Type 0} (m : Machine State Body Piece) where
   pub state_here : (e : Event Body) (h : List (Event Body)) (n : ℕ) → e.target ≡ n → state m (e ∷ h) n ≡ (m.effect (state m h n) e).state

@@ -4,7 +4,7 @@ use Rattle.std.specs.List.{Contains}
 use Rattle.chord_event.specs.Keys.{IsAtMost, is_before}
 use Rattle.chord_event.specs.declared.event.Event.{Event}
 use Rattle.chord_model.specs.Histories.{least, earlier}
-use Rattle.chord_model.proofs.Members.{contains_none, contains_here, contains_there, contains_cons}
+use Rattle.chord_event.proofs.Members.{contains_none, contains_here, contains_there, contains_cons}
 use Rattle.chord_event.proofs.Order.{at_most_self, at_most_trans, at_most_both, at_most_from_before, is_before-true, is_before-false}
 
 module _ {Body : Type 0} where

@@ -1,4 +1,3 @@
-pub mod Members
 pub mod Distinct
 pub mod Least
 pub mod Pending

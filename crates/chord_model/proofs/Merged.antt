@@ -8,7 +8,7 @@ use Rattle.chord_event.specs.declared.key.Key.{Key}
 use Rattle.chord_event.specs.Keys.{IsBefore, is_before}
 use Rattle.chord_event.specs.declared.event.Event.{Event}
 use Rattle.chord_model.specs.Windows.{Division, part_of, restrict, insert_event, merge, merged, events_run}
-use Rattle.chord_model.proofs.Members.{contains_here, contains_there, filter_contains, AllPairs_at, AllPairs_rest}
+use Rattle.chord_event.proofs.Members.{contains_here, contains_there, filter_contains, AllPairs_at, AllPairs_rest}
 use Rattle.chord_event.proofs.Order.{is_before-true}
 use Rattle.chord_model.proofs.Parts.{restrict_in, restrict_out}
 

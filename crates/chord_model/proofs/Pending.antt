@@ -7,7 +7,7 @@ use Rattle.chord_event.specs.Keys.{is_same_key}
 use Rattle.chord_event.specs.declared.event.Event.{Event}
 use Rattle.chord_model.specs.Machine.{Machine}
 use Rattle.chord_model.specs.Histories.{has_key, all_events, pending, effect_after}
-use Rattle.chord_model.proofs.Members.{contains_none, contains_here, contains_there, contains_cons, contains_filter, filter_contains, contains_append, contains_right}
+use Rattle.chord_event.proofs.Members.{contains_none, contains_here, contains_there, contains_cons, contains_filter, filter_contains, contains_append, contains_right}
 use Rattle.chord_event.proofs.Order.{is_same_key-true, same_key-self}
 
 module _ {Body : Type 0} where

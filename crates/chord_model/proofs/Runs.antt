@@ -10,7 +10,7 @@ use Rattle.chord_event.specs.declared.event.Event.{Event}
 use Rattle.chord_model.specs.Machine.{Machine}
 use Rattle.chord_model.specs.Histories.{all_events, pending, effect_after, below, next, IsPossible, IsNext, IsLegal, history, output, trace, open_audits, audit_at}
 use Rattle.chord_model.specs.WellFormed.{IsWellFormed}
-use Rattle.chord_model.proofs.Members.{contains_here, contains_cons, contains_filter, filter_contains, contains_right, AllPairs_none, AllPairs_cons}
+use Rattle.chord_event.proofs.Members.{contains_here, contains_cons, contains_filter, filter_contains, contains_right, AllPairs_none, AllPairs_cons}
 use Rattle.chord_event.proofs.Order.{before_trans, before_from_at_most}
 use Rattle.chord_model.proofs.Least.{least_none, IsLeast, least-None, least-Some, least_is}
 use Rattle.chord_model.proofs.Pending.{Waits, waits_from, pending_from, waits_before}
