@@ -29,6 +29,9 @@ before_trans a b c p q = omega arith
 pub before_not_same : (a b : Key) → IsBefore a b → a ≡ b → ⊥
 before_not_same a b p e = omega (arith, ap (λ (k : Key). k.time) e, ap (λ (k : Key). k.origin) e, ap (λ (k : Key). k.number) e)
 
+pub before_not_after : (a b : Key) → IsBefore a b → IsAtMost b a → ⊥
+before_not_after a b p q = before_not_same a b p (at_most_both a b (at_most_from_before a b p) q)
+
 pub before_from_at_most : (a b : Key) → IsAtMost a b → a ≢ b → IsBefore a b
 before_from_at_most a b p ne = record {
   time = p.time;

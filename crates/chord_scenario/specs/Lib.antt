@@ -3,3 +3,4 @@ pub mod World
 pub mod Range
 pub mod Inside
 pub mod Start
+pub mod Blocks

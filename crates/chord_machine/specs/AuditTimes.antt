@@ -1,0 +1,12 @@
+-- When audits are made.
+use Rattle.std.specs.Prelude.{ℕ, zero, suc, ◌+◌, ◌-◌, ◌*◌, ◌/◌, List, [], ◌∷◌, ◌++◌}
+use Rattle.chord_scenario.specs.declared.scenario.Scenario.{Scenario}
+
+-- the first n positive multiples of a period
+abbrev pub multiples : (period n : ℕ) → List ℕ
+multiples period zero = []
+multiples period (suc n) = multiples period n ++ (n + 1) * period ∷ []
+
+-- an audit stands at each positive multiple of the period below the duration, and at the duration
+abbrev pub audit_times : Scenario → List ℕ
+audit_times sc = multiples sc.audit ((sc.duration - 1) / sc.audit) ++ sc.duration ∷ []

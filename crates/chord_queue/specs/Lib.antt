@@ -1,0 +1,2 @@
+pub mod EventKey
+pub mod Keyed

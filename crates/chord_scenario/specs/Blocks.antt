@@ -1,0 +1,31 @@
+-- Blocks of a scenario's nodes.
+use Rattle.std.specs.Prelude.{ℕ, ◌<◌, ◌≤◌, List, [], ◌∷◌, All, length}
+use Rattle.chord_event.specs.declared.block.Block.{Block}
+use Rattle.chord_event.specs.declared.line.Line.{Line}
+use Rattle.chord_event.specs.declared.line.Line.TheVariants as line
+use Rattle.chord_scenario.specs.Setup.{Setup}
+use Rattle.chord_scenario.specs.World.{node_count}
+
+-- the nodes that a line names, beside its own
+abbrev pub nodes_in : Line → List ℕ
+nodes_in (line.Join via) = via ∷ []
+nodes_in (line.Member predecessor) = predecessor ∷ []
+nodes_in (line.Stranded via) = via ∷ []
+nodes_in (line.Drop kind sender) = sender ∷ []
+nodes_in (line.Late kind sender) = sender ∷ []
+nodes_in (line.Timeout silent) = silent ∷ []
+nodes_in (line.Found key owner hops timeouts us) = owner ∷ []
+nodes_in _ = []
+
+-- the line names nodes of the scenario alone
+abbrev pub IsLineOf : Setup → Line → Type 0
+IsLineOf sc line = All (λ node. node < node_count sc) (nodes_in line)
+
+-- the block is of one of the scenario's nodes, and its lines name no other nodes
+pub record IsBlockOf (sc : Setup) (block : Block) : Type 0 where
+  pub target : block.target < node_count sc
+  pub lines : All (IsLineOf sc) block.lines
+
+-- no event leaves more lines
+abbrev pub most_lines : ℕ
+most_lines = 64

@@ -1,0 +1,4 @@
+pub mod Counted
+pub mod Fronts
+pub mod Ranks
+pub mod Tallies

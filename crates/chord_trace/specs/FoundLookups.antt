@@ -1,0 +1,18 @@
+-- What a tally has of the lookups that were found.
+use Rattle.std.specs.Prelude.{◌≡◌, ℕ, Bool, List, count_by, length, sum}
+use Rattle.chord_trace.specs.Numbers.{greatest, least, counted, hops_of, times_of}
+use Rattle.chord_trace.specs.declared.found_lookups.FoundLookups.{FoundLookups}
+
+-- how many lookups it has
+abbrev pub found_len : FoundLookups → ℕ
+found_len f = f.len
+
+-- it has these lookups, each by its hops and its time
+pub record HasFound (seen : List (ℕ × ℕ)) (f : FoundLookups) : Type 0 where
+  pub len : f.len ≡ length seen
+  pub hops_sum : f.hops_sum ≡ sum (hops_of seen)
+  pub hops_greatest : f.hops_greatest ≡ greatest (hops_of seen)
+  pub us_sum : f.us_sum ≡ sum (times_of seen)
+  pub us_least : f.us_least ≡ least (times_of seen)
+  pub us_greatest : f.us_greatest ≡ greatest (times_of seen)
+  pub counts : (test : ℕ → Bool) → counted test f.counts.entries ≡ count_by test (times_of seen)

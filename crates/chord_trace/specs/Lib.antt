@@ -1,0 +1,11 @@
+pub mod Counts
+pub mod FoundLookups
+pub mod Kinds
+pub mod Numbers
+pub mod Pieces
+pub mod Report
+pub mod ReportText
+pub mod Tally
+pub mod Texts
+pub mod Watched
+pub mod Writing

@@ -1,0 +1,33 @@
+-- Hops and times of lookups.
+use Rattle.std.specs.Prelude.{◌≡◌, ℕ, ◌+◌, ◌/◌, ◌<◌, ◌≤◌, Bool, cond, nat_le, nat_lt, List, [], ◌∷◌, count_by, fold, length, map, max, min, sum_by}
+
+-- the greatest number, and 0 of none
+abbrev pub greatest : List ℕ → ℕ
+greatest = fold max 0
+
+-- the least number, and 0 of none
+abbrev pub least : List ℕ → ℕ
+least [] = 0
+least (n ∷ ns) = fold min n ns
+
+-- the hops, and the times, of lookups that were found
+abbrev pub hops_of : List (ℕ × ℕ) → List ℕ
+hops_of = map (λ found. found.0)
+
+abbrev pub times_of : List (ℕ × ℕ) → List ℕ
+times_of = map (λ found. found.1)
+
+-- the counts of the times that pass a test, together
+abbrev pub counted : (ℕ → Bool) → List (ℕ × ℕ) → ℕ
+counted test = sum_by (λ entry. cond (test entry.0) entry.1 0)
+
+-- half of a number, rounded up
+abbrev pub half_of : ℕ → ℕ
+half_of n = (n + 1) / 2
+
+-- m is the number in the middle, the lower one of two, and 0 of none: fewer than half of the
+-- numbers are below it, and at least half are at most it, so that it is one of them
+pub record IsMedian (ns : List ℕ) (m : ℕ) : Type 0 where
+  pub none : length ns ≡ 0 → m ≡ 0
+  pub below : 0 < length ns → count_by (λ n. nat_lt n m) ns < half_of (length ns)
+  pub up_to : half_of (length ns) ≤ count_by (λ n. nat_le n m) ns

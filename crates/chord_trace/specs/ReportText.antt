@@ -1,0 +1,25 @@
+-- The text of a report.
+use Rattle.std.specs.Prelude.{ℕ, List, [], ◌∷◌, ◌++◌, codes, decimal}
+use Rattle.std.specs.List.{flat_map}
+use Rattle.chord_trace.specs.declared.report.Report.{Report}
+
+-- the words of a report, each with its number
+abbrev pub numbers_of : Report → List (List ℕ × ℕ)
+numbers_of r =
+    (codes "events", r.events) ∷ (codes "members", r.members) ∷ (codes "join-failed", r.join_failed)
+    ∷ (codes "crashes", r.crashes) ∷ (codes "stranded", r.stranded) ∷ (codes "drops", r.drops)
+    ∷ (codes "late", r.late) ∷ (codes "timeouts", r.timeouts) ∷ (codes "lookups", r.lookups)
+    ∷ (codes "found", r.found) ∷ (codes "lost", r.lost) ∷ (codes "busy", r.busy)
+    ∷ (codes "ignored", r.ignored) ∷ (codes "unfinished", r.unfinished)
+    ∷ (codes "hops-sum", r.hops_sum) ∷ (codes "hops-greatest", r.hops_greatest)
+    ∷ (codes "us-sum", r.us_sum) ∷ (codes "us-least", r.us_least)
+    ∷ (codes "us-median", r.us_median) ∷ (codes "us-greatest", r.us_greatest)
+    ∷ (codes "audits", r.audits) ∷ (codes "ringless", r.ringless)
+    ∷ (codes "unordered", r.unordered) ∷ (codes "insufficient", r.insufficient) ∷ []
+
+-- a line for each word and its number
+abbrev pub number_text : List (List ℕ × ℕ) → List ℕ
+number_text = flat_map (λ p. p.0 ++ codes " " ++ decimal p.1 ++ codes "\n")
+
+abbrev pub report_text : Report → List ℕ
+report_text r = number_text (numbers_of r)

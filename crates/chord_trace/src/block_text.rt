@@ -1,0 +1,148 @@
+ghost use Rattle.std.specs.Prelude.{◌≡◌, ◌⊎◌, ◌<◌, ◌++◌, true, false, OnOk, IfErr, string_bytes, Err};
+ghost use Rattle.std.specs.Io.KnownBytes.{Appends};
+ghost use Rattle.chord_scenario.specs.World.{node_count};
+ghost use Rattle.chord_scenario.specs.Blocks.{IsLineOf, IsBlockOf};
+ghost use Rattle.chord_trace.specs.Texts.{message_text, command_text, line_words, line_text, block_text};
+ghost use Rattle.chord_trace.specs.Watched.{wrapped, has_failed};
+ghost use Rattle.chord_trace.specs.Writing.{AppendsFront};
+
+use crate::watched::Watched;
+use crate::writing::write_text;
+use chord_event::{Block, CommandKind, Line, MessageKind, RunError};
+use chord_scenario::Scenario;
+use std::alloc::{AllocError, Global};
+use std::fmt::Write as _;
+use std::io::Write;
+
+/// Writes the lines of an event. The error is Memory where their text cannot be made, and Write
+/// where the writer fails.
+pub fn write_block<W: Write>(
+    alloc: Global,
+    scenario: &Scenario,
+    block: &Block,
+    writer: &mut Watched<W>,
+) -> Result<(), RunError>
+    requires nodes { IsBlockOf scenario.now block.now }
+    requires sound { has_failed writer.old ≡ false }
+    ensures whole { OnOk result (Appends (W.contents (wrapped writer.old)) (W.contents (wrapped writer.new)) (block_text scenario.now block.now)) }
+    ensures front { AppendsFront (W.contents (wrapped writer.old)) (W.contents (wrapped writer.new)) (block_text scenario.now block.now) }
+    ensures sound { OnOk result (has_failed writer.new ≡ false) }
+    ensures failed { result ≡ Err RunError.Write → has_failed writer.new ≡ true }
+    ensures memory { result ≡ Err RunError.Memory → has_failed writer.new ≡ false }
+    ensures only { IfErr result (λ e. (e ≡ RunError.Memory) ⊎ (e ≡ RunError.Write)) }
+{
+    let mut text = String::new(alloc);
+    push_block(&mut text, scenario, block)?;
+    write_text(text.as_bytes(), writer)
+}
+
+fn push_block(text: &mut String, scenario: &Scenario, block: &Block) -> Result<(), AllocError>
+    requires { IsBlockOf scenario.now block.now }
+    ensures { OnOk result (string_bytes text.new ≡ string_bytes text.old ++ block_text scenario.now block.now) }
+{
+    for line in block.lines.as_slice() {
+        push_line(text, scenario, block.key.time, block.target, *line)?;
+    }
+    Ok(())
+}
+
+fn push_line(
+    text: &mut String,
+    scenario: &Scenario,
+    time: u64,
+    node: u32,
+    line: Line,
+) -> Result<(), AllocError>
+    requires target { node < node_count scenario.now }
+    requires names { IsLineOf scenario.now line }
+    ensures { OnOk result (string_bytes text.new ≡ string_bytes text.old ++ line_text scenario.now time node line) }
+{
+    write!(text, "{time} {} ", scenario.name(node))?;
+    push_words(text, scenario, line)?;
+    text.push('\n')
+}
+
+fn push_words(text: &mut String, scenario: &Scenario, line: Line) -> Result<(), AllocError>
+    requires { IsLineOf scenario.now line }
+    ensures { OnOk result (string_bytes text.new ≡ string_bytes text.old ++ line_words scenario.now line) }
+{
+    match line {
+        Line::Join { via } => write!(text, "join {}", scenario.name(via)),
+        Line::Member { predecessor } => write!(text, "member {}", scenario.name(predecessor)),
+        Line::JoinFailed => text.push_str("join-failed"),
+        Line::Crash => text.push_str("crash"),
+        Line::Stranded { via } => write!(text, "stranded {}", scenario.name(via)),
+        Line::Drop { kind, sender } => {
+            write!(
+                text,
+                "drop {} {}",
+                message_text(kind),
+                scenario.name(sender)
+            )
+        }
+        Line::Late { kind, sender } => {
+            write!(
+                text,
+                "late {} {}",
+                message_text(kind),
+                scenario.name(sender)
+            )
+        }
+        Line::Timeout { silent } => write!(text, "timeout {}", scenario.name(silent)),
+        Line::Lookup { key } => write!(text, "lookup {}", key.raw()),
+        Line::Found {
+            key,
+            owner,
+            hops,
+            timeouts,
+            us,
+        } => {
+            write!(
+                text,
+                "found {} {} hops={hops} timeouts={timeouts} us={us}",
+                key.raw(),
+                scenario.name(owner)
+            )
+        }
+        Line::Lost {
+            key,
+            hops,
+            timeouts,
+            us,
+        } => {
+            write!(
+                text,
+                "lost {} hops={hops} timeouts={timeouts} us={us}",
+                key.raw()
+            )
+        }
+        Line::Busy { key } => write!(text, "busy {}", key.raw()),
+        Line::Ignored { command } => write!(text, "ignored {}", command_text(command)),
+    }
+}
+
+fn message_text(kind: MessageKind) -> &'static str
+    ensures { result.now ≡ message_text kind }
+{
+    match kind {
+        MessageKind::Step => "step",
+        MessageKind::GetState => "get-state",
+        MessageKind::GetList => "get-list",
+        MessageKind::Ping => "ping",
+        MessageKind::Notify => "notify",
+        MessageKind::StepReply => "step-reply",
+        MessageKind::StateReply => "state-reply",
+        MessageKind::ListReply => "list-reply",
+        MessageKind::Pong => "pong",
+    }
+}
+
+fn command_text(command: CommandKind) -> &'static str
+    ensures { result.now ≡ command_text command }
+{
+    match command {
+        CommandKind::Join => "join",
+        CommandKind::Crash => "crash",
+        CommandKind::Lookup => "lookup",
+    }
+}

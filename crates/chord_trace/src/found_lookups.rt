@@ -1,0 +1,128 @@
+ghost use Rattle.std.specs.Prelude.{◌≡◌, ℕ, ◌+◌, ◌*◌, ◌^◌, ◌<◌, ◌≤◌, Bool, true, cond, nat_le, nat_lt, OnOk, OnErr};
+ghost use Rattle.chord_trace.specs.Kinds.{found_in};
+ghost use Rattle.chord_trace.specs.Numbers.{counted};
+
+use chord_event::Line;
+use std::alloc::{AllocError, Global};
+use std::collections::BTreeMap;
+
+/// What the lookups that were found took: their hops, their times in microseconds, and how many
+/// took each time.
+#[derive(Drop)]
+pub struct FoundLookups {
+    pub len: u64,
+    pub hops_sum: u128,
+    pub hops_greatest: u64,
+    pub us_sum: u128,
+    pub us_least: u64,
+    pub us_greatest: u64,
+    pub counts: BTreeMap<u64, u64>,
+    ghost hops_fit: { hops_sum ≤ len * 2 ^ 32 },
+    ghost times_fit: { us_sum ≤ len * 2 ^ 64 },
+    ghost counts_fit: { counted (λ _. true) counts.entries ≡ len },
+}
+
+impl FoundLookups {
+    ghost use Rattle.std.specs.Prelude.{◌≡◌, ◌+◌, ◌^◌, ◌<◌, ◌≤◌, ℕ, List, [], ◌∷◌, ◌++◌, length, OnOk};
+    ghost use Rattle.std.specs.List.{filter_map};
+    ghost use Rattle.chord_trace.specs.FoundLookups.{HasFound, found_len};
+    ghost use Rattle.chord_trace.specs.Numbers.{IsMedian, times_of};
+
+    /// None yet.
+    pub fn new(alloc: Global) -> FoundLookups
+        ensures { HasFound [] result }
+    {
+        FoundLookups {
+            len: 0,
+            hops_sum: 0,
+            hops_greatest: 0,
+            us_sum: 0,
+            us_least: 0,
+            us_greatest: 0,
+            counts: BTreeMap::new(alloc),
+        }
+    }
+
+    /// Adds the lookups that the lines say were found.
+    pub fn add_lines(&mut self, lines: &[Line]) -> Result<(), AllocError>
+        requires { found_len self.old + length lines.now ≤ 2 ^ 46 }
+        ensures has { OnOk result ((seen : List (ℕ × ℕ)) → HasFound seen self.old → HasFound (seen ++ filter_map found_in lines.now) self.new) }
+        ensures at_most { found_len self.new ≤ found_len self.old + length lines.now }
+    {
+        for line in lines {
+            if let Some((hops, us)) = found_in(*line) {
+                self.add(hops, us)?;
+            }
+        }
+        Ok(())
+    }
+
+    fn add(&mut self, hops: u32, us: u64) -> Result<(), AllocError>
+        requires { found_len self.old < 2 ^ 46 }
+        ensures has { OnOk result ((seen : List (ℕ × ℕ)) → HasFound seen self.old → HasFound (seen ++ (hops, us) ∷ []) self.new) }
+        ensures one_more { OnOk result (found_len self.new ≡ found_len self.old + 1) }
+        ensures at_most { found_len self.new ≤ found_len self.old + 1 }
+    {
+        count_one(&mut self.counts, us)?;
+        self.us_least = if self.len == 0 {
+            us
+        } else {
+            self.us_least.min(us)
+        };
+        self.len += 1;
+        self.hops_sum += u128::from(hops);
+        self.hops_greatest = self.hops_greatest.max(u64::from(hops));
+        self.us_sum += u128::from(us);
+        self.us_greatest = self.us_greatest.max(us);
+        Ok(())
+    }
+
+    /// The time in the middle, the lower one of two, and 0 of none.
+    pub fn us_median(&self) -> u64
+        ensures { (seen : List (ℕ × ℕ)) → HasFound seen self.now → IsMedian (times_of seen) result }
+    {
+        if self.len == 0 {
+            return 0;
+        }
+        nth_least(&self.counts, self.len.div_ceil(2))
+    }
+}
+
+/// The hops and the time of a lookup that was found.
+fn found_in(line: Line) -> Option<(u32, u64)>
+    ensures { result ≡ found_in line }
+{
+    match line {
+        Line::Found { hops, us, .. } => Some((hops, us)),
+        _ => None,
+    }
+}
+
+/// Counts one more at this time.
+fn count_one(counts: &mut BTreeMap<u64, u64>, us: u64) -> Result<(), AllocError>
+    requires { counted (λ _. true) counts.old.entries < 2 ^ 46 }
+    ensures more { OnOk result ((test : ℕ → Bool) → counted test counts.new.entries ≡ counted test counts.old.entries + cond (test us) 1 0) }
+    ensures same { OnErr result (counts.new.entries ≡ counts.old.entries) }
+{
+    let before = counts.get(&us).copied().unwrap_or(0);
+    counts.insert(us, before + 1)?;
+    Ok(())
+}
+
+/// The n-th least of the times counted.
+fn nth_least(counts: &BTreeMap<u64, u64>, n: u64) -> u64
+    requires first { 0 < n }
+    requires last { n ≤ counted (λ _. true) counts.now.entries }
+    requires fits { counted (λ _. true) counts.now.entries < 2 ^ 64 }
+    ensures below { counted (λ time. nat_lt time result) counts.now.entries < n }
+    ensures up_to { n ≤ counted (λ time. nat_le time result) counts.now.entries }
+{
+    let mut passed = 0;
+    for (us, count) in counts {
+        passed += *count;
+        if n <= passed {
+            return *us;
+        }
+    }
+    0
+}

@@ -1,0 +1,22 @@
+//! What a run leaves: the text of a trace, the tally of its events and audits, and the report.
+#![tactic(auto)]
+
+mod audit_text;
+mod block_text;
+mod found_lookups;
+mod line_counts;
+mod piece;
+mod report;
+mod tally;
+mod watched;
+mod writing;
+
+pub use audit_text::write_audit;
+pub use block_text::write_block;
+pub use piece::Piece;
+pub use report::{Report, reports_are_unique};
+pub use tally::Tally;
+pub use watched::Watched;
+
+#[cfg(test)]
+mod tests;

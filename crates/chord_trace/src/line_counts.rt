@@ -1,0 +1,55 @@
+use chord_event::Line;
+
+/// How many lines there are of each kind that a report counts.
+#[derive(Clone, Copy, Debug, Default, PartialEq, Eq, Drop)]
+pub struct LineCounts {
+    pub members: u64,
+    pub join_failed: u64,
+    pub crashes: u64,
+    pub stranded: u64,
+    pub drops: u64,
+    pub late: u64,
+    pub timeouts: u64,
+    pub lookups: u64,
+    pub found: u64,
+    pub lost: u64,
+    pub busy: u64,
+    pub ignored: u64,
+}
+
+impl LineCounts {
+    ghost use Rattle.std.specs.Prelude.{◌≡◌, ◌-◌, ◌^◌, ◌≤◌, ◌∷◌, [], length};
+    ghost use Rattle.chord_trace.specs.Counts.{counts_in, plus, AreWithin};
+
+    /// Counts the lines too.
+    pub fn add(&mut self, lines: &[Line])
+        requires counts { AreWithin (2 ^ 63 - length lines.now) self.old }
+        requires short { length lines.now ≤ 2 ^ 63 }
+        ensures { self.new ≡ plus self.old (counts_in lines.now) }
+    {
+        for line in lines {
+            self.add_line(*line);
+        }
+    }
+
+    fn add_line(&mut self, line: Line)
+        requires { AreWithin (2 ^ 63) self.old }
+        ensures { self.new ≡ plus self.old (counts_in (line ∷ [])) }
+    {
+        match line {
+            Line::Join { .. } => {}
+            Line::Member { .. } => self.members += 1,
+            Line::JoinFailed => self.join_failed += 1,
+            Line::Crash => self.crashes += 1,
+            Line::Stranded { .. } => self.stranded += 1,
+            Line::Drop { .. } => self.drops += 1,
+            Line::Late { .. } => self.late += 1,
+            Line::Timeout { .. } => self.timeouts += 1,
+            Line::Lookup { .. } => self.lookups += 1,
+            Line::Found { .. } => self.found += 1,
+            Line::Lost { .. } => self.lost += 1,
+            Line::Busy { .. } => self.busy += 1,
+            Line::Ignored { .. } => self.ignored += 1,
+        }
+    }
+}

@@ -1,0 +1,108 @@
+ghost use Rattle.std.specs.Prelude.{List, ◌≡◌, ◌⊎◌, ◌++◌, true, false, map, OnOk, IfErr, string_bytes, Err};
+ghost use Rattle.std.specs.Io.KnownBytes.{Appends};
+ghost use Rattle.chord_trace.specs.Watched.{wrapped, has_failed};
+ghost use Rattle.chord_trace.specs.Writing.{AppendsFront};
+ghost use Rattle.chord_trace.specs.Report.{IsReportOf};
+ghost use Rattle.chord_trace.specs.declared.piece.Piece.{Piece};
+ghost use Rattle.chord_trace.specs.ReportText.{numbers_of, report_text, number_text};
+
+use crate::watched::Watched;
+use crate::writing::write_text;
+use chord_event::RunError;
+use std::alloc::{AllocError, Global};
+use std::fmt::Write as _;
+use std::io::Write;
+
+/// The numbers of a trace. Times are in microseconds.
+#[derive(Clone, Copy, Debug, Default, PartialEq, Eq, Drop)]
+pub struct Report {
+    pub events: u64,
+    pub members: u64,
+    pub join_failed: u64,
+    pub crashes: u64,
+    pub stranded: u64,
+    pub drops: u64,
+    pub late: u64,
+    pub timeouts: u64,
+    pub lookups: u64,
+    pub found: u64,
+    pub lost: u64,
+    pub busy: u64,
+    pub ignored: u64,
+    pub unfinished: u64,
+    pub hops_sum: u128,
+    pub hops_greatest: u64,
+    pub us_sum: u128,
+    pub us_least: u64,
+    pub us_median: u64,
+    pub us_greatest: u64,
+    pub audits: u64,
+    pub ringless: u64,
+    pub unordered: u64,
+    pub insufficient: u64,
+}
+
+impl Report {
+    ghost use Rattle.std.specs.Prelude.{◌≡◌, ◌⊎◌, ◌++◌, true, false, map, OnOk, IfErr, string_bytes, Err};
+
+    /// Writes a line for each number. The error is Memory where the text cannot be made, and Write
+    /// where the writer fails.
+    pub fn write<W: Write>(&self, alloc: Global, writer: &mut Watched<W>) -> Result<(), RunError>
+        requires { has_failed writer.old ≡ false }
+        ensures whole { OnOk result (Appends (W.contents (wrapped writer.old)) (W.contents (wrapped writer.new)) (report_text self.now)) }
+        ensures front { AppendsFront (W.contents (wrapped writer.old)) (W.contents (wrapped writer.new)) (report_text self.now) }
+        ensures sound { OnOk result (has_failed writer.new ≡ false) }
+        ensures failed { result ≡ Err RunError.Write → has_failed writer.new ≡ true }
+        ensures memory { result ≡ Err RunError.Memory → has_failed writer.new ≡ false }
+        ensures only { IfErr result (λ e. (e ≡ RunError.Memory) ⊎ (e ≡ RunError.Write)) }
+    {
+        let mut text = String::new(alloc);
+        push_numbers(&mut text, &self.numbers())?;
+        write_text(text.as_bytes(), writer)
+    }
+
+    fn numbers(&self) -> [(&'static str, u128); 24]
+        ensures { map (λ p. (p.0.now, p.1)) result ≡ numbers_of self.now }
+    {
+        [
+            ("events", u128::from(self.events)),
+            ("members", u128::from(self.members)),
+            ("join-failed", u128::from(self.join_failed)),
+            ("crashes", u128::from(self.crashes)),
+            ("stranded", u128::from(self.stranded)),
+            ("drops", u128::from(self.drops)),
+            ("late", u128::from(self.late)),
+            ("timeouts", u128::from(self.timeouts)),
+            ("lookups", u128::from(self.lookups)),
+            ("found", u128::from(self.found)),
+            ("lost", u128::from(self.lost)),
+            ("busy", u128::from(self.busy)),
+            ("ignored", u128::from(self.ignored)),
+            ("unfinished", u128::from(self.unfinished)),
+            ("hops-sum", self.hops_sum),
+            ("hops-greatest", u128::from(self.hops_greatest)),
+            ("us-sum", self.us_sum),
+            ("us-least", u128::from(self.us_least)),
+            ("us-median", u128::from(self.us_median)),
+            ("us-greatest", u128::from(self.us_greatest)),
+            ("audits", u128::from(self.audits)),
+            ("ringless", u128::from(self.ringless)),
+            ("unordered", u128::from(self.unordered)),
+            ("insufficient", u128::from(self.insufficient)),
+        ]
+    }
+}
+
+fn push_numbers(text: &mut String, numbers: &[(&str, u128)]) -> Result<(), AllocError>
+    ensures { OnOk result (string_bytes text.new ≡ string_bytes text.old ++ number_text (map (λ p. (p.0.now, p.1)) numbers.now)) }
+{
+    for (word, number) in numbers {
+        writeln!(text, "{word} {number}")?;
+    }
+    Ok(())
+}
+
+/// A trace has one report.
+pub fn reports_are_unique()
+    ensures { (pieces : List Piece) (a b : Report) → IsReportOf pieces a → IsReportOf pieces b → a ≡ b }
+{}

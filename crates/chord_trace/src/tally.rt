@@ -1,0 +1,121 @@
+ghost use Rattle.std.specs.Prelude.{◌+◌, ◌*◌, ◌≤◌, ◌^◌};
+ghost use Rattle.chord_trace.specs.Counts.{AreWithin};
+ghost use Rattle.chord_trace.specs.FoundLookups.{found_len};
+
+use crate::found_lookups::FoundLookups;
+use crate::line_counts::LineCounts;
+use crate::report::Report;
+use chord_audit::AuditLine;
+use chord_event::{Block, Memory};
+use std::alloc::Global;
+
+/// What a report is made of, of the blocks and audits so far.
+#[derive(Drop)]
+pub struct Tally {
+    events: u64,
+    counts: LineCounts,
+    founds: FoundLookups,
+    audits: u64,
+    ringless: u64,
+    unordered: u64,
+    insufficient: u64,
+    ghost counts_fit: { AreWithin (64 * events) counts },
+    ghost founds_fit: { found_len founds ≤ 64 * events },
+    ghost ringless_fit: { ringless ≤ audits },
+    ghost unordered_fit: { unordered ≤ audits },
+    ghost insufficient_fit: { insufficient ≤ audits },
+}
+
+impl Tally {
+    ghost use Rattle.std.specs.Prelude.{◌≡◌, ◌+◌, ◌^◌, ◌<◌, ◌≤◌, List, [], ◌∷◌, ◌++◌, length, OnOk};
+    ghost use Rattle.chord_trace.specs.Report.{IsReportOf};
+    ghost use Rattle.chord_trace.specs.Tally.{IsTallyOf, taken};
+    ghost use Rattle.chord_trace.specs.declared.piece.Piece.{Piece};
+    ghost use Rattle.chord_trace.specs.declared.piece.Piece.TheVariants as piece;
+
+    /// The tally of an empty trace.
+    pub fn new(alloc: Global) -> Tally
+        ensures { IsTallyOf [] result }
+    {
+        Tally {
+            events: 0,
+            counts: LineCounts::default(),
+            founds: FoundLookups::new(alloc),
+            audits: 0,
+            ringless: 0,
+            unordered: 0,
+            insufficient: 0,
+        }
+    }
+
+    /// Adds an event's block.
+    pub fn add(&mut self, block: &Block) -> Result<(), Memory>
+        requires room { taken self.old < 2 ^ 40 }
+        requires short { length block.now.lines ≤ 64 }
+        ensures piece { OnOk result ((pieces : List Piece) → IsTallyOf pieces self.old → IsTallyOf (pieces ++ piece.OfEvent block.now ∷ []) self.new) }
+        ensures size { OnOk result (taken self.new ≡ taken self.old + 1) }
+    {
+        self.events += 1;
+        self.counts.add(block.lines.as_slice());
+        self.founds.add_lines(block.lines.as_slice())?;
+        Ok(())
+    }
+
+    /// Adds an audit.
+    pub fn add_audit(&mut self, audit: &AuditLine)
+        requires room { taken self.old < 2 ^ 40 }
+        ensures piece { (pieces : List Piece) → IsTallyOf pieces self.old → IsTallyOf (pieces ++ piece.OfAudit audit.now ∷ []) self.new }
+        ensures size { taken self.new ≡ taken self.old + 1 }
+    {
+        self.audits += 1;
+        self.ringless += u64::from(audit.ring == 0);
+        self.unordered += u64::from(!audit.ordered);
+        self.insufficient += u64::from(!audit.sufficient);
+    }
+
+    /// The report of the blocks and audits so far.
+    pub fn report(&self) -> Report
+        ensures { (pieces : List Piece) → IsTallyOf pieces self.now → IsReportOf pieces result }
+    {
+        let LineCounts {
+            members,
+            join_failed,
+            crashes,
+            stranded,
+            drops,
+            late,
+            timeouts,
+            lookups,
+            found,
+            lost,
+            busy,
+            ignored,
+        } = self.counts;
+        Report {
+            events: self.events,
+            members,
+            join_failed,
+            crashes,
+            stranded,
+            drops,
+            late,
+            timeouts,
+            lookups,
+            found,
+            lost,
+            busy,
+            ignored,
+            unfinished: lookups.saturating_sub(found).saturating_sub(lost),
+            hops_sum: self.founds.hops_sum,
+            hops_greatest: self.founds.hops_greatest,
+            us_sum: self.founds.us_sum,
+            us_least: self.founds.us_least,
+            us_median: self.founds.us_median(),
+            us_greatest: self.founds.us_greatest,
+            audits: self.audits,
+            ringless: self.ringless,
+            unordered: self.unordered,
+            insufficient: self.insufficient,
+        }
+    }
+}

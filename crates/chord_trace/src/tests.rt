@@ -1,0 +1,286 @@
+ghost use Rattle.std.specs.Prelude.{◌≡◌, false};
+ghost use Rattle.chord_trace.specs.Watched.{has_failed};
+
+use super::*;
+use chord_audit::AuditLine;
+use chord_circle::Circle;
+use chord_event::{Block, Key, Line, Listed, Memory, RunError};
+use std::alloc::Global;
+use std::io;
+use std::io::{ErrorKind, Read, Write};
+use std::process::Abort;
+use std::test::Fail;
+
+/// What a call of a scripted reader or writer answers.
+#[derive(Clone, Copy)]
+enum Turn {
+    Takes(usize),
+    Fails,
+}
+
+/// A reader and writer that notes the length that each call asks for, and answers by its script.
+#[derive(Drop)]
+struct Scripted {
+    script: [Turn; 4],
+    asked: [usize; 4],
+    calls: usize,
+}
+
+impl Scripted {
+    fn new(script: [Turn; 4]) -> Scripted {
+        Scripted {
+            script,
+            asked: [0; 4],
+            calls: 0,
+        }
+    }
+
+    fn turn(&mut self, length: usize) -> io::Result<usize> {
+        let turn = self.script.get(self.calls).copied();
+        if let Some(asked) = self.asked.get_mut(self.calls) {
+            *asked = length;
+        }
+        self.calls = self.calls.saturating_add(1);
+        match turn {
+            Some(Turn::Takes(count)) => Ok(count.min(length)),
+            _ => Err(io::Error::from(ErrorKind::BrokenPipe)),
+        }
+    }
+}
+
+impl Write for Scripted {
+    fn write(&mut self, buf: &[u8]) -> io::Result<usize> {
+        let count = self.turn(buf.len())?;
+        Ok(count.min(buf.len()))
+    }
+
+    fn flush(&mut self) -> io::Result<()> {
+        self.turn(9)?;
+        Ok(())
+    }
+}
+
+impl Read for Scripted {
+    fn read(&mut self, buf: &mut [u8]) -> io::Result<usize> {
+        let count = self.turn(buf.len())?;
+        Ok(count.min(buf.len()))
+    }
+}
+
+/// The number of bytes, or 77 for an error of the script.
+fn shown(outcome: io::Result<usize>) -> usize {
+    match outcome {
+        Ok(count) => count,
+        Err(error) => match error.kind() {
+            ErrorKind::BrokenPipe => 77,
+            _ => 99,
+        },
+    }
+}
+
+const SCRIPT: [Turn; 4] = [Turn::Takes(2), Turn::Takes(0), Turn::Fails, Turn::Takes(1)];
+
+#[test]
+fn a_watched_writer_has_the_calls_and_answers_of_its_own(rt: HostRuntime) {
+    let mut writer = Watched::new(Scripted::new(SCRIPT));
+    for (piece, answer, failed) in [
+        ("abc", 2, false),
+        ("abcd", 0, true),
+        ("abcde", 77, true),
+        ("a", 1, true),
+    ] {
+        assert_eq!(rt; shown(writer.write(piece.as_bytes())), answer, "{piece}");
+        assert_eq!(rt; writer.failed(), failed, "{piece}");
+    }
+    let Scripted { asked, calls, .. } = writer.into_inner();
+    assert!(rt; asked == [3, 4, 5, 1]);
+    assert_eq!(rt; calls, 4);
+
+    let mut writer = Watched::new(Scripted::new([Turn::Takes(0), Turn::Fails, SCRIPT[0], SCRIPT[0]]));
+    assert_eq!(rt; shown(writer.write(b"")), 0);
+    assert!(rt; !writer.failed());
+    assert!(rt; writer.flush().is_err());
+    assert!(rt; writer.failed());
+    assert!(rt; writer.flush().is_ok());
+    assert_eq!(rt; writer.into_inner().calls, 3);
+}
+
+#[test]
+fn a_watched_reader_has_the_calls_and_answers_of_its_own(rt: HostRuntime) {
+    let mut reader = Watched::new(Scripted::new(SCRIPT));
+    let mut room = [0; 8];
+    for (length, answer, failed) in [(3, 2, false), (4, 0, false), (5, 77, true), (1, 1, true)] {
+        assert_eq!(rt; shown(reader.read(&mut room[..length])), answer, "{length}");
+        assert_eq!(rt; reader.failed(), failed, "{length}");
+    }
+    let Scripted { asked, calls, .. } = reader.into_inner();
+    assert!(rt; asked == [3, 4, 5, 1]);
+    assert_eq!(rt; calls, 4);
+}
+
+/// A writer with room for some bytes, which takes as many as it may at a call.
+#[derive(Drop)]
+struct Bounded {
+    taken: Vec<u8>,
+    room: usize,
+    most: usize,
+    answers_zero: bool,
+}
+
+impl Write for Bounded {
+    fn write(&mut self, buf: &[u8]) -> io::Result<usize> {
+        let count = buf.len().min(self.room).min(self.most);
+        if count == 0 {
+            return if self.answers_zero {
+                Ok(0)
+            } else {
+                Err(io::Error::from(ErrorKind::Other))
+            };
+        }
+        self.taken.extend_from_slice(&buf[..count])?;
+        self.room -= count;
+        Ok(count)
+    }
+
+    fn flush(&mut self) -> io::Result<()> {
+        Ok(())
+    }
+}
+
+const AUDIT: AuditLine = AuditLine {
+    time: 200,
+    members: 4,
+    dead: 1,
+    ring: 3,
+    ordered: true,
+    principals: 2,
+    sufficient: false,
+};
+
+const REPORT: Report = Report {
+    events: 1,
+    members: 2,
+    join_failed: 3,
+    crashes: 4,
+    stranded: 5,
+    drops: 6,
+    late: 7,
+    timeouts: 8,
+    lookups: 9,
+    found: 10,
+    lost: 11,
+    busy: 12,
+    ignored: 13,
+    unfinished: 14,
+    hops_sum: 15,
+    hops_greatest: 16,
+    us_sum: 340282366920938463463374607431768211455,
+    us_least: 18,
+    us_median: 19,
+    us_greatest: 18446744073709551615,
+    audits: 21,
+    ringless: 22,
+    unordered: 23,
+    insufficient: 24,
+};
+
+const TEXT: &str = "200 audit members=4 dead=1 ring=3 ordered=yes principals=2 sufficient=no\n\
+    events 1\nmembers 2\njoin-failed 3\ncrashes 4\nstranded 5\ndrops 6\nlate 7\ntimeouts 8\n\
+    lookups 9\nfound 10\nlost 11\nbusy 12\nignored 13\nunfinished 14\nhops-sum 15\n\
+    hops-greatest 16\nus-sum 340282366920938463463374607431768211455\nus-least 18\nus-median 19\n\
+    us-greatest 18446744073709551615\naudits 21\nringless 22\nunordered 23\ninsufficient 24\n";
+
+fn write_both(alloc: Global, writer: &mut Watched<Bounded>) -> Result<(), RunError>
+    requires { has_failed writer.old ≡ false }
+{
+    write_audit(alloc, &AUDIT, writer)?;
+    REPORT.write(alloc, writer)
+}
+
+#[test]
+fn writes_the_front_of_the_text(rt: HostRuntime) -> Result<(), Fail> {
+    let alloc = rt.alloc();
+    let whole = TEXT.len();
+    for room in 0..=whole {
+        for most in [1, whole] {
+            for answers_zero in [false, true] {
+                let taken = Vec::new(alloc);
+                let mut writer = Watched::new(Bounded {
+                    taken,
+                    room,
+                    most,
+                    answers_zero,
+                });
+                let outcome = write_both(alloc, &mut writer);
+                let expected = if room < whole {
+                    Err(RunError::Write)
+                } else {
+                    Ok(())
+                };
+                assert!(rt; outcome == expected, "room {room}");
+                assert_eq!(rt; writer.failed(), room < whole, "room {room}");
+                let taken = writer.into_inner().taken;
+                assert!(rt; taken.as_slice() == &TEXT.as_bytes()[..room], "room {room}");
+            }
+        }
+    }
+    Ok(())
+}
+
+/// The report of a trace of one block, of lookups found in these times, and of one audit.
+fn report_of(rt: &impl Abort, alloc: Global, times: &[u64]) -> Result<Report, Memory> {
+    let circle = Circle::new(8).expect(rt, "a circle");
+    let key = circle.ident(5).expect(rt, "an identifier");
+    let mut lines = Listed::new(alloc);
+    lines.push(Line::Lookup { key })?;
+    lines.push(Line::Crash)?;
+    for us in times {
+        lines.push(Line::Found {
+            key,
+            owner: 1,
+            hops: 3,
+            timeouts: 0,
+            us: *us,
+        })?;
+    }
+    assert!(rt; lines.len() <= 64);
+    let block = Block {
+        key: Key {
+            time: 100,
+            origin: 1,
+            number: 1,
+        },
+        target: 0,
+        lines,
+    };
+    let mut tally = Tally::new(alloc);
+    tally.add_audit(&AUDIT);
+    tally.add(&block)?;
+    Ok(tally.report())
+}
+
+#[test]
+fn reports_the_lower_time_in_the_middle(rt: HostRuntime) -> Result<(), Fail> {
+    let none: &[u64] = &[];
+    for (times, sum, least, median, greatest) in [
+        (none, 0, 0, 0, 0),
+        (&[7], 7, 7, 7, 7),
+        (&[9, 2], 11, 2, 2, 9),
+        (&[5, 1, 3], 9, 1, 3, 5),
+        (&[4, 9, 4, 1, 9, 9], 36, 1, 4, 9),
+    ] {
+        let report = report_of(&rt, rt.alloc(), times)?;
+        let count = times.len() as u64;
+        assert_eq!(rt; report.events, 1);
+        assert_eq!(rt; report.crashes, 1);
+        assert_eq!(rt; report.lookups, 1);
+        assert_eq!(rt; report.found, count);
+        assert_eq!(rt; report.unfinished, 1u64.saturating_sub(count));
+        assert_eq!(rt; report.hops_sum, 3 * u128::from(count));
+        assert_eq!(rt; report.us_sum, sum);
+        assert_eq!(rt; report.us_least, least);
+        assert_eq!(rt; report.us_median, median);
+        assert_eq!(rt; report.us_greatest, greatest);
+    }
+    Ok(())
+}

@@ -1,0 +1,28 @@
+ghost use Rattle.std.specs.Prelude.{◌≡◌, true, false, OnOk, OnErr, IfErr};
+ghost use Rattle.std.specs.Io.KnownBytes.{Appends};
+ghost use Rattle.chord_trace.specs.Watched.{wrapped, has_failed};
+ghost use Rattle.chord_trace.specs.Writing.{AppendsFront};
+
+use crate::watched::Watched;
+use chord_event::RunError;
+use std::io::Write;
+
+/// Writes the text, and stops at the first call that answers an error or takes nothing.
+pub(crate) fn write_text<W: Write>(text: &[u8], writer: &mut Watched<W>) -> Result<(), RunError>
+    requires { has_failed writer.old ≡ false }
+    ensures whole { OnOk result (Appends (W.contents (wrapped writer.old)) (W.contents (wrapped writer.new)) text.now) }
+    ensures front { AppendsFront (W.contents (wrapped writer.old)) (W.contents (wrapped writer.new)) text.now }
+    ensures sound { OnOk result (has_failed writer.new ≡ false) }
+    ensures failed { OnErr result (has_failed writer.new ≡ true) }
+    ensures only { IfErr result (λ e. e ≡ RunError.Write) }
+{
+    let mut taken = 0;
+    while taken < text.len() {
+        match writer.write(&text[taken..]) {
+            Ok(0) => return Err(RunError::Write),
+            Ok(count) => taken += count,
+            Err(_) => return Err(RunError::Write),
+        }
+    }
+    Ok(())
+}
