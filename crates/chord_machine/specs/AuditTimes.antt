@@ -1,5 +1,6 @@
 -- When audits are made.
-use Rattle.std.specs.Prelude.{ℕ, zero, suc, ◌+◌, ◌-◌, ◌*◌, ◌/◌, List, [], ◌∷◌, ◌++◌}
+use Rattle.std.specs.Prelude.{ℕ, zero, suc, ◌+◌, ◌-◌, ◌*◌, ◌/◌, ◌<◌, List, [], ◌∷◌, ◌++◌}
+use Rattle.std.specs.List.{AllByRecursion}
 use Rattle.chord_scenario.specs.declared.scenario.Scenario.{Scenario}
 
 -- the first n positive multiples of a period
@@ -10,3 +11,8 @@ multiples period (suc n) = multiples period n ++ (n + 1) * period ∷ []
 -- an audit stands at each positive multiple of the period below the duration, and at the duration
 abbrev pub audit_times : Scenario → List ℕ
 audit_times sc = multiples sc.audit ((sc.duration - 1) / sc.audit) ++ sc.duration ∷ []
+
+-- each time is below those that follow it
+abbrev pub IsAscending : List ℕ → Type 0
+IsAscending [] = Unit {0}
+IsAscending (t ∷ ts) = AllByRecursion (λ u. t < u) ts × IsAscending ts
