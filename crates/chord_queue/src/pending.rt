@@ -1,4 +1,7 @@
-ghost use Rattle.std.specs.Prelude.{◌≡◌, [], ◌∷◌, slice_get, option_map, IfOk, IfErr, MatchOption, OnOk};
+ghost use Rattle.std.specs.Prelude.{◌≡◌, ◌≢◌, ◌↔◌, [], ◌∷◌, ◌++◌, slice_get, option_map, IfOk, IfErr, MatchOption, OnOk};
+ghost use Rattle.std.specs.List.{AllPairs, Contains};
+ghost use Rattle.chord_event.specs.declared.body.Body.{Body as ABody};
+ghost use Rattle.chord_event.specs.declared.event.Event.{Event as AnEvent};
 ghost use Rattle.chord_event.specs.KeyOrder.{InKeyOrder, IsNewKey, put_in_order, before, from_on};
 ghost use Rattle.chord_queue.specs.EventKey.{event_key};
 
@@ -55,6 +58,24 @@ impl Pending {
             let (_, event) = refused.value;
             return Err(event);
         }
+        Ok(())
+    }
+
+    /// Adds events. After an error it is open which of them were added.
+    pub fn insert_all(&mut self, events: Vec<Event>) -> Result<(), Memory>
+        requires { AllPairs (λ a b. a.key ≢ b.key) (self.old ++ events.items) }
+        ensures same { OnOk result ((x : AnEvent ABody) → Contains self.new x ↔ Contains (self.old ++ events.items) x) }
+        ensures ordered { InKeyOrder event_key self.new }
+    {
+        let mut events = events;
+        while let Some(event) = events.pop() {
+            self.is_ordered();
+            if let Err(_refused) = self.insert(event) {
+                self.is_ordered();
+                return Err(Memory);
+            }
+        }
+        self.is_ordered();
         Ok(())
     }
 

@@ -1,6 +1,6 @@
 -- A tally of a trace, and of the trace with one piece more.
 use Rattle.std.proofs.Common.{◌≡◌, ◌∙◌, ◌+◌, ◌==◌, ℕ, Bool, not, List, [], ◌∷◌, ◌++◌, ap, sym, subst, arith, append-nil, cond, count_by, length}
-use Rattle.std.specs.List.{filter_map, flat_map}
+use Rattle.std.specs.List.{filter_map}
 use Rattle.std.proofs.lemmas.List.{length_push}
 use Rattle.std.proofs.lemmas.List.Concat.{flat_map-append}
 use Rattle.std.proofs.lemmas.List.Elements.{filter_map-append}
@@ -14,7 +14,7 @@ use Rattle.chord_trace.specs.declared.tally.Tally.{Tally}
 use Rattle.chord_trace.specs.Counts.{counts_in, plus}
 use Rattle.chord_trace.specs.FoundLookups.{HasFound}
 use Rattle.chord_trace.specs.Kinds.{found_in}
-use Rattle.chord_trace.specs.Pieces.{block_in, audit_in, blocks_of, lines_of, audits_of}
+use Rattle.chord_trace.specs.Pieces.{block_in, audit_in, lines_in, blocks_of, lines_of, audits_of}
 use Rattle.chord_trace.specs.Tally.{IsTallyOf}
 
 blocks_more : (pieces : List Piece) (b : Block) → blocks_of (pieces ++ piece.OfEvent b ∷ []) ≡ blocks_of pieces ++ b ∷ []
@@ -30,12 +30,10 @@ audits_more : (pieces : List Piece) (a : AuditLine) → audits_of (pieces ++ pie
 audits_more pieces a = filter_map-append audit_in pieces (piece.OfAudit a ∷ [])
 
 lines_more : (pieces : List Piece) (b : Block) → lines_of (pieces ++ piece.OfEvent b ∷ []) ≡ lines_of pieces ++ b.lines
-lines_more pieces b =
-    ap (flat_map (λ (x : Block). x.lines)) (blocks_more pieces b)
-    ∙ flat_map-append (λ (x : Block). x.lines) (blocks_of pieces) (b ∷ []) ∙ ap (λ l. lines_of pieces ++ l) (append-nil b.lines)
+lines_more pieces b = flat_map-append lines_in pieces (piece.OfEvent b ∷ []) ∙ ap (λ l. lines_of pieces ++ l) (append-nil b.lines)
 
 lines_same : (pieces : List Piece) (a : AuditLine) → lines_of (pieces ++ piece.OfAudit a ∷ []) ≡ lines_of pieces
-lines_same pieces a = ap (flat_map (λ (x : Block). x.lines)) (blocks_same pieces a)
+lines_same pieces a = flat_map-append lines_in pieces (piece.OfAudit a ∷ []) ∙ append-nil (lines_of pieces)
 
 count_by-append : {X : Type 0} (p : X → Bool) (xs ys : List X) → count_by p (xs ++ ys) ≡ count_by p xs + count_by p ys
 count_by-append p xs ys = sum_by-append (λ x. cond (p x) 1 0) xs ys

@@ -1,5 +1,5 @@
 -- What a trace is made of.
-use Rattle.std.specs.Prelude.{List, ⊤, Option, Some, None}
+use Rattle.std.specs.Prelude.{List, [], ⊤, Option, Some, None}
 use Rattle.std.specs.List.{filter_map, flat_map}
 use Rattle.chord_audit.specs.declared.audit_line.AuditLine.{AuditLine}
 use Rattle.chord_event.specs.declared.block.Block.{Block}
@@ -17,6 +17,10 @@ abbrev pub block_in : Piece → Option Block
 block_in (piece.OfEvent block) = Some block
 block_in (piece.OfAudit audit) = None
 
+abbrev pub lines_in : Piece → List Line
+lines_in (piece.OfEvent block) = block.lines
+lines_in (piece.OfAudit audit) = []
+
 abbrev pub audit_in : Piece → Option AuditLine
 audit_in (piece.OfEvent block) = None
 audit_in (piece.OfAudit audit) = Some audit
@@ -27,7 +31,7 @@ blocks_of = filter_map block_in
 
 -- the lines of its blocks
 abbrev pub lines_of : List Piece → List Line
-lines_of pieces = flat_map (λ b. b.lines) (blocks_of pieces)
+lines_of = flat_map lines_in
 
 -- its audits
 abbrev pub audits_of : List Piece → List AuditLine

@@ -1,7 +1,7 @@
 ghost use Rattle.std.specs.Prelude.{◌≡◌, ◌⊎◌, ◌<◌, ◌++◌, true, false, OnOk, IfErr, string_bytes, Err};
 ghost use Rattle.std.specs.Io.KnownBytes.{Appends};
 ghost use Rattle.chord_scenario.specs.World.{node_count};
-ghost use Rattle.chord_scenario.specs.Blocks.{IsLineOf, IsBlockOf};
+ghost use Rattle.chord_scenario.specs.Blocks.{IsBlockOf, IsLineOf};
 ghost use Rattle.chord_trace.specs.Texts.{message_text, command_text, line_words, line_text, block_text};
 ghost use Rattle.chord_trace.specs.Watched.{wrapped, has_failed};
 ghost use Rattle.chord_trace.specs.Writing.{AppendsFront};

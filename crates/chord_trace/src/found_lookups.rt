@@ -124,5 +124,6 @@ fn nth_least(counts: &BTreeMap<u64, u64>, n: u64) -> u64
             return *us;
         }
     }
+    // Not reached, since n is at most the number of times.
     0
 }

@@ -1,10 +1,10 @@
-ghost use Rattle.std.specs.Prelude.{List, ◌≡◌, ◌⊎◌, ◌++◌, true, false, map, OnOk, IfErr, string_bytes, Err};
+ghost use Rattle.std.specs.Prelude.{◌≡◌, ◌⊎◌, ◌++◌, true, false, List, map, OnOk, IfErr, string_bytes, Err};
 ghost use Rattle.std.specs.Io.KnownBytes.{Appends};
+ghost use Rattle.chord_trace.specs.Report.{IsReportOf};
+ghost use Rattle.chord_trace.specs.ReportText.{numbers_of, report_text, number_text};
 ghost use Rattle.chord_trace.specs.Watched.{wrapped, has_failed};
 ghost use Rattle.chord_trace.specs.Writing.{AppendsFront};
-ghost use Rattle.chord_trace.specs.Report.{IsReportOf};
 ghost use Rattle.chord_trace.specs.declared.piece.Piece.{Piece};
-ghost use Rattle.chord_trace.specs.ReportText.{numbers_of, report_text, number_text};
 
 use crate::watched::Watched;
 use crate::writing::write_text;
@@ -14,7 +14,7 @@ use std::fmt::Write as _;
 use std::io::Write;
 
 /// The numbers of a trace. Times are in microseconds.
-#[derive(Clone, Copy, Debug, Default, PartialEq, Eq, Drop)]
+#[derive(Clone, Copy, Debug, PartialEq, Eq, Drop)]
 pub struct Report {
     pub events: u64,
     pub members: u64,
@@ -43,8 +43,6 @@ pub struct Report {
 }
 
 impl Report {
-    ghost use Rattle.std.specs.Prelude.{◌≡◌, ◌⊎◌, ◌++◌, true, false, map, OnOk, IfErr, string_bytes, Err};
-
     /// Writes a line for each number. The error is Memory where the text cannot be made, and Write
     /// where the writer fails.
     pub fn write<W: Write>(&self, alloc: Global, writer: &mut Watched<W>) -> Result<(), RunError>

@@ -96,7 +96,12 @@ fn a_watched_writer_has_the_calls_and_answers_of_its_own(rt: HostRuntime) {
     assert!(rt; asked == [3, 4, 5, 1]);
     assert_eq!(rt; calls, 4);
 
-    let mut writer = Watched::new(Scripted::new([Turn::Takes(0), Turn::Fails, SCRIPT[0], SCRIPT[0]]));
+    let mut writer = Watched::new(Scripted::new([
+        Turn::Takes(0),
+        Turn::Fails,
+        SCRIPT[0],
+        SCRIPT[0],
+    ]));
     assert_eq!(rt; shown(writer.write(b"")), 0);
     assert!(rt; !writer.failed());
     assert!(rt; writer.flush().is_err());
