@@ -1,5 +1,5 @@
 -- The facts of a ring at one time, from what each node knows.
-use Rattle.std.specs.Prelude.{ℕ, ◌==◌, Bool, false, true, not, nat_lt, ◌&&◌, ◌||◌, List, [], ◌∷◌, Option, Some, None, count_by, find, is_none, option_and_then, zero, suc}
+use Rattle.std.specs.Prelude.{◌≡◌, ◌<◌, slice_index_or, ℕ, ◌==◌, Bool, false, true, not, nat_lt, ◌&&◌, ◌||◌, List, [], ◌∷◌, Option, Some, None, count_by, find, is_none, option_and_then, zero, suc}
 use Rattle.std.specs.List.{list_any, range_with_len}
 use Rattle.chord_circle.specs.Circle.{between}
 use Rattle.chord_scenario.specs.Setup.{Setup}
@@ -21,7 +21,11 @@ is_member_status _ = false
 abbrev pub is_member : NodeState → Bool
 is_member s = is_member_status s.status
 
--- Each state is that of a node: what follows is of a function from the nodes to their states.
+-- What follows is of a function from the nodes to their states.
+
+-- the function gives the states of the list
+abbrev pub AreStates : Setup → List NodeState → (ℕ → NodeState) → Type 0
+AreStates sc states state = (n : ℕ) → n < node_count sc → slice_index_or states n (state n) ≡ state n
 
 -- the first entry of a node's list that is a member
 abbrev pub best_successor : (ℕ → NodeState) → ℕ → Option ℕ

@@ -1,8 +1,16 @@
 //! The audit of a ring: what is right and wrong with it at one time.
 #![tactic(auto)]
 
-mod auditing;
+mod arcs;
 mod audit_line;
+mod facts;
+mod passes;
+mod ranks;
+mod ring;
+mod successors;
+mod tables;
+#[cfg(test)]
+mod tests;
 
-pub use auditing::audit;
 pub use audit_line::AuditLine;
+pub use facts::audit;

@@ -1,10 +1,32 @@
 //! Scenarios: what is simulated, read from a scenario file and a latency file.
 #![tactic(auto)]
 
+mod command;
+mod document;
+mod fault;
+mod index;
+mod key;
+mod keys_check;
+mod latency;
+mod link_check;
 mod name;
+mod nearness;
+mod node;
+mod node_check;
+mod reader;
+mod row;
 mod scenario;
+mod section;
 mod setting;
+mod start;
+mod value;
 
+pub use fault::ScenarioFault;
+pub use key::{FileKey, Place};
 pub use name::Name;
+pub use reader::read_scenario;
 pub use scenario::Scenario;
 pub use setting::{Action, Churn, Command, Node, Span};
+
+#[cfg(test)]
+mod tests;

@@ -1,5 +1,4 @@
-ghost use Rattle.std.specs.Prelude.{◌≡◌, ◌<◌, ◌≤◌, ◌^◌, length, slice_get, Some, IfOk};
-ghost use Rattle.chord_scenario.specs.Start.{start_events};
+ghost use Rattle.std.specs.Prelude.{◌≡◌, ◌<◌, ◌≤◌, ◌^◌, length, slice_get, Some};
 ghost use Rattle.chord_scenario.specs.Range.{IsInRange};
 ghost use Rattle.chord_scenario.specs.World.{node_count, name_of, ident_of, is_initial, is_churn_node, latency};
 
@@ -215,16 +214,6 @@ impl Scenario {
         ensures { slice_get self.now.commands place ≡ Some result }
     {
         self.commands[place]
-    }
-
-    /// The events that a run starts with.
-    pub fn start_events(
-        &self,
-        _alloc: std::alloc::Global,
-    ) -> Result<Vec<chord_event::Event>, chord_event::Memory>
-        ensures { IfOk result (λ events. events.items ≡ start_events self.now) }
-    {
-        Err(chord_event::Memory)
     }
 
     /// How long a message from one node to another is on its way, which is 1 to the node itself.

@@ -1,0 +1,10 @@
+use Rattle.std.proofs.Common.{◌≡◌, ℕ, ◌<◌, length}
+use Rattle.std.specs.List.{list_any, range_with_len}
+use Rattle.chord_audit.specs.Tables.{covers, is_skipping}
+use Rattle.chord_audit.proofs.passes.skipped_ranks.Given as goal
+
+abbrev pub invariant-loop-node : goal.invariant-loop-node
+invariant-loop-node l = record {
+  each : length l.arcs.far.items ≡ length l.ranks;
+  covered : (k : ℕ) → k < length l.ranks → covers l.arcs k ≡ list_any (is_skipping l.ranks l.marks l.best k) (range_with_len 0 l.node);
+}

@@ -1,0 +1,51 @@
+ghost use Rattle.std.specs.Prelude.{◌≡◌, IfOk, length};
+ghost use Rattle.std.specs.List.{All};
+ghost use Rattle.chord_scenario.specs.World.{node_count};
+ghost use Rattle.chord_node.specs.Invariant.{AllNodes};
+ghost use Rattle.chord_audit.specs.Tables.{HoldFacts};
+
+use crate::passes::{passed_ranks, skipped_ranks};
+use crate::ranks::ranks_of;
+use crate::ring::ring_of;
+use crate::successors::{best_successors, members_of};
+use chord_event::Memory;
+use chord_node::NodeState;
+use chord_scenario::Scenario;
+use std::alloc::Global;
+
+/// What an audit knows of each node: whether it is a member, its best successor, whether it is on a
+/// ring, and its rank in the order of the identifiers; and of each rank: whether a ring member skips
+/// it, and whether a member's list passes over it.
+#[derive(Drop)]
+pub(crate) struct Tables {
+    pub members: Vec<bool>,
+    pub best: Vec<Option<u32>>,
+    pub ring: Vec<bool>,
+    pub ranks: Vec<usize>,
+    pub skipped: Vec<bool>,
+    pub passed: Vec<bool>,
+}
+
+impl Tables {
+    pub fn of(alloc: Global, scenario: &Scenario, states: &[NodeState]) -> Result<Tables, Memory>
+        requires each { length states.now ≡ node_count scenario.now }
+        requires succ { All (λ state. AllNodes scenario.now state.succ) states.now }
+        ensures { IfOk result (HoldFacts scenario.now states.now) }
+    {
+        scenario.is_in_range();
+        let members = members_of(alloc, states)?;
+        let best = best_successors(alloc, states, &members)?;
+        let ring = ring_of(alloc, &best)?;
+        let ranks = ranks_of(alloc, scenario)?;
+        let skipped = skipped_ranks(alloc, &ranks, &ring, &best)?;
+        let passed = passed_ranks(alloc, &ranks, &members, states)?;
+        Ok(Tables {
+            members,
+            best,
+            ring,
+            ranks,
+            skipped,
+            passed,
+        })
+    }
+}

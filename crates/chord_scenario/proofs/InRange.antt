@@ -1,0 +1,117 @@
+-- A scenario of a file without faults is in range.
+use Rattle.std.proofs.Common.{◌≡◌, ◌∙◌, sym, ℕ, ◌<◌, ◌≤◌, ◌^◌, List, [], ◌∷◌, length, map, get_or, ◌==◌, Option, None, arith, refl, eq-eqb}
+use Rattle.std.specs.List.{All, AllByRecursion, list_any}
+use Rattle.std.proofs.lemmas.Bool.{false≢true}
+use Rattle.std.proofs.lemmas.List.Elements.{All-from_recursion, All-get_or}
+use Rattle.std.proofs.lemmas.List.{get_or-map}
+use Rattle.std.proofs.lemmas.List.Sums.{count_by-le-length}
+use native.Mathlib.Decide.{dec_lt}
+use Rattle.toml.specs.Data.{Members}
+use Rattle.chord_scenario.specs.declared.fault.ScenarioFault.{ScenarioFault}
+use Rattle.chord_scenario.specs.declared.fault.ScenarioFault.TheVariants.{SameId}
+use Rattle.chord_scenario.specs.declared.key.FileKey.TheVariants as key
+use Rattle.chord_scenario.specs.declared.setting.Node.{Node}
+use Rattle.chord_scenario.specs.Accepted.{setup_with, nodes_in, commands_in}
+use Rattle.chord_scenario.specs.Faults.{key_questions, node_questions, late_questions, first_answer, same_id}
+use Rattle.chord_scenario.specs.KeyFaults.{is_churn_section}
+use Rattle.chord_scenario.specs.Latencies.{HasLatencies}
+use Rattle.chord_scenario.specs.Range.{IsCommandOf, IsInRange}
+use Rattle.chord_scenario.specs.Rows.{Row}
+use Rattle.chord_scenario.specs.Search.{first_repeat}
+use Rattle.chord_scenario.specs.Sections.{sections}
+use Rattle.chord_scenario.specs.Setup.{Setup}
+use Rattle.chord_scenario.specs.Values.{number_at}
+use Rattle.chord_scenario.specs.World.{node_count, ident_of}
+use Rattle.chord_scenario.proofs.DistinctNames.{or_none}
+use Rattle.chord_scenario.proofs.FirstRepeat.{mapped_none}
+use Rattle.chord_scenario.proofs.LatencyFacts.{first_of, latencies_fit}
+use Rattle.chord_scenario.proofs.NodeFacts.{no_repeat, enough_initial, a_node_churns, commands_fit}
+use Rattle.chord_scenario.proofs.SoundSections.{IsSound, sound_sections, holds_in_file}
+use Rattle.chord_scenario.proofs.TopFacts.{profile_fits, bits_fit, numbers_fit, churn_there, churn_in_range, lookups_in_range, few_nodes, few_commands}
+
+-- no question has an answer
+answers_none : (qs : List (Option ScenarioFault)) → first_answer qs ≡ None → AllByRecursion (λ q. q ≡ None) qs
+answers_none [] h = tt
+answers_none (q ∷ qs) h = let (here, rest) = or_none q (first_answer qs) h in (here, answers_none qs rest)
+
+-- what the questions of keys say
+pub record KeysFit (top : Members) : Type 0 where
+  pub profile : number_at key.Profile top ≤ 1
+  pub least : 3 ≤ number_at key.Bits top
+  pub greatest : number_at key.Bits top ≤ 64
+  pub nodes : length (nodes_in top) ≤ 512
+
+pub keys_fit : (profile bits : ℕ) (top : Members) → first_answer (key_questions profile bits (sections top)) ≡ None → KeysFit top
+keys_fit profile bits top h =
+    let churns = list_any is_churn_section (sections top) in
+    let s = (holds_in_file (IsSound profile bits churns) top (sound_sections profile bits (sections top) h)).top in
+    record {
+      profile = (profile_fits profile bits churns top s).high;
+      least = (bits_fit profile bits churns top s).low;
+      greatest = (bits_fit profile bits churns top s).high;
+      nodes = few_nodes profile bits churns top s (number_at key.Bits top);
+    }
+
+-- nodes of other numbers stand at other places
+met : (nodes : List Node) (i j : ℕ) → same_id nodes ≡ None → i < j → j < length nodes → get_or (map (λ n. n.ident) nodes) i 0 ≡ get_or (map (λ n. n.ident) nodes) j 0 → ⊥
+unfolding same_id
+met nodes i j h less within same =
+    let d = first_of nodes j within in
+    let apart = no_repeat (λ x y. x.ident == y.ident) nodes d (mapped_none (λ p. SameId p.0.1.name p.1.1.name) (first_repeat (λ x y. x.ident == y.ident) [] nodes) h) i j less within in
+    let one = get_or-map (λ n. n.ident) nodes i d 0 (omega arith) in
+    let two = get_or-map (λ n. n.ident) nodes j d 0 within in
+    false≢true (sym apart ∙ eq-eqb (get_or nodes i d).ident (get_or nodes j d).ident (sym one ∙ same ∙ two))
+
+idents_apart : (sc : Setup) → same_id sc.nodes ≡ None → (i j : ℕ) → i < node_count sc → j < node_count sc → ident_of sc i ≡ ident_of sc j → i ≡ j
+unfolding ident_of
+idents_apart sc h i j hi hj same =
+    elim (dec_lt i j) [
+      | yes less ↦ absurd (met sc.nodes i j h less hj same)
+      | no not_less ↦
+          elim (dec_lt j i) [
+            | yes more ↦ absurd (met sc.nodes j i h more hi (sym same))
+            | no not_more ↦ omega arith
+          ]
+    ]
+
+idents_on_circle : (sc : Setup) → All (λ n. n.ident < 2 ^ sc.bits) sc.nodes → (i : ℕ) → i < node_count sc → ident_of sc i < 2 ^ sc.bits
+unfolding ident_of
+idents_on_circle sc all i hi =
+    let d = first_of sc.nodes i hi in
+    rw (get_or-map (λ n. n.ident) sc.nodes i d 0 hi) (All-get_or (λ n. n.ident < 2 ^ sc.bits) sc.nodes i d hi all)
+
+module _ (profile : ℕ) (top : Members) (rows : List Row) (cells : List ℕ)
+    (keys : first_answer (key_questions profile (number_at key.Bits top) (sections top)) ≡ None)
+    (own : first_answer (node_questions (sections top) (nodes_in top)) ≡ None)
+    (late : first_answer (late_questions top (sections top) (nodes_in top) rows) ≡ None)
+    (has : HasLatencies (nodes_in top) rows cells)
+    (on_circle : All (λ n. n.ident < 2 ^ number_at key.Bits top) (nodes_in top)) where
+  abbrev sc : Setup
+  sc = setup_with top (nodes_in top) (commands_in top) cells
+
+  pub in_range : IsInRange sc
+  in_range =
+      let bits = number_at key.Bits top in
+      let churns = list_any is_churn_section (sections top) in
+      let sound = holds_in_file (IsSound profile bits churns) top (sound_sections profile bits (sections top) keys) in
+      let of_nodes = answers_none (node_questions (sections top) (nodes_in top)) own in
+      let rest = answers_none (late_questions top (sections top) (nodes_in top) rows) late in
+      let numbers = numbers_fit profile bits churns top sound.top (nodes_in top) (commands_in top) cells in
+      let initial = enough_initial sc.list sc.nodes rest.1.0 in
+      let enough : 2 ≤ node_count sc = omega (arith, initial, count_by-le-length (λ n. n.initial) sc.nodes, numbers.list_least) in
+      record {
+        numbers = numbers;
+        nodes = record {
+          least = enough;
+          greatest = few_nodes profile bits churns top sound.top bits;
+          on_circle = idents_on_circle sc on_circle;
+          apart = idents_apart sc of_nodes.1.1.0;
+          initial = initial;
+        };
+        latencies = latencies_fit sc rows has rest.1.1.1.0 of_nodes.1.0 rest.1.1.1.1.1.1.0 numbers.latency.least numbers.latency.greatest;
+        churn = churn_in_range profile bits churns top sound;
+        churn_is_set = λ i h. churn_there profile bits churns top sound.top (a_node_churns sc bits (sections top) i refl h);
+        lookups = lookups_in_range profile bits churns top sound;
+        few_commands = few_commands profile bits churns top sound.top bits (nodes_in top);
+        commands = All-from_recursion (IsCommandOf sc) sc.commands (commands_fit sc (omega arith) (sections top) rest.1.1.0);
+      }

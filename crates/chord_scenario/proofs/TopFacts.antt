@@ -1,0 +1,268 @@
+-- What a file without faults of keys says of its numbers, spans and tables.
+use Rattle.std.proofs.Common.{◌≡◌, ◌∙◌, sym, ap, refl, ℕ, ◌+◌, ◌*◌, ◌≤◌, Bool, true, false, not, ◌&&◌, List, [], ◌∷◌, ◌++◌, length, filter, nat_le, Option, Some, None, IfSome, IsSome, option_map, inl, inr, arith, length-append}
+use Rattle.std.specs.Option.{option_map_or, option_and_then, is_none, is_some}
+use Rattle.std.specs.List.{AllByRecursion}
+use Rattle.std.proofs.lemmas.Bool.{cases_Bool, and_parts, false≢true, leb-true}
+use Rattle.std.proofs.lemmas.List.{length-map}
+use Rattle.std.proofs.lemmas.List.Elements.{filter-append}
+use Rattle.toml.specs.Data.{Data, string, integer, float, boolean, datetime, array, table, Items, no_items, item, Members, as_table}
+use Rattle.chord_scenario.specs.declared.key.Place.{Place}
+use Rattle.chord_scenario.specs.declared.key.Place.TheVariants as place
+use Rattle.chord_scenario.specs.declared.key.FileKey.TheVariants as key
+use Rattle.chord_scenario.specs.declared.key.Form.TheVariants.{Table, Tables}
+use Rattle.chord_scenario.specs.declared.key.Group.{Group}
+use Rattle.chord_scenario.specs.declared.key.Group.TheVariants.{Nodes, Commands}
+use Rattle.chord_scenario.specs.declared.setting.Command.{Command}
+use Rattle.chord_scenario.specs.declared.setting.Node.{Node}
+use Rattle.chord_scenario.specs.Values.{data_at, number_at, has_type, is_between, item_count, is_in_range}
+use Rattle.chord_scenario.specs.Sections.{Section, place_in, table_at, tables_among, tables_of, sections}
+use Rattle.chord_scenario.specs.Settings.{number_or, is_node, is_command, node_of, nodes_of, command_of, commands_of, churn_of, lookups_of}
+use Rattle.chord_scenario.specs.Accepted.{setup_with}
+use Rattle.chord_scenario.specs.Range.{IsSpan, IsChurn, IsInterval, NumbersInRange}
+use Rattle.chord_scenario.proofs.SoundSections.{IsSound, Fits, HoldsInFile, number_fits, default_fits, number_agrees, there_typed}
+
+-- a number of microseconds that is at least 1
+interval : {n : ℕ} → Fits 1 1000000000 n → IsInterval n
+interval f = record { least = f.low; greatest = f.high }
+
+module _ (profile bits : ℕ) (churns : Bool) (top : Members) (s : IsSound profile bits churns (record { at = place.Top; members = top })) where
+  pub profile_fits : Fits 1 1 (number_at key.Profile top)
+  profile_fits = number_fits bits 1 1 _ (data_at key.Profile top) s.present.0 s.fitting.0
+
+  pub bits_fit : Fits 3 64 (number_at key.Bits top)
+  bits_fit = number_fits bits 3 64 _ (data_at key.Bits top) s.present.1.0 s.fitting.1.0
+
+  list_fits : Fits 1 16 (number_at key.List top)
+  list_fits = number_fits bits 1 16 _ (data_at key.List top) s.present.1.1.0 s.fitting.1.1.0
+
+  duration_fits : Fits 1 1000000000000 (number_at key.DurationUs top)
+  duration_fits = number_fits bits 1 1000000000000 _ (data_at key.DurationUs top) s.present.1.1.1.1.0 s.fitting.1.1.1.1.0
+
+  window_fits : Fits 1 1000000000 (number_at key.WindowUs top)
+  window_fits = number_fits bits 1 1000000000 _ (data_at key.WindowUs top) s.present.1.1.1.1.1.0 s.fitting.1.1.1.1.1.0
+
+  latency_fits : Fits 1 1000000000 (number_at key.LatencyUs top)
+  latency_fits = number_fits bits 1 1000000000 _ (data_at key.LatencyUs top) s.present.1.1.1.1.1.1.0 s.fitting.1.1.1.1.1.1.0
+
+  timeout_fits : Fits 1 1000000000 (number_at key.TimeoutUs top)
+  timeout_fits = number_fits bits 1 1000000000 _ (data_at key.TimeoutUs top) s.present.1.1.1.1.1.1.1.0 s.fitting.1.1.1.1.1.1.1.0
+
+  audit_fits : Fits 1 1000000000 (number_at key.AuditUs top)
+  audit_fits = number_fits bits 1 1000000000 _ (data_at key.AuditUs top) s.present.1.1.1.1.1.1.1.1.0 s.fitting.1.1.1.1.1.1.1.1.0
+
+  audits_fit : number_at key.DurationUs top ≤ 1000000 * number_at key.AuditUs top
+  audits_fit = leb-true _ _ (number_agrees _ (λ n. nat_le (number_at key.DurationUs top) (1000000 * n)) (data_at key.AuditUs top) s.present.1.1.1.1.1.1.1.1.0 s.fitting.1.1.1.1.1.1.1.1.0)
+
+  stabilize_fits : Fits 1 1000000000 (number_at key.StabilizeUs top)
+  stabilize_fits = number_fits bits 1 1000000000 _ (data_at key.StabilizeUs top) s.present.1.1.1.1.1.1.1.1.1.0 s.fitting.1.1.1.1.1.1.1.1.1.0
+
+  finger_fits : Fits 1 1000000000 (number_at key.FingerUs top)
+  finger_fits = number_fits bits 1 1000000000 _ (data_at key.FingerUs top) s.present.1.1.1.1.1.1.1.1.1.1.0 s.fitting.1.1.1.1.1.1.1.1.1.1.0
+
+  jitter_fits : Fits 0 1000000000 (number_or 0 key.JitterUs top)
+  jitter_fits = default_fits bits 0 1000000000 0 _ (data_at key.JitterUs top) (record { low = omega arith; high = omega arith }) s.fitting.1.1.1.1.1.1.1.1.1.1.1.0
+
+  max_events_fits : Fits 1 50000000 (number_or 50000000 key.MaxEvents top)
+  max_events_fits = default_fits bits 1 50000000 50000000 _ (data_at key.MaxEvents top) (record { low = omega arith; high = omega arith }) s.fitting.1.1.1.1.1.1.1.1.1.1.1.1.0
+
+  pub numbers_fit : (nodes : List Node) (commands : List Command) (latencies : List ℕ) → NumbersInRange (setup_with top nodes commands latencies)
+  numbers_fit nodes commands latencies = record {
+    bits_least = bits_fit.low;
+    bits_greatest = bits_fit.high;
+    list_least = list_fits.low;
+    list_greatest = list_fits.high;
+    duration_least = duration_fits.low;
+    duration_greatest = duration_fits.high;
+    window = interval window_fits;
+    latency = interval latency_fits;
+    timeout = interval timeout_fits;
+    audit = interval audit_fits;
+    audits = audits_fit;
+    stabilize = interval stabilize_fits;
+    finger = interval finger_fits;
+    jitter = jitter_fits.high;
+    max_events_least = max_events_fits.low;
+    max_events_greatest = max_events_fits.high;
+  }
+
+  -- the file has a churn table where a node churns
+  pub churn_there : churns ≡ true → IsSome (churn_of top)
+  unfolding churn_of has_type
+  churn_there some =
+      let there : is_none (data_at key.Churn top) ≡ false = rw some at s.present.1.1.1.1.1.1.1.1.1.1.1.1.1.0 in
+      let (d, is, typed) = there_typed (has_type Table) (data_at key.Churn top) there s.typed.1.1.1.1.1.1.1.1.1.1.1.1.1.0 in
+      rw is (mapped _ (as_table d) typed)
+    where
+      mapped : {A B : Type 0} (f : A → B) (o : Option A) → is_some o ≡ true → is_some (option_map f o) ≡ true
+      mapped f None h = absurd (false≢true h)
+      mapped f (Some x) h = refl
+
+module _ (profile bits : ℕ) (churns : Bool) where
+  -- the spans of a churn table and of a lookups table
+  churn_fits : (o : Option Data) → AllByRecursion (IsSound profile bits churns) (table_at place.Churn o)
+      → IfSome (option_map (λ ms. record { life = record { least = number_at key.LifeMinUs ms; greatest = number_at key.LifeMaxUs ms }; down = record { least = number_at key.DownMinUs ms; greatest = number_at key.DownMaxUs ms } }) (option_and_then as_table o)) IsChurn
+  churn_fits None h = tt
+  churn_fits (Some (string s)) h = tt
+  churn_fits (Some (integer z)) h = tt
+  churn_fits (Some (float x)) h = tt
+  churn_fits (Some (boolean b)) h = tt
+  churn_fits (Some (datetime t)) h = tt
+  churn_fits (Some (array ds)) h = tt
+  churn_fits (Some (table ms)) h =
+      let s = h.0 in
+      let life_least = number_fits bits 1 1000000000 _ (data_at key.LifeMinUs ms) s.present.0 s.fitting.0 in
+      let life_most = number_fits bits 1 1000000000 _ (data_at key.LifeMaxUs ms) s.present.1.0 s.fitting.1.0 in
+      let life = number_agrees _ (λ n. nat_le (number_at key.LifeMinUs ms) n) (data_at key.LifeMaxUs ms) s.present.1.0 s.fitting.1.0 in
+      let down_least = number_fits bits 1 1000000000 _ (data_at key.DownMinUs ms) s.present.1.1.0 s.fitting.1.1.0 in
+      let down_most = number_fits bits 1 1000000000 _ (data_at key.DownMaxUs ms) s.present.1.1.1.0 s.fitting.1.1.1.0 in
+      let down = number_agrees _ (λ n. nat_le (number_at key.DownMinUs ms) n) (data_at key.DownMaxUs ms) s.present.1.1.1.0 s.fitting.1.1.1.0 in
+      record {
+        life = record { positive = life_least.low; ordered = leb-true _ _ life; bounded = life_most.high };
+        down = record { positive = down_least.low; ordered = leb-true _ _ down; bounded = down_most.high };
+      }
+
+  lookups_fit : (o : Option Data) → AllByRecursion (IsSound profile bits churns) (table_at place.Lookups o)
+      → IfSome (option_map (λ ms. record { least = number_at key.GapMinUs ms; greatest = number_at key.GapMaxUs ms }) (option_and_then as_table o)) IsSpan
+  lookups_fit None h = tt
+  lookups_fit (Some (string s)) h = tt
+  lookups_fit (Some (integer z)) h = tt
+  lookups_fit (Some (float x)) h = tt
+  lookups_fit (Some (boolean b)) h = tt
+  lookups_fit (Some (datetime t)) h = tt
+  lookups_fit (Some (array ds)) h = tt
+  lookups_fit (Some (table ms)) h =
+      let s = h.0 in
+      let least = number_fits bits 1 1000000000 _ (data_at key.GapMinUs ms) s.present.0 s.fitting.0 in
+      let most = number_fits bits 1 1000000000 _ (data_at key.GapMaxUs ms) s.present.1.0 s.fitting.1.0 in
+      let gap = number_agrees _ (λ n. nat_le (number_at key.GapMinUs ms) n) (data_at key.GapMaxUs ms) s.present.1.0 s.fitting.1.0 in
+      record { positive = least.low; ordered = leb-true _ _ gap; bounded = most.high }
+
+  pub churn_in_range : (file : Members) → HoldsInFile (IsSound profile bits churns) file → IfSome (churn_of file) IsChurn
+  unfolding churn_of
+  churn_in_range file h = churn_fits (data_at key.Churn file) h.churn
+
+  pub lookups_in_range : (file : Members) → HoldsInFile (IsSound profile bits churns) file → IfSome (lookups_of file) IsSpan
+  unfolding lookups_of
+  lookups_in_range file h = lookups_fit (data_at key.Lookups file) h.lookups
+
+-- How many nodes and commands there are.
+
+module _ (test : Place → Bool) where
+  abbrev chosen : List Section → List Section
+  chosen ss = filter (λ s. test s.at) ss
+
+  chosen-one : (s : Section) → length (chosen (s ∷ [])) ≤ 1
+  chosen-one s =
+      elim (cases_Bool (test s.at)) [
+        | inl here ↦ rw here (omega arith)
+        | inr other ↦ rw other (omega arith)
+      ]
+
+  chosen-table : (p : Place) (o : Option Data) → length (chosen (table_at p o)) ≤ 1
+  chosen-table p None = omega arith
+  chosen-table p (Some (string s)) = omega arith
+  chosen-table p (Some (integer z)) = omega arith
+  chosen-table p (Some (float x)) = omega arith
+  chosen-table p (Some (boolean b)) = omega arith
+  chosen-table p (Some (datetime t)) = omega arith
+  chosen-table p (Some (array ds)) = omega arith
+  chosen-table p (Some (table ms)) = chosen-one (record { at = p; members = ms })
+
+  chosen-no_table : (p : Place) → test p ≡ false → (o : Option Data) → length (chosen (table_at p o)) ≡ 0
+  chosen-no_table p out None = refl
+  chosen-no_table p out (Some (string s)) = refl
+  chosen-no_table p out (Some (integer z)) = refl
+  chosen-no_table p out (Some (float x)) = refl
+  chosen-no_table p out (Some (boolean b)) = refl
+  chosen-no_table p out (Some (datetime t)) = refl
+  chosen-no_table p out (Some (array ds)) = refl
+  chosen-no_table p out (Some (table ms)) = rw out refl
+
+  chosen-append : (xs ys : List Section) → length (chosen (xs ++ ys)) ≡ length (chosen xs) + length (chosen ys)
+  chosen-append xs ys = ap length (filter-append (λ s. test s.at) xs ys) ∙ length-append (chosen xs) (chosen ys)
+
+  chosen-among : (g : Group) (n : ℕ) (ds : Items) → length (chosen (tables_among g n ds)) ≤ item_count ds
+  chosen-among g n no_items = omega arith
+  chosen-among g n (item d ds) =
+      omega (arith, chosen-append (table_at (place_in g n) (Some d)) (tables_among g (n + 1) ds), chosen-table (place_in g n) (Some d), chosen-among g (n + 1) ds)
+
+  chosen-none_among : (g : Group) → ((n : ℕ) → test (place_in g n) ≡ false) → (n : ℕ) (ds : Items) → length (chosen (tables_among g n ds)) ≡ 0
+  chosen-none_among g out n no_items = refl
+  chosen-none_among g out n (item d ds) =
+      omega (arith, chosen-append (table_at (place_in g n) (Some d)) (tables_among g (n + 1) ds), chosen-no_table (place_in g n) (out n) (Some d), chosen-none_among g out (n + 1) ds)
+
+  chosen-none_of : (g : Group) → ((n : ℕ) → test (place_in g n) ≡ false) → (o : Option Data) → length (chosen (tables_of g o)) ≡ 0
+  chosen-none_of g out None = refl
+  chosen-none_of g out (Some (string s)) = refl
+  chosen-none_of g out (Some (integer z)) = refl
+  chosen-none_of g out (Some (float x)) = refl
+  chosen-none_of g out (Some (boolean b)) = refl
+  chosen-none_of g out (Some (datetime t)) = refl
+  chosen-none_of g out (Some (array ds)) = chosen-none_among g out 1 ds
+  chosen-none_of g out (Some (table ms)) = refl
+
+  -- an array of tables has no more than its greatest number
+  chosen-most_of : (g : Group) (bits least greatest : ℕ) (agrees : Data → Bool) (o : Option Data)
+      → option_map_or (λ d. not (is_in_range bits (Tables least greatest) d && agrees d)) o false ≡ false → length (chosen (tables_of g o)) ≤ greatest
+  unfolding is_in_range
+  chosen-most_of g bits least greatest agrees None h = omega arith
+  chosen-most_of g bits least greatest agrees (Some (string s)) h = omega arith
+  chosen-most_of g bits least greatest agrees (Some (integer z)) h = omega arith
+  chosen-most_of g bits least greatest agrees (Some (float x)) h = omega arith
+  chosen-most_of g bits least greatest agrees (Some (boolean b)) h = omega arith
+  chosen-most_of g bits least greatest agrees (Some (datetime t)) h = omega arith
+  chosen-most_of g bits least greatest agrees (Some (table ms)) h = omega arith
+  chosen-most_of g bits least greatest agrees (Some (array ds)) h =
+      let (fits, agree) = and_parts (is_between least greatest (item_count ds)) (agrees (array ds)) (kept (is_between least greatest (item_count ds) && agrees (array ds)) h) in
+      let (low, high) = and_parts (nat_le least (item_count ds)) (nat_le (item_count ds) greatest) fits in
+      omega (arith, chosen-among g 1 ds, leb-true (item_count ds) greatest high)
+    where
+      kept : (b : Bool) → not b ≡ false → b ≡ true
+      kept true e = refl
+      kept false e = absurd (false≢true (sym e))
+
+  chosen-sections : (top : Members) → test place.Top ≡ false → test place.Churn ≡ false → test place.Lookups ≡ false
+      → length (chosen (sections top)) ≡ length (chosen (tables_of Nodes (data_at key.Node top))) + length (chosen (tables_of Commands (data_at key.Command top)))
+  unfolding sections
+  chosen-sections top not_top not_churn not_lookups =
+      let first = record { at = place.Top; members = top } ∷ [] in
+      let churn = table_at place.Churn (data_at key.Churn top) in
+      let lookups = table_at place.Lookups (data_at key.Lookups top) in
+      let nodes = tables_of Nodes (data_at key.Node top) in
+      let commands = tables_of Commands (data_at key.Command top) in
+      let no_first : length (chosen first) ≡ 0 = rw not_top refl in
+      omega (
+        arith,
+        chosen-append (first ++ churn ++ lookups ++ nodes) commands,
+        chosen-append (first ++ churn ++ lookups) nodes,
+        chosen-append (first ++ churn) lookups,
+        chosen-append first churn,
+        no_first,
+        chosen-no_table place.Churn not_churn (data_at key.Churn top),
+        chosen-no_table place.Lookups not_lookups (data_at key.Lookups top),
+      )
+
+module _ (profile bits : ℕ) (churns : Bool) (top : Members) (s : IsSound profile bits churns (record { at = place.Top; members = top })) where
+  pub few_nodes : (circle : ℕ) → length (nodes_of circle (sections top)) ≤ 512
+  unfolding nodes_of
+  few_nodes circle =
+      let ss = filter (λ s. is_node s.at) (sections top) in
+      omega (
+        arith,
+        length-map ss (λ s. node_of circle s.members),
+        chosen-sections is_node top refl refl refl,
+        chosen-most_of is_node Nodes bits 2 512 _ (data_at key.Node top) s.fitting.1.1.1.1.1.1.1.1.1.1.1.1.1.1.1.0,
+        chosen-none_of is_node Commands (λ n. refl) (data_at key.Command top),
+      )
+
+  pub few_commands : (circle : ℕ) (nodes : List Node) → length (commands_of circle nodes (sections top)) ≤ 100000
+  unfolding commands_of
+  few_commands circle nodes =
+      let ss = filter (λ s. is_command s.at) (sections top) in
+      omega (
+        arith,
+        length-map ss (λ s. command_of circle nodes s.members),
+        chosen-sections is_command top refl refl refl,
+        chosen-none_of is_command Nodes (λ n. refl) (data_at key.Node top),
+        chosen-most_of is_command Commands bits 0 100000 _ (data_at key.Command top) s.fitting.1.1.1.1.1.1.1.1.1.1.1.1.1.1.1.1.0,
+      )

@@ -1,0 +1,57 @@
+-- When a scenario is that of two texts.
+use Rattle.std.specs.Prelude.{◌≡◌, ◌≢◌, ℕ, List, slice_get, Some, None}
+use Rattle.toml.specs.Data.{Members}
+use Rattle.chord_scenario.specs.declared.key.FileKey.TheVariants as key
+use Rattle.chord_scenario.specs.declared.setting.Command.{Command}
+use Rattle.chord_scenario.specs.declared.setting.Node.{Node}
+use Rattle.chord_scenario.specs.Faults.{latency_by_rows, document, scenario_fault}
+use Rattle.chord_scenario.specs.Rows.{Row, rows_of}
+use Rattle.chord_scenario.specs.Sections.{sections}
+use Rattle.chord_scenario.specs.Settings.{number_or, nodes_of, commands_of, churn_of, lookups_of}
+use Rattle.chord_scenario.specs.Setup.{Setup}
+use Rattle.chord_scenario.specs.Values.{number_at}
+use Rattle.chord_scenario.specs.World.{latency}
+
+-- what the numbers and spans of a table set, or their defaults, with these nodes, commands and latencies
+abbrev pub setup_with : Members → List Node → List Command → (latencies : List ℕ) → Setup
+setup_with top nodes commands latencies = record {
+  profile = number_at key.Profile top;
+  bits = number_at key.Bits top;
+  list = number_at key.List top;
+  seed = number_at key.Seed top;
+  duration = number_at key.DurationUs top;
+  window = number_at key.WindowUs top;
+  latency = number_at key.LatencyUs top;
+  timeout = number_at key.TimeoutUs top;
+  audit = number_at key.AuditUs top;
+  stabilize = number_at key.StabilizeUs top;
+  finger = number_at key.FingerUs top;
+  jitter = number_or 0 key.JitterUs top;
+  max_events = number_or 50000000 key.MaxEvents top;
+  churn = churn_of top;
+  lookups = lookups_of top;
+  nodes = nodes;
+  commands = commands;
+  latencies = latencies;
+}
+
+-- the nodes and the commands of a file
+abbrev pub nodes_in : Members → List Node
+nodes_in top = nodes_of (number_at key.Bits top) (sections top)
+
+abbrev pub commands_in : Members → List Command
+commands_in top = commands_of (number_at key.Bits top) (nodes_in top) (sections top)
+
+-- each value of the scenario is that of the file, and the latency of two different nodes is that of the row that
+-- names the pair, or the file's
+pub record IsSetupOf (top : Members) (rows : List Row) (sc : Setup) : Type 0 where
+  pub values : sc ≡ setup_with top (nodes_in top) (commands_in top) sc.latencies
+  pub latencies : (i j : ℕ) (x y : Node) → i ≢ j → slice_get sc.nodes i ≡ Some x → slice_get sc.nodes j ≡ Some y
+      → latency sc i j ≡ latency_by_rows (number_at key.LatencyUs top) rows x y
+
+-- the scenario of two texts, which have no fault
+pub record Accepts (toml csv : List ℕ) (sc : Setup) : Type 0 where
+  pub top : Members
+  pub is_document : document toml ≡ Some top
+  pub no_fault : scenario_fault toml csv ≡ None
+  pub is_setup : IsSetupOf top (rows_of csv) sc

@@ -1,0 +1,132 @@
+-- The fifteen faults of a scenario: each is one question of the whole of both texts, and the first answer counts.
+use Rattle.std.specs.Prelude.{ℕ, ◌+◌, Bool, false, ◌&&◌, ◌||◌, not, ◌==◌, List, [], ◌∷◌, ◌++◌, codes, length, bytes_eq, nat_le, nat_lt, count_by, Option, Some, None, is_none, option_map, unwrap_or, if◌then◌else◌}
+use Rattle.std.specs.Option.{option_map_or, option_or}
+use Rattle.std.specs.List.{list_all}
+use Rattle.std.specs.Char.{is_ascii_alphanumeric}
+use Rattle.std.specs.Str.{is_utf8}
+use Rattle.toml.specs.Data.{Members}
+use Rattle.toml.specs.Parse.{parse_document}
+use Rattle.chord_scenario.specs.declared.key.FileKey.TheVariants as key
+use Rattle.chord_scenario.specs.declared.setting.Node.{Node}
+use Rattle.chord_scenario.specs.declared.fault.ScenarioFault.{ScenarioFault}
+use Rattle.chord_scenario.specs.declared.fault.ScenarioFault.TheVariants.{NotToml, BadName, SameName, SameId, UnknownNode, TooFewInitial, TimeAfterEnd, BadLatencyRow, SelfLink, SameLinkTwice, LatencyBelowWindow}
+use Rattle.chord_scenario.specs.declared.key.Place.TheVariants as place
+use Rattle.chord_scenario.specs.Values.{number_at, text_at, holds_word}
+use Rattle.chord_scenario.specs.Sections.{Section, sections}
+use Rattle.chord_scenario.specs.Settings.{is_node, is_command, name_at, index_of, nodes_of}
+use Rattle.chord_scenario.specs.Rows.{Row, link_of, is_bad_row, name_one_pair, row_latency, rows_of}
+use Rattle.chord_scenario.specs.Search.{first_some, first_repeat, first_meeting, section_fault, row_fault}
+use Rattle.chord_scenario.specs.KeyFaults.{unknown_key, missing_key, wrong_type, out_of_range}
+
+-- a node's name has 1 to 32 letters, digits, `.`, `_` and `-`, and is not `audit`
+abbrev pub is_name_byte : ℕ → Bool
+is_name_byte b = is_ascii_alphanumeric b || b == 46 || b == 95 || b == 45
+
+unfoldable pub is_name : List ℕ → Bool
+is_name name = nat_le 1 (length name) && nat_le (length name) 32 && list_all is_name_byte name && not (bytes_eq name (codes "audit"))
+
+unfoldable pub bad_name : List Section → Option ScenarioFault
+bad_name ss = section_fault BadName (λ s. is_node s.at && not (is_name (name_at key.Name s.members))) ss
+
+-- two nodes have one name, or one identifier
+unfoldable pub same_name : List Node → Option ScenarioFault
+same_name nodes = option_map (λ p. SameName p.0.0 p.1.0) (first_repeat (λ x y. bytes_eq x.name y.name) [] nodes)
+
+unfoldable pub same_id : List Node → Option ScenarioFault
+same_id nodes = option_map (λ p. SameId p.0.1.name p.1.1.name) (first_repeat (λ x y. x.ident == y.ident) [] nodes)
+
+-- a command's `node` or `via`, or a name of a row, is no node's
+abbrev pub is_unknown : List Node → List ℕ → Bool
+is_unknown nodes name = is_none (index_of name nodes)
+
+abbrev pub command_names_unknown : List Node → Section → Bool
+command_names_unknown nodes s =
+    is_command s.at
+    && (is_unknown nodes (name_at key.Node s.members) || option_map_or (is_unknown nodes) (text_at key.Via s.members) false)
+
+abbrev pub row_names_unknown : List Node → Row → Bool
+row_names_unknown nodes r = option_map_or (λ l. is_unknown nodes l.first || is_unknown nodes l.second) (link_of r) false
+
+unfoldable pub unknown_node : List Node → List Section → List Row → Option ScenarioFault
+unknown_node nodes ss rows =
+    option_or (section_fault UnknownNode (command_names_unknown nodes) ss) (row_fault UnknownNode (row_names_unknown nodes) rows)
+
+-- fewer initial nodes than a successor list with its owner
+unfoldable pub too_few_initial : ℕ → List Node → Option ScenarioFault
+too_few_initial list nodes = if nat_lt (count_by (λ x. x.initial) nodes) (list + 1) then Some TooFewInitial else None
+
+-- a command after the end
+unfoldable pub time_after_end : ℕ → List Section → Option ScenarioFault
+time_after_end duration ss = section_fault TimeAfterEnd (λ s. is_command s.at && nat_le duration (number_at key.AtUs s.members)) ss
+
+unfoldable pub bad_latency_row : List Row → Option ScenarioFault
+bad_latency_row rows = row_fault BadLatencyRow is_bad_row rows
+
+-- a join by way of the node itself, or a row that names one node twice
+abbrev pub joins_itself : Section → Bool
+joins_itself s =
+    is_command s.at && holds_word key.Do (codes "join") s.members
+    && bytes_eq (name_at key.Node s.members) (name_at key.Via s.members)
+
+abbrev pub row_joins_itself : Row → Bool
+row_joins_itself r = option_map_or (λ l. bytes_eq l.first l.second) (link_of r) false
+
+unfoldable pub self_link : List Section → List Row → Option ScenarioFault
+self_link ss rows = option_or (section_fault SelfLink joins_itself ss) (row_fault SelfLink row_joins_itself rows)
+
+-- a row names the pair of an earlier one
+unfoldable pub same_link_twice : List Row → Option ScenarioFault
+same_link_twice rows = option_map (λ p. SameLinkTwice (place.Row p.1.0)) (first_repeat name_one_pair [] rows)
+
+-- two nodes are nearer than the window is long
+abbrev pub latency_by_rows : ℕ → List Row → Node → Node → ℕ
+latency_by_rows default rows x y = unwrap_or (row_latency x.name y.name rows) default
+
+unfoldable pub latency_below_window : ℕ → ℕ → List Node → List Row → Option ScenarioFault
+latency_below_window window default nodes rows =
+    option_map (λ p. LatencyBelowWindow p.0.name p.1.name)
+    (first_meeting (λ x y. nat_lt (latency_by_rows default rows x y) window) nodes)
+
+-- the questions in their order: of the keys, of the nodes, of the commands and rows, of the pairs that rows link
+abbrev pub key_questions : ℕ → ℕ → List Section → List (Option ScenarioFault)
+key_questions profile bits ss = unknown_key profile ss ∷ missing_key profile ss ∷ wrong_type profile ss ∷ out_of_range profile bits ss ∷ []
+
+abbrev pub node_questions : List Section → List Node → List (Option ScenarioFault)
+node_questions ss nodes = bad_name ss ∷ same_name nodes ∷ same_id nodes ∷ []
+
+abbrev pub link_questions : ℕ → ℕ → List Section → List Node → List Row → List (Option ScenarioFault)
+link_questions list duration ss nodes rows =
+    unknown_node nodes ss rows
+    ∷ too_few_initial list nodes
+    ∷ time_after_end duration ss
+    ∷ bad_latency_row rows
+    ∷ self_link ss rows
+    ∷ []
+
+abbrev pub pair_questions : ℕ → ℕ → List Node → List Row → List (Option ScenarioFault)
+pair_questions window default nodes rows = same_link_twice rows ∷ latency_below_window window default nodes rows ∷ []
+
+abbrev pub late_questions : Members → List Section → List Node → List Row → List (Option ScenarioFault)
+late_questions top ss nodes rows =
+    link_questions (number_at key.List top) (number_at key.DurationUs top) ss nodes rows
+    ++ pair_questions (number_at key.WindowUs top) (number_at key.LatencyUs top) nodes rows
+
+-- the first answer
+abbrev pub first_answer : List (Option ScenarioFault) → Option ScenarioFault
+first_answer = first_some (λ answer. answer)
+
+-- the fault of a file, if it has one
+unfoldable pub file_fault : Members → List Row → Option ScenarioFault
+file_fault top rows =
+    let ss = sections top in
+    let nodes = nodes_of (number_at key.Bits top) ss in
+    first_answer
+    (key_questions (number_at key.Profile top) (number_at key.Bits top) ss ++ node_questions ss nodes ++ late_questions top ss nodes rows)
+
+-- the table that a text is, where it is text and a TOML document
+unfoldable pub document : List ℕ → Option Members
+document text = if is_utf8 text then parse_document text else None
+
+-- the fault of two texts, if they have one
+unfoldable pub scenario_fault : List ℕ → List ℕ → Option ScenarioFault
+scenario_fault toml csv = option_map_or (λ top. file_fault top (rows_of csv)) (document toml) (Some NotToml)

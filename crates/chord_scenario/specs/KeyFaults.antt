@@ -1,0 +1,68 @@
+-- The faults of keys: one that is not listed, one that is missing, a value of another type, a value out of range.
+use Rattle.std.specs.Prelude.{ℕ, Bool, true, false, ◌&&◌, ◌||◌, not, unwrap_or, List, codes, bytes_eq, find, Option, is_none, option_map}
+use Rattle.std.specs.Option.{option_map_or}
+use Rattle.std.specs.List.{list_any}
+use Rattle.toml.specs.Data.{Members, no_members, member}
+use Rattle.chord_scenario.specs.declared.key.Place.{Place}
+use Rattle.chord_scenario.specs.declared.key.FileKey.{FileKey}
+use Rattle.chord_scenario.specs.declared.key.FileKey.TheVariants as key
+use Rattle.chord_scenario.specs.declared.key.Presence.{Presence}
+use Rattle.chord_scenario.specs.declared.key.Presence.TheVariants.{Required, Optional, ForChurn, ForJoin, ForLookup}
+use Rattle.chord_scenario.specs.declared.key.Entry.{Entry}
+use Rattle.chord_scenario.specs.declared.fault.ScenarioFault.{ScenarioFault}
+use Rattle.chord_scenario.specs.declared.fault.ScenarioFault.TheVariants.{UnknownKey, MissingKey, WrongType, OutOfRange}
+use Rattle.chord_scenario.specs.Keys.{name_of, keys_at}
+use Rattle.chord_scenario.specs.Values.{data_at, truth_at, holds_word, as_whole, has_type, is_in_range, agrees}
+use Rattle.chord_scenario.specs.Sections.{Section}
+use Rattle.chord_scenario.specs.Search.{first_some, section_fault}
+use Rattle.chord_scenario.specs.Settings.{is_node}
+
+-- the first key of a section of which the test holds, and that of the first section with one
+abbrev pub key_fault_in : ℕ → (Place → FileKey → ScenarioFault) → (Section → Entry → Bool) → Section → Option ScenarioFault
+key_fault_in profile fault test s = option_map (λ e. fault s.at e.0) (find (test s) (keys_at profile s.at))
+
+abbrev pub key_fault : ℕ → (Place → FileKey → ScenarioFault) → (Section → Entry → Bool) → List Section → Option ScenarioFault
+key_fault profile fault test ss = first_some (key_fault_in profile fault test) ss
+
+-- a table has a key that is not listed for it
+abbrev pub is_listed : ℕ → Place → List ℕ → Bool
+is_listed profile p name = list_any (λ e. bytes_eq (name_of e.0) name) (keys_at profile p)
+
+abbrev pub has_unlisted : ℕ → Place → Members → Bool
+has_unlisted profile p no_members = false
+has_unlisted profile p (member name d ms) = not (is_listed profile p name) || has_unlisted profile p ms
+
+unfoldable pub unknown_key : ℕ → List Section → Option ScenarioFault
+unknown_key profile ss = section_fault UnknownKey (λ s. has_unlisted profile s.at s.members) ss
+
+-- a key that has to be there is not
+abbrev pub is_churn_section : Section → Bool
+is_churn_section s = is_node s.at && truth_at key.Churn s.members
+
+abbrev pub is_required : Bool → Section → Presence → Bool
+is_required churns s Required = true
+is_required churns s Optional = false
+is_required churns s ForChurn = churns
+is_required churns s ForJoin = holds_word key.Do (codes "join") s.members
+is_required churns s ForLookup = holds_word key.Do (codes "lookup") s.members
+
+abbrev pub is_missing : Bool → Section → Entry → Bool
+is_missing churns s e = is_required churns s e.2 && is_none (data_at e.0 s.members)
+
+unfoldable pub missing_key : ℕ → List Section → Option ScenarioFault
+missing_key profile ss = key_fault profile MissingKey (is_missing (list_any is_churn_section ss)) ss
+
+-- a value has another type
+abbrev pub has_wrong_type : Section → Entry → Bool
+has_wrong_type s e = option_map_or (λ d. not (has_type e.1 d)) (data_at e.0 s.members) false
+
+unfoldable pub wrong_type : ℕ → List Section → Option ScenarioFault
+wrong_type profile ss = key_fault profile WrongType has_wrong_type ss
+
+-- a value is outside its range, or does not agree with another of its table
+abbrev pub is_out_of_range : ℕ → Section → Entry → Bool
+is_out_of_range bits s e =
+    option_map_or (λ d. not (is_in_range bits e.1 d && agrees s.members e.0 (unwrap_or (as_whole d) 0))) (data_at e.0 s.members) false
+
+unfoldable pub out_of_range : ℕ → ℕ → List Section → Option ScenarioFault
+out_of_range profile bits ss = key_fault profile OutOfRange (is_out_of_range bits) ss

@@ -1,0 +1,32 @@
+-- How the first fault is found among many.
+use Rattle.std.specs.Prelude.{ℕ, ◌+◌, Bool, List, [], ◌∷◌, ◌++◌, length, find, Option, None, option_map}
+use Rattle.std.specs.Option.{option_or}
+use Rattle.std.specs.List.{enumerate_from}
+use Rattle.chord_scenario.specs.declared.key.Place.{Place}
+use Rattle.chord_scenario.specs.declared.key.Place.TheVariants as place
+use Rattle.chord_scenario.specs.declared.fault.ScenarioFault.{ScenarioFault}
+use Rattle.chord_scenario.specs.Sections.{Section}
+
+-- the first answer of a question asked of each in turn
+abbrev pub first_some : {A B : Type 0} → (A → Option B) → List A → Option B
+first_some ask [] = None
+first_some ask (x ∷ xs) = option_or (ask x) (first_some ask xs)
+
+-- the first that is like one of those before it, with the first such one; each with its number, from 1
+abbrev pub first_repeat : {A : Type 0} → (A → A → Bool) → List A → List A → Option ((ℕ × A) × (ℕ × A))
+first_repeat alike before [] = None
+first_repeat alike before (y ∷ ys) =
+    option_or (option_map (λ x. (x, (length before + 1, y))) (find (λ x. alike x.1 y) (enumerate_from 1 before)))
+    (first_repeat alike (before ++ y ∷ []) ys)
+
+-- the first that meets one of those after it, with the first such one
+abbrev pub first_meeting : {A : Type 0} → (A → A → Bool) → List A → Option (A × A)
+first_meeting meets [] = None
+first_meeting meets (x ∷ xs) = option_or (option_map (λ y. (x, y)) (find (meets x) xs)) (first_meeting meets xs)
+
+-- the fault of the first table, or row, of which a test holds
+abbrev pub section_fault : (Place → ScenarioFault) → (Section → Bool) → List Section → Option ScenarioFault
+section_fault fault test ss = option_map (λ s. fault s.at) (find test ss)
+
+abbrev pub row_fault : {A : Type 0} → (Place → ScenarioFault) → (A → Bool) → List A → Option ScenarioFault
+row_fault fault test rows = option_map (λ p. fault (place.Row p.0)) (find (λ p. test p.1) (enumerate_from 1 rows))

@@ -1,0 +1,87 @@
+-- What a scenario file sets: its nodes and commands, its numbers with their defaults.
+use Rattle.std.specs.Prelude.{ℕ, ◌+◌, ◌^◌, Bool, true, false, List, [], ◌∷◌, codes, map, filter, bytes_eq, nat_lt, Option, Some, None, option_map, option_and_then, unwrap_or, if◌then◌else◌}
+use Rattle.chord_circle.specs.Names.{ident_of_name}
+use Rattle.toml.specs.Data.{Members, as_table}
+use Rattle.chord_scenario.specs.declared.key.Place.{Place}
+use Rattle.chord_scenario.specs.declared.key.Place.TheVariants as place
+use Rattle.chord_scenario.specs.declared.key.FileKey.{FileKey}
+use Rattle.chord_scenario.specs.declared.key.FileKey.TheVariants as key
+use Rattle.chord_scenario.specs.declared.setting.Node.{Node}
+use Rattle.chord_scenario.specs.declared.setting.Span.{Span}
+use Rattle.chord_scenario.specs.declared.setting.Churn.{Churn}
+use Rattle.chord_scenario.specs.declared.setting.Command.{Command}
+use Rattle.chord_scenario.specs.declared.setting.Action.{Action}
+use Rattle.chord_scenario.specs.declared.setting.Action.TheVariants.{Join, Crash, Lookup}
+use Rattle.chord_scenario.specs.Values.{data_at, number_at, truth_at, text_at, holds_word, as_whole, identifier_of}
+use Rattle.chord_scenario.specs.Sections.{Section}
+
+abbrev pub number_or : ℕ → FileKey → Members → ℕ
+number_or default k ms = unwrap_or (option_and_then as_whole (data_at k ms)) default
+
+-- a number that is a place on a circle of this many bits
+abbrev pub on_circle : (bits : ℕ) → ℕ → Option ℕ
+on_circle bits n = if nat_lt n (2 ^ bits) then Some n else None
+
+-- the identifier at a key, where the key holds one of the circle
+abbrev pub identifier_at : (bits : ℕ) → FileKey → Members → Option ℕ
+identifier_at bits k ms = option_and_then (on_circle bits) (option_and_then identifier_of (data_at k ms))
+
+abbrev pub name_at : FileKey → Members → List ℕ
+name_at k ms = unwrap_or (text_at k ms) []
+
+-- a node; its identifier comes from its name where none is given
+unfoldable pub node_of : (bits : ℕ) → Members → Node
+node_of bits ms = record {
+  name = name_at key.Name ms;
+  ident = unwrap_or (identifier_at bits key.Id ms) (ident_of_name bits (name_at key.Name ms));
+  initial = truth_at key.Initial ms;
+  churn = truth_at key.Churn ms;
+}
+
+abbrev pub is_node : Place → Bool
+is_node (place.Node n) = true
+is_node _ = false
+
+abbrev pub is_command : Place → Bool
+is_command (place.Command n) = true
+is_command _ = false
+
+-- the nodes of a file, in order
+unfoldable pub nodes_of : (bits : ℕ) → List Section → List Node
+nodes_of bits ss = map (λ s. node_of bits s.members) (filter (λ s. is_node s.at) ss)
+
+-- the number, from n, of the first node of this name
+abbrev pub index_from : ℕ → List ℕ → List Node → Option ℕ
+index_from n name [] = None
+index_from n name (x ∷ xs) = if bytes_eq name x.name then Some n else index_from (n + 1) name xs
+
+abbrev pub index_of : List ℕ → List Node → Option ℕ
+index_of name nodes = index_from 0 name nodes
+
+-- the number of the node that a key names
+abbrev pub node_at : FileKey → List Node → Members → ℕ
+node_at k nodes ms = unwrap_or (index_of (name_at k ms) nodes) 0
+
+abbrev pub action_of : (bits : ℕ) → List Node → Members → Action
+action_of bits nodes ms =
+    if holds_word key.Do (codes "join") ms then Join (node_at key.Via nodes ms)
+    else if holds_word key.Do (codes "crash") ms then Crash
+    else Lookup (unwrap_or (identifier_at bits key.Key ms) 0)
+
+unfoldable pub command_of : (bits : ℕ) → List Node → Members → Command
+command_of bits nodes ms = record { at = number_at key.AtUs ms; node = node_at key.Node nodes ms; action = action_of bits nodes ms }
+
+-- the commands of a file, in order
+unfoldable pub commands_of : (bits : ℕ) → List Node → List Section → List Command
+commands_of bits nodes ss = map (λ s. command_of bits nodes s.members) (filter (λ s. is_command s.at) ss)
+
+abbrev pub span_of : FileKey → FileKey → Members → Span
+span_of least greatest ms = record { least = number_at least ms; greatest = number_at greatest ms }
+
+unfoldable pub churn_of : Members → Option Churn
+churn_of top =
+    option_map (λ ms. record { life = span_of key.LifeMinUs key.LifeMaxUs ms; down = span_of key.DownMinUs key.DownMaxUs ms })
+    (option_and_then as_table (data_at key.Churn top))
+
+unfoldable pub lookups_of : Members → Option Span
+lookups_of top = option_map (span_of key.GapMinUs key.GapMaxUs) (option_and_then as_table (data_at key.Lookups top))

@@ -1,0 +1,147 @@
+//! The commands and the periods of a scenario file.
+
+ghost use Rattle.std.specs.Prelude.{◌≡◌, ◌<◌, ◌^◌, IfOk, map, option_map, option_and_then, unwrap_or};
+ghost use Rattle.toml.specs.Data.{as_table};
+ghost use Rattle.chord_scenario.specs.declared.key.FileKey.TheVariants as key;
+ghost use Rattle.chord_scenario.specs.Values.{data_at, number_at};
+ghost use Rattle.toml.specs.View.{table_view};
+ghost use Rattle.chord_scenario.specs.Sections.{section_of};
+ghost use Rattle.chord_scenario.specs.Settings.{identifier_at, node_at, action_of, commands_of, number_or, span_of, churn_of, lookups_of};
+
+use crate::index::Names;
+use crate::key::{FileKey, Place};
+use crate::node::{identifier_at, name_at};
+use crate::section::PlacedTable;
+use crate::setting::{Action, Churn, Command, Span};
+use crate::value::{holds_word, number_at, value_at, whole};
+use chord_circle::{Circle, Ident};
+use std::alloc::{AllocError, Global};
+use toml::Table;
+
+/// The number of the node that a key names.
+fn node_at(names: &Names<'_>, table: &Table, key: FileKey) -> u32
+    ensures { result ≡ node_at key names.now.nodes.now (table_view table.now) }
+{
+    names.number_of(name_at(table, key).as_bytes()).unwrap_or(0)
+}
+
+/// The key that a command looks up, and 0 where it has none.
+fn key_of(circle: Circle, table: &Table) -> Ident
+    ensures { result ≡ unwrap_or (identifier_at circle key.Key (table_view table.now)) 0 }
+{
+    match identifier_at(circle, table, FileKey::Key) {
+        Some(key) => key,
+        None => circle.low_bits(0),
+    }
+}
+
+/// What a command asks of its node.
+fn action_of(circle: Circle, names: &Names<'_>, table: &Table) -> Action
+    ensures { result ≡ action_of circle names.now.nodes.now (table_view table.now) }
+{
+    if holds_word(table, FileKey::Do, "join") {
+        Action::Join {
+            via: node_at(names, table, FileKey::Via),
+        }
+    } else if holds_word(table, FileKey::Do, "crash") {
+        Action::Crash
+    } else {
+        Action::Lookup {
+            key: key_of(circle, table),
+        }
+    }
+}
+
+/// The command that a table describes, which asks this.
+fn command_that(names: &Names<'_>, table: &Table, action: Action) -> Command
+    ensures { result ≡ record { at = number_at key.AtUs (table_view table.now); node = node_at key.Node names.now.nodes.now (table_view table.now); action = action } }
+{
+    Command {
+        at: number_at(table, FileKey::AtUs),
+        node: node_at(names, table, FileKey::Node),
+        action,
+    }
+}
+
+/// The commands of a file, in order.
+#[tactic(auto, unfolding(crate::specs::Settings::commands_of, crate::specs::Settings::command_of))]
+pub(crate) fn commands(
+    alloc: Global,
+    circle: Circle,
+    names: &Names<'_>,
+    tables: &[PlacedTable<'_>],
+) -> Result<Vec<Command>, AllocError>
+    ensures { IfOk result (λ v. v.items ≡ commands_of circle names.now.nodes.now (map section_of tables.now)) }
+{
+    let mut commands = Vec::new(alloc);
+    for table in tables {
+        if let Place::Command(_) = table.at {
+            let action = action_of(circle, names, table.table);
+            commands.push(command_that(names, table.table, action))?;
+        }
+    }
+    Ok(commands)
+}
+
+/// The number at a key that is known to be small.
+pub(crate) fn small_number_at(table: &Table, key: FileKey) -> u32
+    requires { number_at key (table_view table.now) < 2 ^ 32 }
+    ensures { result ≡ number_at key (table_view table.now) }
+{
+    number_at(table, key) as u32
+}
+
+/// The number at a key, and another one where the key holds none.
+pub(crate) fn number_or(table: &Table, key: FileKey, default: u64) -> u64
+    ensures { result ≡ number_or default key (table_view table.now) }
+{
+    match value_at(table, key) {
+        Some(value) => whole(value).unwrap_or(default),
+        None => default,
+    }
+}
+
+/// The numbers from the one at a key to the one at another.
+fn span_of(table: &Table, least: FileKey, greatest: FileKey) -> Span
+    ensures { result ≡ span_of least greatest (table_view table.now) }
+{
+    Span {
+        least: number_at(table, least),
+        greatest: number_at(table, greatest),
+    }
+}
+
+/// The table at a key, if the key holds one.
+fn table_at<'a>(table: &'a Table, key: FileKey) -> Option<&'a Table>
+    ensures { option_map (λ t. table_view t.now) result ≡ option_and_then as_table (data_at key (table_view table.now)) }
+{
+    match value_at(table, key) {
+        Some(value) => value.as_table(),
+        None => None,
+    }
+}
+
+/// How long nodes live and stay down, if the file says so.
+#[tactic(auto, unfolding(crate::specs::Settings::churn_of))]
+pub(crate) fn churn_of(top: &Table) -> Option<Churn>
+    ensures { result ≡ churn_of (table_view top.now) }
+{
+    match table_at(top, FileKey::Churn) {
+        Some(table) => Some(Churn {
+            life: span_of(table, FileKey::LifeMinUs, FileKey::LifeMaxUs),
+            down: span_of(table, FileKey::DownMinUs, FileKey::DownMaxUs),
+        }),
+        None => None,
+    }
+}
+
+/// How long a node waits between its own lookups, if the file says so.
+#[tactic(auto, unfolding(crate::specs::Settings::lookups_of))]
+pub(crate) fn lookups_of(top: &Table) -> Option<Span>
+    ensures { result ≡ lookups_of (table_view top.now) }
+{
+    match table_at(top, FileKey::Lookups) {
+        Some(table) => Some(span_of(table, FileKey::GapMinUs, FileKey::GapMaxUs)),
+        None => None,
+    }
+}

@@ -1,0 +1,192 @@
+//! The faults of keys: unknown, missing, of another type, out of range.
+
+ghost use Rattle.std.specs.Prelude.{◌≡◌, map, not, string_bytes};
+ghost use Rattle.std.specs.List.{list_any};
+ghost use Rattle.std.specs.BTreeMap.{keys};
+ghost use Rattle.toml.specs.View.{table_view};
+ghost use Rattle.chord_scenario.specs.Sections.{section_of};
+ghost use Rattle.chord_scenario.specs.declared.fault.ScenarioFault.TheVariants.{MissingKey, WrongType, OutOfRange};
+ghost use Rattle.chord_scenario.specs.KeyFaults.{key_fault_in, is_listed, has_unlisted, unknown_key, is_churn_section, is_required, is_missing, missing_key, has_wrong_type, wrong_type, is_out_of_range, out_of_range};
+
+use crate::fault::ScenarioFault;
+use crate::key::{Entry, FileKey, Place, Presence, keys_at};
+use crate::section::PlacedTable;
+use crate::value::{agrees, has_type, holds_word, is_in_range, truth_at, value_at, whole};
+use toml::Table;
+
+/// Whether the table at a place may have this key.
+fn is_listed(profile: u64, at: Place, name: &str) -> bool
+    ensures { result ≡ is_listed profile at name.now }
+{
+    keys_at(profile, at)
+        .iter()
+        .any(|entry| entry.0.name() == name)
+}
+
+/// Whether one of the names in a table is not listed for its place.
+fn has_unlisted_name(profile: u64, at: Place, table: &Table) -> bool
+    ensures { result ≡ list_any (λ k. not (is_listed profile at (string_bytes k))) (keys table.now) }
+{
+    table
+        .keys()
+        .any(|name| !is_listed(profile, at, name.as_str()))
+}
+
+/// Whether a table has a key that is not listed for its place.
+fn has_unlisted(profile: u64, at: Place, table: &Table) -> bool
+    ensures { result ≡ has_unlisted profile at (table_view table.now) }
+{
+    has_unlisted_name(profile, at, table)
+}
+
+/// The first table with a key that is not listed for its place.
+#[tactic(auto, unfolding(crate::specs::KeyFaults::unknown_key))]
+pub(crate) fn unknown_key(profile: u64, tables: &[PlacedTable<'_>]) -> Option<ScenarioFault>
+    ensures { result ≡ unknown_key profile (map section_of tables.now) }
+{
+    for table in tables {
+        if has_unlisted(profile, table.at, table.table) {
+            return Some(ScenarioFault::UnknownKey(table.at));
+        }
+    }
+    None
+}
+
+/// Whether a table is a node that churns.
+fn is_churn_section(table: &PlacedTable<'_>) -> bool
+    ensures { result ≡ is_churn_section (section_of table.now) }
+{
+    matches!(table.at, Place::Node(_)) && truth_at(table.table, FileKey::Churn)
+}
+
+/// Whether some node churns.
+fn has_churn_node(tables: &[PlacedTable<'_>]) -> bool
+    ensures { result ≡ list_any is_churn_section (map section_of tables.now) }
+{
+    for table in tables {
+        if is_churn_section(table) {
+            return true;
+        }
+    }
+    false
+}
+
+/// Whether a key has to be there.
+fn is_required(churns: bool, table: &PlacedTable<'_>, presence: Presence) -> bool
+    ensures { result ≡ is_required churns (section_of table.now) presence }
+{
+    match presence {
+        Presence::Required => true,
+        Presence::Optional => false,
+        Presence::ForChurn => churns,
+        Presence::ForJoin => holds_word(table.table, FileKey::Do, "join"),
+        Presence::ForLookup => holds_word(table.table, FileKey::Do, "lookup"),
+    }
+}
+
+/// Whether a key has to be there and is not.
+fn is_missing(churns: bool, table: &PlacedTable<'_>, entry: &Entry) -> bool
+    ensures { result ≡ is_missing churns (section_of table.now) entry.now }
+{
+    is_required(churns, table, entry.2) && value_at(table.table, entry.0).is_none()
+}
+
+/// The first key of a table that has to be there and is not.
+fn missing_in(profile: u64, churns: bool, table: &PlacedTable<'_>) -> Option<ScenarioFault>
+    ensures { result ≡ key_fault_in profile MissingKey (is_missing churns) (section_of table.now) }
+{
+    let mut keys = keys_at(profile, table.at).iter();
+    match keys.find(|entry| is_missing(churns, table, entry)) {
+        Some(entry) => Some(ScenarioFault::MissingKey(table.at, entry.0)),
+        None => None,
+    }
+}
+
+/// The first key that has to be there and is not.
+#[tactic(auto, unfolding(crate::specs::KeyFaults::missing_key))]
+pub(crate) fn missing_key(profile: u64, tables: &[PlacedTable<'_>]) -> Option<ScenarioFault>
+    ensures { result ≡ missing_key profile (map section_of tables.now) }
+{
+    let churns = has_churn_node(tables);
+    for table in tables {
+        if let Some(fault) = missing_in(profile, churns, table) {
+            return Some(fault);
+        }
+    }
+    None
+}
+
+/// Whether a value has another type than its key wants.
+fn has_wrong_type(table: &PlacedTable<'_>, entry: &Entry) -> bool
+    ensures { result ≡ has_wrong_type (section_of table.now) entry.now }
+{
+    match value_at(table.table, entry.0) {
+        Some(value) => !has_type(entry.1, value),
+        None => false,
+    }
+}
+
+/// The first key of a table whose value has another type.
+fn wrong_type_in(profile: u64, table: &PlacedTable<'_>) -> Option<ScenarioFault>
+    ensures { result ≡ key_fault_in profile WrongType has_wrong_type (section_of table.now) }
+{
+    let mut keys = keys_at(profile, table.at).iter();
+    match keys.find(|entry| has_wrong_type(table, entry)) {
+        Some(entry) => Some(ScenarioFault::WrongType(table.at, entry.0)),
+        None => None,
+    }
+}
+
+/// The first value that has another type than its key wants.
+#[tactic(auto, unfolding(crate::specs::KeyFaults::wrong_type))]
+pub(crate) fn wrong_type(profile: u64, tables: &[PlacedTable<'_>]) -> Option<ScenarioFault>
+    ensures { result ≡ wrong_type profile (map section_of tables.now) }
+{
+    for table in tables {
+        if let Some(fault) = wrong_type_in(profile, table) {
+            return Some(fault);
+        }
+    }
+    None
+}
+
+/// Whether a value is outside its range, or does not agree with another of its table.
+fn is_out_of_range(bits: u64, table: &PlacedTable<'_>, entry: &Entry) -> bool
+    ensures { result ≡ is_out_of_range bits (section_of table.now) entry.now }
+{
+    match value_at(table.table, entry.0) {
+        Some(value) => {
+            !(is_in_range(bits, entry.1, value)
+                && agrees(table.table, entry.0, whole(value).unwrap_or(0)))
+        }
+        None => false,
+    }
+}
+
+/// The first key of a table whose value is outside its range.
+fn out_of_range_in(profile: u64, bits: u64, table: &PlacedTable<'_>) -> Option<ScenarioFault>
+    ensures { result ≡ key_fault_in profile OutOfRange (is_out_of_range bits) (section_of table.now) }
+{
+    let mut keys = keys_at(profile, table.at).iter();
+    match keys.find(|entry| is_out_of_range(bits, table, entry)) {
+        Some(entry) => Some(ScenarioFault::OutOfRange(table.at, entry.0)),
+        None => None,
+    }
+}
+
+/// The first value that is outside its range, on a circle of this many bits.
+#[tactic(auto, unfolding(crate::specs::KeyFaults::out_of_range))]
+pub(crate) fn out_of_range(
+    profile: u64,
+    bits: u64,
+    tables: &[PlacedTable<'_>],
+) -> Option<ScenarioFault>
+    ensures { result ≡ out_of_range profile bits (map section_of tables.now) }
+{
+    for table in tables {
+        if let Some(fault) = out_of_range_in(profile, bits, table) {
+            return Some(fault);
+        }
+    }
+    None
+}

@@ -1,0 +1,86 @@
+//! The nodes of a scenario file.
+
+ghost use Rattle.std.specs.Prelude.{◌≡◌, ◌<◌, ◌^◌, IfOk, IfSome, map, option_and_then};
+ghost use Rattle.std.specs.List.{All};
+ghost use Rattle.chord_scenario.specs.Values.{data_at, identifier_of};
+ghost use Rattle.toml.specs.View.{table_view};
+ghost use Rattle.chord_scenario.specs.Sections.{section_of};
+ghost use Rattle.chord_scenario.specs.Settings.{identifier_at, name_at, node_of, nodes_of};
+
+use crate::key::{FileKey, Place};
+use crate::name::Name;
+use crate::section::PlacedTable;
+use crate::setting::Node;
+use crate::value::{identifier_of, truth_at, value_at};
+use chord_circle::{Circle, Ident};
+use std::alloc::{AllocError, Global};
+use toml::Table;
+
+/// The number of the identifier at a key, if the key holds one.
+fn identifier_number(table: &Table, key: FileKey) -> Option<u64>
+    ensures { result ≡ option_and_then identifier_of (data_at key (table_view table.now)) }
+{
+    match value_at(table, key) {
+        Some(value) => identifier_of(value),
+        None => None,
+    }
+}
+
+/// The identifier at a key, if the key holds one of the circle.
+pub(crate) fn identifier_at(circle: Circle, table: &Table, key: FileKey) -> Option<Ident>
+    ensures value { result ≡ identifier_at circle key (table_view table.now) }
+    ensures on_circle { IfSome result (λ ident. ident < 2 ^ circle) }
+{
+    match identifier_number(table, key) {
+        Some(number) => circle.ident(number),
+        None => None,
+    }
+}
+
+/// The text at a key, and the empty text where the key holds none.
+pub(crate) fn name_at<'a>(table: &'a Table, key: FileKey) -> &'a str
+    ensures { result.now ≡ name_at key (table_view table.now) }
+{
+    match value_at(table, key) {
+        Some(value) => value.as_str().unwrap_or(""),
+        None => "",
+    }
+}
+
+/// The node that a table describes.
+#[tactic(auto, unfolding(crate::specs::Settings::node_of))]
+fn node(alloc: Global, circle: Circle, table: &Table) -> Result<Node, AllocError>
+    ensures value { IfOk result (λ n. n ≡ node_of circle (table_view table.now)) }
+    ensures on_circle { IfOk result (λ n. n.ident < 2 ^ circle) }
+{
+    let name = name_at(table, FileKey::Name);
+    let ident = match identifier_at(circle, table, FileKey::Id) {
+        Some(ident) => ident,
+        None => circle.ident_of_name(name.as_bytes()),
+    };
+    Ok(Node {
+        name: Name::new(alloc, name)?,
+        ident,
+        initial: truth_at(table, FileKey::Initial),
+        churn: truth_at(table, FileKey::Churn),
+    })
+}
+
+/// The nodes of a file, in order.
+#[tactic(auto, unfolding(crate::specs::Settings::nodes_of))]
+pub(crate) fn nodes(
+    alloc: Global,
+    circle: Circle,
+    tables: &[PlacedTable<'_>],
+) -> Result<Vec<Node>, AllocError>
+    ensures value { IfOk result (λ v. v.items ≡ nodes_of circle (map section_of tables.now)) }
+    ensures on_circle { IfOk result (λ v. All (λ n. n.ident < 2 ^ circle) v.items) }
+{
+    let mut nodes = Vec::new(alloc);
+    for table in tables {
+        if let Place::Node(_) = table.at {
+            nodes.push(node(alloc, circle, table.table)?)?;
+        }
+    }
+    Ok(nodes)
+}

@@ -1,0 +1,122 @@
+//! The faults of nodes: a bad name, one name twice, one identifier twice, too few that begin as members.
+
+ghost use Rattle.std.specs.Prelude.{◌≡◌, IfOk, map, find, option_map, option_copied, bytes_eq, ◌==◌, count_by};
+ghost use Rattle.std.specs.List.{list_all, enumerate_from};
+ghost use Rattle.chord_scenario.specs.Sections.{section_of};
+ghost use Rattle.chord_scenario.specs.Faults.{is_name_byte, is_name, bad_name, same_name, same_id, too_few_initial};
+
+use crate::fault::ScenarioFault;
+use crate::key::{FileKey, Place};
+use crate::name::Name;
+use crate::node::name_at;
+use crate::section::PlacedTable;
+use crate::setting::Node;
+use chord_circle::Ident;
+use std::alloc::{AllocError, Global};
+
+/// Whether a byte may stand in a name.
+fn is_name_byte(byte: u8) -> bool
+    ensures { result ≡ is_name_byte byte }
+{
+    byte.is_ascii_alphanumeric() || byte == b'.' || byte == b'_' || byte == b'-'
+}
+
+/// Whether each byte may stand in a name.
+fn are_name_bytes(bytes: &[u8]) -> bool
+    ensures { result ≡ list_all is_name_byte bytes.now }
+{
+    bytes.iter().all(|byte| is_name_byte(*byte))
+}
+
+/// Whether a text is a name.
+#[tactic(auto, unfolding(crate::specs::Faults::is_name))]
+fn is_name(name: &str) -> bool
+    ensures { result ≡ is_name name.now }
+{
+    let bytes = name.as_bytes();
+    1 <= bytes.len() && bytes.len() <= 32 && are_name_bytes(bytes) && name != "audit"
+}
+
+/// The first node whose name is no name.
+#[tactic(auto, unfolding(crate::specs::Faults::bad_name))]
+pub(crate) fn bad_name(tables: &[PlacedTable<'_>]) -> Option<ScenarioFault>
+    ensures { result ≡ bad_name (map section_of tables.now) }
+{
+    for table in tables {
+        if matches!(table.at, Place::Node(_)) && !is_name(name_at(table.table, FileKey::Name)) {
+            return Some(ScenarioFault::BadName(table.at));
+        }
+    }
+    None
+}
+
+/// The number, from 1, of the first node of this name.
+fn namesake(nodes: &[Node], name: &Name) -> Option<usize>
+    ensures { result ≡ option_map (λ p. p.0) (find (λ p. bytes_eq p.1.name name.now) (enumerate_from 1 nodes.now)) }
+{
+    for (i, node) in nodes.iter().enumerate() {
+        if node.name.as_str() == name.as_str() {
+            return Some(i + 1);
+        }
+    }
+    None
+}
+
+/// The first node that has the name of an earlier one.
+#[tactic(auto, unfolding(crate::specs::Faults::same_name))]
+pub(crate) fn same_name(nodes: &[Node]) -> Option<ScenarioFault>
+    ensures { result ≡ same_name nodes.now }
+{
+    for (j, node) in nodes.iter().enumerate() {
+        if let Some(earlier) = namesake(&nodes[..j], &node.name) {
+            return Some(ScenarioFault::SameName(earlier, j + 1));
+        }
+    }
+    None
+}
+
+/// The first node of this identifier.
+fn node_at_ident(nodes: &[Node], ident: Ident) -> Option<&Node>
+    ensures { option_copied result ≡ option_map (λ p. p.1) (find (λ p. p.1.ident == ident) (enumerate_from 1 nodes.now)) }
+{
+    for node in nodes {
+        if node.ident == ident {
+            return Some(node);
+        }
+    }
+    None
+}
+
+/// The first node that has the identifier of an earlier one.
+#[tactic(auto, unfolding(crate::specs::Faults::same_id))]
+pub(crate) fn same_id(alloc: Global, nodes: &[Node]) -> Result<Option<ScenarioFault>, AllocError>
+    ensures { IfOk result (λ found. found ≡ same_id nodes.now) }
+{
+    for (j, node) in nodes.iter().enumerate() {
+        if let Some(earlier) = node_at_ident(&nodes[..j], node.ident) {
+            let first = Name::new(alloc, earlier.name.as_str())?;
+            let second = Name::new(alloc, node.name.as_str())?;
+            return Ok(Some(ScenarioFault::SameId(first, second)));
+        }
+    }
+    Ok(None)
+}
+
+/// How many nodes begin as members.
+fn initial_count(nodes: &[Node]) -> usize
+    ensures { result ≡ count_by (λ x. x.initial) nodes.now }
+{
+    nodes.iter().filter(|node| node.initial).count()
+}
+
+/// Whether fewer nodes begin as members than a successor list of this length has with its owner.
+#[tactic(auto, unfolding(crate::specs::Faults::too_few_initial))]
+pub(crate) fn too_few_initial(list: u64, nodes: &[Node]) -> Option<ScenarioFault>
+    ensures { result ≡ too_few_initial list nodes.now }
+{
+    if initial_count(nodes) as u64 <= list {
+        Some(ScenarioFault::TooFewInitial)
+    } else {
+        None
+    }
+}

@@ -1,0 +1,216 @@
+//! The reader of scenarios.
+
+ghost use Rattle.std.specs.Prelude.{◌≡◌, ◌⊎◌, Some, None, IfOk, IfErr, map, length, ◌≤◌};
+ghost use Rattle.chord_scenario.specs.declared.key.FileKey.TheVariants as key;
+ghost use Rattle.chord_scenario.specs.Values.{number_at};
+ghost use Rattle.toml.specs.View.{table_view};
+ghost use Rattle.chord_scenario.specs.Rows.{rows_of};
+ghost use Rattle.chord_scenario.specs.Sections.{section_of};
+ghost use Rattle.chord_scenario.specs.Latencies.{HasLatencies};
+ghost use Rattle.chord_scenario.specs.Settings.{commands_of};
+ghost use Rattle.chord_scenario.specs.Faults.{key_questions, node_questions, link_questions, late_questions, first_answer, same_name, bad_latency_row, file_fault, scenario_fault};
+ghost use Rattle.chord_scenario.specs.Range.{IsInRange};
+ghost use Rattle.chord_scenario.specs.Accepted.{setup_with, IsSetupOf, Accepts};
+
+use crate::command::{churn_of, commands, lookups_of, number_or, small_number_at};
+use crate::document::document;
+use crate::fault::ScenarioFault;
+use crate::index::Names;
+use crate::key::FileKey;
+use crate::keys_check::{missing_key, out_of_range, unknown_key, wrong_type};
+use crate::latency::latencies;
+use crate::link_check::{bad_latency_row, self_link, time_after_end, unknown_node};
+use crate::nearness::latency_below_window;
+use crate::node::nodes;
+use crate::node_check::{bad_name, same_id, same_name, too_few_initial};
+use crate::row::Rows;
+use crate::scenario::Scenario;
+use crate::section::{PlacedTable, tables_in};
+use crate::setting::{Command, Node};
+use crate::value::number_at;
+use chord_circle::Circle;
+use std::alloc::{AllocError, Global};
+use toml::Table;
+
+/// The first fault of keys, on a circle of this many bits.
+fn key_fault(profile: u64, bits: u64, tables: &[PlacedTable<'_>]) -> Option<ScenarioFault>
+    ensures { result ≡ first_answer (key_questions profile bits (map section_of tables.now)) }
+{
+    if let Some(fault) = unknown_key(profile, tables) {
+        return Some(fault);
+    }
+    if let Some(fault) = missing_key(profile, tables) {
+        return Some(fault);
+    }
+    if let Some(fault) = wrong_type(profile, tables) {
+        return Some(fault);
+    }
+    out_of_range(profile, bits, tables)
+}
+
+/// The first fault of nodes.
+fn node_fault(
+    alloc: Global,
+    tables: &[PlacedTable<'_>],
+    nodes: &[Node],
+) -> Result<Option<ScenarioFault>, AllocError>
+    ensures { IfOk result (λ found. found ≡ first_answer (node_questions (map section_of tables.now) nodes.now)) }
+{
+    if let Some(fault) = bad_name(tables) {
+        return Ok(Some(fault));
+    }
+    if let Some(fault) = same_name(nodes) {
+        return Ok(Some(fault));
+    }
+    same_id(alloc, nodes)
+}
+
+/// The first fault of commands and rows, each for itself.
+fn link_fault(
+    list: u64,
+    duration: u64,
+    tables: &[PlacedTable<'_>],
+    rows: &Rows<'_>,
+) -> Option<ScenarioFault>
+    ensures { result ≡ first_answer (link_questions list duration (map section_of tables.now) rows.now.names.nodes.now (rows_of rows.now.text.now)) }
+{
+    if let Some(fault) = unknown_node(tables, rows) {
+        return Some(fault);
+    }
+    if let Some(fault) = too_few_initial(list, rows.names.nodes) {
+        return Some(fault);
+    }
+    if let Some(fault) = time_after_end(duration, tables) {
+        return Some(fault);
+    }
+    if let Some(fault) = bad_latency_row(rows) {
+        return Some(fault);
+    }
+    self_link(tables, rows)
+}
+
+/// The commands of a scenario, and the square of its latencies.
+#[derive(Drop)]
+struct Linked {
+    commands: Vec<Command>,
+    cells: Vec<u32>,
+}
+
+/// The commands and the square of latencies, or the first fault of commands and rows.
+fn link_nodes(
+    alloc: Global,
+    circle: Circle,
+    top: &Table,
+    tables: &[PlacedTable<'_>],
+    nodes: &[Node],
+    csv: &[u8],
+) -> Result<Linked, ScenarioFault>
+    requires few { length nodes.now ≤ 512 }
+    requires distinct { same_name nodes.now ≡ None }
+    ensures sound { IfOk result (λ _. first_answer (late_questions (table_view top.now) (map section_of tables.now) nodes.now (rows_of csv.now)) ≡ None) }
+    ensures good { IfOk result (λ _. bad_latency_row (rows_of csv.now) ≡ None) }
+    ensures commands { IfOk result (λ l. l.commands.items ≡ commands_of circle nodes.now (map section_of tables.now)) }
+    ensures square { IfOk result (λ l. HasLatencies nodes.now (rows_of csv.now) l.cells.items) }
+    ensures refused { IfErr result (λ e. (e ≡ ScenarioFault.Memory) ⊎ (first_answer (late_questions (table_view top.now) (map section_of tables.now) nodes.now (rows_of csv.now)) ≡ Some e)) }
+{
+    let rows = Rows::read(alloc, Names::new(alloc, nodes)?, csv)?;
+    let list = number_at(top, FileKey::List);
+    let duration = number_at(top, FileKey::DurationUs);
+    if let Some(fault) = link_fault(list, duration, tables, &rows) {
+        return Err(fault);
+    }
+    let cells = latencies(alloc, &rows)?;
+    let window = number_at(top, FileKey::WindowUs);
+    let default = number_at(top, FileKey::LatencyUs);
+    if let Some(fault) = latency_below_window(
+        alloc,
+        nodes,
+        &rows,
+        cells.as_slice(),
+        default,
+        window,
+    )? {
+        return Err(fault);
+    }
+    let commands = commands(alloc, circle, &rows.names, tables)?;
+    Ok(Linked { commands, cells })
+}
+
+/// The circle of a file without faults of keys.
+fn circle_of(top: &Table) -> Circle
+    requires least { 3 ≤ number_at key.Bits (table_view top.now) }
+    requires greatest { number_at key.Bits (table_view top.now) ≤ 64 }
+    ensures { result ≡ number_at key.Bits (table_view top.now) }
+{
+    match Circle::new(small_number_at(top, FileKey::Bits)) {
+        Some(circle) => circle,
+        None => unreachable!(),
+    }
+}
+
+/// The scenario of a table and rows, or the first fault of them.
+#[tactic(auto, unfolding(crate::specs::Faults::file_fault))]
+fn scenario_of(alloc: Global, top: &Table, csv: &[u8]) -> Result<Scenario, ScenarioFault>
+    ensures sound { IfOk result (λ _. file_fault (table_view top.now) (rows_of csv.now) ≡ None) }
+    ensures values { IfOk result (IsSetupOf (table_view top.now) (rows_of csv.now)) }
+    ensures refused { IfErr result (λ e. (e ≡ ScenarioFault.Memory) ⊎ (file_fault (table_view top.now) (rows_of csv.now) ≡ Some e)) }
+{
+    let tables = tables_in(alloc, top)?;
+    let profile = number_at(top, FileKey::Profile);
+    let bits = number_at(top, FileKey::Bits);
+    if let Some(fault) = key_fault(profile, bits, tables.as_slice()) {
+        return Err(fault);
+    }
+    let circle = circle_of(top);
+    let nodes = nodes(alloc, circle, tables.as_slice())?;
+    if let Some(fault) = node_fault(alloc, tables.as_slice(), nodes.as_slice())? {
+        return Err(fault);
+    }
+    let linked = link_nodes(alloc, circle, top, tables.as_slice(), nodes.as_slice(), csv)?;
+    Ok(assembled(circle, top, nodes, linked))
+}
+
+/// The scenario of a table, its nodes, and what links them.
+fn assembled(circle: Circle, top: &Table, nodes: Vec<Node>, linked: Linked) -> Scenario
+    requires circle { circle ≡ number_at key.Bits (table_view top.now) }
+    requires profile { number_at key.Profile (table_view top.now) ≤ 1 }
+    requires in_range { IsInRange (setup_with (table_view top.now) nodes.items linked.commands.items linked.cells.items) }
+    ensures { result ≡ setup_with (table_view top.now) nodes.items linked.commands.items linked.cells.items }
+{
+    Scenario {
+        profile: small_number_at(top, FileKey::Profile),
+        circle,
+        list: small_number_at(top, FileKey::List),
+        seed: number_at(top, FileKey::Seed),
+        duration: number_at(top, FileKey::DurationUs),
+        window: number_at(top, FileKey::WindowUs),
+        latency: number_at(top, FileKey::LatencyUs),
+        timeout: number_at(top, FileKey::TimeoutUs),
+        audit: number_at(top, FileKey::AuditUs),
+        stabilize: number_at(top, FileKey::StabilizeUs),
+        finger: number_at(top, FileKey::FingerUs),
+        jitter: number_or(top, FileKey::JitterUs, 0),
+        max_events: number_or(top, FileKey::MaxEvents, 50_000_000),
+        churn: churn_of(top),
+        lookups: lookups_of(top),
+        nodes,
+        commands: linked.commands,
+        latencies: linked.cells,
+    }
+}
+
+/// Reads a scenario from the text of a scenario file and that of a latency file. Otherwise answers
+/// the first fault of the texts, or that a growth was refused.
+pub fn read_scenario(alloc: Global, toml: &[u8], csv: &[u8]) -> Result<Scenario, ScenarioFault>
+    ensures accepted { IfOk result (Accepts toml.now csv.now) }
+    ensures refused { IfErr result (λ e. (e ≡ ScenarioFault.Memory) ⊎ (scenario_fault toml.now csv.now ≡ Some e)) }
+{
+    let top = match document(alloc, toml) {
+        Ok(top) => top,
+        Err(fault) => return Err(fault),
+    };
+    match scenario_of(alloc, &top, csv) {
+        Ok(scenario) => Ok(scenario),
+        Err(fault) => Err(fault),
+    }
+}

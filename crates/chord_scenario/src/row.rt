@@ -1,0 +1,158 @@
+//! The rows of a latency file.
+
+ghost use Rattle.std.specs.Prelude.{◌≡◌, true, IfOk, Some, map, option_map};
+ghost use Rattle.csv.specs.Records.{fields_of};
+ghost use Rattle.std.specs.Char.{is_ascii_digit};
+ghost use Rattle.std.specs.List.{list_all};
+ghost use Rattle.std.specs.Str.Parse.{digits_value};
+ghost use Rattle.chord_scenario.specs.Rows.{rows_of, is_numeral, latency_number, link_of, link_seen};
+ghost use Rattle.chord_scenario.specs.Latencies.{AreKept, kept_link};
+
+use crate::index::Names;
+use csv::{ByteRecord, ErrorKind, ReaderBuilder};
+use std::alloc::{AllocError, Global};
+
+/// What is kept of a row of three fields: the numbers of its two nodes, where they are nodes,
+/// whether both have one name, and its latency, where it is one.
+#[derive(Clone, Copy, Drop)]
+pub(crate) struct RowLink {
+    pub first: Option<u32>,
+    pub second: Option<u32>,
+    pub itself: bool,
+    pub latency: Option<u32>,
+}
+
+/// What is kept of each record of a text, which has no header row and whose records may differ in
+/// length. A record is dropped as soon as it is read.
+fn records(
+    alloc: Global,
+    names: &Names<'_>,
+    text: &[u8],
+) -> Result<Vec<Option<RowLink>>, AllocError>
+    ensures { IfOk result (λ v. AreKept names.now.nodes.now text.now v.items) }
+{
+    let rdr = ReaderBuilder::new()
+        .has_headers(false)
+        .flexible(true)
+        .from_reader(alloc, text);
+    let mut rows = Vec::new(alloc);
+    for row in rdr.into_byte_records() {
+        match row {
+            Ok(row) => rows.push(kept_link(names, &row))?,
+            Err(e) => {
+                // A flexible reader takes records of all lengths, and one over memory has no other
+                // error but want of memory.
+                if let ErrorKind::UnequalLengths { .. } = e.kind() {
+                    unreachable!();
+                }
+                return Err(AllocError);
+            }
+        }
+    }
+    Ok(rows)
+}
+
+/// The rows of a latency file and what is kept of each, among the nodes of some names.
+#[derive(Drop)]
+pub(crate) struct Rows<'a> {
+    pub names: Names<'a>,
+    pub text: &'a [u8],
+    pub links: Vec<Option<RowLink>>,
+    ghost kept: { links.items ≡ map (kept_link names.nodes.now) (rows_of text.now) },
+}
+
+impl<'a> Rows<'a> {
+    /// Reads the rows of a text.
+    pub fn read(alloc: Global, names: Names<'a>, text: &'a [u8]) -> Result<Self, AllocError>
+        ensures nodes { IfOk result (λ rows. rows.names.nodes.now ≡ names.entry.nodes.now) }
+        ensures text { IfOk result (λ rows. rows.text.now ≡ text.entry.now) }
+    {
+        let links = records(alloc, &names, text)?;
+        Ok(Rows { names, text, links })
+    }
+}
+
+/// Whether each byte is a decimal digit.
+fn are_digits(bytes: &[u8]) -> bool
+    ensures { result ≡ list_all is_ascii_digit bytes.now }
+{
+    bytes.iter().all(|byte| byte.is_ascii_digit())
+}
+
+/// Whether a field is 1 to 10 decimal digits.
+fn is_numeral(field: &[u8]) -> bool
+    ensures { result ≡ is_numeral field.now }
+{
+    1 <= field.len() && field.len() <= 10 && are_digits(field)
+}
+
+/// The number that a numeral writes, if the field is one.
+fn numeral(field: &[u8]) -> Option<u64>
+    requires { is_numeral field.now ≡ true }
+    ensures { result ≡ Some (digits_value 10 field.now) }
+{
+    match std::str::from_utf8(field) {
+        Ok(text) => text.parse::<u64>().ok(),
+        Err(_) => None,
+    }
+}
+
+/// The latency that a field writes: 1 to 10 decimal digits of value 1 to 1,000,000,000.
+#[tactic(auto, unfolding(crate::specs::Rows::latency_number))]
+fn latency_number(field: &[u8]) -> Option<u32>
+    ensures { result ≡ latency_number field.now }
+{
+    if !is_numeral(field) {
+        return None;
+    }
+    match numeral(field) {
+        Some(number) if 1 <= number && number <= 1_000_000_000 => Some(number as u32),
+        _ => None,
+    }
+}
+
+/// A row of three fields: two names and a number of microseconds, where it is one.
+#[derive(Clone, Copy)]
+struct Link<'a> {
+    first: &'a [u8],
+    second: &'a [u8],
+    pub latency: Option<u32>,
+}
+
+/// The link that a row is, if it has three fields.
+fn link_in(row: &ByteRecord) -> Option<Link<'_>>
+    ensures { option_map link_seen result ≡ link_of (fields_of row.now) }
+{
+    if row.get(3).is_some() {
+        return None;
+    }
+    let Some(first) = row.get(0) else {
+        return None;
+    };
+    let Some(second) = row.get(1) else {
+        return None;
+    };
+    let Some(third) = row.get(2) else {
+        return None;
+    };
+    Some(Link {
+        first,
+        second,
+        latency: latency_number(third),
+    })
+}
+
+/// What is kept of a row, if it has three fields.
+fn kept_link(names: &Names<'_>, row: &ByteRecord) -> Option<RowLink>
+    ensures { result ≡ kept_link names.now.nodes.now (fields_of row.now) }
+{
+    match link_in(row) {
+        Some(link) => Some(RowLink {
+            first: names.number_of(link.first),
+            second: names.number_of(link.second),
+            itself: link.first == link.second,
+            latency: link.latency,
+        }),
+        None => None,
+    }
+}

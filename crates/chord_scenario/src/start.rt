@@ -1,0 +1,129 @@
+//! The events that a run starts with.
+
+ghost use Rattle.std.specs.Prelude.{◌≡◌, ◌+◌, ◌<◌, ◌^◌, ◌++◌, [], ◌∷◌, map, IfOk, OnOk};
+ghost use Rattle.std.specs.List.{enumerate_from};
+ghost use Rattle.chord_scenario.specs.Range.{IsSpanUpTo};
+ghost use Rattle.chord_scenario.specs.Start.{command_body, command_event, jittered, timer_event, first_timers, start_events};
+ghost use Rattle.chord_scenario.specs.World.{node_count};
+
+use crate::scenario::Scenario;
+use crate::setting::{Action, Command, Span};
+use chord_event::{Body, Event, Key, Memory};
+use chord_stream::Stream;
+use std::alloc::Global;
+
+/// What a command asks of its node, as the body of an event.
+fn command_body(action: Action) -> Body
+    ensures { result ≡ command_body action }
+{
+    match action {
+        Action::Join { via } => Body::CmdJoin { via },
+        Action::Crash => Body::CmdCrash,
+        Action::Lookup { key } => Body::CmdLookup { key },
+    }
+}
+
+/// The command of this number as an event.
+fn command_event(number: u64, command: &Command) -> Event
+    ensures { result ≡ command_event number command.now }
+{
+    Event {
+        key: Key {
+            time: command.at,
+            origin: 1,
+            number,
+        },
+        target: command.node,
+        body: command_body(command.action),
+    }
+}
+
+/// Adds the commands, numbered from 1.
+fn push_commands(events: &mut Vec<Event>, commands: &[Command]) -> Result<(), Memory>
+    ensures { OnOk result (events.new.items ≡ events.old.items ++ map (λ p. command_event p.0 p.1) (enumerate_from 1 commands.now)) }
+{
+    for (i, command) in commands.iter().enumerate() {
+        events.push(command_event(i as u64 + 1, command))?;
+    }
+    Ok(())
+}
+
+impl Scenario {
+    /// A period, and up to the jitter more.
+    fn jittered(&self, period: u64) -> Span
+        requires { period < 2 ^ 32 }
+        ensures { result ≡ jittered self.now period }
+    {
+        self.is_in_range();
+        Span {
+            least: period,
+            greatest: period + self.jitter(),
+        }
+    }
+
+    /// Adds the timer at a place, from 0, among the first ones of a node.
+    fn push_timer(
+        &self,
+        events: &mut Vec<Event>,
+        node: u32,
+        place: u64,
+        span: Span,
+        body: Body,
+    ) -> Result<(), Memory>
+        requires node { node < node_count self.now }
+        requires place { place < 4 }
+        requires span { IsSpanUpTo 2000000000 span }
+        ensures { OnOk result (events.new.items ≡ events.old.items ++ timer_event self.now node place (span, body) ∷ []) }
+    {
+        self.is_in_range();
+        let width = span.greatest - span.least + 1;
+        let word = Stream::of(self.seed(), node).word_at(place);
+        let time = span.least + u64::from(word) % width;
+        events.push(Event {
+            key: Key::next_of(time, node, place),
+            target: node,
+            body,
+        })?;
+        Ok(())
+    }
+
+    /// Adds the first timers of a node.
+    #[tactic(auto, unfolding(crate::specs::Start::first_timers, crate::specs::Start::timers))]
+    fn push_first_timers(&self, events: &mut Vec<Event>, node: u32) -> Result<(), Memory>
+        requires { node < node_count self.now }
+        ensures { OnOk result (events.new.items ≡ events.old.items ++ first_timers self.now node) }
+    {
+        self.is_in_range();
+        let stabilize = self.jittered(self.stabilize());
+        self.push_timer(events, node, 0, stabilize, Body::StabilizeTick { epoch: 1 })?;
+        let finger = self.jittered(self.finger());
+        self.push_timer(events, node, 1, finger, Body::FingerTick { epoch: 1 })?;
+        let mut place = 2;
+        if let Some(gap) = self.lookups() {
+            self.push_timer(events, node, place, gap, Body::TrafficTick { epoch: 1 })?;
+            place += 1;
+        }
+        if self.churn(node) {
+            if let Some(churn) = self.churn_times() {
+                self.push_timer(events, node, place, churn.life, Body::LifeEnd { epoch: 1 })?;
+            }
+        }
+        Ok(())
+    }
+
+    /// The events that a run starts with: the commands, numbered from 1 in the order of the file,
+    /// and then the first timers of each node that is a member at the start.
+    #[tactic(auto, unfolding(crate::specs::Start::start_events, crate::specs::Start::command_events))]
+    pub fn start_events(&self, alloc: Global) -> Result<Vec<Event>, Memory>
+        ensures { IfOk result (λ events. events.items ≡ start_events self.now) }
+    {
+        let mut events = Vec::new(alloc);
+        push_commands(&mut events, self.commands.as_slice())?;
+        for node in 0..self.nodes() {
+            if self.initial(node) {
+                self.push_first_timers(&mut events, node)?;
+            }
+        }
+        Ok(events)
+    }
+}

@@ -1,0 +1,549 @@
+use crate::{Action, read_scenario};
+use chord_event::{Body, Event, Key};
+use std::test::Fail;
+
+/// Three nodes in a ring, and one lookup.
+const BASE: &str = r#"profile = 1
+bits = 3
+list = 2
+seed = 1
+duration_us = 200
+window_us = 10
+latency_us = 10
+timeout_us = 40
+audit_us = 200
+stabilize_us = 1000
+finger_us = 1000
+[[node]]
+name = "n0"
+id = 0
+initial = true
+[[node]]
+name = "n1"
+id = 1
+initial = true
+[[node]]
+name = "n3"
+id = 3
+initial = true
+[[command]]
+at_us = 100
+do = "lookup"
+node = "n0"
+key = 1
+"#;
+
+const GOOD: &str = "ok nodes=3 commands=1";
+
+/// The base with a text in place of another, and the answer.
+const CHANGES: [(&str, &str, &str); 106] = [
+    ("", "", GOOD),
+    ("[[node]]", "[[nod", "S1 NotToml"),
+    ("seed = 1", "seed = 9223372036854775808", "S1 NotToml"),
+    ("seed = 1", "seed = 1\nseed = 1", "S1 NotToml"),
+    ("profile = 1", "profile = 1\nx = 1", "S2 UnknownKey top"),
+    (
+        "profile = 1",
+        "profile = 1\nloss_ppm = 0",
+        "S2 UnknownKey top",
+    ),
+    (
+        "profile = 1",
+        "profile = 1\nspread_us = 0",
+        "S2 UnknownKey top",
+    ),
+    (
+        "profile = 1",
+        "profile = 1\nlookups.x = 0",
+        "S2 UnknownKey lookups",
+    ),
+    ("profile = 1", "x.y = 1\nprofile = 1", "S2 UnknownKey top"),
+    ("id = 1", "id = 1\nkey = 1", "S2 UnknownKey node 2"),
+    ("key = 1", "key = 1\nid = 1", "S2 UnknownKey command 1"),
+    ("key = 1", "", "S3 MissingKey command 1 key"),
+    (
+        "do = \"lookup\"",
+        "do = \"join\"",
+        "S3 MissingKey command 1 via",
+    ),
+    ("name = \"n1\"", "", "S3 MissingKey node 2 name"),
+    ("list = 2", "", "S3 MissingKey top list"),
+    ("id = 3", "churn = true", "S3 MissingKey top churn"),
+    (
+        "profile = 1",
+        "profile = 1\nlookups = {}",
+        "S3 MissingKey lookups gap_min_us",
+    ),
+    (
+        "profile = 1",
+        "profile = 1\nchurn = {}",
+        "S3 MissingKey churn life_min_us",
+    ),
+    ("bits = 3", "bits = \"3\"", "S4 WrongType top bits"),
+    ("seed = 1", "seed = 1979-05-27", "S4 WrongType top seed"),
+    ("seed = 1", "seed = 1.0", "S4 WrongType top seed"),
+    (
+        "profile = 1",
+        "profile = 1\nchurn = 3",
+        "S4 WrongType top churn",
+    ),
+    (
+        "[[command]]\nat_us = 100\ndo = \"lookup\"\nnode = \"n0\"\nkey = 1",
+        "[command]",
+        "S4 WrongType top command",
+    ),
+    (
+        "initial = true",
+        "initial = 1",
+        "S4 WrongType node 1 initial",
+    ),
+    ("id = 0", "id = true", "S4 WrongType node 1 id"),
+    ("do = \"lookup\"", "do = 1", "S4 WrongType command 1 do"),
+    ("profile = 1", "profile = 0", "S5 OutOfRange top profile"),
+    ("profile = 1", "profile = 2", "S5 OutOfRange top profile"),
+    ("profile = 1", "profile = 3", "S5 OutOfRange top profile"),
+    ("bits = 3", "bits = 2", "S5 OutOfRange top bits"),
+    ("bits = 3", "bits = 64", GOOD),
+    ("bits = 3", "bits = 65", "S5 OutOfRange top bits"),
+    ("list = 2", "list = 0", "S5 OutOfRange top list"),
+    ("list = 2", "list = 1", GOOD),
+    ("list = 2", "list = 3", "S10 TooFewInitial"),
+    ("list = 2", "list = 16", "S10 TooFewInitial"),
+    ("list = 2", "list = 17", "S5 OutOfRange top list"),
+    ("seed = 1", "seed = -1", "S5 OutOfRange top seed"),
+    ("seed = 1", "seed = 0", GOOD),
+    ("seed = 1", "seed = 9223372036854775807", GOOD),
+    (
+        "duration_us = 200",
+        "duration_us = 0",
+        "S5 OutOfRange top duration_us",
+    ),
+    ("duration_us = 200", "duration_us = 200000000", GOOD),
+    (
+        "duration_us = 200",
+        "duration_us = 200000001",
+        "S5 OutOfRange top audit_us",
+    ),
+    (
+        "duration_us = 200",
+        "duration_us = 1000000000001",
+        "S5 OutOfRange top duration_us",
+    ),
+    (
+        "window_us = 10",
+        "window_us = 0",
+        "S5 OutOfRange top window_us",
+    ),
+    ("window_us = 10", "window_us = 1", GOOD),
+    (
+        "window_us = 10",
+        "window_us = 11",
+        "S15 LatencyBelowWindow n0 n1",
+    ),
+    (
+        "window_us = 10",
+        "window_us = 1000000001",
+        "S5 OutOfRange top window_us",
+    ),
+    (
+        "latency_us = 10",
+        "latency_us = 0",
+        "S5 OutOfRange top latency_us",
+    ),
+    ("latency_us = 10", "latency_us = 1000000000", GOOD),
+    (
+        "latency_us = 10",
+        "latency_us = 1000000001",
+        "S5 OutOfRange top latency_us",
+    ),
+    (
+        "timeout_us = 40",
+        "timeout_us = 0",
+        "S5 OutOfRange top timeout_us",
+    ),
+    ("timeout_us = 40", "timeout_us = 1000000000", GOOD),
+    (
+        "timeout_us = 40",
+        "timeout_us = 1000000001",
+        "S5 OutOfRange top timeout_us",
+    ),
+    (
+        "audit_us = 200",
+        "audit_us = 0",
+        "S5 OutOfRange top audit_us",
+    ),
+    ("audit_us = 200", "audit_us = 1000000000", GOOD),
+    (
+        "audit_us = 200",
+        "audit_us = 1000000001",
+        "S5 OutOfRange top audit_us",
+    ),
+    (
+        "stabilize_us = 1000",
+        "stabilize_us = 1000000001",
+        "S5 OutOfRange top stabilize_us",
+    ),
+    (
+        "finger_us = 1000",
+        "finger_us = 1000000001",
+        "S5 OutOfRange top finger_us",
+    ),
+    (
+        "seed = 1",
+        "seed = 1\njitter_us = -1",
+        "S5 OutOfRange top jitter_us",
+    ),
+    ("seed = 1", "seed = 1\njitter_us = 1000000000", GOOD),
+    (
+        "seed = 1",
+        "seed = 1\njitter_us = 1000000001",
+        "S5 OutOfRange top jitter_us",
+    ),
+    (
+        "seed = 1",
+        "seed = 1\nmax_events = 0",
+        "S5 OutOfRange top max_events",
+    ),
+    ("seed = 1", "seed = 1\nmax_events = 1", GOOD),
+    (
+        "seed = 1",
+        "seed = 1\nmax_events = 50000001",
+        "S5 OutOfRange top max_events",
+    ),
+    (
+        "seed = 1",
+        "seed = 1\nlookups.gap_min_us = 1\nlookups.gap_max_us = 1",
+        GOOD,
+    ),
+    (
+        "seed = 1",
+        "seed = 1\nlookups.gap_min_us = 0\nlookups.gap_max_us = 1",
+        "S5 OutOfRange lookups gap_min_us",
+    ),
+    (
+        "seed = 1",
+        "seed = 1\nlookups.gap_min_us = 6\nlookups.gap_max_us = 5",
+        "S5 OutOfRange lookups gap_max_us",
+    ),
+    (
+        "seed = 1",
+        "seed = 1\nlookups.gap_min_us = 6\nlookups.gap_max_us = 1000000001",
+        "S5 OutOfRange lookups gap_max_us",
+    ),
+    (
+        "seed = 1",
+        "churn = { life_min_us = 5, life_max_us = 4, down_min_us = 1, down_max_us = 1 }\nseed = 1",
+        "S5 OutOfRange churn life_max_us",
+    ),
+    (
+        "seed = 1",
+        "churn = { life_min_us = 5, life_max_us = 5, down_min_us = 2, down_max_us = 1 }\nseed = 1",
+        "S5 OutOfRange churn down_max_us",
+    ),
+    (
+        "seed = 1",
+        "churn = { life_min_us = 5, life_max_us = 5, down_min_us = 1, down_max_us = 1 }\nseed = 1",
+        GOOD,
+    ),
+    ("id = 0", "id = 8", "S5 OutOfRange node 1 id"),
+    ("id = 0", "id = \"8\"", "S5 OutOfRange node 1 id"),
+    ("id = 0", "id = \"\"", "S5 OutOfRange node 1 id"),
+    ("id = 0", "id = -1", "S5 OutOfRange node 1 id"),
+    ("id = 0", "id = 7", GOOD),
+    ("id = 0", "id = \"07\"", GOOD),
+    ("id = 0", "id = \"0000000000000007\"", GOOD),
+    (
+        "id = 0",
+        "id = \"00000000000000007\"",
+        "S5 OutOfRange node 1 id",
+    ),
+    ("id = 3", "id = \"F\"", "S5 OutOfRange node 3 id"),
+    ("at_us = 100", "at_us = 199", GOOD),
+    ("at_us = 100", "at_us = 200", "S11 TimeAfterEnd command 1"),
+    (
+        "at_us = 100",
+        "at_us = 1000000000000",
+        "S11 TimeAfterEnd command 1",
+    ),
+    (
+        "at_us = 100",
+        "at_us = 1000000000001",
+        "S5 OutOfRange command 1 at_us",
+    ),
+    (
+        "do = \"lookup\"",
+        "do = \"leave\"",
+        "S5 OutOfRange command 1 do",
+    ),
+    ("do = \"lookup\"", "do = \"crash\"", GOOD),
+    ("key = 1", "key = 8", "S5 OutOfRange command 1 key"),
+    (
+        "do = \"lookup\"",
+        "do = \"crash\"\nvia = \"n9\"",
+        "S9 UnknownNode command 1",
+    ),
+    ("name = \"n1\"", "name = \"audit\"", "S6 BadName node 2"),
+    ("name = \"n1\"", "name = \"\"", "S6 BadName node 2"),
+    ("name = \"n1\"", "name = \"n 1\"", "S6 BadName node 2"),
+    (
+        "name = \"n1\"",
+        "name = \"aaaaaaaaaaaaaaaaaaaaaaaaaaaaaaa.\"",
+        GOOD,
+    ),
+    (
+        "name = \"n1\"",
+        "name = \"aaaaaaaaaaaaaaaaaaaaaaaaaaaaaaa_-\"",
+        "S6 BadName node 2",
+    ),
+    (
+        "name = \"n1\"",
+        "name = \"n0\"",
+        "S7 SameName node 1 node 2",
+    ),
+    ("id = 1", "id = 0", "S8 SameId n0 n1"),
+    ("id = 1", "id = \"3\"", "S8 SameId n1 n3"),
+    ("node = \"n0\"", "node = \"n9\"", "S9 UnknownNode command 1"),
+    ("initial = true", "initial = false", "S10 TooFewInitial"),
+    (
+        "do = \"lookup\"",
+        "do = \"join\"\nvia = \"n0\"",
+        "S13 SelfLink command 1",
+    ),
+    ("do = \"lookup\"", "do = \"join\"\nvia = \"n1\"", GOOD),
+    (
+        "window_us = 10\nlatency_us = 10",
+        "window_us = 1000000000\nlatency_us = 1000000000",
+        GOOD,
+    ),
+    (
+        "initial = true\n[[node]]\nname = \"n1\"\nid = 1\ninitial = true\n[[node]]\nname = \"n3\"\nid = 3\ninitial = true\n",
+        "",
+        "S5 OutOfRange top node",
+    ),
+    (
+        "\n[[node]]\nname = \"n1\"\nid = 1\ninitial = true\n[[node]]\nname = \"n3\"\nid = 3\ninitial = true",
+        "\n[[node]]\nname = \"n1\"",
+        "S10 TooFewInitial",
+    ),
+    (
+        "id = 3\ninitial = true\n[[command]]\nat_us = 100\ndo = \"lookup\"\nnode = \"n0\"\nkey = 1\n",
+        "id = 3\n",
+        "S10 TooFewInitial",
+    ),
+    (
+        "[[node]]",
+        "[[node]]\nname = 3\n[[node]]",
+        "S4 WrongType node 1 name",
+    ),
+];
+
+/// Latency texts of the base, and the answer.
+const ROWS: [(&str, &str); 22] = [
+    ("n0,n3,15", GOOD),
+    ("\n\nn0,n3,15\n\n\"n1\",n3,\"20\"\r\n", GOOD),
+    ("n0,n3,1000000000", GOOD),
+    ("n0,n3,0000000010", GOOD),
+    ("n0,n3,9", "S15 LatencyBelowWindow n0 n3"),
+    ("n3,n1,9", "S15 LatencyBelowWindow n1 n3"),
+    ("n0,n0,10\nn0,n9,10", "S9 UnknownNode row 2"),
+    ("n0,n0,10", "S13 SelfLink row 1"),
+    ("n0,n3,10\nn3,n0,10", "S14 SameLinkTwice row 2"),
+    ("n0,n3", "S12 BadLatencyRow row 1"),
+    ("n0,n3,", "S12 BadLatencyRow row 1"),
+    ("n0,n3,0", "S12 BadLatencyRow row 1"),
+    ("n0,n3,+10", "S12 BadLatencyRow row 1"),
+    ("n0,n3, 10", "S12 BadLatencyRow row 1"),
+    ("n0,n3,1000000001", "S12 BadLatencyRow row 1"),
+    ("n0,n3,00000000010", "S12 BadLatencyRow row 1"),
+    ("n0,n3,10,", "S12 BadLatencyRow row 1"),
+    ("n0,n3,15\nn0,n1", "S12 BadLatencyRow row 2"),
+    ("n0,n3,15\nn0,n1,10,10", "S12 BadLatencyRow row 2"),
+    ("n0\nn0,n9,x", "S9 UnknownNode row 2"),
+    ("n0,n0,x", "S12 BadLatencyRow row 1"),
+    ("\"n0,n3,15", "S12 BadLatencyRow row 1"),
+];
+
+fn answer(rt: &HostRuntime, toml: &[u8], csv: &[u8]) -> Result<String, Fail> {
+    match read_scenario(rt.alloc(), toml, csv) {
+        Ok(scenario) => {
+            let (nodes, commands) = (scenario.nodes(), scenario.commands());
+            Ok(format!(in rt.alloc(); "ok nodes={nodes} commands={commands}")?)
+        }
+        Err(fault) => Ok(format!(in rt.alloc(); "{fault}")?),
+    }
+}
+
+#[test]
+fn first_faults(rt: HostRuntime) -> Result<(), Fail> {
+    for (old, new, want) in &CHANGES {
+        let text = BASE.replacen(rt.alloc(), *old, *new, 1)?;
+        let got = answer(&rt, text.as_str().as_bytes(), b"")?;
+        assert!(rt; got.as_str() == *want, "{got}, not {want}, at {new}");
+    }
+    for (csv, want) in &ROWS {
+        let got = answer(&rt, BASE.as_bytes(), csv.as_bytes())?;
+        assert!(rt; got.as_str() == *want, "{got}, not {want}, at {csv}");
+    }
+    Ok(())
+}
+
+/// Texts cut short, no text, and as many nodes as there may be and one more.
+#[test]
+fn ends_of_texts(rt: HostRuntime) -> Result<(), Fail> {
+    let short = answer(&rt, b"profile = 1\n", b"")?;
+    assert!(rt; short.as_str() == "S3 MissingKey top bits", "{short}");
+    let empty = answer(&rt, b"", b"")?;
+    assert!(rt; empty.as_str() == "S3 MissingKey top profile", "{empty}");
+    for i in 0..BASE.len() {
+        let mut bytes = Vec::from_slice(rt.alloc(), BASE.as_bytes())?;
+        bytes[i] = 255;
+        let no_text = answer(&rt, bytes.as_slice(), b"")?;
+        assert!(rt; no_text.as_str() == "S1 NotToml", "{no_text} at {i}");
+    }
+    let row = answer(&rt, BASE.as_bytes(), &[255])?;
+    assert!(rt; row.as_str() == "S12 BadLatencyRow row 1", "{row}");
+    for (nodes, want) in [
+        (512, "ok nodes=512 commands=0"),
+        (513, "S5 OutOfRange top node"),
+    ] {
+        let mut text = String::from_str(
+            rt.alloc(),
+            "profile = 1\nbits = 64\nlist = 2\nseed = 1\nduration_us = 200\nwindow_us = 10\nlatency_us = 10\ntimeout_us = 40\naudit_us = 200\nstabilize_us = 1000\nfinger_us = 1000\n",
+        )?;
+        for i in 0..nodes {
+            text.push_str(format!(in rt.alloc();
+                "[[node]]\nname = \"n{i}\"\ninitial = true\n"
+            )?.as_str())?;
+        }
+        let got = answer(&rt, text.as_str().as_bytes(), b"")?;
+        assert!(rt; got.as_str() == want, "{got}");
+    }
+    Ok(())
+}
+
+/// As many commands as there may be, and one more.
+#[test]
+fn many_commands(rt: HostRuntime) -> Result<(), Fail> {
+    let mut text = String::from_str(rt.alloc(), BASE)?;
+    for _ in 1..100_000 {
+        text.push_str("[[command]]\nat_us = 1\ndo = \"crash\"\nnode = \"n0\"\n")?;
+    }
+    let most = answer(&rt, text.as_str().as_bytes(), b"")?;
+    assert!(rt; most.as_str() == "ok nodes=3 commands=100000", "{most}");
+    text.push_str("[[command]]\nat_us = 1\ndo = \"crash\"\nnode = \"n0\"\n")?;
+    let more = answer(&rt, text.as_str().as_bytes(), b"")?;
+    assert!(rt; more.as_str() == "S5 OutOfRange top command", "{more}");
+    Ok(())
+}
+
+/// The texts and the latencies of the base, and identifiers of names.
+#[test]
+fn readers(rt: HostRuntime) -> Result<(), Fail> {
+    let Ok(scenario) = read_scenario(rt.alloc(), BASE.as_bytes(), b"n3,n0,15\n") else {
+        assert!(rt; false, "the base is refused");
+        return Ok(());
+    };
+    assert!(rt; scenario.nodes() == 3);
+    assert!(rt; scenario.latency(0, 2) == 15 && scenario.latency(2, 0) == 15);
+    assert!(rt; scenario.latency(0, 1) == 10 && scenario.latency(1, 1) == 1);
+    assert!(rt; scenario.name(2) == "n3" && scenario.ident(2).raw() == 3);
+    assert!(rt; scenario.jitter() == 0 && scenario.max_events() == 50_000_000);
+    assert!(rt; scenario.commands() == 1);
+    let command = scenario.command(0);
+    assert!(rt; command.at == 100 && command.node == 0);
+    let key = scenario.ident(1);
+    assert!(rt; command.action == Action::Lookup { key });
+    Ok(())
+}
+
+/// Three nodes without identifiers, which churn and look up at once.
+const NAMED: &str = r#"profile = 1
+bits = 8
+list = 1
+seed = 1
+duration_us = 200
+window_us = 10
+latency_us = 10
+timeout_us = 40
+audit_us = 200
+stabilize_us = 1000
+finger_us = 2000
+churn = { life_min_us = 7, life_max_us = 7, down_min_us = 1, down_max_us = 1 }
+lookups = { gap_min_us = 5, gap_max_us = 5 }
+[[node]]
+name = "a"
+initial = true
+[[node]]
+name = "b"
+[[node]]
+name = "c"
+initial = true
+churn = true
+[[command]]
+at_us = 100
+do = "join"
+node = "b"
+via = "c"
+[[command]]
+at_us = 50
+do = "crash"
+node = "a"
+"#;
+
+fn is_at(event: &Event, time: u64, origin: u32, number: u64, target: u32) -> bool {
+    event.key
+        == Key {
+            time,
+            origin,
+            number,
+        }
+        && event.target == target
+}
+
+#[test]
+fn starts(rt: HostRuntime) -> Result<(), Fail> {
+    let Ok(scenario) = read_scenario(rt.alloc(), NAMED.as_bytes(), b"") else {
+        assert!(rt; false, "the named ring is refused");
+        return Ok(());
+    };
+    assert!(rt; scenario.nodes() == 3);
+    let idents = (
+        scenario.ident(0).raw(),
+        scenario.ident(1).raw(),
+        scenario.ident(2).raw(),
+    );
+    assert!(rt; idents == (134, 233, 132));
+    let Ok(events) = scenario.start_events(rt.alloc()) else {
+        assert!(rt; false, "no memory");
+        return Ok(());
+    };
+    assert!(rt; events.len() == 9);
+    assert!(rt;
+        is_at(&events[0], 100, 1, 1, 1) && matches!(events[0].body, Body::CmdJoin { via: 2 })
+    );
+    assert!(rt; is_at(&events[1], 50, 1, 2, 0) && matches!(events[1].body, Body::CmdCrash));
+    assert!(rt;
+        is_at(&events[2], 1000, 2, 1, 0)
+            && matches!(events[2].body, Body::StabilizeTick { epoch: 1 })
+    );
+    assert!(rt;
+        is_at(&events[3], 2000, 2, 2, 0) && matches!(events[3].body, Body::FingerTick { epoch: 1 })
+    );
+    assert!(rt;
+        is_at(&events[4], 5, 2, 3, 0) && matches!(events[4].body, Body::TrafficTick { epoch: 1 })
+    );
+    assert!(rt;
+        is_at(&events[5], 1000, 4, 1, 2)
+            && matches!(events[5].body, Body::StabilizeTick { epoch: 1 })
+    );
+    assert!(rt;
+        is_at(&events[6], 2000, 4, 2, 2) && matches!(events[6].body, Body::FingerTick { epoch: 1 })
+    );
+    assert!(rt;
+        is_at(&events[7], 5, 4, 3, 2) && matches!(events[7].body, Body::TrafficTick { epoch: 1 })
+    );
+    assert!(rt;
+        is_at(&events[8], 7, 4, 4, 2) && matches!(events[8].body, Body::LifeEnd { epoch: 1 })
+    );
+    Ok(())
+}
