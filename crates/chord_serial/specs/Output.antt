@@ -1,0 +1,25 @@
+-- What goes out, to the writer and into the tally.
+use Rattle.std.specs.Prelude.{ℕ, List, [], ◌∷◌, ◌++◌, Option, map, nat_le}
+use Rattle.std.specs.Io.KnownBytes.{Appends}
+use Rattle.std.specs.List.{filter}
+use Rattle.chord_audit.specs.Audit.{audit_facts}
+use Rattle.chord_node.specs.declared.state.NodeState.{NodeState}
+use Rattle.chord_scenario.specs.declared.scenario.Scenario.{Scenario}
+use Rattle.chord_trace.specs.declared.piece.Piece.{Piece}
+use Rattle.chord_trace.specs.declared.piece.Piece.TheVariants as piece
+use Rattle.chord_trace.specs.declared.tally.Tally.{Tally}
+use Rattle.chord_trace.specs.Tally.{IsTallyOf}
+use Rattle.chord_trace.specs.Texts.{pieces_text}
+
+-- these pieces went out: their text to the writer, which held the old bytes, and they themselves into the tally
+pub record Adds (sc : Scenario) (old new : Option (List ℕ)) (before after : Tally) (pieces : List Piece) : Type 0 where
+  pub written : Appends old new (pieces_text sc pieces)
+  pub tallied : (earlier : List Piece) → IsTallyOf earlier before → IsTallyOf (earlier ++ pieces) after
+
+-- the audits of these times, of nodes in these states
+abbrev pub audits_at : Scenario → (ℕ → NodeState) → List ℕ → List Piece
+audits_at sc state times = map (λ t. piece.OfAudit (audit_facts sc state t)) times
+
+-- of these times those that have come
+abbrev pub due : (time : ℕ) → List ℕ → List ℕ
+due time times = filter (λ t. nat_le t time) times

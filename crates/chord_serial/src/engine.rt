@@ -1,0 +1,142 @@
+ghost use Rattle.std.specs.Prelude.{◌≡◌, ◌⊎◌, ℕ, ◌+◌, ◌<◌, ◌≤◌, List, Option, None, true, false, OnOk, IfOk, IfErr, IfSome, Ok, Err};
+ghost use Rattle.std.specs.Io.KnownBytes.{Appends};
+ghost use Rattle.std.specs.List.{All};
+ghost use Rattle.chord_machine.specs.Run.{HasTooManyEvents, IsReport, trace_text};
+ghost use Rattle.chord_serial.specs.Engine.{HasTaken, IsAt};
+ghost use Rattle.chord_serial.specs.Beginning.{IsBeginning};
+ghost use Rattle.chord_trace.specs.Watched.{wrapped, has_failed};
+
+use crate::output::{put_audits, put_block};
+use chord_event::{Event, RunError};
+use chord_machine::AuditClock;
+use chord_node::{NodeState, initial_ring};
+use chord_ops::{Effect, act};
+use chord_queue::Pending;
+use chord_scenario::Scenario;
+use chord_trace::{Report, Tally, Watched};
+use std::alloc::Global;
+use std::io::Write;
+
+/// A run in progress: what the nodes know, which events and audits are still to come, and what the
+/// report has so far.
+#[derive(Drop)]
+pub struct Engine {
+    pub states: Vec<NodeState>,
+    pub pending: Pending,
+    pub clock: AuditClock,
+    pub tally: Tally,
+    /// How many events were taken.
+    pub count: u64,
+}
+
+impl Engine {
+    /// The start of a run.
+    pub fn start(alloc: Global, scenario: &Scenario) -> Result<Engine, RunError>
+        ensures at { IfOk result (λ engine. (now : Option (List ℕ)) → IsAt scenario.now now now engine) }
+        ensures only { IfErr result (λ e. e ≡ RunError.Memory) }
+    {
+        scenario.is_in_range();
+        let states = initial_ring(alloc, scenario)?;
+        let mut pending = Pending::new(alloc);
+        pending.insert_all(scenario.start_events(alloc)?)?;
+        let clock = AuditClock::start(alloc, scenario)?;
+        Ok(Engine {
+            states,
+            pending,
+            clock,
+            tally: Tally::new(alloc),
+            count: 0,
+        })
+    }
+
+    /// Takes the next event of the run out, or answers `None` where the run has no more. Where it may
+    /// have no more it answers `TooManyEvents`.
+    pub fn take_next(&mut self, scenario: &Scenario) -> Result<Option<Event>, RunError>
+        ensures next { IfOk result (λ next. IfSome next (λ event. (old now : Option (List ℕ)) → IsAt scenario.now old now self.old → HasTaken scenario.now old now self.new event)) }
+        ensures ended { result ≡ Ok None → (self.new ≡ self.old) × All (λ e. scenario.now.duration ≤ e.key.time) self.new.pending }
+        ensures count { self.new.count ≡ self.old.count }
+        ensures over { result ≡ Err RunError.TooManyEvents → (old now : Option (List ℕ)) → IsAt scenario.now old now self.old → HasTooManyEvents scenario.now }
+        ensures only { IfErr result (λ e. e ≡ RunError.TooManyEvents) }
+    {
+        scenario.is_in_range();
+        self.pending.is_ordered();
+        let Some(time) = self.pending.first_time() else {
+            return Ok(None);
+        };
+        if time >= scenario.duration() {
+            return Ok(None);
+        }
+        if self.count >= scenario.max_events() {
+            return Err(RunError::TooManyEvents);
+        }
+        Ok(self.pending.pop_first())
+    }
+
+    /// Lets the target of an event act on it, and puts out what comes of it.
+    pub fn handle<W: Write>(
+        &mut self,
+        alloc: Global,
+        scenario: &Scenario,
+        event: &Event,
+        writer: &mut Watched<W>,
+    ) -> Result<(), RunError>
+        requires taken { (old : Option (List ℕ)) × HasTaken scenario.now old (W.contents (wrapped writer.old)) self.old event.now }
+        requires sound { has_failed writer.old ≡ false }
+        ensures at { OnOk result ((old : Option (List ℕ)) → HasTaken scenario.now old (W.contents (wrapped writer.old)) self.old event.now → IsAt scenario.now old (W.contents (wrapped writer.new)) self.new) }
+        ensures count { OnOk result (self.new.count ≡ self.old.count + 1) }
+        ensures front { (old : Option (List ℕ)) → HasTaken scenario.now old (W.contents (wrapped writer.old)) self.old event.now → IsBeginning scenario.now old (W.contents (wrapped writer.new)) }
+        ensures sound { OnOk result (has_failed writer.new ≡ false) }
+        ensures failed { result ≡ Err RunError.Write → has_failed writer.new ≡ true }
+        ensures memory { result ≡ Err RunError.Memory → has_failed writer.new ≡ false }
+        ensures only { IfErr result (λ e. (e ≡ RunError.Memory) ⊎ (e ≡ RunError.Write)) }
+    {
+        scenario.is_in_range();
+        put_audits(
+            alloc,
+            scenario,
+            self.states.as_slice(),
+            event.key.time,
+            &mut self.clock,
+            &mut self.tally,
+            writer,
+        )?;
+        let node = event.target as usize;
+        let Effect { events, block } = act(alloc, scenario, &mut self.states[node], event)?;
+        self.pending.insert_all(events.into_vec())?;
+        put_block(alloc, scenario, &block, &mut self.tally, writer)?;
+        self.count += 1;
+        Ok(())
+    }
+
+    /// Puts the audits that are left out, and makes the report.
+    pub fn finish<W: Write>(
+        &mut self,
+        alloc: Global,
+        scenario: &Scenario,
+        writer: &mut Watched<W>,
+    ) -> Result<Report, RunError>
+        requires at { (old : Option (List ℕ)) × IsAt scenario.now old (W.contents (wrapped writer.old)) self.old }
+        requires ended { All (λ e. scenario.now.duration ≤ e.key.time) self.old.pending }
+        requires sound { has_failed writer.old ≡ false }
+        ensures whole { OnOk result ((old : Option (List ℕ)) → IsAt scenario.now old (W.contents (wrapped writer.old)) self.old → Appends old (W.contents (wrapped writer.new)) (trace_text scenario.now)) }
+        ensures report { IfOk result (λ report. IsReport scenario.now report) }
+        ensures within { OnOk result (HasTooManyEvents scenario.now → ⊥) }
+        ensures front { (old : Option (List ℕ)) → IsAt scenario.now old (W.contents (wrapped writer.old)) self.old → IsBeginning scenario.now old (W.contents (wrapped writer.new)) }
+        ensures sound { OnOk result (has_failed writer.new ≡ false) }
+        ensures failed { result ≡ Err RunError.Write → has_failed writer.new ≡ true }
+        ensures memory { result ≡ Err RunError.Memory → has_failed writer.new ≡ false }
+        ensures only { IfErr result (λ e. (e ≡ RunError.Memory) ⊎ (e ≡ RunError.Write)) }
+    {
+        scenario.is_in_range();
+        put_audits(
+            alloc,
+            scenario,
+            self.states.as_slice(),
+            scenario.duration(),
+            &mut self.clock,
+            &mut self.tally,
+            writer,
+        )?;
+        Ok(self.tally.report())
+    }
+}

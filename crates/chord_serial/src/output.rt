@@ -1,0 +1,104 @@
+//! What goes out: to the writer of the trace, and into the tally of the report.
+ghost use Rattle.std.specs.Prelude.{◌≡◌, ◌⊎◌, ℕ, ◌+◌, ◌<◌, ◌≤◌, ◌^◌, ◌∷◌, [], true, false, length, nat_lt, OnOk, IfErr, Err};
+ghost use Rattle.std.specs.List.{All, filter};
+ghost use Rattle.chord_audit.specs.Audit.{AreStates};
+ghost use Rattle.chord_node.specs.declared.state.NodeState.{NodeState as AState};
+ghost use Rattle.chord_node.specs.Invariant.{AllNodes};
+ghost use Rattle.chord_scenario.specs.Blocks.{IsBlockOf};
+ghost use Rattle.chord_scenario.specs.World.{node_count};
+ghost use Rattle.chord_serial.specs.Output.{Adds, audits_at, due};
+ghost use Rattle.chord_trace.specs.declared.piece.Piece.TheVariants as piece;
+ghost use Rattle.chord_trace.specs.Tally.{taken};
+ghost use Rattle.chord_trace.specs.Texts.{pieces_text};
+ghost use Rattle.chord_trace.specs.Watched.{wrapped, has_failed};
+ghost use Rattle.chord_trace.specs.Writing.{AppendsFront};
+
+use chord_audit::audit;
+use chord_event::{Block, RunError};
+use chord_machine::AuditClock;
+use chord_node::NodeState;
+use chord_scenario::Scenario;
+use chord_trace::{Tally, Watched, write_audit, write_block};
+use std::alloc::Global;
+use std::io::Write;
+
+/// Puts the block of an event out.
+pub fn put_block<W: Write>(
+    alloc: Global,
+    scenario: &Scenario,
+    block: &Block,
+    tally: &mut Tally,
+    writer: &mut Watched<W>,
+) -> Result<(), RunError>
+    requires block { IsBlockOf scenario.now block.now }
+    requires short { length block.now.lines ≤ 64 }
+    requires room { taken tally.old < 2 ^ 40 }
+    requires sound { has_failed writer.old ≡ false }
+    ensures adds { OnOk result (Adds scenario.now (W.contents (wrapped writer.old)) (W.contents (wrapped writer.new)) tally.old tally.new (piece.OfEvent block.now ∷ [])) }
+    ensures size { OnOk result (taken tally.new ≡ taken tally.old + 1) }
+    ensures front { AppendsFront (W.contents (wrapped writer.old)) (W.contents (wrapped writer.new)) (pieces_text scenario.now (piece.OfEvent block.now ∷ [])) }
+    ensures sound { OnOk result (has_failed writer.new ≡ false) }
+    ensures failed { result ≡ Err RunError.Write → has_failed writer.new ≡ true }
+    ensures memory { result ≡ Err RunError.Memory → has_failed writer.new ≡ false }
+    ensures only { IfErr result (λ e. (e ≡ RunError.Memory) ⊎ (e ≡ RunError.Write)) }
+{
+    write_block(alloc, scenario, block, writer)?;
+    tally.add(block)?;
+    Ok(())
+}
+
+/// Makes the audit of a time and puts it out.
+fn put_audit<W: Write>(
+    alloc: Global,
+    scenario: &Scenario,
+    states: &[NodeState],
+    time: u64,
+    tally: &mut Tally,
+    writer: &mut Watched<W>,
+) -> Result<(), RunError>
+    requires each { length states.now ≡ node_count scenario.now }
+    requires succ { All (λ state. AllNodes scenario.now state.succ) states.now }
+    requires room { taken tally.old < 2 ^ 40 }
+    requires sound { has_failed writer.old ≡ false }
+    ensures adds { OnOk result ((state : ℕ → AState) → AreStates scenario.now states.now state → Adds scenario.now (W.contents (wrapped writer.old)) (W.contents (wrapped writer.new)) tally.old tally.new (audits_at scenario.now state (time ∷ []))) }
+    ensures size { OnOk result (taken tally.new ≡ taken tally.old + 1) }
+    ensures front { (state : ℕ → AState) → AreStates scenario.now states.now state → AppendsFront (W.contents (wrapped writer.old)) (W.contents (wrapped writer.new)) (pieces_text scenario.now (audits_at scenario.now state (time ∷ []))) }
+    ensures sound { OnOk result (has_failed writer.new ≡ false) }
+    ensures failed { result ≡ Err RunError.Write → has_failed writer.new ≡ true }
+    ensures memory { result ≡ Err RunError.Memory → has_failed writer.new ≡ false }
+    ensures only { IfErr result (λ e. (e ≡ RunError.Memory) ⊎ (e ≡ RunError.Write)) }
+{
+    let line = audit(alloc, scenario, states, time)?;
+    write_audit(alloc, &line, writer)?;
+    tally.add_audit(&line);
+    Ok(())
+}
+
+/// Makes the audits that are due by a time and puts them out.
+pub fn put_audits<W: Write>(
+    alloc: Global,
+    scenario: &Scenario,
+    states: &[NodeState],
+    time: u64,
+    clock: &mut AuditClock,
+    tally: &mut Tally,
+    writer: &mut Watched<W>,
+) -> Result<(), RunError>
+    requires each { length states.now ≡ node_count scenario.now }
+    requires succ { All (λ state. AllNodes scenario.now state.succ) states.now }
+    requires room { taken tally.old + length clock.old ≤ 2 ^ 40 }
+    requires sound { has_failed writer.old ≡ false }
+    ensures adds { OnOk result ((state : ℕ → AState) → AreStates scenario.now states.now state → Adds scenario.now (W.contents (wrapped writer.old)) (W.contents (wrapped writer.new)) tally.old tally.new (audits_at scenario.now state (due time clock.old))) }
+    ensures left { OnOk result (clock.new ≡ filter (λ t. nat_lt time t) clock.old) }
+    ensures size { OnOk result (taken tally.new + length clock.new ≡ taken tally.old + length clock.old) }
+    ensures front { (state : ℕ → AState) → AreStates scenario.now states.now state → AppendsFront (W.contents (wrapped writer.old)) (W.contents (wrapped writer.new)) (pieces_text scenario.now (audits_at scenario.now state (due time clock.old))) }
+    ensures sound { OnOk result (has_failed writer.new ≡ false) }
+    ensures failed { result ≡ Err RunError.Write → has_failed writer.new ≡ true }
+    ensures memory { result ≡ Err RunError.Memory → has_failed writer.new ≡ false }
+    ensures only { IfErr result (λ e. (e ≡ RunError.Memory) ⊎ (e ≡ RunError.Write)) }
+{
+    while let Some(at) = clock.take_due(time) {
+        put_audit(alloc, scenario, states, at, tally, writer)?;
+    }
+    Ok(())
+}
