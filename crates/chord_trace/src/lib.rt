@@ -19,4 +19,6 @@ pub use tally::Tally;
 pub use watched::Watched;
 
 #[cfg(test)]
+mod block_tests;
+#[cfg(test)]
 mod tests;

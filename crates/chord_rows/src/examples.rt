@@ -1,0 +1,569 @@
+use crate::playing::{SETTINGS, THREE, play_text, shown, text_of};
+use std::test::Fail;
+
+/// An example: its settings, nodes and commands, its trace, and those lines of its report whose
+/// number is not 0.
+struct Example {
+    name: &'static str,
+    settings: &'static str,
+    nodes: &'static str,
+    commands: &'static str,
+    trace: &'static str,
+    report: &'static str,
+}
+
+/// Two nodes that stand opposite each other.
+const TWO_NODES: &str = "[[node]]\n\
+    name = \"n0\"\n\
+    id = 0\n\
+    initial = true\n\
+    [[node]]\n\
+    name = \"n4\"\n\
+    id = 4\n\
+    initial = true\n";
+
+/// The ring of three, and a node that is down.
+const FOUR: &str = "[[node]]\n\
+    name = \"n0\"\n\
+    id = 0\n\
+    initial = true\n\
+    [[node]]\n\
+    name = \"n1\"\n\
+    id = 1\n\
+    initial = true\n\
+    [[node]]\n\
+    name = \"n3\"\n\
+    id = 3\n\
+    initial = true\n\
+    [[node]]\n\
+    name = \"n6\"\n\
+    id = 6\n";
+
+/// The ring of three, of which one comes and goes.
+const ONE_OF_CHURN: &str = "[[node]]\n\
+    name = \"n0\"\n\
+    id = 0\n\
+    initial = true\n\
+    [[node]]\n\
+    name = \"n1\"\n\
+    id = 1\n\
+    initial = true\n\
+    churn = true\n\
+    [[node]]\n\
+    name = \"n3\"\n\
+    id = 3\n\
+    initial = true\n";
+
+const EXAMPLES: [Example; 18] = [
+    Example {
+        name: "three lookups",
+        settings: SETTINGS,
+        nodes: THREE,
+        commands: "[[command]]\n\
+            at_us = 100\n\
+            do = \"lookup\"\n\
+            node = \"n0\"\n\
+            key = 1\n\
+            [[command]]\n\
+            at_us = 100\n\
+            do = \"lookup\"\n\
+            node = \"n0\"\n\
+            key = 2\n\
+            [[command]]\n\
+            at_us = 100\n\
+            do = \"lookup\"\n\
+            node = \"n0\"\n\
+            key = 6\n",
+        trace: "100 n0 lookup 1\n\
+            100 n0 found 1 n1 hops=0 timeouts=0 us=0\n\
+            100 n0 lookup 2\n\
+            100 n0 lookup 6\n\
+            120 n0 found 2 n3 hops=1 timeouts=0 us=20\n\
+            120 n0 found 6 n0 hops=1 timeouts=0 us=20\n\
+            200 audit members=3 dead=0 ring=3 ordered=yes principals=3 sufficient=yes\n",
+        report: "events 9\n\
+            lookups 3\n\
+            found 3\n\
+            hops-sum 2\n\
+            hops-greatest 1\n\
+            us-sum 40\n\
+            us-median 20\n\
+            us-greatest 20\n\
+            audits 1\n",
+    },
+    Example {
+        name: "the first lookup",
+        settings: SETTINGS,
+        nodes: THREE,
+        commands: "[[command]]\n\
+            at_us = 100\n\
+            do = \"lookup\"\n\
+            node = \"n0\"\n\
+            key = 1\n",
+        trace: "100 n0 lookup 1\n\
+            100 n0 found 1 n1 hops=0 timeouts=0 us=0\n\
+            200 audit members=3 dead=0 ring=3 ordered=yes principals=3 sufficient=yes\n",
+        report: "events 1\n\
+            lookups 1\n\
+            found 1\n\
+            audits 1\n",
+    },
+    Example {
+        name: "one hop",
+        settings: SETTINGS,
+        nodes: THREE,
+        commands: "[[command]]\n\
+            at_us = 100\n\
+            do = \"lookup\"\n\
+            node = \"n3\"\n\
+            key = 1\n",
+        trace: "100 n3 lookup 1\n\
+            120 n3 found 1 n1 hops=1 timeouts=0 us=20\n\
+            200 audit members=3 dead=0 ring=3 ordered=yes principals=3 sufficient=yes\n",
+        report: "events 4\n\
+            lookups 1\n\
+            found 1\n\
+            hops-sum 1\n\
+            hops-greatest 1\n\
+            us-sum 20\n\
+            us-least 20\n\
+            us-median 20\n\
+            us-greatest 20\n\
+            audits 1\n",
+    },
+    Example {
+        name: "a latency as long as a window",
+        settings: "list = 1\n\
+            duration_us = 200\n\
+            window_us = 10\n\
+            timeout_us = 40\n\
+            audit_us = 200\n\
+            stabilize_us = 1000\n",
+        nodes: TWO_NODES,
+        commands: "[[command]]\n\
+            at_us = 100\n\
+            do = \"lookup\"\n\
+            node = \"n0\"\n\
+            key = 5\n",
+        trace: "100 n0 lookup 5\n\
+            120 n0 found 5 n0 hops=1 timeouts=0 us=20\n\
+            200 audit members=2 dead=0 ring=2 ordered=yes principals=2 sufficient=yes\n",
+        report: "events 4\n\
+            lookups 1\n\
+            found 1\n\
+            hops-sum 1\n\
+            hops-greatest 1\n\
+            us-sum 20\n\
+            us-least 20\n\
+            us-median 20\n\
+            us-greatest 20\n\
+            audits 1\n",
+    },
+    Example {
+        name: "its own successor",
+        settings: "list = 2\n\
+            duration_us = 240\n\
+            window_us = 10\n\
+            timeout_us = 30\n\
+            audit_us = 240\n\
+            stabilize_us = 100\n",
+        nodes: THREE,
+        commands: "[[command]]\n\
+            at_us = 50\n\
+            do = \"crash\"\n\
+            node = \"n1\"\n\
+            [[command]]\n\
+            at_us = 155\n\
+            do = \"crash\"\n\
+            node = \"n3\"\n\
+            [[command]]\n\
+            at_us = 235\n\
+            do = \"crash\"\n\
+            node = \"n0\"\n",
+        trace: "50 n1 crash\n\
+            110 n1 drop get-state n0\n\
+            130 n0 timeout n1\n\
+            155 n3 crash\n\
+            160 n1 drop get-list n0\n\
+            180 n0 timeout n1\n\
+            190 n3 drop notify n0\n\
+            210 n3 drop get-state n0\n\
+            230 n0 timeout n3\n\
+            235 n0 crash\n\
+            240 audit members=0 dead=0 ring=0 ordered=yes principals=0 sufficient=no\n",
+        report: "events 24\n\
+            crashes 3\n\
+            drops 4\n\
+            timeouts 3\n\
+            audits 1\n\
+            ringless 1\n\
+            insufficient 1\n",
+    },
+    Example {
+        name: "two lookups",
+        settings: SETTINGS,
+        nodes: THREE,
+        commands: "[[command]]\n\
+            at_us = 100\n\
+            do = \"lookup\"\n\
+            node = \"n0\"\n\
+            key = 4\n\
+            [[command]]\n\
+            at_us = 100\n\
+            do = \"lookup\"\n\
+            node = \"n3\"\n\
+            key = 1\n",
+        trace: "100 n0 lookup 4\n\
+            100 n3 lookup 1\n\
+            120 n3 found 1 n1 hops=1 timeouts=0 us=20\n\
+            120 n0 found 4 n0 hops=1 timeouts=0 us=20\n\
+            200 audit members=3 dead=0 ring=3 ordered=yes principals=3 sufficient=yes\n",
+        report: "events 8\n\
+            lookups 2\n\
+            found 2\n\
+            hops-sum 2\n\
+            hops-greatest 1\n\
+            us-sum 40\n\
+            us-least 20\n\
+            us-median 20\n\
+            us-greatest 20\n\
+            audits 1\n",
+    },
+    Example {
+        name: "an audit at a crash",
+        settings: "list = 2\n\
+            duration_us = 200\n\
+            window_us = 10\n\
+            timeout_us = 40\n\
+            audit_us = 100\n\
+            stabilize_us = 1000\n",
+        nodes: THREE,
+        commands: "[[command]]\n\
+            at_us = 100\n\
+            do = \"crash\"\n\
+            node = \"n1\"\n",
+        trace: "100 audit members=3 dead=0 ring=3 ordered=yes principals=3 sufficient=yes\n\
+            100 n1 crash\n\
+            200 audit members=2 dead=0 ring=2 ordered=yes principals=2 sufficient=no\n",
+        report: "events 1\n\
+            crashes 1\n\
+            audits 2\n\
+            insufficient 1\n",
+    },
+    Example {
+        name: "a silent owner",
+        settings: SETTINGS,
+        nodes: THREE,
+        commands: "[[command]]\n\
+            at_us = 50\n\
+            do = \"crash\"\n\
+            node = \"n1\"\n\
+            [[command]]\n\
+            at_us = 100\n\
+            do = \"lookup\"\n\
+            node = \"n0\"\n\
+            key = 2\n",
+        trace: "50 n1 crash\n\
+            100 n0 lookup 2\n\
+            110 n1 drop step n0\n\
+            140 n0 timeout n1\n\
+            140 n0 found 2 n3 hops=0 timeouts=1 us=40\n\
+            200 audit members=2 dead=0 ring=2 ordered=yes principals=2 sufficient=no\n",
+        report: "events 4\n\
+            crashes 1\n\
+            drops 1\n\
+            timeouts 1\n\
+            lookups 1\n\
+            found 1\n\
+            us-sum 40\n\
+            us-least 40\n\
+            us-median 40\n\
+            us-greatest 40\n\
+            audits 1\n\
+            insufficient 1\n",
+    },
+    Example {
+        name: "a late reply",
+        settings: "list = 2\n\
+            duration_us = 200\n\
+            window_us = 10\n\
+            timeout_us = 15\n\
+            audit_us = 200\n\
+            stabilize_us = 1000\n",
+        nodes: THREE,
+        commands: "[[command]]\n\
+            at_us = 100\n\
+            do = \"lookup\"\n\
+            node = \"n3\"\n\
+            key = 1\n",
+        trace: "100 n3 lookup 1\n\
+            115 n3 timeout n0\n\
+            115 n3 found 1 n1 hops=0 timeouts=1 us=15\n\
+            120 n3 late step-reply n0\n\
+            200 audit members=3 dead=0 ring=3 ordered=yes principals=3 sufficient=yes\n",
+        report: "events 4\n\
+            late 1\n\
+            timeouts 1\n\
+            lookups 1\n\
+            found 1\n\
+            us-sum 15\n\
+            us-least 15\n\
+            us-median 15\n\
+            us-greatest 15\n\
+            audits 1\n",
+    },
+    Example {
+        name: "a crash and a join at one instant",
+        settings: SETTINGS,
+        nodes: THREE,
+        commands: "[[command]]\n\
+            at_us = 100\n\
+            do = \"lookup\"\n\
+            node = \"n3\"\n\
+            key = 1\n\
+            [[command]]\n\
+            at_us = 115\n\
+            do = \"crash\"\n\
+            node = \"n3\"\n\
+            [[command]]\n\
+            at_us = 115\n\
+            do = \"join\"\n\
+            node = \"n3\"\n\
+            via = \"n0\"\n",
+        trace: "100 n3 lookup 1\n\
+            115 n3 crash\n\
+            115 n3 join n0\n\
+            120 n3 late step-reply n0\n\
+            200 audit members=2 dead=0 ring=2 ordered=yes principals=2 sufficient=no\n",
+        report: "events 17\n\
+            crashes 1\n\
+            late 1\n\
+            lookups 1\n\
+            unfinished 1\n\
+            audits 1\n\
+            insufficient 1\n",
+    },
+    Example {
+        name: "nothing to do",
+        settings: SETTINGS,
+        nodes: THREE,
+        commands: "",
+        trace: "200 audit members=3 dead=0 ring=3 ordered=yes principals=3 sufficient=yes\n",
+        report: "audits 1\n",
+    },
+    Example {
+        name: "a join",
+        settings: SETTINGS,
+        nodes: FOUR,
+        commands: "[[command]]\n\
+            at_us = 100\n\
+            do = \"join\"\n\
+            node = \"n6\"\n\
+            via = \"n0\"\n",
+        trace: "100 n6 join n0\n\
+            160 n6 member n3\n\
+            200 audit members=4 dead=0 ring=3 ordered=yes principals=3 sufficient=yes\n",
+        report: "events 10\n\
+            members 1\n\
+            audits 1\n",
+    },
+    Example {
+        name: "a join and its repair",
+        settings: "list = 2\n\
+            duration_us = 400\n\
+            window_us = 10\n\
+            timeout_us = 40\n\
+            audit_us = 400\n\
+            stabilize_us = 170\n",
+        nodes: FOUR,
+        commands: "[[command]]\n\
+            at_us = 100\n\
+            do = \"join\"\n\
+            node = \"n6\"\n\
+            via = \"n0\"\n",
+        trace: "100 n6 join n0\n\
+            160 n6 member n3\n\
+            400 audit members=4 dead=0 ring=4 ordered=yes principals=3 sufficient=yes\n",
+        report: "events 47\n\
+            members 1\n\
+            audits 1\n",
+    },
+    Example {
+        name: "one cycle of churn",
+        settings: "list = 2\n\
+            duration_us = 160\n\
+            window_us = 10\n\
+            timeout_us = 40\n\
+            audit_us = 160\n\
+            stabilize_us = 1000\n\
+            churn = { life_min_us = 100, life_max_us = 100, down_min_us = 50, down_max_us = 50 }\n",
+        nodes: ONE_OF_CHURN,
+        commands: "",
+        trace: "100 n1 crash\n\
+            150 n1 join n0\n\
+            160 audit members=2 dead=0 ring=2 ordered=yes principals=2 sufficient=no\n",
+        report: "events 2\n\
+            crashes 1\n\
+            audits 1\n\
+            insufficient 1\n",
+    },
+    Example {
+        name: "a node is stranded",
+        settings: "list = 1\n\
+            duration_us = 200\n\
+            window_us = 10\n\
+            timeout_us = 40\n\
+            audit_us = 200\n\
+            stabilize_us = 150\n",
+        nodes: TWO_NODES,
+        commands: "[[command]]\n\
+            at_us = 50\n\
+            do = \"crash\"\n\
+            node = \"n4\"\n\
+            [[command]]\n\
+            at_us = 100\n\
+            do = \"lookup\"\n\
+            node = \"n0\"\n\
+            key = 5\n",
+        trace: "50 n4 crash\n\
+            100 n0 lookup 5\n\
+            110 n4 drop step n0\n\
+            140 n0 timeout n4\n\
+            140 n0 lost 5 hops=0 timeouts=1 us=40\n\
+            160 n4 drop get-state n0\n\
+            190 n0 timeout n4\n\
+            190 n0 stranded n4\n\
+            200 audit members=0 dead=0 ring=0 ordered=yes principals=0 sufficient=no\n",
+        report: "events 8\n\
+            crashes 1\n\
+            stranded 1\n\
+            drops 2\n\
+            timeouts 2\n\
+            lookups 1\n\
+            lost 1\n\
+            audits 1\n\
+            ringless 1\n\
+            insufficient 1\n",
+    },
+    Example {
+        name: "a join that fails eight times",
+        settings: "list = 2\n\
+            duration_us = 500\n\
+            window_us = 10\n\
+            timeout_us = 40\n\
+            audit_us = 500\n\
+            stabilize_us = 1000\n",
+        nodes: FOUR,
+        commands: "[[command]]\n\
+            at_us = 50\n\
+            do = \"crash\"\n\
+            node = \"n1\"\n\
+            [[command]]\n\
+            at_us = 100\n\
+            do = \"join\"\n\
+            node = \"n6\"\n\
+            via = \"n1\"\n",
+        trace: "50 n1 crash\n\
+            100 n6 join n1\n\
+            110 n1 drop step n6\n\
+            140 n6 timeout n1\n\
+            150 n1 drop step n6\n\
+            180 n6 timeout n1\n\
+            190 n1 drop step n6\n\
+            220 n6 timeout n1\n\
+            230 n1 drop step n6\n\
+            260 n6 timeout n1\n\
+            270 n1 drop step n6\n\
+            300 n6 timeout n1\n\
+            310 n1 drop step n6\n\
+            340 n6 timeout n1\n\
+            350 n1 drop step n6\n\
+            380 n6 timeout n1\n\
+            390 n1 drop step n6\n\
+            420 n6 timeout n1\n\
+            420 n6 join-failed\n\
+            500 audit members=2 dead=0 ring=2 ordered=yes principals=2 sufficient=no\n",
+        report: "events 18\n\
+            join-failed 1\n\
+            crashes 1\n\
+            drops 8\n\
+            timeouts 8\n\
+            audits 1\n\
+            insufficient 1\n",
+    },
+    Example {
+        name: "a second crash",
+        settings: SETTINGS,
+        nodes: THREE,
+        commands: "[[command]]\n\
+            at_us = 50\n\
+            do = \"crash\"\n\
+            node = \"n1\"\n\
+            [[command]]\n\
+            at_us = 50\n\
+            do = \"crash\"\n\
+            node = \"n1\"\n",
+        trace: "50 n1 crash\n\
+            50 n1 ignored crash\n\
+            200 audit members=2 dead=0 ring=2 ordered=yes principals=2 sufficient=no\n",
+        report: "events 2\n\
+            crashes 1\n\
+            ignored 1\n\
+            audits 1\n\
+            insufficient 1\n",
+    },
+    Example {
+        name: "eight events",
+        settings: "list = 2\n\
+            duration_us = 200\n\
+            window_us = 10\n\
+            timeout_us = 40\n\
+            audit_us = 200\n\
+            stabilize_us = 1000\n\
+            max_events = 8\n",
+        nodes: THREE,
+        commands: "[[command]]\n\
+            at_us = 100\n\
+            do = \"lookup\"\n\
+            node = \"n0\"\n\
+            key = 4\n\
+            [[command]]\n\
+            at_us = 100\n\
+            do = \"lookup\"\n\
+            node = \"n3\"\n\
+            key = 1\n",
+        trace: "100 n0 lookup 4\n\
+            100 n3 lookup 1\n\
+            120 n3 found 1 n1 hops=1 timeouts=0 us=20\n\
+            120 n0 found 4 n0 hops=1 timeouts=0 us=20\n\
+            200 audit members=3 dead=0 ring=3 ordered=yes principals=3 sufficient=yes\n",
+        report: "events 8\n\
+            lookups 2\n\
+            found 2\n\
+            hops-sum 2\n\
+            hops-greatest 1\n\
+            us-sum 40\n\
+            us-least 20\n\
+            us-median 20\n\
+            us-greatest 20\n\
+            audits 1\n",
+    },
+];
+
+#[test]
+fn examples(rt: HostRuntime) -> Result<(), Fail> {
+    for example in &EXAMPLES {
+        let name = example.name;
+        let text = text_of(rt.alloc(), example.settings, example.nodes, example.commands)?;
+        let played = play_text(rt.alloc(), text.as_str().as_bytes());
+        let trace = String::from_utf8_lossy(rt.alloc(), played.trace.as_slice())?;
+        assert!(rt; trace.as_str() == example.trace, "{name}: {trace}");
+        let Ok(report) = played.outcome else {
+            assert!(rt; false, "{name} does not end");
+            return Ok(());
+        };
+        let report = shown(rt.alloc(), &report)?;
+        assert!(rt; report.as_str() == example.report, "{name}: {report}");
+    }
+    Ok(())
+}

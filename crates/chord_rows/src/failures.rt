@@ -1,0 +1,165 @@
+use crate::playing::{SERIAL, SETTINGS, THREE, play_text, text_of};
+use chord_event::RunError;
+use chord_play::{PlayFault, Text, play};
+use chord_trace::Watched;
+use std::alloc::Global;
+use std::io;
+use std::io::{ErrorKind, Read, Write};
+use std::test::Fail;
+
+/// Two lookups at one time, and what they leave.
+const TWO_LOOKUPS: &str = "[[command]]\nat_us = 100\ndo = \"lookup\"\nnode = \"n0\"\nkey = 4\n\
+    [[command]]\nat_us = 100\ndo = \"lookup\"\nnode = \"n3\"\nkey = 1\n";
+
+const TRACE: &str = "100 n0 lookup 4\n100 n3 lookup 1\n\
+    120 n3 found 1 n1 hops=1 timeouts=0 us=20\n\
+    120 n0 found 4 n0 hops=1 timeouts=0 us=20\n\
+    200 audit members=3 dead=0 ring=3 ordered=yes principals=3 sufficient=yes\n";
+
+/// A writer with room for some bytes. After that it fails, or takes nothing.
+#[derive(Drop)]
+struct Bounded {
+    taken: Vec<u8>,
+    room: usize,
+    takes_nothing: bool,
+}
+
+impl Write for Bounded {
+    fn write(&mut self, buf: &[u8]) -> io::Result<usize> {
+        let count = buf.len().min(self.room);
+        if count == 0 {
+            return if self.takes_nothing {
+                Ok(0)
+            } else {
+                Err(io::Error::from(ErrorKind::Other))
+            };
+        }
+        self.taken.extend_from_slice(&buf[..count])?;
+        self.room -= count;
+        Ok(count)
+    }
+
+    fn flush(&mut self) -> io::Result<()> {
+        Ok(())
+    }
+}
+
+/// A reader that fails after some bytes of a text.
+#[derive(Drop)]
+struct Broken {
+    left: usize,
+}
+
+impl Read for Broken {
+    fn read(&mut self, buf: &mut [u8]) -> io::Result<usize> {
+        if self.left == 0 {
+            return Err(io::Error::from(ErrorKind::Other));
+        }
+        let count = buf.len().min(self.left);
+        for byte in &mut buf[..count] {
+            *byte = b'#';
+        }
+        self.left -= count;
+        Ok(count)
+    }
+}
+
+/// What goes out before a writer fails is the beginning of the trace, whatever the writer takes.
+#[test]
+fn writers_that_fail(rt: HostRuntime) -> Result<(), Fail> {
+    let alloc = rt.alloc();
+    let text = text_of(alloc, SETTINGS, THREE, TWO_LOOKUPS)?;
+    for room in 0..TRACE.len() {
+        for takes_nothing in [false, true] {
+            let mut toml = Watched::new(text.as_str().as_bytes());
+            let mut csv = Watched::new(b"".as_slice());
+            let mut writer = Watched::new(Bounded {
+                taken: Vec::new(alloc),
+                room,
+                takes_nothing,
+            });
+            let outcome = play(alloc, &mut toml, &mut csv, &SERIAL, &mut writer);
+            let is_write = matches!(outcome, Err(PlayFault::Run(RunError::Write)));
+            assert!(rt; is_write, "room {room}");
+            let taken = writer.into_inner().taken;
+            assert!(rt; taken.as_slice() == &TRACE.as_bytes()[..room], "room {room}");
+        }
+    }
+    Ok(())
+}
+
+/// The text that a reader failed in is named, and nothing is written.
+#[test]
+fn readers_that_fail(rt: HostRuntime) -> Result<(), Fail> {
+    let alloc = rt.alloc();
+    let text = text_of(alloc, SETTINGS, THREE, TWO_LOOKUPS)?;
+    for left in [0, 1, 8191, 8192, 8193] {
+        let mut toml = Watched::new(Broken { left });
+        let mut csv = Watched::new(b"".as_slice());
+        let mut writer = Watched::new(Vec::new(alloc));
+        let outcome = play(alloc, &mut toml, &mut csv, &SERIAL, &mut writer);
+        assert!(rt; matches!(outcome, Err(PlayFault::Read(Text::Scenario))), "after {left}");
+        assert!(rt; writer.into_inner().is_empty());
+
+        let mut toml = Watched::new(text.as_str().as_bytes());
+        let mut csv = Watched::new(Broken { left });
+        let mut writer = Watched::new(Vec::new(alloc));
+        let outcome = play(alloc, &mut toml, &mut csv, &SERIAL, &mut writer);
+        assert!(rt; matches!(outcome, Err(PlayFault::Read(Text::Latency))), "after {left}");
+        assert!(rt; writer.into_inner().is_empty());
+    }
+    Ok(())
+}
+
+/// A text as long as it may be is played, and one byte more is too long.
+#[test]
+fn texts_that_are_too_long(rt: HostRuntime) -> Result<(), Fail> {
+    let alloc = rt.alloc();
+    let mut text = text_of(alloc, SETTINGS, THREE, TWO_LOOKUPS)?.into_bytes();
+    text.resize(16_777_216, b'\n')?;
+    let longest = play_text(alloc, text.as_slice());
+    assert!(rt; longest.outcome.is_ok() && longest.trace.as_slice() == TRACE.as_bytes());
+    text.push(b'\n')?;
+    let longer = play_text(alloc, text.as_slice());
+    assert!(rt; matches!(longer.outcome, Err(PlayFault::TooLong(Text::Scenario))));
+    assert!(rt; longer.trace.is_empty());
+    Ok(())
+}
+
+/// The eighth event is one too many where seven are allowed; what was written stands.
+#[test]
+fn too_many_events(rt: HostRuntime) -> Result<(), Fail> {
+    let alloc = rt.alloc();
+    let settings = format!(in alloc; "{SETTINGS}max_events = 7\n")?;
+    let text = text_of(alloc, settings.as_str(), THREE, TWO_LOOKUPS)?;
+    let played = play_text(alloc, text.as_str().as_bytes());
+    let is_over = matches!(played.outcome, Err(PlayFault::Run(RunError::TooManyEvents)));
+    assert!(rt; is_over);
+    assert!(rt; TRACE.as_bytes().starts_with(played.trace.as_slice()));
+    Ok(())
+}
+
+/// The text of the fault that a scenario is refused for.
+fn refusal(alloc: Global, settings: &str, nodes: &str) -> Result<String, Fail> {
+    let text = text_of(alloc, settings, nodes, "")?;
+    match play_text(alloc, text.as_str().as_bytes()).outcome {
+        Err(PlayFault::Scenario(fault)) => Ok(format!(in alloc; "{fault}")?),
+        _ => Ok(format!(in alloc; "not refused")?),
+    }
+}
+
+#[test]
+fn scenarios_that_are_refused(rt: HostRuntime) -> Result<(), Fail> {
+    let alloc = rt.alloc();
+    let opposite = "[[node]]\nname = \"n0\"\nid = 0\ninitial = true\n\
+        [[node]]\nname = \"n4\"\nid = 4\ninitial = true\n";
+    let wide = "list = 1\nduration_us = 200\nwindow_us = 11\ntimeout_us = 40\naudit_us = 200\nstabilize_us = 1000\n";
+    let near = refusal(alloc, wide, opposite)?;
+    assert!(rt; near.as_str() == "S15 LatencyBelowWindow n0 n4", "{near}");
+    let few = refusal(alloc, SETTINGS, opposite)?;
+    assert!(rt; few.as_str() == "S10 TooFewInitial", "{few}");
+    let twins = THREE.replacen(alloc, "id = 1", "id = 0", 1)?;
+    let same = refusal(alloc, SETTINGS, twins.as_str())?;
+    assert!(rt; same.as_str() == "S8 SameId n0 n1", "{same}");
+    Ok(())
+}

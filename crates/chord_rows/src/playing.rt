@@ -1,0 +1,67 @@
+use chord_play::{Plan, PlayFault, Split, play};
+use chord_trace::{Report, Watched};
+use std::alloc::{AllocError, Global};
+use std::fmt::Write as _;
+use std::test::Fail;
+
+/// One event at a time.
+pub const SERIAL: Plan = Plan {
+    serial: true,
+    workers: 1,
+    parts: 1,
+    split: Split::RoundRobin,
+};
+
+/// What all examples have in common.
+pub const TOP: &str = "profile = 1\nbits = 3\nseed = 1\nlatency_us = 10\nfinger_us = 1000\n";
+
+/// The settings of most examples.
+pub const SETTINGS: &str = "list = 2\nduration_us = 200\nwindow_us = 10\ntimeout_us = 40\naudit_us = 200\nstabilize_us = 1000\n";
+
+/// The ring of most examples.
+pub const THREE: &str = "[[node]]\nname = \"n0\"\nid = 0\ninitial = true\n\
+    [[node]]\nname = \"n1\"\nid = 1\ninitial = true\n\
+    [[node]]\nname = \"n3\"\nid = 3\ninitial = true\n";
+
+/// A scenario's text: what all have in common, its settings, its nodes and its commands.
+pub fn text_of(
+    alloc: Global,
+    settings: &str,
+    nodes: &str,
+    commands: &str,
+) -> Result<String, AllocError> {
+    format!(in alloc; "{TOP}{settings}{nodes}{commands}")
+}
+
+/// What a play left: the text of its trace and of its report, or why it did not end.
+#[derive(Drop)]
+pub struct Played {
+    pub trace: Vec<u8>,
+    pub outcome: Result<Report, PlayFault>,
+}
+
+/// Plays a scenario without a latency text.
+pub fn play_text(alloc: Global, scenario: &[u8]) -> Played {
+    let mut toml = Watched::new(scenario);
+    let mut csv = Watched::new(b"".as_slice());
+    let mut writer = Watched::new(Vec::new(alloc));
+    let outcome = play(alloc, &mut toml, &mut csv, &SERIAL, &mut writer);
+    Played {
+        trace: writer.into_inner(),
+        outcome,
+    }
+}
+
+/// The lines of a report whose number is not 0.
+pub fn shown(alloc: Global, report: &Report) -> Result<String, Fail> {
+    let mut writer = Watched::new(Vec::new(alloc));
+    report.write(alloc, &mut writer)?;
+    let text = String::from_utf8_lossy(alloc, writer.into_inner().as_slice())?;
+    let mut lines = String::new(alloc);
+    for line in text.as_str().lines() {
+        if !line.ends_with(" 0") {
+            writeln!(lines, "{line}")?;
+        }
+    }
+    Ok(lines)
+}

@@ -1,0 +1,36 @@
+use crate::playing::{SETTINGS, THREE, play_text, text_of};
+use std::test::Fail;
+
+/// Each node draws from a stream of its own: the first keys that three nodes look up differ.
+#[test]
+fn each_node_has_its_own_stream(rt: HostRuntime) -> Result<(), Fail> {
+    let alloc = rt.alloc();
+    let settings =
+        format!(in alloc; "{SETTINGS}lookups = {{ gap_min_us = 50, gap_max_us = 50 }}\n")?;
+    let text = text_of(alloc, settings.as_str(), THREE, "")?;
+    let played = play_text(alloc, text.as_str().as_bytes());
+    assert!(rt; played.outcome.is_ok());
+    let trace = String::from_utf8_lossy(alloc, played.trace.as_slice())?;
+    for line in ["50 n0 lookup 2", "50 n1 lookup 5", "50 n3 lookup 1"] {
+        assert!(rt; trace.as_str().lines().any(|it| it == line), "{line}: {trace}");
+    }
+    Ok(())
+}
+
+/// A crash leaves a node where it was in its stream.
+#[test]
+fn a_crash_keeps_the_place_in_the_stream(rt: HostRuntime) -> Result<(), Fail> {
+    let alloc = rt.alloc();
+    let settings = "list = 2\nduration_us = 360\nwindow_us = 10\ntimeout_us = 30\naudit_us = 360\nstabilize_us = 40\n\
+        lookups = { gap_min_us = 200, gap_max_us = 200 }\n";
+    let commands = "[[command]]\nat_us = 45\ndo = \"crash\"\nnode = \"n1\"\n\
+        [[command]]\nat_us = 150\ndo = \"join\"\nnode = \"n1\"\nvia = \"n0\"\n";
+    let text = text_of(alloc, settings, THREE, commands)?;
+    let played = play_text(alloc, text.as_str().as_bytes());
+    assert!(rt; played.outcome.is_ok());
+    let trace = String::from_utf8_lossy(alloc, played.trace.as_slice())?;
+    for line in ["190 n1 member n0", "350 n1 lookup 0"] {
+        assert!(rt; trace.as_str().lines().any(|it| it == line), "{line}: {trace}");
+    }
+    Ok(())
+}

@@ -1,0 +1,228 @@
+ghost use Rattle.std.specs.Prelude.{◌<◌};
+ghost use Rattle.chord_scenario.specs.World.{node_count};
+ghost use Rattle.chord_scenario.specs.Blocks.{IsLineOf};
+
+use super::*;
+use chord_circle::{Circle, Ident};
+use chord_event::{Block, CommandKind, Key, Line, Listed, MessageKind, RunError};
+use chord_scenario::{Scenario, read_scenario};
+use std::alloc::Global;
+use std::io;
+use std::io::{ErrorKind, Write};
+use std::process::Abort;
+use std::test::Fail;
+
+const RING: &str = "profile = 1\nbits = 3\nlist = 2\nseed = 1\nduration_us = 200\nwindow_us = 10\n\
+    latency_us = 10\ntimeout_us = 40\naudit_us = 200\nstabilize_us = 1000\nfinger_us = 1000\n\
+    [[node]]\nname = \"n0\"\nid = 0\ninitial = true\n\
+    [[node]]\nname = \"n1\"\nid = 1\ninitial = true\n\
+    [[node]]\nname = \"n3\"\nid = 3\ninitial = true\n";
+
+/// Whether the block of this line has this text.
+fn is_text(alloc: Global, scenario: &Scenario, line: Line, text: &str) -> Result<bool, RunError>
+    requires target { 0 < node_count scenario.now }
+    requires names { IsLineOf scenario.now line }
+{
+    let key = Key {
+        time: 100,
+        origin: 1,
+        number: 1,
+    };
+    let block = Block {
+        key,
+        target: 0,
+        lines: Listed::from_vec(vec![in alloc; line]?),
+    };
+    let mut writer = Watched::new(Vec::new(alloc));
+    write_block(alloc, scenario, &block, &mut writer)?;
+    let written = writer.into_inner();
+    Ok(written.as_slice() == text.as_bytes())
+}
+
+fn ident(rt: &impl Abort, raw: u64) -> Ident {
+    let circle = Circle::new(64).expect(rt, "a circle");
+    circle.ident(raw).expect(rt, "an identifier")
+}
+
+#[test]
+fn writes_lines_that_name_nodes(rt: HostRuntime) -> Result<(), Fail> {
+    let alloc = rt.alloc();
+    let scenario = read_scenario(alloc, RING.as_bytes(), b"")
+        .ok()
+        .expect(&rt, "a ring");
+    assert!(rt; scenario.nodes() == 3);
+    assert!(rt; is_text(alloc, &scenario, Line::Join { via: 1 }, "100 n0 join n1\n")?);
+    assert!(rt;
+        is_text(
+            alloc,
+            &scenario,
+            Line::Member { predecessor: 2 },
+            "100 n0 member n3\n"
+        )?
+    );
+    assert!(rt;
+        is_text(
+            alloc,
+            &scenario,
+            Line::Stranded { via: 1 },
+            "100 n0 stranded n1\n"
+        )?
+    );
+    assert!(rt;
+        is_text(
+            alloc,
+            &scenario,
+            Line::Timeout { silent: 2 },
+            "100 n0 timeout n3\n"
+        )?
+    );
+    let key = ident(&rt, 18446744073709551615);
+    let found = Line::Found {
+        key,
+        owner: 2,
+        hops: 3,
+        timeouts: 1,
+        us: 40,
+    };
+    assert!(rt;
+        is_text(
+            alloc,
+            &scenario,
+            found,
+            "100 n0 found 18446744073709551615 n3 hops=3 timeouts=1 us=40\n"
+        )?
+    );
+    for (kind, drop, late) in [
+        (
+            MessageKind::Step,
+            "100 n0 drop step n3\n",
+            "100 n0 late step n1\n",
+        ),
+        (
+            MessageKind::GetState,
+            "100 n0 drop get-state n3\n",
+            "100 n0 late get-state n1\n",
+        ),
+        (
+            MessageKind::GetList,
+            "100 n0 drop get-list n3\n",
+            "100 n0 late get-list n1\n",
+        ),
+        (
+            MessageKind::Ping,
+            "100 n0 drop ping n3\n",
+            "100 n0 late ping n1\n",
+        ),
+        (
+            MessageKind::Notify,
+            "100 n0 drop notify n3\n",
+            "100 n0 late notify n1\n",
+        ),
+        (
+            MessageKind::StepReply,
+            "100 n0 drop step-reply n3\n",
+            "100 n0 late step-reply n1\n",
+        ),
+        (
+            MessageKind::StateReply,
+            "100 n0 drop state-reply n3\n",
+            "100 n0 late state-reply n1\n",
+        ),
+        (
+            MessageKind::ListReply,
+            "100 n0 drop list-reply n3\n",
+            "100 n0 late list-reply n1\n",
+        ),
+        (
+            MessageKind::Pong,
+            "100 n0 drop pong n3\n",
+            "100 n0 late pong n1\n",
+        ),
+    ] {
+        assert!(rt;
+            is_text(alloc, &scenario, Line::Drop { kind, sender: 2 }, drop)?,
+            "{drop}"
+        );
+        assert!(rt;
+            is_text(alloc, &scenario, Line::Late { kind, sender: 1 }, late)?,
+            "{late}"
+        );
+    }
+    Ok(())
+}
+
+#[test]
+fn writes_lines_that_name_no_node(rt: HostRuntime) -> Result<(), Fail> {
+    let alloc = rt.alloc();
+    let scenario = read_scenario(alloc, RING.as_bytes(), b"")
+        .ok()
+        .expect(&rt, "a ring");
+    assert!(rt; scenario.nodes() == 3);
+    let key = ident(&rt, 7);
+    let lost = Line::Lost {
+        key,
+        hops: 0,
+        timeouts: 9,
+        us: 360,
+    };
+    assert!(rt; is_text(alloc, &scenario, Line::JoinFailed, "100 n0 join-failed\n")?);
+    assert!(rt; is_text(alloc, &scenario, Line::Crash, "100 n0 crash\n")?);
+    assert!(rt; is_text(alloc, &scenario, Line::Lookup { key }, "100 n0 lookup 7\n")?);
+    assert!(rt;
+        is_text(
+            alloc,
+            &scenario,
+            lost,
+            "100 n0 lost 7 hops=0 timeouts=9 us=360\n"
+        )?
+    );
+    assert!(rt; is_text(alloc, &scenario, Line::Busy { key }, "100 n0 busy 7\n")?);
+    for (command, text) in [
+        (CommandKind::Join, "100 n0 ignored join\n"),
+        (CommandKind::Crash, "100 n0 ignored crash\n"),
+        (CommandKind::Lookup, "100 n0 ignored lookup\n"),
+    ] {
+        assert!(rt;
+            is_text(alloc, &scenario, Line::Ignored { command }, text)?,
+            "{text}"
+        );
+    }
+    Ok(())
+}
+
+/// A writer whose every call fails.
+#[derive(Drop)]
+struct Failing;
+
+impl Write for Failing {
+    fn write(&mut self, _buf: &[u8]) -> io::Result<usize> {
+        Err(io::Error::from(ErrorKind::Other))
+    }
+
+    fn flush(&mut self) -> io::Result<()> {
+        Err(io::Error::from(ErrorKind::Other))
+    }
+}
+
+#[test]
+fn a_block_without_lines_calls_no_writer(rt: HostRuntime) -> Result<(), Fail> {
+    let alloc = rt.alloc();
+    let scenario = read_scenario(alloc, RING.as_bytes(), b"")
+        .ok()
+        .expect(&rt, "a ring");
+    assert!(rt; scenario.nodes() == 3);
+    let key = Key {
+        time: 100,
+        origin: 1,
+        number: 1,
+    };
+    let block = Block {
+        key,
+        target: 0,
+        lines: Listed::new(alloc),
+    };
+    let mut writer = Watched::new(Failing);
+    assert!(rt; write_block(alloc, &scenario, &block, &mut writer) == Ok(()));
+    assert!(rt; !writer.failed());
+    Ok(())
+}
