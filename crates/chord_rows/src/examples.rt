@@ -1,4 +1,4 @@
-use crate::playing::{SETTINGS, THREE, play_text, shown, text_of};
+use crate::playing::{SETTINGS, THREE, play_text, play_texts, shown, text_of};
 use std::test::Fail;
 
 /// An example: its settings, nodes and commands, its trace, and those lines of its report whose
@@ -54,7 +54,7 @@ const ONE_OF_CHURN: &str = "[[node]]\n\
     id = 3\n\
     initial = true\n";
 
-const EXAMPLES: [Example; 18] = [
+const EXAMPLES: [Example; 19] = [
     Example {
         name: "three lookups",
         settings: SETTINGS,
@@ -138,7 +138,8 @@ const EXAMPLES: [Example; 18] = [
             window_us = 10\n\
             timeout_us = 40\n\
             audit_us = 200\n\
-            stabilize_us = 1000\n",
+            stabilize_us = 1000\n\
+            finger_us = 1000\n",
         nodes: TWO_NODES,
         commands: "[[command]]\n\
             at_us = 100\n\
@@ -166,7 +167,8 @@ const EXAMPLES: [Example; 18] = [
             window_us = 10\n\
             timeout_us = 30\n\
             audit_us = 240\n\
-            stabilize_us = 100\n",
+            stabilize_us = 100\n\
+            finger_us = 1000\n",
         nodes: THREE,
         commands: "[[command]]\n\
             at_us = 50\n\
@@ -236,7 +238,8 @@ const EXAMPLES: [Example; 18] = [
             window_us = 10\n\
             timeout_us = 40\n\
             audit_us = 100\n\
-            stabilize_us = 1000\n",
+            stabilize_us = 1000\n\
+            finger_us = 1000\n",
         nodes: THREE,
         commands: "[[command]]\n\
             at_us = 100\n\
@@ -289,7 +292,8 @@ const EXAMPLES: [Example; 18] = [
             window_us = 10\n\
             timeout_us = 15\n\
             audit_us = 200\n\
-            stabilize_us = 1000\n",
+            stabilize_us = 1000\n\
+            finger_us = 1000\n",
         nodes: THREE,
         commands: "[[command]]\n\
             at_us = 100\n\
@@ -374,7 +378,8 @@ const EXAMPLES: [Example; 18] = [
             window_us = 10\n\
             timeout_us = 40\n\
             audit_us = 400\n\
-            stabilize_us = 170\n",
+            stabilize_us = 170\n\
+            finger_us = 1000\n",
         nodes: FOUR,
         commands: "[[command]]\n\
             at_us = 100\n\
@@ -396,6 +401,7 @@ const EXAMPLES: [Example; 18] = [
             timeout_us = 40\n\
             audit_us = 160\n\
             stabilize_us = 1000\n\
+            finger_us = 1000\n\
             churn = { life_min_us = 100, life_max_us = 100, down_min_us = 50, down_max_us = 50 }\n",
         nodes: ONE_OF_CHURN,
         commands: "",
@@ -414,7 +420,8 @@ const EXAMPLES: [Example; 18] = [
             window_us = 10\n\
             timeout_us = 40\n\
             audit_us = 200\n\
-            stabilize_us = 150\n",
+            stabilize_us = 150\n\
+            finger_us = 1000\n",
         nodes: TWO_NODES,
         commands: "[[command]]\n\
             at_us = 50\n\
@@ -452,7 +459,8 @@ const EXAMPLES: [Example; 18] = [
             window_us = 10\n\
             timeout_us = 40\n\
             audit_us = 500\n\
-            stabilize_us = 1000\n",
+            stabilize_us = 1000\n\
+            finger_us = 1000\n",
         nodes: FOUR,
         commands: "[[command]]\n\
             at_us = 50\n\
@@ -520,6 +528,7 @@ const EXAMPLES: [Example; 18] = [
             timeout_us = 40\n\
             audit_us = 200\n\
             stabilize_us = 1000\n\
+            finger_us = 1000\n\
             max_events = 8\n",
         nodes: THREE,
         commands: "[[command]]\n\
@@ -548,6 +557,32 @@ const EXAMPLES: [Example; 18] = [
             us-greatest 20\n\
             audits 1\n",
     },
+    Example {
+        name: "a finger that crashed",
+        settings: "list = 2\n\
+            duration_us = 200\n\
+            window_us = 10\n\
+            timeout_us = 40\n\
+            audit_us = 200\n\
+            stabilize_us = 1000\n\
+            finger_us = 60\n",
+        nodes: THREE,
+        commands: "[[command]]\n\
+            at_us = 50\n\
+            do = \"crash\"\n\
+            node = \"n1\"\n",
+        trace: "50 n1 crash\n\
+            70 n1 drop step n0\n\
+            100 n0 timeout n1\n\
+            190 n1 drop step n0\n\
+            200 audit members=2 dead=0 ring=2 ordered=yes principals=2 sufficient=no\n",
+        report: "events 14\n\
+            crashes 1\n\
+            drops 2\n\
+            timeouts 1\n\
+            audits 1\n\
+            insufficient 1\n",
+    },
 ];
 
 #[test]
@@ -565,5 +600,56 @@ fn examples(rt: HostRuntime) -> Result<(), Fail> {
         let report = shown(rt.alloc(), &report)?;
         assert!(rt; report.as_str() == example.report, "{name}: {report}");
     }
+    Ok(())
+}
+
+/// Sixty lookups are in progress at most; one more finds the node busy.
+#[test]
+fn sixty_lookups_and_one_more(rt: HostRuntime) -> Result<(), Fail> {
+    let alloc = rt.alloc();
+    let mut commands = String::new(alloc);
+    let mut expected = String::new(alloc);
+    for i in 0..61 {
+        commands.push_str("[[command]]\nat_us = 100\ndo = \"lookup\"\nnode = \"n3\"\nkey = 1\n")?;
+        expected.push_str(if i < 60 { "100 n3 lookup 1\n" } else { "100 n3 busy 1\n" })?;
+    }
+    for _ in 0..60 {
+        expected.push_str("120 n3 found 1 n1 hops=1 timeouts=0 us=20\n")?;
+    }
+    expected.push_str(
+        "200 audit members=3 dead=0 ring=3 ordered=yes principals=3 sufficient=yes\n",
+    )?;
+    let text = text_of(alloc, SETTINGS, THREE, commands.as_str())?;
+    let played = play_text(alloc, text.as_str().as_bytes());
+    assert!(rt; played.trace.as_slice() == expected.as_str().as_bytes());
+    let Ok(report) = played.outcome else {
+        assert!(rt; false, "the run does not end");
+        return Ok(());
+    };
+    let report = shown(alloc, &report)?;
+    assert!(rt;
+        report.as_str()
+            == "events 241\nlookups 60\nfound 60\nbusy 1\nhops-sum 60\nhops-greatest 1\nus-sum 1200\n\
+                us-least 20\nus-median 20\nus-greatest 20\naudits 1\n",
+        "{report}"
+    );
+    Ok(())
+}
+
+/// A row of the latency text holds both ways.
+#[test]
+fn a_latency_of_its_own(rt: HostRuntime) -> Result<(), Fail> {
+    let alloc = rt.alloc();
+    let commands = "[[command]]\nat_us = 100\ndo = \"lookup\"\nnode = \"n3\"\nkey = 1\n";
+    let text = text_of(alloc, SETTINGS, THREE, commands)?;
+    let played = play_texts(alloc, text.as_str().as_bytes(), b"n0,n3,15");
+    assert!(rt; played.outcome.is_ok());
+    let trace = String::from_utf8_lossy(alloc, played.trace.as_slice())?;
+    assert!(rt;
+        trace.as_str()
+            == "100 n3 lookup 1\n130 n3 found 1 n1 hops=1 timeouts=0 us=30\n\
+                200 audit members=3 dead=0 ring=3 ordered=yes principals=3 sufficient=yes\n",
+        "{trace}"
+    );
     Ok(())
 }

@@ -153,7 +153,7 @@ fn scenarios_that_are_refused(rt: HostRuntime) -> Result<(), Fail> {
     let alloc = rt.alloc();
     let opposite = "[[node]]\nname = \"n0\"\nid = 0\ninitial = true\n\
         [[node]]\nname = \"n4\"\nid = 4\ninitial = true\n";
-    let wide = "list = 1\nduration_us = 200\nwindow_us = 11\ntimeout_us = 40\naudit_us = 200\nstabilize_us = 1000\n";
+    let wide = "list = 1\nduration_us = 200\nwindow_us = 11\ntimeout_us = 40\naudit_us = 200\nstabilize_us = 1000\nfinger_us = 1000\n";
     let near = refusal(alloc, wide, opposite)?;
     assert!(rt; near.as_str() == "S15 LatencyBelowWindow n0 n4", "{near}");
     let few = refusal(alloc, SETTINGS, opposite)?;

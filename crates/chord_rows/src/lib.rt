@@ -8,4 +8,6 @@ mod failures;
 #[cfg(test)]
 mod playing;
 #[cfg(test)]
+mod rings;
+#[cfg(test)]
 mod streams;

@@ -13,10 +13,10 @@ pub const SERIAL: Plan = Plan {
 };
 
 /// What all examples have in common.
-pub const TOP: &str = "profile = 1\nbits = 3\nseed = 1\nlatency_us = 10\nfinger_us = 1000\n";
+pub const TOP: &str = "profile = 1\nbits = 3\nseed = 1\nlatency_us = 10\n";
 
 /// The settings of most examples.
-pub const SETTINGS: &str = "list = 2\nduration_us = 200\nwindow_us = 10\ntimeout_us = 40\naudit_us = 200\nstabilize_us = 1000\n";
+pub const SETTINGS: &str = "list = 2\nduration_us = 200\nwindow_us = 10\ntimeout_us = 40\naudit_us = 200\nstabilize_us = 1000\nfinger_us = 1000\n";
 
 /// The ring of most examples.
 pub const THREE: &str = "[[node]]\nname = \"n0\"\nid = 0\ninitial = true\n\
@@ -42,8 +42,13 @@ pub struct Played {
 
 /// Plays a scenario without a latency text.
 pub fn play_text(alloc: Global, scenario: &[u8]) -> Played {
+    play_texts(alloc, scenario, b"")
+}
+
+/// Plays a scenario with a latency text.
+pub fn play_texts(alloc: Global, scenario: &[u8], latency: &[u8]) -> Played {
     let mut toml = Watched::new(scenario);
-    let mut csv = Watched::new(b"".as_slice());
+    let mut csv = Watched::new(latency);
     let mut writer = Watched::new(Vec::new(alloc));
     let outcome = play(alloc, &mut toml, &mut csv, &SERIAL, &mut writer);
     Played {

@@ -1,4 +1,5 @@
 use crate::playing::{SETTINGS, THREE, play_text, text_of};
+use chord_stream::Stream;
 use std::test::Fail;
 
 /// Each node draws from a stream of its own: the first keys that three nodes look up differ.
@@ -21,7 +22,7 @@ fn each_node_has_its_own_stream(rt: HostRuntime) -> Result<(), Fail> {
 #[test]
 fn a_crash_keeps_the_place_in_the_stream(rt: HostRuntime) -> Result<(), Fail> {
     let alloc = rt.alloc();
-    let settings = "list = 2\nduration_us = 360\nwindow_us = 10\ntimeout_us = 30\naudit_us = 360\nstabilize_us = 40\n\
+    let settings = "list = 2\nduration_us = 360\nwindow_us = 10\ntimeout_us = 30\naudit_us = 360\nstabilize_us = 40\nfinger_us = 1000\n\
         lookups = { gap_min_us = 200, gap_max_us = 200 }\n";
     let commands = "[[command]]\nat_us = 45\ndo = \"crash\"\nnode = \"n1\"\n\
         [[command]]\nat_us = 150\ndo = \"join\"\nnode = \"n1\"\nvia = \"n0\"\n";
@@ -33,4 +34,17 @@ fn a_crash_keeps_the_place_in_the_stream(rt: HostRuntime) -> Result<(), Fail> {
         assert!(rt; trace.as_str().lines().any(|it| it == line), "{line}: {trace}");
     }
     Ok(())
+}
+
+/// The order in which places are asked does not matter.
+#[test]
+fn places_in_any_order(rt: HostRuntime) {
+    let stream = Stream::of(1, 2);
+    let words = [stream.word_at(0), stream.word_at(1), stream.word_at(17)];
+    let again = Stream::of(1, 2);
+    assert!(rt; [again.word_at(17), again.word_at(1), again.word_at(0)] == [words[2], words[1], words[0]]);
+    assert!(rt; words[0] != words[1] && words[1] != words[2]);
+    for place in [0, 1, 17] {
+        assert!(rt; stream.below(place, 1) == 0);
+    }
 }

@@ -1,0 +1,49 @@
+use crate::playing::{SETTINGS, THREE, text_of};
+use chord_circle::Circle;
+use chord_node::initial_ring;
+use chord_scenario::read_scenario;
+use std::test::Fail;
+
+/// What each node of the ring of three knows at the start.
+#[test]
+fn the_first_ring(rt: HostRuntime) -> Result<(), Fail> {
+    let alloc = rt.alloc();
+    let text = text_of(alloc, SETTINGS, THREE, "")?;
+    let Ok(scenario) = read_scenario(alloc, text.as_str().as_bytes(), b"") else {
+        assert!(rt; false, "the ring is refused");
+        return Ok(());
+    };
+    let Ok(states) = initial_ring(alloc, &scenario) else {
+        assert!(rt; false, "no memory");
+        return Ok(());
+    };
+    let expected = [
+        ([1, 2], 2, [2, 0]),
+        ([2, 0], 0, [2, 0]),
+        ([0, 1], 1, [0, 0]),
+    ];
+    assert!(rt; states.len() == 3);
+    for (state, (succ, prdc, fingers)) in states.as_slice().iter().zip(&expected) {
+        assert!(rt; state.succ.as_slice() == succ.as_slice());
+        assert!(rt; state.prdc == Some(*prdc));
+        assert!(rt; state.fingers.as_slice() == fingers.as_slice());
+    }
+    Ok(())
+}
+
+/// Between equal ends lie all other places, and the ends of a half-open interval differ.
+#[test]
+fn between_at_the_ends(rt: HostRuntime) {
+    let Some(circle) = Circle::new(3) else {
+        assert!(rt; false, "no circle");
+        return;
+    };
+    let five = circle.low_bits(5);
+    for x in 0..8 {
+        assert!(rt; circle.between(five, circle.low_bits(x), five) == (x != 5), "{x}");
+    }
+    let (six, one, two) = (circle.low_bits(6), circle.low_bits(1), circle.low_bits(2));
+    assert!(rt; circle.between(six, one, two) && !circle.between(six, two, two));
+    assert!(rt; circle.in_half_open(six, two, two));
+    assert!(rt; Circle::new(2).is_none() && Circle::new(65).is_none());
+}
