@@ -64,12 +64,6 @@ returns-in_err-insert_all-clause-front g c = λ old t.
 pub put_block-requires-clause-room : goal.put_block-requires-clause-room
 put_block-requires-clause-room g c = omega (arith, c.requires.taken.1.at.room, c.requires.taken.1.allowed, c.in_ok-put_audits.ensures.size, c.is_in_range.ensures.numbers.max_events_greatest)
 
-pub put_block-requires-clause-block : goal.put_block-requires-clause-block
-put_block-requires-clause-block g c = ?
-
-pub put_block-requires-clause-short : goal.put_block-requires-clause-short
-put_block-requires-clause-short g c = ?
-
 pub returns-in_err-put_block-clause-front : goal.returns-in_err-put_block-clause-front
 returns-in_err-put_block-clause-front g c = λ old t.
     begin_front c.args.scenario.now c.is_in_range.ensures old _ c.args.self.now c.args.event.now t c.index_mut.result.now c.index_mut.ensures.value _ c.in_ok-events.field-0.block _ _ c.in_ok-events.ensures.block (c.in_ok-put_audits.ensures.adds (state (chord c.args.scenario.now) (history (chord c.args.scenario.now) c.args.self.now.count)) (subst (λ (ss : List NodeState). AreStates c.args.scenario.now ss (state (chord c.args.scenario.now) (history (chord c.args.scenario.now) c.args.self.now.count))) (sym c.as_slice.ensures.value) (taken_states c.args.scenario.now c.is_in_range.ensures old _ c.args.self.now c.args.event.now t))) c.in_err-put_block.ensures.front

@@ -1,0 +1,154 @@
+use Rattle.std.proofs.Common.{◌==◌, ℕ, ◌+◌, ◌<◌, ◌∷◌, length, nat_lt, arith, length-append}
+use Rattle.std.proofs.lemmas.List.Elements.{All-append, All-cons}
+use Rattle.std.specs.List.{count_by, filter_map}
+use Rattle.std.specs.Prelude.{position, slice_get}
+use Rattle.chord_event.specs.declared.body.Answer.{Answer}
+use Rattle.chord_event.specs.declared.body.Answer.TheVariants as answer
+use Rattle.chord_event.specs.declared.line.Line.TheVariants as line
+use Rattle.chord_scenario.specs.declared.scenario.Scenario.{Scenario}
+use Rattle.chord_node.specs.declared.state.Aim.{Aim}
+use Rattle.chord_node.specs.declared.state.Aim.TheVariants as aim
+use Rattle.chord_node.specs.declared.state.Attempt.{Attempt}
+use Rattle.chord_node.specs.declared.state.Lookup.{Lookup}
+use Rattle.chord_node.specs.Invariant.{is_user}
+use Rattle.chord_scenario.specs.Blocks.{IsLineOf}
+use Rattle.chord_scenario.specs.World.{is_churn_node, node_count}
+use Rattle.chord_ops.specs.declared.turn.Turn.{Turn}
+use Rattle.chord_ops.specs.Procedures.{armed, asked, begun, down, failed, finger_armed, finished, finished_for, followed, for_attempt, fresh_lookup, join_failed, join_retried, life_armed, lost_line, rise_armed, stabilize_armed, stranded, traffic_armed, up, user_lookup, walked, with_lookup, without_attempt, without_lookup}
+use Rattle.chord_ops.specs.Search.{NamesNode, step_answer}
+use Rattle.chord_ops.specs.Turns.{called, noted, timer_made}
+use Rattle.chord_ops.proofs.Growing.{known}
+use Rattle.chord_ops.proofs.KeptTurns.{step_answer_names}
+use Rattle.chord_ops.proofs.Noted.{HasNoted, KnowsNodes, all_lost, few_lost, knows_when_some, no_node, noted_if, noted_line, noted_when_some, notes_cleared, notes_inserted, notes_lost, notes_removed, one_node, one_more}
+
+-- Timers
+
+pub noted_traffic_armed : (sc : Scenario) (n : ℕ) (turn : Turn) → HasNoted sc n turn → HasNoted sc n (traffic_armed sc turn)
+unfolding traffic_armed timer_made
+noted_traffic_armed sc n turn h =
+    noted_when_some sc n (λ _. Unit {0}) sc.lookups _ turn (known sc.lookups) h (λ gap _. h)
+
+pub knows_traffic_armed : (sc : Scenario) (turn : Turn) → KnowsNodes sc turn.state → KnowsNodes sc (traffic_armed sc turn).state
+unfolding traffic_armed timer_made
+knows_traffic_armed sc turn h = knows_when_some sc sc.lookups _ turn h (λ gap. h)
+
+noted_life_armed : (sc : Scenario) (n : ℕ) (turn : Turn) → HasNoted sc n turn → HasNoted sc n (life_armed sc turn)
+unfolding life_armed timer_made
+noted_life_armed sc n turn h =
+    noted_if sc n (is_churn_node sc turn.state.me) _ turn
+    (noted_when_some sc n (λ _. Unit {0}) sc.churn _ turn (known sc.churn) h (λ churn _. h)) h
+
+pub noted_rise_armed : (sc : Scenario) (n : ℕ) (turn : Turn) → HasNoted sc n turn → HasNoted sc n (rise_armed sc turn)
+unfolding rise_armed timer_made
+noted_rise_armed sc n turn h =
+    noted_if sc n (is_churn_node sc turn.state.me) _ turn
+    (noted_when_some sc n (λ _. Unit {0}) sc.churn _ turn (known sc.churn) h (λ churn _. h)) h
+
+noted_armed : (sc : Scenario) (n : ℕ) (turn : Turn) → HasNoted sc n turn → HasNoted sc n (armed sc turn)
+unfolding armed stabilize_armed finger_armed timer_made
+noted_armed sc n turn h =
+    let second : Turn = finger_armed sc (stabilize_armed sc turn) in
+    noted_life_armed sc n (traffic_armed sc second) (noted_traffic_armed sc n second h)
+
+-- Lookups
+
+pub noted_failed : (sc : Scenario) (n : ℕ) (lookup : Lookup) (turn : Turn) → HasNoted sc n turn → HasNoted sc (n + 1) (failed lookup turn)
+unfolding failed
+noted_failed sc n lookup turn h = notes_lost sc n turn.time lookup turn.lines turn.state.lookups h
+
+noted_finished_for : (sc : Scenario) (n : ℕ) (wanted : Aim) (lookup : Lookup) (owner : ℕ) (turn : Turn) → owner < node_count sc → HasNoted sc n turn → HasNoted sc (n + 1) (finished_for wanted lookup owner turn)
+noted_finished_for sc n aim.User lookup owner turn at h = noted_line sc n _ turn (one_node sc owner at) h
+noted_finished_for sc n (aim.Finger index) lookup owner turn at h = one_more sc n h
+
+noted_finished : (sc : Scenario) (n : ℕ) (lookup : Lookup) (owner : ℕ) (turn : Turn) → owner < node_count sc → HasNoted sc n turn → HasNoted sc (n + 1) (finished lookup owner turn)
+unfolding finished
+noted_finished sc n lookup owner turn at h = noted_finished_for sc n lookup.aim lookup owner turn at h
+
+noted_asked : (sc : Scenario) (n place : ℕ) (lookup : Lookup) (next : ℕ) (turn : Turn) → HasNoted sc n turn → HasNoted sc (n + 1) (asked sc place lookup next turn)
+unfolding asked called
+noted_asked sc n place lookup next turn h =
+    noted_if sc (n + 1) (nat_lt lookup.steps 128) _ (failed lookup turn)
+    (notes_inserted sc n turn.lines turn.state.lookups place _ h) (noted_failed sc n lookup turn h)
+
+pub noted_followed : (sc : Scenario) (n place : ℕ) (lookup : Lookup) (a : Answer) (turn : Turn) → NamesNode sc a → HasNoted sc n turn → HasNoted sc (n + 1) (followed sc place lookup a turn)
+unfolding followed
+noted_followed sc n place lookup (answer.Owner owner) turn at h = noted_finished sc n lookup owner turn at h
+noted_followed sc n place lookup (answer.Next next) turn at h = noted_asked sc n place lookup next turn h
+noted_followed sc n place lookup answer.Stuck turn at h = noted_failed sc n lookup turn h
+
+pub noted_walked : (sc : Scenario) (n place : ℕ) (lookup : Lookup) (turn : Turn) → KnowsNodes sc turn.state → HasNoted sc n turn → HasNoted sc (n + 1) (walked sc place lookup turn)
+unfolding walked
+noted_walked sc n place lookup turn knows h =
+    noted_followed sc n place lookup (step_answer sc turn.state lookup.key lookup.avoid) turn
+    (step_answer_names sc turn.state lookup.key lookup.avoid knows.own knows.succ_known knows.fingers_known) h
+
+pub noted_begun : (sc : Scenario) (n key : ℕ) (wanted : Aim) (turn : Turn) → KnowsNodes sc turn.state → HasNoted sc n turn → HasNoted sc (n + 1) (begun sc key wanted turn)
+unfolding begun
+noted_begun sc n key wanted turn knows h =
+    noted_walked sc n (length turn.state.lookups) (fresh_lookup key wanted turn.time) turn knows h
+
+pub noted_user_lookup : (sc : Scenario) (n key : ℕ) (turn : Turn) → KnowsNodes sc turn.state → HasNoted sc n turn → HasNoted sc (n + 1 + 1) (user_lookup sc key turn)
+unfolding user_lookup
+noted_user_lookup sc n key turn knows h =
+    noted_if sc (n + 1 + 1) (nat_lt (count_by is_user turn.state.lookups) 60) _ _
+    (noted_begun sc (n + 1) key aim.User (noted (line.Lookup key) turn) knows
+    (noted_line sc n (line.Lookup key) turn (no_node sc) h))
+    (one_more sc (n + 1) (noted_line sc n (line.Busy key) turn (no_node sc) h))
+
+-- the step with the lookup of a call, which was taken out
+pub noted_with_lookup : (sc : Scenario) (n number : ℕ) (step : ℕ → Lookup → Turn → Turn) (turn : Turn) → ((place : ℕ) (lookup : Lookup) → HasNoted sc n (without_lookup place turn) → HasNoted sc (n + 1) (step place lookup (without_lookup place turn))) → HasNoted sc n turn → HasNoted sc (n + 1) (with_lookup number step turn)
+unfolding with_lookup
+noted_with_lookup sc n number step turn noted h =
+    let still : HasNoted sc (n + 1) turn = one_more sc n h in
+    noted_when_some sc (n + 1) (λ _. Unit {0}) (position (λ (lookup : Lookup). lookup.call == number) turn.state.lookups) _ turn (known _) still
+    (λ place _. noted_when_some sc (n + 1) (λ _. Unit {0}) (slice_get turn.state.lookups place) _ turn (known _) still
+    (λ lookup _. noted place lookup (notes_removed sc n turn.lines turn.state.lookups place h)))
+
+-- Joins
+
+pub noted_up : (sc : Scenario) (n via : ℕ) (turn : Turn) → via < node_count sc → HasNoted sc n turn → HasNoted sc (n + 1) (up sc via turn)
+unfolding up called
+noted_up sc n via turn at h =
+    noted_armed sc (n + 1) _ (noted_line sc n (line.Join via) turn (one_node sc via at) h)
+
+pub noted_down : (sc : Scenario) (n : ℕ) (turn : Turn) → HasNoted sc n turn → HasNoted sc n (down turn)
+noted_down sc n turn h = notes_cleared sc n turn.lines turn.state.lookups h
+
+noted_join_retried : (sc : Scenario) (n : ℕ) (attempt : Attempt) (turn : Turn) → HasNoted sc n turn → HasNoted sc n (join_retried sc attempt turn)
+unfolding join_retried called
+noted_join_retried sc n attempt turn h =
+    noted_when_some sc n (λ _. Unit {0}) turn.state.via _ _ (known turn.state.via) h (λ via _. h)
+
+pub noted_join_failed : (sc : Scenario) (n : ℕ) (attempt : Attempt) (turn : Turn) → HasNoted sc n turn → HasNoted sc (n + 1) (join_failed sc attempt turn)
+unfolding join_failed
+noted_join_failed sc n attempt turn h =
+    noted_if sc (n + 1) (nat_lt attempt.failures 7) _ _
+    (one_more sc n
+    (noted_join_retried sc n (record attempt { failures = attempt.failures + 1 }) turn h))
+    (noted_rise_armed sc (n + 1) (down (noted line.JoinFailed turn))
+    (noted_down sc (n + 1) (noted line.JoinFailed turn) (noted_line sc n line.JoinFailed turn (no_node sc) h)))
+
+-- the step with the attempt to join, which was taken out
+pub noted_for_attempt : (sc : Scenario) (n : ℕ) (step : Attempt → Turn → Turn) (turn : Turn) → ((attempt : Attempt) → HasNoted sc (n + 1) (step attempt (without_attempt turn))) → HasNoted sc n turn → HasNoted sc (n + 1) (for_attempt step turn)
+unfolding for_attempt
+noted_for_attempt sc n step turn noted h =
+    noted_when_some sc (n + 1) (λ _. Unit {0}) turn.state.join _ turn (known turn.state.join)
+    (one_more sc n h) (λ attempt _. noted attempt)
+
+-- each lookup that is given up leaves its line
+pub noted_stranded : (sc : Scenario) (n via : ℕ) (turn : Turn) → via < node_count sc → HasNoted sc n turn → HasNoted sc (n + 1) (stranded sc via turn)
+unfolding stranded called
+noted_stranded sc n via turn at h =
+    record {
+      named =
+          All-append (IsLineOf sc) turn.lines _ h.named
+          (All-cons (IsLineOf sc) (line.Stranded via) (filter_map (lost_line turn.time) turn.state.lookups)
+          (one_node sc via at) (all_lost sc turn.time turn.state.lookups));
+      few =
+          omega (
+            arith,
+            h.few,
+            length-append turn.lines (line.Stranded via ∷ filter_map (lost_line turn.time) turn.state.lookups),
+            few_lost turn.time turn.state.lookups,
+          );
+    }
