@@ -1,0 +1,20 @@
+-- The faults of a simulation.
+use Rattle.chord_event.specs.declared.error.RunError.TheVariants as run
+use Rattle.chord_play.specs.declared.fault.PlayFault.{PlayFault}
+use Rattle.chord_play.specs.declared.fault.PlayFault.TheVariants as play
+use Rattle.chord_play.specs.declared.reading.TextFault.{TextFault}
+use Rattle.chord_play.specs.declared.reading.TextFault.TheVariants as text
+use Rattle.chord_play.specs.declared.text.Text.{Text}
+use Rattle.chord_scenario.specs.declared.fault.ScenarioFault.{ScenarioFault}
+use Rattle.chord_scenario.specs.declared.fault.ScenarioFault.TheVariants as scenario
+
+-- why a text was not read
+abbrev pub fault_of_text : Text → TextFault → PlayFault
+fault_of_text t text.Read = play.Read t
+fault_of_text t text.TooLong = play.TooLong t
+fault_of_text t text.Memory = play.Run run.Memory
+
+-- why a scenario was not given
+abbrev pub fault_of_scenario : ScenarioFault → PlayFault
+fault_of_scenario scenario.Memory = play.Run run.Memory
+fault_of_scenario fault = play.Scenario fault

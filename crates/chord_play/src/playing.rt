@@ -1,0 +1,82 @@
+ghost use Rattle.std.specs.Prelude.{◌≡◌, ◌≢◌, ◌⊎◌, true, false, IfOk, OnOk, Err};
+ghost use Rattle.chord_event.specs.declared.error.RunError.{RunError};
+ghost use Rattle.chord_play.specs.Played.{HasBegun, IsOver, IsPlayed};
+ghost use Rattle.chord_play.specs.Texts.{Gives, IsShort, IsTooLong, Lacks};
+ghost use Rattle.chord_scenario.specs.declared.fault.ScenarioFault.{ScenarioFault};
+ghost use Rattle.chord_trace.specs.Watched.{wrapped, has_failed};
+
+use crate::fault::{PlayFault, fault_of_text};
+use crate::plan::Plan;
+use crate::reading::read_text;
+use crate::text::Text;
+use chord_event::RunError;
+use chord_scenario::{Scenario, ScenarioFault, read_scenario};
+use chord_serial::run_serial;
+use chord_trace::{Report, Watched};
+use std::alloc::Global;
+use std::io::{Read, Write};
+
+/// Reads the scenario text, then the latency text, and answers the scenario that they give, or the
+/// first fault. A text of more than 16,777,216 bytes is not read further than one byte beyond.
+pub fn load<R: Read, Q: Read>(
+    alloc: Global,
+    scenario: &mut Watched<R>,
+    latency: &mut Watched<Q>,
+) -> Result<Scenario, PlayFault>
+    requires scenario_sound { has_failed scenario.old ≡ false }
+    requires latency_sound { has_failed latency.old ≡ false }
+    ensures accepted { IfOk result (Gives (R.remaining (wrapped scenario.old)) (Q.remaining (wrapped latency.old))) }
+    ensures short { OnOk result (IsShort (R.remaining (wrapped scenario.old)) × IsShort (Q.remaining (wrapped latency.old))) }
+    ensures refused { (e : ScenarioFault) → result ≡ Err (PlayFault.Scenario e) → (e ≢ ScenarioFault.Memory) × Lacks (R.remaining (wrapped scenario.old)) (Q.remaining (wrapped latency.old)) e }
+    ensures unread_scenario { result ≡ Err (PlayFault.Read Text.Scenario) → has_failed scenario.new ≡ true }
+    ensures unread_latency { result ≡ Err (PlayFault.Read Text.Latency) → has_failed latency.new ≡ true }
+    ensures long_scenario { result ≡ Err (PlayFault.TooLong Text.Scenario) → IsTooLong (R.remaining (wrapped scenario.old)) }
+    ensures long_latency { result ≡ Err (PlayFault.TooLong Text.Latency) → IsTooLong (Q.remaining (wrapped latency.old)) }
+    ensures scenario_first { (result ≡ Err (PlayFault.Read Text.Scenario)) ⊎ (result ≡ Err (PlayFault.TooLong Text.Scenario)) → latency.new ≡ latency.old }
+    ensures memory { (e : RunError) → result ≡ Err (PlayFault.Run e) → e ≡ RunError.Memory }
+{
+    let toml = match read_text(alloc, scenario) {
+        Ok(text) => text,
+        Err(fault) => return Err(fault_of_text(Text::Scenario, fault)),
+    };
+    let csv = match read_text(alloc, latency) {
+        Ok(text) => text,
+        Err(fault) => return Err(fault_of_text(Text::Latency, fault)),
+    };
+    let scenario = read_scenario(alloc, toml.as_slice(), csv.as_slice())?;
+    Ok(scenario)
+}
+
+/// Loads a scenario and runs it: writes its trace and answers its report. The plan changes neither;
+/// so far each is carried out one event at a time. What the writer took before an error is the
+/// beginning of the trace.
+pub fn play<R: Read, Q: Read, W: Write>(
+    alloc: Global,
+    scenario: &mut Watched<R>,
+    latency: &mut Watched<Q>,
+    _plan: &Plan,
+    writer: &mut Watched<W>,
+) -> Result<Report, PlayFault>
+    requires scenario_sound { has_failed scenario.old ≡ false }
+    requires latency_sound { has_failed latency.old ≡ false }
+    requires writer_sound { has_failed writer.old ≡ false }
+    ensures played { IfOk result (IsPlayed (R.remaining (wrapped scenario.old)) (Q.remaining (wrapped latency.old)) (W.contents (wrapped writer.old)) (W.contents (wrapped writer.new))) }
+    ensures beginning { (writer.new ≡ writer.old) ⊎ HasBegun (R.remaining (wrapped scenario.old)) (Q.remaining (wrapped latency.old)) (W.contents (wrapped writer.old)) (W.contents (wrapped writer.new)) }
+    ensures refused { (e : ScenarioFault) → result ≡ Err (PlayFault.Scenario e) → (e ≢ ScenarioFault.Memory) × Lacks (R.remaining (wrapped scenario.old)) (Q.remaining (wrapped latency.old)) e }
+    ensures unread_scenario { result ≡ Err (PlayFault.Read Text.Scenario) → has_failed scenario.new ≡ true }
+    ensures unread_latency { result ≡ Err (PlayFault.Read Text.Latency) → has_failed latency.new ≡ true }
+    ensures long_scenario { result ≡ Err (PlayFault.TooLong Text.Scenario) → IsTooLong (R.remaining (wrapped scenario.old)) }
+    ensures long_latency { result ≡ Err (PlayFault.TooLong Text.Latency) → IsTooLong (Q.remaining (wrapped latency.old)) }
+    ensures scenario_first { (result ≡ Err (PlayFault.Read Text.Scenario)) ⊎ (result ≡ Err (PlayFault.TooLong Text.Scenario)) → latency.new ≡ latency.old }
+    ensures over { result ≡ Err (PlayFault.Run RunError.TooManyEvents) → IsOver (R.remaining (wrapped scenario.old)) (Q.remaining (wrapped latency.old)) × (has_failed writer.new ≡ false) }
+    ensures sound { OnOk result (has_failed writer.new ≡ false) }
+    ensures failed { result ≡ Err (PlayFault.Run RunError.Write) → has_failed writer.new ≡ true }
+    ensures memory { result ≡ Err (PlayFault.Run RunError.Memory) → has_failed writer.new ≡ false }
+    ensures only { (e : RunError) → result ≡ Err (PlayFault.Run e) → (e ≡ RunError.Memory) ⊎ (e ≡ RunError.Write) ⊎ (e ≡ RunError.TooManyEvents) }
+{
+    let loaded = load(alloc, scenario, latency)?;
+    match run_serial(alloc, &loaded, writer) {
+        Ok(report) => Ok(report),
+        Err(error) => Err(PlayFault::Run(error)),
+    }
+}

@@ -1,0 +1,8 @@
+/// The two texts of a simulation.
+#[derive(Clone, Copy, Debug, PartialEq, Eq, Drop)]
+pub enum Text {
+    /// The text of the scenario file.
+    Scenario,
+    /// The text of the latency file.
+    Latency,
+}

@@ -1,0 +1,77 @@
+-- The commands of the program, as `clap` sees them.
+use Rattle.std.specs.Prelude.{◌≡◌, true, List, [], ◌∷◌, map, codes, Some, pos}
+use Rattle.std.specs.Borrow.{Bor}
+use Rattle.clap.specs.Words.{App, Rule, Text, new_app, new_rule, with_rule}
+use Rattle.clap.specs.declared.builder.action.ArgAction.TheVariants.{Set, SetTrue}
+use Rattle.clap.specs.declared.builder.value_parser.ValueParser.TheVariants as parser
+
+abbrev pub scenario_rule : Rule
+scenario_rule = record (new_rule (codes "scenario")) {
+  long = Some (codes "scenario");
+  value_names = 1;
+  required = true;
+  action = Some Set;
+}
+
+abbrev pub latency_rule : Rule
+latency_rule = record (new_rule (codes "latency")) {
+  long = Some (codes "latency");
+  value_names = 1;
+  action = Some Set;
+}
+
+abbrev pub workers_rule : Rule
+workers_rule = record (new_rule (codes "workers")) {
+  long = Some (codes "workers");
+  value_names = 1;
+  action = Some Set;
+  parser = Some (parser.Signed (pos 1) (pos 64));
+}
+
+abbrev pub parts_rule : Rule
+parts_rule = record (new_rule (codes "parts")) {
+  long = Some (codes "parts");
+  value_names = 1;
+  action = Some Set;
+  parser = Some (parser.Signed (pos 1) (pos 512));
+}
+
+-- the names of the splits, wherever they lie in memory
+abbrev pub SplitNames : Type 0
+SplitNames = Bor (List (Bor Text))
+
+abbrev pub IsSplitNames : SplitNames → Type 0
+IsSplitNames names = map (λ name. name.now) names.now ≡ codes "rr" ∷ codes "block" ∷ []
+
+abbrev pub split_rule : SplitNames → Rule
+split_rule names = record (new_rule (codes "split")) {
+  long = Some (codes "split");
+  value_names = 1;
+  action = Some Set;
+  parser = Some (parser.Names names);
+}
+
+abbrev pub serial_rule : Rule
+serial_rule = record (new_rule (codes "serial")) {
+  long = Some (codes "serial");
+  action = Some SetTrue;
+}
+
+abbrev pub trace_rule : Rule
+trace_rule = record (new_rule (codes "trace")) {
+  long = Some (codes "trace");
+  value_names = 1;
+  action = Some Set;
+}
+
+unfoldable pub check_app : App
+check_app = with_rule (with_rule (new_app (codes "check")) scenario_rule) latency_rule
+
+unfoldable pub ids_app : App
+ids_app = with_rule (with_rule (new_app (codes "ids")) scenario_rule) latency_rule
+
+unfoldable pub run_app : SplitNames → App
+run_app names =
+    with_rule (with_rule (with_rule (with_rule (with_rule (with_rule (with_rule
+    (new_app (codes "run")) scenario_rule) latency_rule) workers_rule) parts_rule)
+    (split_rule names)) serial_rule) trace_rule

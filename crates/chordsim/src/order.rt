@@ -1,0 +1,45 @@
+use chord_play::{Plan, Text};
+
+/// What the words of the program ask for.
+#[derive(Debug, Drop)]
+pub enum Order {
+    /// To say whether the files give a scenario.
+    Check(Files),
+    /// To print the identifier of each node.
+    Ids(Files),
+    /// To run the scenario, with the trace to the file of this name or else to standard output.
+    Run {
+        files: Files,
+        plan: Plan,
+        trace: Option<String>,
+    },
+}
+
+impl Order {
+    /// The files that the scenario is read from.
+    pub fn files(&self) -> &Files {
+        match self {
+            Order::Check(files) => files,
+            Order::Ids(files) => files,
+            Order::Run { files, .. } => files,
+        }
+    }
+}
+
+/// The names of the files that a scenario is read from.
+#[derive(Debug, Drop)]
+pub struct Files {
+    pub scenario: String,
+    pub latency: Option<String>,
+}
+
+impl Files {
+    /// The name of the file of a text, which is empty where there is none.
+    pub fn name(&self, text: Text) -> &str {
+        match (text, &self.latency) {
+            (Text::Scenario, _) => self.scenario.as_str(),
+            (Text::Latency, Some(name)) => name.as_str(),
+            (Text::Latency, None) => "",
+        }
+    }
+}
