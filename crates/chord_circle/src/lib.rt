@@ -6,4 +6,3 @@ mod ident;
 
 pub use circle::{Circle, MOST_BITS};
 pub use ident::{Ident, Raw};
-

@@ -76,12 +76,12 @@ module _ {A : Type 0} (key_of : A → Key) where
       let first : x ≡ y = elim (f x (inl refl)) [
         | inl s ↦ s
         | inr k ↦ elim (g y (inl refl)) [
-            | inl s ↦ sym s
-            | inr j ↦
-                let there = all_in (λ z. IsBefore (key_of y) (key_of z)) ys p.0 x k in
-                let back = all_in (λ z. IsBefore (key_of x) (key_of z)) xs o.0 y j in
-                absurd (before_not_after (key_of y) (key_of x) there (at_most_from_before (key_of x) (key_of y) back))
-          ]
+          | inl s ↦ sym s
+          | inr j ↦
+              let there = all_in (λ z. IsBefore (key_of y) (key_of z)) ys p.0 x k in
+              let back = all_in (λ z. IsBefore (key_of x) (key_of z)) xs o.0 y j in
+              absurd (before_not_after (key_of y) (key_of x) there (at_most_from_before (key_of x) (key_of y) back))
+        ]
       ] in
       let rest : xs ≡ ys = same_list xs ys o.1 p.1
       (λ z k. elim (f z (inr k)) [ inl s ↦ absurd (not_in_rest x xs o.0 z k (s ∙ sym first)) | inr j ↦ j ])

@@ -1,6 +1,6 @@
 -- The events that a run starts with are sound, and have keys of their own.
-use Rattle.std.proofs.Common.{◌≡◌, ◌≢◌, ◌⊎◌, ⊎_elim, inl, inr, ℕ, zero, suc, ◌+◌, ◌<◌, ◌≤◌, Bool, true, false, cond, List, [], ◌∷◌, ◌++◌, map, length, refl, sym, ap, ◌∙◌, subst, arith}
-use Rattle.std.specs.Prelude.{Option, Some, None, ◌^◌, filter, flat_map, if◌then◌else◌}
+use Rattle.std.proofs.Common.{◌≡◌, ◌≢◌, ◌⊎◌, ⊎_elim, inl, inr, ℕ, ◌+◌, ◌<◌, ◌≤◌, Bool, true, false, cond, List, [], ◌∷◌, ◌++◌, map, length, refl, sym, ap, ◌∙◌, subst, arith}
+use Rattle.std.specs.Prelude.{Option, Some, None, flat_map, if◌then◌else◌}
 use Rattle.std.specs.List.{All, AllPairs, Contains, enumerate_from, range_with_len}
 use Rattle.chord_event.specs.declared.body.Body.{Body}
 use Rattle.chord_event.specs.declared.body.Body.TheVariants as body
@@ -88,12 +88,12 @@ numbers-apart f shift first [] h = AllPairs_none (λ (a b : Event Body). a.key �
 numbers-apart f shift first (x ∷ xs) h =
     AllPairs_cons (λ (a b : Event Body). a.key ≢ b.key) (f (first, x)) (map f (enumerate_from (first + 1) xs))
     (λ e c s.
-        let from = mapped-from f (enumerate_from (first + 1) xs) e c in
-        let low = (numbered (first + 1) xs from.source from.among).least in
-        let mine : (f (first, x)).key.number ≡ first + shift = h (first, x) in
-        let other : e.key.number ≡ from.source.0 + shift = ap (λ (z : Event Body). z.key.number) (sym from.made) ∙ h from.source in
-        let same : (f (first, x)).key.number ≡ e.key.number = ap (λ (k : Key). k.number) s in
-        omega (arith, low, mine, other, same))
+    let from = mapped-from f (enumerate_from (first + 1) xs) e c in
+    let low = (numbered (first + 1) xs from.source from.among).least in
+    let mine : (f (first, x)).key.number ≡ first + shift = h (first, x) in
+    let other : e.key.number ≡ from.source.0 + shift = ap (λ (z : Event Body). z.key.number) (sym from.made) ∙ h from.source in
+    let same : (f (first, x)).key.number ≡ e.key.number = ap (λ (k : Key). k.number) s in
+    omega (arith, low, mine, other, same))
     (numbers-apart f shift (first + 1) xs h)
 
 commands-apart : (sc : Scenario) → AllPairs (λ (a b : Event Body). a.key ≢ b.key) (command_events sc)
@@ -117,9 +117,9 @@ ticks sc n timer c =
     ⊎_elim
     (λ e. subst Ticks {x = first} e tt)
     (λ r. ⊎_elim
-        (λ e. subst Ticks {x = second} e tt)
-        (λ q. ⊎_elim (traffic sc.lookups) (life (is_churn_node sc n) sc.churn) (contains_append (traffic_timers sc.lookups) (if is_churn_node sc n then life_timers sc.churn else []) timer q))
-        (contains_cons timer second more r))
+    (λ e. subst Ticks {x = second} e tt)
+    (λ q. ⊎_elim (traffic sc.lookups) (life (is_churn_node sc n) sc.churn) (contains_append (traffic_timers sc.lookups) (if is_churn_node sc n then life_timers sc.churn else []) timer q))
+    (contains_cons timer second more r))
     (contains_cons timer first (second ∷ more) c)
   where
     Ticks : Span × Body → Type 0
@@ -156,11 +156,11 @@ all-timers-apart sc (n ∷ nodes) apart =
     AllPairs_append (λ (a b : Event Body). a.key ≢ b.key) (first_timers sc n) (flat_map (first_timers sc) nodes)
     (timers-apart sc n) (all-timers-apart sc nodes apart.1)
     (λ a b c d s.
-        let mine = timers-are sc n a c in
-        let from = flat-within (first_timers sc) nodes b d in
-        let other = timers-are sc from.source b from.made in
-        let same : a.key.origin ≡ b.key.origin = ap (λ (k : Key). k.origin) s in
-        apart.0 from.source from.among (omega (arith, mine.origin, other.origin, same)))
+    let mine = timers-are sc n a c in
+    let from = flat-within (first_timers sc) nodes b d in
+    let other = timers-are sc from.source b from.made in
+    let same : a.key.origin ≡ b.key.origin = ap (λ (k : Key). k.origin) s in
+    apart.0 from.source from.among (omega (arith, mine.origin, other.origin, same)))
 
 -- All of them
 
@@ -174,7 +174,7 @@ unfolding start_events
 start-cases sc ranges e c = ⊎_elim
     (λ h. inl (commands-are sc ranges e h))
     (λ r. let from = flat-within (first_timers sc) (initial_nodes sc) e r in
-        inr (record { node = from.source; initial = from.among; timer = timers-are sc from.source e from.made }))
+    inr (record { node = from.source; initial = from.among; timer = timers-are sc from.source e from.made }))
     (contains_append (command_events sc) (flat_map (first_timers sc) (initial_nodes sc)) e c)
 
 timer-sound : (sc : Scenario) (e : Event Body) → IsTimerAtStart sc e → IsSoundEvent sc e
@@ -192,9 +192,9 @@ starts_apart sc ranges =
     (commands-apart sc)
     (all-timers-apart sc (initial_nodes sc) (filter-apart (λ x. x) (is_initial sc) (range_with_len 0 (node_count sc)) (range-apart 0 (node_count sc))))
     (λ a b c d s.
-        let from = flat-within (first_timers sc) (initial_nodes sc) b d in
-        let same : a.key.origin ≡ b.key.origin = ap (λ (k : Key). k.origin) s in
-        omega (arith, (commands-are sc ranges a c).origin, (timers-are sc from.source b from.made).origin, same))
+    let from = flat-within (first_timers sc) (initial_nodes sc) b d in
+    let same : a.key.origin ≡ b.key.origin = ap (λ (k : Key). k.origin) s in
+    omega (arith, (commands-are sc ranges a c).origin, (timers-are sc from.source b from.made).origin, same))
 
 is-initial : (sc : Scenario) (n : ℕ) → Contains (initial_nodes sc) n → is_initial sc n ≡ true
 unfolding initial_nodes
@@ -203,9 +203,9 @@ is-initial sc n c = (filter_contains (is_initial sc) (range_with_len 0 (node_cou
 pub starts_counted : (sc : Scenario) → IsInRange sc → (n : ℕ) → All (λ (e : Event Body). e.key.origin ≡ 2 + n → e.key.number ≤ (initial_state sc n).count) (start_events sc)
 starts_counted sc ranges n = All_from (λ (e : Event Body). e.key.origin ≡ 2 + n → e.key.number ≤ (initial_state sc n).count) (start_events sc)
     (λ e c own. ⊎_elim
-        (λ h. omega (arith, h.origin, own))
-        (λ h.
-            let same : h.node ≡ n = omega (arith, h.timer.origin, own) in
-            let count : (initial_state sc h.node).count ≡ length (timers sc h.node) = starts_count sc h.node (is-initial sc h.node h.initial) in
-            subst (λ k. e.key.number ≤ (initial_state sc k).count) same (omega (arith, h.timer.number, count)))
-        (start-cases sc ranges e c))
+    (λ h. omega (arith, h.origin, own))
+    (λ h.
+    let same : h.node ≡ n = omega (arith, h.timer.origin, own) in
+    let count : (initial_state sc h.node).count ≡ length (timers sc h.node) = starts_count sc h.node (is-initial sc h.node h.initial) in
+    subst (λ k. e.key.number ≤ (initial_state sc k).count) same (omega (arith, h.timer.number, count)))
+    (start-cases sc ranges e c))

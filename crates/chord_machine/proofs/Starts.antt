@@ -1,18 +1,17 @@
 -- The states that a run starts with meet the invariant.
-use Rattle.std.proofs.Common.{◌≡◌, ◌⊎◌, ⊎_elim, ℕ, zero, suc, ◌+◌, ◌-◌, ◌<◌, ◌≤◌, Bool, true, false, cond, List, [], ◌∷◌, ◌++◌, map, length, refl, sym, ap, ◌∙◌, subst, arith}
-use Rattle.std.specs.Prelude.{◌==◌, ◌^◌, Option, Some, None, IfSome, IsSome, count_by, filter, find, nat_le, nat_lt, not, option_map, slice_get, take, unwrap_or}
-use Rattle.std.specs.List.{All, AllPairs, Contains, range_with_len}
+use Rattle.std.proofs.Common.{◌≡◌, ⊎_elim, ℕ, zero, suc, ◌+◌, ◌-◌, ◌<◌, ◌≤◌, Bool, true, false, cond, List, [], ◌∷◌, map, length, refl, sym, ap, ◌∙◌, subst, arith}
+use Rattle.std.specs.Prelude.{◌==◌, ◌^◌, Option, Some, None, IfSome, IsSome, count_by, filter, find, nat_le, nat_lt, not, option_map, slice_get, unwrap_or}
+use Rattle.std.specs.List.{All, Contains, range_with_len}
 use Rattle.std.proofs.lemmas.Bool.{ne_eqb}
 use Rattle.std.proofs.lemmas.Bool.Decides.{nat_tests}
 use Rattle.std.proofs.lemmas.List.{length-take}
 use Rattle.std.proofs.lemmas.List.FromFn.{length-map-range_with_len}
 use Rattle.std.proofs.lemmas.List.Elements.{All-take}
 use Rattle.std.proofs.lemmas.List.Sums.{length-filter}
-use Rattle.chord_event.proofs.Members.{contains_none, contains_here, contains_there, contains_cons, filter_contains, All_from}
-use Rattle.chord_node.specs.declared.state.NodeState.{NodeState}
+use Rattle.chord_event.proofs.Members.{contains_none, contains_here, contains_there, contains_cons, All_from}
 use Rattle.chord_node.specs.declared.state.Status.TheVariants as status
 use Rattle.chord_node.specs.Invariant.{IsNodeState}
-use Rattle.chord_node.specs.Ring.{clockwise, finger, first_at, first_member, initial_state, never_up, others, put_by, sorted_by, way}
+use Rattle.chord_node.specs.Ring.{clockwise, finger, first_member, initial_state, never_up, others, put_by, sorted_by, way}
 use Rattle.chord_node.proofs.Rings.{clockwise-known, other-known, range-apart, filter-apart, timers-long}
 use Rattle.chord_node.proofs.Sorting.{AreApart}
 use Rattle.chord_ops.proofs.KeptRules.{no_calls, no_lookups, none_of}

@@ -61,9 +61,9 @@ module _ (x : Event Body) (q es : List (Event Body)) (all : AreApart (q ++ (es +
       there : Contains (put_in_order event_key x q ++ es) z → Contains (q ++ (es ++ x ∷ [])) z
       there c = ⊎_elim
           (λ h. ⊎_elim
-              (λ e. subst (λ w. Contains (q ++ (es ++ x ∷ [])) w) (sym e) (contains_right q (es ++ x ∷ []) x last_there))
-              (λ r. contains_left q (es ++ x ∷ []) z (contained q z r))
-              (in_put event_key x q z (is_in (put_in_order event_key x q) z h)))
+          (λ e. subst (λ w. Contains (q ++ (es ++ x ∷ [])) w) (sym e) (contains_right q (es ++ x ∷ []) x last_there))
+          (λ r. contains_left q (es ++ x ∷ []) z (contained q z r))
+          (in_put event_key x q z (is_in (put_in_order event_key x q) z h)))
           (λ h. contains_right q (es ++ x ∷ []) z (contains_left es (x ∷ []) z h))
           (contains_append (put_in_order event_key x q) es z c)
 
@@ -71,12 +71,12 @@ module _ (x : Event Body) (q es : List (Event Body)) (all : AreApart (q ++ (es +
       back c = ⊎_elim
           (λ h. contains_left (put_in_order event_key x q) es z (contained (put_in_order event_key x q) z (put_in event_key x q z (inr (is_in q z h)))))
           (λ h. ⊎_elim
-              (λ r. contains_right (put_in_order event_key x q) es z r)
-              (λ r. ⊎_elim
-                  (λ e. contains_left (put_in_order event_key x q) es z (contained (put_in_order event_key x q) z (put_in event_key x q z (inl (sym e)))))
-                  (λ n. absurd (contains_none z n))
-                  (contains_cons z x [] r))
-              (contains_append es (x ∷ []) z h))
+          (λ r. contains_right (put_in_order event_key x q) es z r)
+          (λ r. ⊎_elim
+          (λ e. contains_left (put_in_order event_key x q) es z (contained (put_in_order event_key x q) z (put_in event_key x q z (inl (sym e)))))
+          (λ n. absurd (contains_none z n))
+          (contains_cons z x [] r))
+          (contains_append es (x ∷ []) z h))
           (contains_append q (es ++ x ∷ []) z c)
 
   pub last_apart : InKeyOrder event_key q → AreApart (put_in_order event_key x q ++ es)
@@ -84,6 +84,6 @@ module _ (x : Event Body) (q es : List (Event Body)) (all : AreApart (q ++ (es +
       (ordered_apart (put_in_order event_key x q) (ordered_put event_key x q o last_new))
       (apart_front es (x ∷ []) (apart_back q (es ++ x ∷ []) all))
       (λ a b c d. ⊎_elim
-          (λ e. subst (λ (w : Event Body). w.key ≢ b.key) (sym e) (λ s. apart_across es (x ∷ []) (apart_back q (es ++ x ∷ []) all) b x d (contains_here x []) (sym s)))
-          (λ r. apart_across q (es ++ x ∷ []) all a b (contained q a r) (contains_left es (x ∷ []) b d))
-          (in_put event_key x q a (is_in (put_in_order event_key x q) a c)))
+      (λ e. subst (λ (w : Event Body). w.key ≢ b.key) (sym e) (λ s. apart_across es (x ∷ []) (apart_back q (es ++ x ∷ []) all) b x d (contains_here x []) (sym s)))
+      (λ r. apart_across q (es ++ x ∷ []) all a b (contained q a r) (contains_left es (x ∷ []) b d))
+      (in_put event_key x q a (is_in (put_in_order event_key x q) a c)))

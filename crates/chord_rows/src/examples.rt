@@ -589,7 +589,12 @@ const EXAMPLES: [Example; 19] = [
 fn examples(rt: HostRuntime) -> Result<(), Fail> {
     for example in &EXAMPLES {
         let name = example.name;
-        let text = text_of(rt.alloc(), example.settings, example.nodes, example.commands)?;
+        let text = text_of(
+            rt.alloc(),
+            example.settings,
+            example.nodes,
+            example.commands,
+        )?;
         let played = play_text(rt.alloc(), text.as_str().as_bytes());
         let trace = String::from_utf8_lossy(rt.alloc(), played.trace.as_slice())?;
         assert!(rt; trace.as_str() == example.trace, "{name}: {trace}");
@@ -611,7 +616,11 @@ fn sixty_lookups_and_one_more(rt: HostRuntime) -> Result<(), Fail> {
     let mut expected = String::new(alloc);
     for i in 0..61 {
         commands.push_str("[[command]]\nat_us = 100\ndo = \"lookup\"\nnode = \"n3\"\nkey = 1\n")?;
-        expected.push_str(if i < 60 { "100 n3 lookup 1\n" } else { "100 n3 busy 1\n" })?;
+        expected.push_str(if i < 60 {
+            "100 n3 lookup 1\n"
+        } else {
+            "100 n3 busy 1\n"
+        })?;
     }
     for _ in 0..60 {
         expected.push_str("120 n3 found 1 n1 hops=1 timeouts=0 us=20\n")?;

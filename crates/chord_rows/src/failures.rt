@@ -82,7 +82,10 @@ fn writers_that_fail(rt: HostRuntime) -> Result<(), Fail> {
             let is_write = matches!(outcome, Err(PlayFault::Run(RunError::Write)));
             assert!(rt; is_write, "room {room}");
             let taken = writer.into_inner().taken;
-            assert!(rt; taken.as_slice() == &TRACE.as_bytes()[..room], "room {room}");
+            assert!(rt;
+                taken.as_slice() == &TRACE.as_bytes()[..room],
+                "room {room}"
+            );
         }
     }
     Ok(())
@@ -98,14 +101,20 @@ fn readers_that_fail(rt: HostRuntime) -> Result<(), Fail> {
         let mut csv = Watched::new(b"".as_slice());
         let mut writer = Watched::new(Vec::new(alloc));
         let outcome = play(alloc, &mut toml, &mut csv, &SERIAL, &mut writer);
-        assert!(rt; matches!(outcome, Err(PlayFault::Read(Text::Scenario))), "after {left}");
+        assert!(rt;
+            matches!(outcome, Err(PlayFault::Read(Text::Scenario))),
+            "after {left}"
+        );
         assert!(rt; writer.into_inner().is_empty());
 
         let mut toml = Watched::new(text.as_str().as_bytes());
         let mut csv = Watched::new(Broken { left });
         let mut writer = Watched::new(Vec::new(alloc));
         let outcome = play(alloc, &mut toml, &mut csv, &SERIAL, &mut writer);
-        assert!(rt; matches!(outcome, Err(PlayFault::Read(Text::Latency))), "after {left}");
+        assert!(rt;
+            matches!(outcome, Err(PlayFault::Read(Text::Latency))),
+            "after {left}"
+        );
         assert!(rt; writer.into_inner().is_empty());
     }
     Ok(())
@@ -153,7 +162,8 @@ fn scenarios_that_are_refused(rt: HostRuntime) -> Result<(), Fail> {
     let alloc = rt.alloc();
     let opposite = "[[node]]\nname = \"n0\"\nid = 0\ninitial = true\n\
         [[node]]\nname = \"n4\"\nid = 4\ninitial = true\n";
-    let wide = "list = 1\nduration_us = 200\nwindow_us = 11\ntimeout_us = 40\naudit_us = 200\nstabilize_us = 1000\nfinger_us = 1000\n";
+    let wide =
+        "list = 1\nduration_us = 200\nwindow_us = 11\ntimeout_us = 40\naudit_us = 200\nstabilize_us = 1000\nfinger_us = 1000\n";
     let near = refusal(alloc, wide, opposite)?;
     assert!(rt; near.as_str() == "S15 LatencyBelowWindow n0 n4", "{near}");
     let few = refusal(alloc, SETTINGS, opposite)?;

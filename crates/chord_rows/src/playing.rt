@@ -16,7 +16,8 @@ pub const SERIAL: Plan = Plan {
 pub const TOP: &str = "profile = 1\nbits = 3\nseed = 1\nlatency_us = 10\n";
 
 /// The settings of most examples.
-pub const SETTINGS: &str = "list = 2\nduration_us = 200\nwindow_us = 10\ntimeout_us = 40\naudit_us = 200\nstabilize_us = 1000\nfinger_us = 1000\n";
+pub const SETTINGS: &str =
+    "list = 2\nduration_us = 200\nwindow_us = 10\ntimeout_us = 40\naudit_us = 200\nstabilize_us = 1000\nfinger_us = 1000\n";
 
 /// The ring of most examples.
 pub const THREE: &str = "[[node]]\nname = \"n0\"\nid = 0\ninitial = true\n\

@@ -40,7 +40,10 @@ fn between_at_the_ends(rt: HostRuntime) {
     };
     let five = circle.low_bits(5);
     for x in 0..8 {
-        assert!(rt; circle.between(five, circle.low_bits(x), five) == (x != 5), "{x}");
+        assert!(rt;
+            circle.between(five, circle.low_bits(x), five) == (x != 5),
+            "{x}"
+        );
     }
     let (six, one, two) = (circle.low_bits(6), circle.low_bits(1), circle.low_bits(2));
     assert!(rt; circle.between(six, one, two) && !circle.between(six, two, two));

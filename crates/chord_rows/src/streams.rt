@@ -6,14 +6,18 @@ use std::test::Fail;
 #[test]
 fn each_node_has_its_own_stream(rt: HostRuntime) -> Result<(), Fail> {
     let alloc = rt.alloc();
-    let settings =
-        format!(in alloc; "{SETTINGS}lookups = {{ gap_min_us = 50, gap_max_us = 50 }}\n")?;
+    let settings = format!(in alloc;
+        "{SETTINGS}lookups = {{ gap_min_us = 50, gap_max_us = 50 }}\n"
+    )?;
     let text = text_of(alloc, settings.as_str(), THREE, "")?;
     let played = play_text(alloc, text.as_str().as_bytes());
     assert!(rt; played.outcome.is_ok());
     let trace = String::from_utf8_lossy(alloc, played.trace.as_slice())?;
     for line in ["50 n0 lookup 2", "50 n1 lookup 5", "50 n3 lookup 1"] {
-        assert!(rt; trace.as_str().lines().any(|it| it == line), "{line}: {trace}");
+        assert!(rt;
+            trace.as_str().lines().any(|it| it == line),
+            "{line}: {trace}"
+        );
     }
     Ok(())
 }
@@ -22,7 +26,8 @@ fn each_node_has_its_own_stream(rt: HostRuntime) -> Result<(), Fail> {
 #[test]
 fn a_crash_keeps_the_place_in_the_stream(rt: HostRuntime) -> Result<(), Fail> {
     let alloc = rt.alloc();
-    let settings = "list = 2\nduration_us = 360\nwindow_us = 10\ntimeout_us = 30\naudit_us = 360\nstabilize_us = 40\nfinger_us = 1000\n\
+    let settings =
+        "list = 2\nduration_us = 360\nwindow_us = 10\ntimeout_us = 30\naudit_us = 360\nstabilize_us = 40\nfinger_us = 1000\n\
         lookups = { gap_min_us = 200, gap_max_us = 200 }\n";
     let commands = "[[command]]\nat_us = 45\ndo = \"crash\"\nnode = \"n1\"\n\
         [[command]]\nat_us = 150\ndo = \"join\"\nnode = \"n1\"\nvia = \"n0\"\n";
@@ -31,7 +36,10 @@ fn a_crash_keeps_the_place_in_the_stream(rt: HostRuntime) -> Result<(), Fail> {
     assert!(rt; played.outcome.is_ok());
     let trace = String::from_utf8_lossy(alloc, played.trace.as_slice())?;
     for line in ["190 n1 member n0", "350 n1 lookup 0"] {
-        assert!(rt; trace.as_str().lines().any(|it| it == line), "{line}: {trace}");
+        assert!(rt;
+            trace.as_str().lines().any(|it| it == line),
+            "{line}: {trace}"
+        );
     }
     Ok(())
 }
@@ -42,7 +50,9 @@ fn places_in_any_order(rt: HostRuntime) {
     let stream = Stream::of(1, 2);
     let words = [stream.word_at(0), stream.word_at(1), stream.word_at(17)];
     let again = Stream::of(1, 2);
-    assert!(rt; [again.word_at(17), again.word_at(1), again.word_at(0)] == [words[2], words[1], words[0]]);
+    assert!(rt;
+        [again.word_at(17), again.word_at(1), again.word_at(0)] == [words[2], words[1], words[0]]
+    );
     assert!(rt; words[0] != words[1] && words[1] != words[2]);
     for place in [0, 1, 17] {
         assert!(rt; stream.below(place, 1) == 0);

@@ -1,10 +1,10 @@
 -- How an engine goes on from event to event.
-use Rattle.std.proofs.Common.{◌≡◌, ◌≢◌, ◌∙◌, ◌↔◌, ◌⊎◌, ⊎_elim, ℕ, zero, suc, ◌^◌, length-append, ◌+◌, ◌*◌, ◌-◌, ◌/◌, ◌<◌, ◌≤◌, Bool, true, false, cond, List, [], ◌∷◌, ◌++◌, None, Some, Option, length, map, get_or, set, ap, sym, refl, subst, arith, append_assoc, append-nil}
+use Rattle.std.proofs.Common.{◌≡◌, ◌∙◌, ◌↔◌, ⊎_elim, ℕ, zero, suc, ◌^◌, length-append, ◌+◌, ◌*◌, ◌-◌, ◌/◌, ◌<◌, ◌≤◌, Bool, true, false, cond, List, [], ◌∷◌, ◌++◌, None, Some, Option, length, get_or, set, ap, sym, refl, subst, arith}
 use Rattle.std.specs.Prelude.{nat_le, nat_lt, option_map, slice_get}
 use Rattle.std.proofs.lemmas.Bool.Decides.{nat_tests}
 use Rattle.std.proofs.lemmas.Option.{none-some}
 use Rattle.std.specs.Io.KnownBytes.{Appends}
-use Rattle.std.specs.List.{All, AllByRecursion, AllPairs, Contains, filter, range_with_len, remove}
+use Rattle.std.specs.List.{All, AllByRecursion, Contains, filter}
 use Rattle.std.proofs.KnownBytes.{Appends-nil, Appends-trans}
 use Rattle.std.proofs.Math.Nat.{div-lt_iff_lt-mul}
 use Rattle.std.proofs.lemmas.List.FromFn.{get_or-map-range_with_len, length-map-range_with_len}
@@ -20,12 +20,12 @@ use Rattle.chord_event.proofs.Order.{at_most_from_before, at_most_self}
 use Rattle.chord_machine.specs.AuditTimes.{audit_times, multiples}
 use Rattle.chord_machine.specs.Chord.{chord}
 use Rattle.chord_machine.specs.Room.{HasRoom}
-use Rattle.chord_machine.specs.Run.{HasTooManyEvents, trace_after, whole_trace}
+use Rattle.chord_machine.specs.Run.{HasTooManyEvents, whole_trace}
 use Rattle.chord_machine.specs.Sound.{IsStateOf}
 use Rattle.chord_machine.proofs.Audits.{audits-within}
 use Rattle.chord_machine.proofs.Room.{room_is_left}
 use Rattle.chord_machine.proofs.WellFormed.{well_formed}
-use Rattle.chord_model.specs.Histories.{history, full_history, next, open_audits, output, pending, state, trace}
+use Rattle.chord_model.specs.Histories.{history, open_audits, output, state, trace}
 use Rattle.chord_model.specs.Laws.{IsWhole}
 use Rattle.chord_model.specs.WellFormed.{IsWellFormed}
 use Rattle.chord_model.specs.Worlds.{AreStatesAfter, IsFirstAt, IsWorld}
@@ -35,7 +35,7 @@ use Rattle.chord_model.proofs.Distinct.{meets}
 use Rattle.chord_model.proofs.Horizons.{whole_from}
 use Rattle.chord_model.proofs.Runs.{history_is_legal, possible_from_legal}
 use Rattle.chord_node.specs.declared.state.NodeState.{NodeState}
-use Rattle.chord_node.specs.Invariant.{AllNodes, IsNodeState}
+use Rattle.chord_node.specs.Invariant.{AllNodes}
 use Rattle.chord_node.specs.Ring.{initial_ring, initial_state}
 use Rattle.chord_ops.specs.Rules.{block_of, effect}
 use Rattle.chord_ops.specs.Sound.{IsSoundEvent}
@@ -74,9 +74,9 @@ first_at horizon event rest ordered in_time = record {
   in_time = λ d. in_time;
   first = λ d. All_from (λ (x : Event Body). IsAtMost event.key x.key) (event ∷ rest)
       (λ x c. ⊎_elim
-        (λ (same : event ≡ x). subst (λ (z : Event Body). IsAtMost event.key z.key) same (at_most_self event.key))
-        (λ (later : Contains rest x). at_most_from_before event.key x.key (all_in (λ (y : Event Body). IsBefore event.key y.key) rest ordered.0 x (is_in rest x later)))
-        (contains_cons x event rest c));
+      (λ (same : event ≡ x). subst (λ (z : Event Body). IsAtMost event.key z.key) same (at_most_self event.key))
+      (λ (later : Contains rest x). at_most_from_before event.key x.key (all_in (λ (y : Event Body). IsBefore event.key y.key) rest ordered.0 x (is_in rest x later)))
+      (contains_cons x event rest c));
 }
 
 -- what is taken out is the next event
@@ -112,9 +112,9 @@ all_late horizon time [] is late ordered = All_from (λ (e : Event Body). horizo
 all_late horizon time (e ∷ es) is late ordered = All_from (λ (x : Event Body). horizon ≤ x.key.time) (e ∷ es)
     (λ x c. let here : time ≡ e.key.time = ap value is in
     ⊎_elim
-      (λ (same : e ≡ x). subst (λ (z : Event Body). horizon ≤ z.key.time) same (omega (arith, late, here)))
-      (λ (later : Contains es x). let after = (at_most_from_before e.key x.key (all_in (λ (y : Event Body). IsBefore e.key y.key) es ordered.0 x (is_in es x later))) in omega (arith, late, here, after))
-      (contains_cons x e es c))
+    (λ (same : e ≡ x). subst (λ (z : Event Body). horizon ≤ z.key.time) same (omega (arith, late, here)))
+    (λ (later : Contains es x). let after = (at_most_from_before e.key x.key (all_in (λ (y : Event Body). IsBefore e.key y.key) es ordered.0 x (is_in es x later))) in omega (arith, late, here, after))
+    (contains_cons x e es c))
 
 -- what has gone out of an engine is the beginning of a trace
 pub begin_at : (sc : Scenario) (old now : Option (List ℕ)) (e : Engine) → IsAt sc old now e → IsBeginning sc old now
@@ -209,9 +209,11 @@ module _ (sc : Scenario) (ranges : IsInRange sc) where
 
       -- the front of that is the front of the trace that is one event longer
       pub begin_more : (x : Option (List ℕ)) → AppendsFront now x (pieces_text sc (put (block_of sc s event))) → IsBeginning sc old x
-      begin_more x front =
-          (e.count + 1, fronts_longer sc old x (output (chord sc) (past (e.count + 1))) _
-            (subst (λ ps. AppendsFront old x (pieces_text sc ps)) (sym outputs) (fronts_then sc old now x (output (chord sc) here) (put (block_of sc s event)) t.at.written front)))
+      begin_more x front = (
+        e.count + 1,
+        fronts_longer sc old x (output (chord sc) (past (e.count + 1))) _
+            (subst (λ ps. AppendsFront old x (pieces_text sc ps)) (sym outputs) (fronts_then sc old now x (output (chord sc) here) (put (block_of sc s event)) t.at.written front)),
+      )
 
       pub begin_audits : (x : Option (List ℕ)) → AppendsFront now x (pieces_text sc (audits_at sc (state (chord sc) here) (due event.key.time e.clock))) → IsBeginning sc old x
       begin_audits x front = begin_more x (fronts_longer sc now x (audits_at sc (state (chord sc) here) (due event.key.time e.clock)) (piece.OfEvent (block_of sc s event) ∷ []) front)
@@ -224,7 +226,7 @@ module _ (sc : Scenario) (ranges : IsInRange sc) where
           → AppendsFront mid x (pieces_text sc (piece.OfEvent block ∷ [])) → IsBeginning sc old x
       begin_front middle block mid x is audits front =
           begin_more x (fronts_then sc now mid x (audits_at sc (state (chord sc) here) (due event.key.time e.clock)) (piece.OfEvent (block_of sc s event) ∷ []) audits.written
-            (subst (λ b. AppendsFront mid x (pieces_text sc (piece.OfEvent b ∷ []))) is front))
+          (subst (λ b. AppendsFront mid x (pieces_text sc (piece.OfEvent b ∷ []))) is front))
 
       module _ (made : List (Event Body)) (made_is : made ≡ (effect sc s event).events) where
         next_world : IsWorld (chord sc) (set states event.target (effect sc s event).state) (e.pending ++ made) (e.count + 1)
@@ -347,6 +349,8 @@ module _ (sc : Scenario) (ranges : IsInRange sc) where
       whole_trace_tallied x last adds = subst (λ ps. IsTallyOf ps last) trace_is (adds.tallied (output (chord sc) (past e.count)) at.tallied)
 
       pub begin_end : (x : Option (List ℕ)) → AppendsFront now x (pieces_text sc rest) → IsBeginning sc old x
-      begin_end x front = (e.count,
+      begin_end x front = (
+        e.count,
         subst (λ ps. AppendsFront old x (pieces_text sc ps)) (trace_is ∙ sym (ap (trace (chord sc)) ((whole.within_limit few).0)))
-        (fronts_then sc old now x (output (chord sc) (past e.count)) rest at.written front))
+            (fronts_then sc old now x (output (chord sc) (past e.count)) rest at.written front),
+      )

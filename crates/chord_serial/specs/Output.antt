@@ -1,5 +1,5 @@
 -- What goes out, to the writer and into the tally.
-use Rattle.std.specs.Prelude.{ℕ, List, [], ◌∷◌, ◌++◌, Option, map, nat_le}
+use Rattle.std.specs.Prelude.{ℕ, List, ◌++◌, Option, map, nat_le}
 use Rattle.std.specs.Io.KnownBytes.{Appends}
 use Rattle.std.specs.List.{filter}
 use Rattle.chord_audit.specs.Audit.{audit_facts}

@@ -42,8 +42,8 @@ impl Stream {
     {
         let [a, b, c, d, e, f, g, h] = self.seed.to_le_bytes();
         let key = [
-            a, b, c, d, e, f, g, h, 0, 0, 0, 0, 0, 0, 0, 0, 0, 0, 0, 0, 0, 0, 0, 0, 0, 0, 0, 0, 0, 0, 0,
-            0,
+            a, b, c, d, e, f, g, h, 0, 0, 0, 0, 0, 0, 0, 0, 0, 0, 0, 0, 0, 0, 0, 0, 0, 0, 0, 0, 0,
+            0, 0, 0,
         ];
         let mut generator = ChaCha8Rng::from_seed(key);
         generator.set_stream(u64::from(self.node));

@@ -1,4 +1,4 @@
-use Rattle.std.proofs.Common.{◌≡◌, ◌∙◌, ℕ, sym, ap, arith, refl, length}
+use Rattle.std.proofs.Common.{◌∙◌, sym, ap, arith, refl, length}
 use Rattle.std.specs.Prelude.{nat_lt}
 use Rattle.std.specs.List.{filter}
 use Rattle.chord_serial.proofs.Outputs.{all-left, left-first, put_all, put_front, put_more, put_none, put_whole}

@@ -1,4 +1,4 @@
-use Rattle.std.proofs.Common.{◌≡◌, ◌∙◌, ◌++◌, ◌∷◌, [], ◌-◌, ◌/◌, List, ℕ, ap, sym, subst, arith}
+use Rattle.std.proofs.Common.{◌≡◌, ◌∙◌, ◌++◌, ◌∷◌, [], ◌-◌, ◌/◌, ap, sym, subst, arith}
 use Rattle.chord_machine.specs.AuditTimes.{IsAscending, audit_times, multiples}
 use Rattle.chord_machine.proofs.Audits.{audits-ascend}
 use Rattle.chord_machine.proofs.audit_clock.AuditClock.start.Goals as goal

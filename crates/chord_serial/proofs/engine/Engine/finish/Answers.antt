@@ -27,7 +27,7 @@ returns-in_err-put_audits-clause-front g c = λ old at.
     let are = subst (λ (ss : List NodeState). AreStates sc ss S) (sym c.as_slice.ensures.value) (are_states sc c.is_in_range.ensures e.states.items e.pending e.count at.world) in
     begin_end sc c.is_in_range.ensures old _ e at c.requires.ended _
     (subst (λ (d : ℕ). AppendsFront (g.W.Write.contents c.args.writer.now.inner) (g.W.Write.contents c.put_audits.new.writer.inner) (pieces_text sc (audits_at sc S (due d e.clock)))) c.duration.ensures
-      (c.put_audits.ensures.front S are))
+    (c.put_audits.ensures.front S are))
 
 pub returns-clause-whole : goal.returns-clause-whole
 returns-clause-whole g c = λ old at.
@@ -37,7 +37,7 @@ returns-clause-whole g c = λ old at.
     let are = subst (λ (ss : List NodeState). AreStates sc ss S) (sym c.as_slice.ensures.value) (are_states sc c.is_in_range.ensures e.states.items e.pending e.count at.world) in
     whole_trace_written sc c.is_in_range.ensures old _ e at c.requires.ended _ c.put_audits.new.tally
     (subst (λ (d : ℕ). Adds sc (g.W.Write.contents c.args.writer.now.inner) (g.W.Write.contents c.put_audits.new.writer.inner) e.tally c.put_audits.new.tally (audits_at sc S (due d e.clock))) c.duration.ensures
-      (c.in_ok-put_audits.ensures.adds S are))
+    (c.in_ok-put_audits.ensures.adds S are))
 
 pub returns-clause-report : goal.returns-clause-report
 returns-clause-report g c =
@@ -48,8 +48,8 @@ returns-clause-report g c =
     let are = subst (λ (ss : List NodeState). AreStates sc ss S) (sym c.as_slice.ensures.value) (are_states sc c.is_in_range.ensures e.states.items e.pending e.count at.world) in
     c.report.ensures (whole_trace sc)
     (whole_trace_tallied sc c.is_in_range.ensures c.requires.at.0 _ e at c.requires.ended (g.W.Write.contents c.put_audits.new.writer.inner) c.put_audits.new.tally
-      (subst (λ (d : ℕ). Adds sc (g.W.Write.contents c.args.writer.now.inner) (g.W.Write.contents c.put_audits.new.writer.inner) e.tally c.put_audits.new.tally (audits_at sc S (due d e.clock))) c.duration.ensures
-        (c.in_ok-put_audits.ensures.adds S are)))
+    (subst (λ (d : ℕ). Adds sc (g.W.Write.contents c.args.writer.now.inner) (g.W.Write.contents c.put_audits.new.writer.inner) e.tally c.put_audits.new.tally (audits_at sc S (due d e.clock))) c.duration.ensures
+    (c.in_ok-put_audits.ensures.adds S are)))
 
 pub returns-clause-within : goal.returns-clause-within
 returns-clause-within g c =
@@ -64,4 +64,4 @@ returns-clause-front g c = λ old at.
     let are = subst (λ (ss : List NodeState). AreStates sc ss S) (sym c.as_slice.ensures.value) (are_states sc c.is_in_range.ensures e.states.items e.pending e.count at.world) in
     begin_end sc c.is_in_range.ensures old _ e at c.requires.ended _
     (subst (λ (d : ℕ). AppendsFront (g.W.Write.contents c.args.writer.now.inner) (g.W.Write.contents c.put_audits.new.writer.inner) (pieces_text sc (audits_at sc S (due d e.clock)))) c.duration.ensures
-      (c.put_audits.ensures.front S are))
+    (c.put_audits.ensures.front S are))

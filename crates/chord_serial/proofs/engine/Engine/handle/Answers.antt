@@ -1,5 +1,5 @@
 -- What was taken is the next event of the run, so the engine goes on to where the run is.
-use Rattle.std.proofs.Common.{◌≡◌, ◌∙◌, ◌<◌, ◌++◌, ℕ, List, length, refl, sym, subst, arith, ap, get_or, set}
+use Rattle.std.proofs.Common.{◌∙◌, ◌++◌, List, length, refl, sym, subst, arith, ap, set}
 use Rattle.chord_audit.specs.Audit.{AreStates}
 use Rattle.chord_event.specs.declared.body.Body.{Body}
 use Rattle.chord_event.specs.declared.event.Event.{Event}

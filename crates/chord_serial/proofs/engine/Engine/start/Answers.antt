@@ -5,7 +5,6 @@ use Rattle.chord_event.specs.declared.body.Body.{Body}
 use Rattle.chord_event.specs.declared.event.Event.{Event}
 use Rattle.chord_machine.proofs.StartEvents.{starts_apart}
 use Rattle.chord_queue.proofs.Inserting.{AreApart}
-use Rattle.chord_scenario.specs.Start.{start_events}
 use Rattle.chord_serial.proofs.Course.{start_at}
 use Rattle.chord_serial.proofs.engine.Engine.start.Goals as goal
 
@@ -18,7 +17,7 @@ pub returns-clause-at : goal.returns-clause-at
 returns-clause-at c = λ now.
     start_at c.args.scenario.now c.is_in_range.ensures now _ c.in_ok-states.ensures
     (λ x.
-      subst (λ (es : List (Event Body)). Contains c.insert_all.new.self x ↔ Contains es x)
-      (ap (λ (es : List (Event Body)). es ++ c.in_ok-start_events.field-0.items) c.new-pending.ensures ∙ c.in_ok-start_events.ensures)
-      (c.in_ok-insert_all.ensures.same x))
+    subst (λ (es : List (Event Body)). Contains c.insert_all.new.self x ↔ Contains es x)
+    (ap (λ (es : List (Event Body)). es ++ c.in_ok-start_events.field-0.items) c.new-pending.ensures ∙ c.in_ok-start_events.ensures)
+    (c.in_ok-insert_all.ensures.same x))
     c.in_ok-insert_all.ensures.ordered c.in_ok-clock.ensures c.new.ensures refl
