@@ -150,9 +150,10 @@ module _ {State Body Piece : Type 0} (m : Machine State Body Piece) where
       (d : Division) → Divides d m.nodes → (h : List (Event Body)) (time horizon : ℕ) → MayOpen h time horizon
       → (ran : ℕ → List (Event Body)) → ((p : ℕ) → p < d.parts → IsPartRun m d h horizon p (ran p)) → m.max_events < length h + events_run ran d.parts → IsOverLimit m
 
-  -- A window from the next event up to its horizon may open.
+  -- A window from the next event up to its horizon may open, and no audit lies inside it.
   abbrev pub HorizonsMayOpen : Type 0
-  HorizonsMayOpen = (h : List (Event Body)) (e : Event Body) → IsLegal m h → next m h ≡ Some e → MayOpen h e.key.time (horizon_from m e.key.time)
+  HorizonsMayOpen = (h : List (Event Body)) (e : Event Body) → IsLegal m h → next m h ≡ Some e
+      → MayOpen h e.key.time (horizon_from m e.key.time) × All (λ t. (t ≤ e.key.time) ⊎ (horizon_from m e.key.time ≤ t)) m.audit_times
 
   -- In a window without an audit the pieces of its events follow each other, behind the audits that are due.
   abbrev pub WindowsAddPieces : Type 0

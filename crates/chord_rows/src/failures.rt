@@ -1,4 +1,4 @@
-use crate::playing::{SERIAL, SETTINGS, THREE, play_text, text_of};
+use crate::playing::{Played, SERIAL, SETTINGS, THREE, play_text, text_of};
 use chord_event::RunError;
 use chord_play::{PlayFault, Text, play};
 use chord_trace::Watched;
@@ -151,7 +151,8 @@ fn too_many_events(rt: HostRuntime) -> Result<(), Fail> {
 /// The text of the fault that a scenario is refused for.
 fn refusal(alloc: Global, settings: &str, nodes: &str) -> Result<String, Fail> {
     let text = text_of(alloc, settings, nodes, "")?;
-    match play_text(alloc, text.as_str().as_bytes()).outcome {
+    let Played { outcome, .. } = play_text(alloc, text.as_str().as_bytes());
+    match outcome {
         Err(PlayFault::Scenario(fault)) => Ok(format!(in alloc; "{fault}")?),
         _ => Ok(format!(in alloc; "not refused")?),
     }

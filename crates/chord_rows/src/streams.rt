@@ -2,6 +2,11 @@ use crate::playing::{SETTINGS, THREE, play_text, text_of};
 use chord_stream::Stream;
 use std::test::Fail;
 
+/// Whether a trace has this line.
+fn has_line(trace: &str, line: &str) -> bool {
+    trace.lines().any(|it| it == line)
+}
+
 /// Each node draws from a stream of its own: the first keys that three nodes look up differ.
 #[test]
 fn each_node_has_its_own_stream(rt: HostRuntime) -> Result<(), Fail> {
@@ -13,12 +18,9 @@ fn each_node_has_its_own_stream(rt: HostRuntime) -> Result<(), Fail> {
     let played = play_text(alloc, text.as_str().as_bytes());
     assert!(rt; played.outcome.is_ok());
     let trace = String::from_utf8_lossy(alloc, played.trace.as_slice())?;
-    for line in ["50 n0 lookup 2", "50 n1 lookup 5", "50 n3 lookup 1"] {
-        assert!(rt;
-            trace.as_str().lines().any(|it| it == line),
-            "{line}: {trace}"
-        );
-    }
+    assert!(rt; has_line(trace.as_str(), "50 n0 lookup 2"), "{trace}");
+    assert!(rt; has_line(trace.as_str(), "50 n1 lookup 5"), "{trace}");
+    assert!(rt; has_line(trace.as_str(), "50 n3 lookup 1"), "{trace}");
     Ok(())
 }
 
@@ -35,12 +37,8 @@ fn a_crash_keeps_the_place_in_the_stream(rt: HostRuntime) -> Result<(), Fail> {
     let played = play_text(alloc, text.as_str().as_bytes());
     assert!(rt; played.outcome.is_ok());
     let trace = String::from_utf8_lossy(alloc, played.trace.as_slice())?;
-    for line in ["190 n1 member n0", "350 n1 lookup 0"] {
-        assert!(rt;
-            trace.as_str().lines().any(|it| it == line),
-            "{line}: {trace}"
-        );
-    }
+    assert!(rt; has_line(trace.as_str(), "190 n1 member n0"), "{trace}");
+    assert!(rt; has_line(trace.as_str(), "350 n1 lookup 0"), "{trace}");
     Ok(())
 }
 

@@ -1,36 +1,29 @@
 -- What the matches of the commands of the program have at their options.
-use Rattle.std.proofs.Common.{◌≡◌, ◌∙◌, ◌<◌, ◌≤◌, ◌&&◌, ◌==◌, ℕ, zero, suc, Bool, true, false, not, List, [], ◌∷◌, length, map, Option, Some, None, is_some, refl, sym, ap, subst, inl, inr, arith, codes}
-use Rattle.std.specs.Prelude.{IfSome, Result, Ok, Err, cond, drop, option_map, pos, slice_get, unwrap_or}
-use Rattle.std.specs.Str.Parse.{ParsesUnsigned, starts_with_minus}
-use Rattle.std.proofs.lemmas.Int.{ints}
-use Rattle.clap.specs.Lexer.{without_minus}
-use Rattle.chordsim.specs.Orders.{IsCountUpTo, count_or_one, number_of}
-use Rattle.std.specs.Borrow.{Bor}
+use Rattle.std.proofs.Common.{◌≡◌, ◌∙◌, ◌<◌, ◌≤◌, ℕ, zero, suc, true, false, not, List, [], ◌∷◌, length, map, Option, Some, None, is_some, refl, sym, ap, subst, inl, inr, arith, codes}
+use Rattle.std.specs.Prelude.{IfSome, pos}
+use Rattle.chordsim.specs.Orders.{IsCountUpTo}
 use Rattle.std.specs.List.{All, AllByRecursion as ByRecursion, list_all, slice_index_or}
 use Rattle.std.specs.Str.{bytes_eq}
-use Rattle.std.proofs.lemmas.Bool.{cases_lt, false≢true}
+use Rattle.std.proofs.lemmas.Bool.{false≢true}
 use Rattle.std.proofs.lemmas.List.Elements.{All-nil, All-cons}
 use Rattle.std.proofs.lemmas.Slice.Eq.{bytes_eq-Decides}
-use Rattle.clap.specs.Built.{IsParsedFrom, IsPlain, IsPlainArg, IsAuto, SameRules}
-use Rattle.clap.specs.Facts.{args_of, least_values, groups_of, Entry, EntryPasses, IsParsed, PassesArg, HasReading, parser_of, parser_of_value}
-use Rattle.clap.specs.Matches.{ReadsOne, first_value, found_of, has_subcommand, matched_of, one_text}
-use Rattle.clap.specs.Values.{Accepts, IsSignedIn, read_as, reading_of}
-use Rattle.clap.specs.Walk.{Rule, Text, is_empty, is_free_arg, is_simple_arg, rule_of}
+use Rattle.clap.specs.Built.{IsParsedFrom, IsPlain}
+use Rattle.clap.specs.Facts.{args_of, least_values}
+use Rattle.clap.specs.Matches.{first_value, found_of, one_text}
+use Rattle.clap.specs.Walk.{Rule, Text, is_empty, is_simple_arg, rule_of}
 use Rattle.clap.specs.Faults.{is_simple_and_free}
 use Rattle.clap.specs.Simple.{App, app_of, is_simple}
 use Rattle.clap.proofs.OnLiterals.{clap_on_literals}
-use Rattle.clap.proofs.CallerLemmas.{entry_by_id, required_has_value}
+use Rattle.clap.proofs.CallerLemmas.{required_has_value}
 use Rattle.chordsim.proofs.Options.{accepted_text, count_text, empty_list, from_rules, is_plain_rule, not_true, plain_from_rules}
 use Rattle.chordsim.specs.Commands.{SplitNames, check_app, ids_app, run_app, scenario_rule, latency_rule, workers_rule, parts_rule, split_rule, serial_rule, trace_rule}
 use Rattle.clap.proofs.WalkLemmas.{both}
 use Rattle.clap.specs.declared.builder.arg.Arg.{Arg}
 use Rattle.clap.specs.declared.builder.command.Command.{Command}
 use Rattle.clap.specs.declared.builder.command.Command.TheViews.{out-Command}
-use Rattle.clap.specs.declared.builder.value_parser.Reading.{Reading}
 use Rattle.clap.specs.declared.builder.value_parser.ValueParser.{ValueParser}
 use Rattle.clap.specs.declared.builder.value_parser.ValueParser.TheVariants as vp
 use Rattle.clap.specs.declared.parser.matches.ArgMatches.{ArgMatches}
-use Rattle.clap.specs.declared.parser.matches.MatchedArg.{MatchedArg}
 
 -- what a command has whose rules are known
 pub record HasRules (c : Command) (rules : List Rule) : Type 0 where

@@ -1,25 +1,22 @@
 -- What the matches of a command have at an option, where the rules of its arguments are known.
-use Rattle.std.proofs.Common.{◌≡◌, ◌∙◌, ◌<◌, ◌≤◌, ◌&&◌, ◌==◌, ℕ, zero, suc, Bool, true, false, not, List, [], ◌∷◌, length, map, Option, Some, None, is_some, refl, sym, ap, subst, inl, inr, arith, codes}
+use Rattle.std.proofs.Common.{◌≡◌, ◌∙◌, ◌<◌, ◌&&◌, ◌==◌, ℕ, suc, Bool, true, false, not, List, [], ◌∷◌, length, map, Option, Some, None, refl, sym, ap, subst, inl, inr, arith, codes}
 use Rattle.std.specs.Prelude.{IfSome, Result, Ok, Err, cond, drop, option_map, pos, slice_get, unwrap_or}
 use Rattle.std.specs.Str.Parse.{ParsesUnsigned, starts_with_minus}
 use Rattle.std.proofs.lemmas.Int.{ints}
 use Rattle.clap.specs.Lexer.{without_minus}
 use Rattle.chordsim.specs.Orders.{IsCountUpTo, count_or_one, number_of}
 use Rattle.std.specs.Borrow.{Bor}
-use Rattle.std.specs.List.{All, AllByRecursion as ByRecursion, list_all, slice_index_or}
+use Rattle.std.specs.List.{All, list_all, slice_index_or}
 use Rattle.std.specs.Str.{bytes_eq}
-use Rattle.std.proofs.lemmas.Bool.{cases_lt, false≢true}
+use Rattle.std.proofs.lemmas.Bool.{cases_lt}
 use Rattle.std.proofs.lemmas.List.Elements.{All-nil, All-cons}
 use Rattle.std.proofs.lemmas.Slice.Eq.{bytes_eq-Decides}
 use Rattle.clap.specs.Built.{IsParsedFrom, IsPlain, IsPlainArg, IsAuto, SameRules}
-use Rattle.clap.specs.Facts.{args_of, least_values, groups_of, Entry, EntryPasses, IsParsed, PassesArg, HasReading, parser_of, parser_of_value}
-use Rattle.clap.specs.Matches.{ReadsOne, first_value, found_of, has_subcommand, matched_of, one_text}
+use Rattle.clap.specs.Facts.{args_of, groups_of, Entry, EntryPasses, IsParsed, PassesArg, HasReading, parser_of, parser_of_value}
+use Rattle.clap.specs.Matches.{ReadsOne, found_of, has_subcommand, matched_of, one_text}
 use Rattle.clap.specs.Values.{Accepts, IsSignedIn, read_as, reading_of}
 use Rattle.clap.specs.Walk.{Rule, Text, is_empty, is_free_arg, is_simple_arg, rule_of}
-use Rattle.clap.specs.Faults.{is_simple_and_free}
-use Rattle.clap.specs.Simple.{App, app_of, is_simple}
-use Rattle.clap.proofs.OnLiterals.{clap_on_literals}
-use Rattle.clap.proofs.CallerLemmas.{entry_by_id, required_has_value}
+use Rattle.clap.proofs.CallerLemmas.{entry_by_id}
 use Rattle.clap.proofs.WalkLemmas.{both}
 use Rattle.clap.specs.declared.builder.arg.Arg.{Arg}
 use Rattle.clap.specs.declared.builder.command.Command.{Command}
