@@ -81,7 +81,7 @@ const RINGS: [(Ring, &str); 7] = [
 ];
 
 fn state(alloc: Global, knows: Option<&[u32]>) -> Result<NodeState, Memory> {
-    let mut state = NodeState::spent(alloc);
+    let mut state = NodeState::never_up(alloc, 0);
     if let Some(list) = knows {
         state.status = Status::Member;
         let mut succ = Listed::new(alloc);

@@ -1,5 +1,5 @@
 -- Blocks of a scenario's nodes.
-use Rattle.std.specs.Prelude.{ℕ, ◌<◌, ◌≤◌, List, [], ◌∷◌, All, length}
+use Rattle.std.specs.Prelude.{ℕ, ◌<◌, List, [], ◌∷◌, All}
 use Rattle.chord_event.specs.declared.block.Block.{Block}
 use Rattle.chord_event.specs.declared.line.Line.{Line}
 use Rattle.chord_event.specs.declared.line.Line.TheVariants as line

@@ -1,7 +1,7 @@
 use Rattle.std.proofs.Common.{Bor, List, ℕ, ◌≡◌, ◌∙◌, sym, ap, refl, rules, inl, inr, true, map, Some, ◌∷◌, ◌++◌, []}
 use Rattle.std.specs.Result.{is_ok}
 use Rattle.std.proofs.lemmas.List.{map-append}
-use Rattle.csv.specs.Reading.{Reached, default_config, is_flexible, strip_bom}
+use Rattle.csv.specs.Reading.{Reached, default_config, strip_bom}
 use Rattle.csv.specs.Records.{fields_of}
 use Rattle.csv.specs.declared.parser.State.TheVariants as st
 use Rattle.csv.proofs.ReadFacts.{rows-end, rows-more}
@@ -11,44 +11,56 @@ use Rattle.chord_scenario.proofs.row.records.Goals as goal
 pub loop-row-init : goal.loop-row-init
 unfolding Reached
 loop-row-init c =
-    let fr = c.from_reader-rdr.ensures in
-    let start = c.into_iter-row-iterator.ensures.into_iter_gives ∙ refl in
-    let rdr = c.into_byte_records-row-items.ensures.rdr in
-    let left = c.into_byte_records-row-items.ensures.left in
-    rw (start, rdr, c.new-rows.ensures.items) (
-      rw (c.flexible.ensures, c.has_headers.ensures) at fr.trim ∙ c.new.ensures.trim,
-      inr (inr (rw (c.flexible.ensures, c.has_headers.ensures) at fr.has_headers, fr.headers)),
-      left,
-      rw (c.flexible.ensures, c.has_headers.ensures) at fr.config ∙ c.new.ensures.config,
-      rw c.flexible.ensures at fr.flexible,
-      [],
-      refl,
-      strip_bom c.args.text.now,
-      fr.source,
-      (sym fr.state, refl),
-    )
+    let made = c.from_reader-rdr.ensures in
+    let is_first = c.into_iter-row-iterator.ensures.into_iter_gives ∙ refl in
+    rw (is_first, c.into_byte_records-row-items.ensures.rdr, c.new-rows.ensures.items) record {
+      read = [];
+      kept = refl;
+      unread = strip_bom c.args.text.now;
+      source = made.source;
+      reached = (sym made.state, refl);
+      flexible = rw c.flexible.ensures at made.flexible;
+      usual = rw (c.flexible.ensures, c.has_headers.ensures) at made.config ∙ c.new.ensures.config;
+      untrimmed = rw (c.flexible.ensures, c.has_headers.ensures) at made.trim ∙ c.new.ensures.trim;
+      ready = inr (inr (rw (c.flexible.ensures, c.has_headers.ensures) at made.has_headers, made.headers));
+      left = c.into_byte_records-row-items.ensures.left;
+    }
 
 pub loop-row-preserved : goal.loop-row-preserved
 loop-row-preserved c =
-    let inv = c.loop-row.invariant in
-    let steps = c.next.ensures.steps inv.2 inv.0 in
-    let s = rw (c.in-Some.is, c.in-Ok.is) at (steps.0 inv.1) in
-    let flexible : is_flexible c.next.new.self.rdr ≡ is_flexible c.loop-row.row-iterator.rdr = rw (c.in-Some.is, c.in-Ok.is) at steps.3 in
-    let good : is_ok c.push.result ≡ true = search rules in
-    let items = rw good at c.push.ensures.items in
+    let before = c.loop-row.invariant in
+    let steps = c.next.ensures.steps before.left before.untrimmed in
+    let step = rw (c.in-Some.is, c.in-Ok.is) at (steps.0 before.ready) in
     let row = fields_of c.in-Ok.row in
     let keep = kept_link c.args.names.now.nodes.now in
-    let m = rows-more (λ (s : Bor (List ℕ)). Some s.now) c.loop-row.row-iterator.rdr c.next.new.self.rdr row default_config st.StartRecord (strip_bom c.args.text.now) inv.7 inv.5 inv.3 inv.8 inv.9 s.0 in
-    let kept : c.push.new.self.items ≡ map keep (inv.5 ++ row ∷ []) =
-    items ∙ ap (λ l. l ++ c.kept_link.result ∷ []) inv.6 ∙ ap (λ k. map keep inv.5 ++ k ∷ []) c.kept_link.ensures ∙ sym (map-append keep inv.5 (row ∷ [])) in
-    (s.0.3 ∙ inv.0, inl s.1, s.2, s.0.2 ∙ inv.3, flexible ∙ inv.4, inv.5 ++ row ∷ [], kept, m.0, m.1, m.2)
+    let pushed : is_ok c.push.result ≡ true = search rules in
+    let more =
+    rows-more (λ (s : Bor (List ℕ)). Some s.now) c.loop-row.row-iterator.rdr c.next.new.self.rdr row default_config st.StartRecord (strip_bom c.args.text.now) before.unread before.read before.usual before.source before.reached step.0 in
+    record {
+      read = before.read ++ row ∷ [];
+      kept = rw pushed at c.push.ensures.items ∙ ap (λ l. l ++ c.kept_link.result ∷ []) before.kept ∙ ap (λ k. map keep before.read ++ k ∷ []) c.kept_link.ensures
+          ∙ sym (map-append keep before.read (row ∷ []));
+      unread = more.0;
+      source = more.1;
+      reached = more.2;
+      flexible = rw (c.in-Some.is, c.in-Ok.is) at steps.3 ∙ before.flexible;
+      usual = step.0.2 ∙ before.usual;
+      untrimmed = step.0.3 ∙ before.untrimmed;
+      ready = inl step.1;
+      left = step.2;
+    }
 
 pub returns : goal.returns
 returns c =
-    let inv = c.loop-row.invariant in
-    let s = rw c.in-None.is at ((c.next.ensures.steps inv.2 inv.0).0 inv.1) in
+    let before = c.loop-row.invariant in
+    let end = rw c.in-None.is at ((c.next.ensures.steps before.left before.untrimmed).0 before.ready) in
     record {
-      rows = inv.5;
-      are_rows = (c.loop-row.row-iterator.rdr.state, inv.7, inv.9, rows-end (λ (s : Bor (List ℕ)). Some s.now) c.loop-row.row-iterator.rdr c.next.new.self.rdr [] default_config inv.7 inv.3 inv.8 s);
-      are_kept = inv.6;
+      rows = before.read;
+      are_rows = (
+        c.loop-row.row-iterator.rdr.state,
+        before.unread,
+        before.reached,
+        rows-end (λ (s : Bor (List ℕ)). Some s.now) c.loop-row.row-iterator.rdr c.next.new.self.rdr [] default_config before.unread before.usual before.source end,
+      );
+      are_kept = before.kept;
     }

@@ -8,8 +8,15 @@ use Rattle.chord_scenario.proofs.row.records.Given as goal
 
 -- what is kept so far is of the first rows of the text, and the reader, which is flexible, has the rest
 abbrev pub invariant-loop-row : goal.invariant-loop-row
-invariant-loop-row l = (l.row-iterator.rdr.trim ≡ trim.None) × Ready l.row-iterator.rdr × (0 < l.row-iterator.left) × (l.row-iterator.rdr.config ≡ default_config)
-    × (is_flexible l.row-iterator.rdr ≡ true)
-    × (rows : List Row) × (l.rows.items ≡ map (kept_link l.names.nodes.now) rows)
-    × (y : List ℕ) × (source_of (λ s. Some s.now) l.row-iterator.rdr ≡ Some y)
-    × Reached default_config st.StartRecord (strip_bom l.fn.text) rows l.row-iterator.rdr.state y
+invariant-loop-row l = record {
+  read : List Row;
+  kept : l.rows.items ≡ map (kept_link l.names.nodes.now) read;
+  unread : List ℕ;
+  source : source_of (λ s. Some s.now) l.row-iterator.rdr ≡ Some unread;
+  reached : Reached default_config st.StartRecord (strip_bom l.fn.text) read l.row-iterator.rdr.state unread;
+  flexible : is_flexible l.row-iterator.rdr ≡ true;
+  usual : l.row-iterator.rdr.config ≡ default_config;
+  untrimmed : l.row-iterator.rdr.trim ≡ trim.None;
+  ready : Ready l.row-iterator.rdr;
+  left : 0 < l.row-iterator.left;
+}
