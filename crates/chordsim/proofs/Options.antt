@@ -148,13 +148,9 @@ read_count G (Some t) r parses none some fits = go r (some t refl)
     go (Some n) read = (parses t (Ok n) read).1
     go None read = absurd (parses t (Err read.0) read.1 (fits.0, omega (arith, fits.2)))
 
-without_minus-cond : (t : Text) → without_minus t ≡ cond (starts_with_minus t) (drop 1 t) t
-without_minus-cond [] = refl
-without_minus-cond (x ∷ xs) = go (x == 45)
-  where
-    go : (b : Bool) → unwrap_or (cond b (Some xs) None) (x ∷ xs) ≡ cond b xs (x ∷ xs)
-    go true = refl
-    go false = refl
+without_minus-other : (t : Text) → starts_with_minus t ≡ false → without_minus t ≡ t
+without_minus-other [] e = refl
+without_minus-other (x ∷ xs) e = ap (λ b. unwrap_or (cond b (Some xs) None) (x ∷ xs)) e
 
 -- a text that passed a range from 1 on writes a number in it
 pub count_from_range : (most : ℕ) (t : Text) → IsSignedIn (pos 1) (pos most) t → IsCountUpTo most (without_minus t)
@@ -168,7 +164,7 @@ count_from_range most t passed = go (starts_with_minus t) refl
         let numeral = rw minus at passed.0 in
         let low = rw minus at passed.2 in
         let high = rw minus at passed.3 in
-        rw (without_minus-cond t, minus) (numeral, omega (arith, ints), omega (arith, ints))
+        rw (without_minus-other t minus) (numeral, omega (arith, ints), omega (arith, ints))
 
 -- the option was given a count
 pub count_text : (most : ℕ) (o : Option Text) → IfSome o (λ t. (u : Text) × (t ≡ read_as (reading_of (vp.Signed (pos 1) (pos most))) u) × Accepts false (vp.Signed (pos 1) (pos most)) u)
