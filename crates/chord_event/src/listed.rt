@@ -53,12 +53,6 @@ impl<T> Listed<T> {
         self.items.as_slice()
     }
 
-    pub fn len(&self) -> usize
-        ensures { result ≡ length self.now }
-    {
-        self.items.len()
-    }
-
     pub fn push(&mut self, item: T) -> Result<(), Memory>
     where
         T: Drop,

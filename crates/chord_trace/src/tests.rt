@@ -248,7 +248,7 @@ fn report_of(rt: &impl Abort, alloc: Global, times: &[u64]) -> Result<Report, Me
             us: *us,
         })?;
     }
-    assert!(rt; lines.len() <= 64);
+    assert!(rt; lines.as_slice().len() <= 64);
     let block = Block {
         key: Key {
             time: 100,
