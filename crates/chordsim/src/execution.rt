@@ -2,13 +2,15 @@
 ghost use Rattle.std.specs.Prelude.{◌≡◌, false, IfOk};
 ghost use Rattle.chord_trace.specs.Watched.{has_failed};
 
+use crate::answers::{check_answer, ids_answer};
+use crate::failure::Failure;
 use crate::latency_file::LatencyFile;
 use crate::order::{Files, Order};
 use crate::status::explain;
 use chord_event::RunError;
 use chord_play::{Plan, PlayFault, Text, load, play};
 use chord_trace::{Report, Watched};
-use std::alloc::Global;
+use std::alloc::{AllocError, Global};
 use std::io::{BufWriter, Read, Write};
 use std::process::ExitCode;
 use std::rt::Files as FileSystem;
@@ -23,27 +25,28 @@ pub fn carry_out<T: FileSystem + Print + Eprint + AllocGlobal>(rt: &T, order: Or
     };
     match outcome {
         Ok(()) => ExitCode::SUCCESS,
-        Err(fault) => explain(rt, order.files(), fault),
+        Err(fault) => explain(
+            rt,
+            Failure {
+                files: order.files(),
+                fault,
+            },
+        ),
     }
 }
 
 fn check<T: FileSystem + Print + AllocGlobal>(rt: &T, files: &Files) -> Result<(), PlayFault> {
     let (mut scenario, mut latency) = open(rt, files)?;
     let scenario = load(rt.alloc(), &mut scenario, &mut latency)?;
-    let nodes = scenario.nodes();
-    let commands = scenario.commands();
-    or_write_fault(println!(rt; "ok nodes={nodes} commands={commands}"))
+    let answer = or_memory_fault(check_answer(rt.alloc(), &scenario))?;
+    or_write_fault(print!(rt; "{answer}"))
 }
 
 fn ids<T: FileSystem + Print + AllocGlobal>(rt: &T, files: &Files) -> Result<(), PlayFault> {
     let (mut scenario, mut latency) = open(rt, files)?;
     let scenario = load(rt.alloc(), &mut scenario, &mut latency)?;
-    for node in 0..scenario.nodes() {
-        let name = scenario.name(node);
-        let ident = scenario.ident(node).raw();
-        or_write_fault(println!(rt; "{name} {ident}"))?;
-    }
-    Ok(())
+    let answer = or_memory_fault(ids_answer(rt.alloc(), &scenario))?;
+    or_write_fault(print!(rt; "{answer}"))
 }
 
 fn run<T: FileSystem + Print + AllocGlobal>(
@@ -114,4 +117,9 @@ fn play_to<R: Read, Q: Read, W: Write + Drop>(
 /// The error of a run whose writer failed, where this failed.
 fn or_write_fault<T: Drop>(outcome: io::Result<T>) -> Result<T, PlayFault> {
     outcome.map_err(|_| PlayFault::Run(RunError::Write))
+}
+
+/// The error of a run without memory, where this failed.
+fn or_memory_fault<T: Drop>(outcome: Result<T, AllocError>) -> Result<T, PlayFault> {
+    outcome.map_err(|_| PlayFault::Run(RunError::Memory))
 }

@@ -1,11 +1,15 @@
 //! The program `chordsim`: simulates a Chord ring from a scenario file.
 #![tactic(auto)]
 
+mod answers;
 mod commands;
 mod execution;
+mod failure;
 mod latency_file;
 mod order;
 mod status;
+#[cfg(test)]
+mod tests;
 mod words;
 
 use chord_event::RunError;

@@ -1,0 +1,281 @@
+use crate::answers::{check_answer, ids_answer};
+use crate::failure::Failure;
+use crate::order::{Files, Order};
+use crate::words::{WordFault, read_words};
+use chord_event::RunError;
+use chord_play::{Plan, PlayFault, Split, Text};
+use chord_scenario::{ScenarioFault, read_scenario};
+use clap::error::ErrorKind;
+use std::process::Abort;
+use std::test::Fail;
+
+/// What the words of this line give.
+fn read(rt: &(impl AllocGlobal + Abort), line: &str) -> Result<Result<Order, WordFault>, Fail> {
+    let alloc = rt.alloc();
+    let mut words = Vec::new(alloc);
+    for word in line.split(' ') {
+        words.push(String::from_str(alloc, word)?)?;
+    }
+    Ok(read_words(alloc, words))
+}
+
+/// Asserts that the words are refused for this reason.
+fn refused(rt: &(impl AllocGlobal + Abort), line: &str, kind: ErrorKind) -> Result<(), Fail> {
+    match read(rt, line)? {
+        Err(WordFault::Refused(error)) => assert!(rt; error.kind() == kind, "{line}: {error}"),
+        _ => assert!(rt; false, "not refused: {line}"),
+    }
+    Ok(())
+}
+
+#[test]
+fn words_without_a_command(rt: HostRuntime) -> Result<(), Fail> {
+    refused(&rt, "chordsim", ErrorKind::MissingSubcommand)?;
+    refused(&rt, "chordsim walk", ErrorKind::InvalidSubcommand)?;
+    refused(&rt, "chordsim --walk", ErrorKind::UnknownArgument)?;
+    refused(&rt, "chordsim --help", ErrorKind::DisplayHelp)?;
+    refused(&rt, "chordsim run --help", ErrorKind::DisplayHelp)?;
+    Ok(())
+}
+
+#[test]
+fn options_that_are_refused(rt: HostRuntime) -> Result<(), Fail> {
+    refused(&rt, "chordsim check", ErrorKind::MissingRequiredArgument)?;
+    refused(
+        &rt,
+        "chordsim ids --latency b",
+        ErrorKind::MissingRequiredArgument,
+    )?;
+    refused(
+        &rt,
+        "chordsim run --serial",
+        ErrorKind::MissingRequiredArgument,
+    )?;
+    refused(
+        &rt,
+        "chordsim check --scenario a --workers 2",
+        ErrorKind::UnknownArgument,
+    )?;
+    refused(
+        &rt,
+        "chordsim run --scenario a b",
+        ErrorKind::UnknownArgument,
+    )?;
+    refused(
+        &rt,
+        "chordsim run --scenario a --serial --serial",
+        ErrorKind::ArgumentConflict,
+    )?;
+    refused(
+        &rt,
+        "chordsim run --scenario a --scenario b",
+        ErrorKind::ArgumentConflict,
+    )?;
+    Ok(())
+}
+
+#[test]
+fn values_that_are_refused(rt: HostRuntime) -> Result<(), Fail> {
+    refused(
+        &rt,
+        "chordsim run --scenario a --workers 0",
+        ErrorKind::ValueValidation,
+    )?;
+    refused(
+        &rt,
+        "chordsim run --scenario a --workers 65",
+        ErrorKind::ValueValidation,
+    )?;
+    refused(
+        &rt,
+        "chordsim run --scenario a --workers x",
+        ErrorKind::ValueValidation,
+    )?;
+    refused(
+        &rt,
+        "chordsim run --scenario a --parts 0",
+        ErrorKind::ValueValidation,
+    )?;
+    refused(
+        &rt,
+        "chordsim run --scenario a --parts 513",
+        ErrorKind::ValueValidation,
+    )?;
+    refused(
+        &rt,
+        "chordsim run --scenario a --split x",
+        ErrorKind::InvalidValue,
+    )?;
+    refused(
+        &rt,
+        "chordsim run --scenario a --trace",
+        ErrorKind::InvalidValue,
+    )?;
+    Ok(())
+}
+
+/// Asserts that the words ask to check, or to print identifiers, from these files.
+fn asked(
+    rt: &(impl AllocGlobal + Abort),
+    line: &str,
+    scenario: &str,
+    latency: &str,
+) -> Result<(), Fail> {
+    match read(rt, line)? {
+        Ok(order) => {
+            assert!(rt; order.files().name(Text::Scenario) == scenario, "{line}");
+            assert!(rt; order.files().name(Text::Latency) == latency, "{line}");
+        }
+        Err(_) => assert!(rt; false, "refused: {line}"),
+    }
+    Ok(())
+}
+
+#[test]
+fn files_that_are_named(rt: HostRuntime) -> Result<(), Fail> {
+    asked(&rt, "chordsim check --scenario a", "a", "")?;
+    asked(&rt, "chordsim ids --latency b --scenario a", "a", "b")?;
+    asked(
+        &rt,
+        "chordsim run --scenario=a --latency=b --trace c",
+        "a",
+        "b",
+    )?;
+    Ok(())
+}
+
+/// Asserts that the words ask for a run by this plan, with the trace to the file of this name.
+fn planned(
+    rt: &(impl AllocGlobal + Abort),
+    line: &str,
+    want: &Plan,
+    file: &str,
+) -> Result<(), Fail> {
+    match read(rt, line)? {
+        Ok(Order::Run { plan, trace, .. }) => {
+            assert!(rt; plan == *want, "{line}");
+            match trace {
+                Some(name) => assert!(rt; name.as_str() == file, "{line}"),
+                None => assert!(rt; file == "", "{line}"),
+            }
+        }
+        _ => assert!(rt; false, "no run: {line}"),
+    }
+    Ok(())
+}
+
+#[test]
+fn plans_of_runs(rt: HostRuntime) -> Result<(), Fail> {
+    let plain = Plan {
+        serial: false,
+        workers: 1,
+        parts: 1,
+        split: Split::RoundRobin,
+    };
+    planned(&rt, "chordsim run --scenario a", &plain, "")?;
+    planned(
+        &rt,
+        "chordsim run --scenario a --split rr --trace c",
+        &plain,
+        "c",
+    )?;
+    let most = Plan {
+        serial: true,
+        workers: 64,
+        parts: 512,
+        split: Split::Blocks,
+    };
+    planned(
+        &rt,
+        "chordsim run --serial --workers 64 --parts 512 --split block --scenario a",
+        &most,
+        "",
+    )?;
+    Ok(())
+}
+
+/// Three nodes, of which only the first gives its identifier.
+const SCENARIO: &str = r#"profile = 1
+bits = 8
+list = 2
+seed = 1
+duration_us = 200
+window_us = 10
+latency_us = 10
+timeout_us = 40
+audit_us = 200
+stabilize_us = 1000
+finger_us = 1000
+[[node]]
+name = "n0"
+id = "ff"
+initial = true
+[[node]]
+name = "a"
+initial = true
+[[node]]
+name = "c"
+initial = true
+[[command]]
+at_us = 100
+do = "crash"
+node = "a"
+"#;
+
+/// The SHA-1 digests of `a` and `c` begin with the bytes 134 and 132.
+#[test]
+fn answers(rt: HostRuntime) -> Result<(), Fail> {
+    let Ok(scenario) = read_scenario(rt.alloc(), SCENARIO.as_bytes(), b"") else {
+        assert!(rt; false, "the scenario is refused");
+        return Ok(());
+    };
+    let checked = check_answer(rt.alloc(), &scenario)?;
+    assert!(rt; checked.as_str() == "ok nodes=3 commands=1\n", "{checked}");
+    let ids = ids_answer(rt.alloc(), &scenario)?;
+    assert!(rt; ids.as_str() == "n0 255\na 134\nc 132\n", "{ids}");
+    Ok(())
+}
+
+/// Asserts what standard error and the status say of the fault.
+fn failed(
+    rt: &(impl AllocGlobal + Abort),
+    fault: PlayFault,
+    text: &str,
+    status: u8,
+) -> Result<(), Fail> {
+    let files = Files {
+        scenario: String::from_str(rt.alloc(), "a.toml")?,
+        latency: Some(String::from_str(rt.alloc(), "b.csv")?),
+    };
+    let failure = Failure {
+        files: &files,
+        fault,
+    };
+    let said = format!(in rt.alloc(); "{failure}")?;
+    assert!(rt; said.as_str() == text, "{said}, not {text}");
+    assert!(rt; failure.status() == status, "{text}");
+    Ok(())
+}
+
+#[test]
+fn faults_of_files(rt: HostRuntime) -> Result<(), Fail> {
+    let fault = PlayFault::Read(Text::Scenario);
+    failed(&rt, fault, "refused: cannot read a.toml", 1)?;
+    let fault = PlayFault::TooLong(Text::Latency);
+    failed(&rt, fault, "refused: too long b.csv", 1)?;
+    let fault = PlayFault::Scenario(ScenarioFault::TooFewInitial);
+    failed(&rt, fault, "refused: S10 TooFewInitial", 1)?;
+    Ok(())
+}
+
+#[test]
+fn faults_of_runs(rt: HostRuntime) -> Result<(), Fail> {
+    failed(&rt, PlayFault::Run(RunError::Memory), "failed: 1 Memory", 3)?;
+    failed(&rt, PlayFault::Run(RunError::Worker), "failed: 2 Worker", 3)?;
+    let fault = PlayFault::Run(RunError::TooManyEvents);
+    failed(&rt, fault, "failed: 3 TooManyEvents", 3)?;
+    failed(&rt, PlayFault::Run(RunError::Write), "failed: 4 Write", 3)?;
+    let fault = PlayFault::Run(RunError::BadDivision);
+    failed(&rt, fault, "failed: 5 BadDivision", 3)?;
+    Ok(())
+}
