@@ -36,7 +36,7 @@ key = 1
 const GOOD: &str = "ok nodes=3 commands=1";
 
 /// The base with a text in place of another, and the answer.
-const CHANGES: [(&str, &str, &str); 106] = [
+const CHANGES: [(&str, &str, &str); 124] = [
     ("", "", GOOD),
     ("[[node]]", "[[nod", "S1 NotToml"),
     ("seed = 1", "seed = 9223372036854775808", "S1 NotToml"),
@@ -335,6 +335,64 @@ const CHANGES: [(&str, &str, &str); 106] = [
         "[[node]]\nname = 3\n[[node]]",
         "S4 WrongType node 1 name",
     ),
+    (
+        "duration_us = 200\nwindow_us = 10\nlatency_us = 10\ntimeout_us = 40\naudit_us = 200",
+        "duration_us = 1000000000000\nwindow_us = 10\nlatency_us = 10\ntimeout_us = 40\naudit_us = 1000000",
+        GOOD,
+    ),
+    (
+        "duration_us = 200\nwindow_us = 10\nlatency_us = 10\ntimeout_us = 40\naudit_us = 200",
+        "duration_us = 1000000000000\nwindow_us = 10\nlatency_us = 10\ntimeout_us = 40\naudit_us = 999999",
+        "S5 OutOfRange top audit_us",
+    ),
+    (
+        "stabilize_us = 1000",
+        "stabilize_us = 0",
+        "S5 OutOfRange top stabilize_us",
+    ),
+    ("stabilize_us = 1000", "stabilize_us = 1", GOOD),
+    ("stabilize_us = 1000", "stabilize_us = 1000000000", GOOD),
+    (
+        "finger_us = 1000",
+        "finger_us = 0",
+        "S5 OutOfRange top finger_us",
+    ),
+    ("finger_us = 1000", "finger_us = 1", GOOD),
+    ("finger_us = 1000", "finger_us = 1000000000", GOOD),
+    ("seed = 1", "seed = 1\njitter_us = 0", GOOD),
+    ("seed = 1", "seed = 1\nmax_events = 50000000", GOOD),
+    (
+        "seed = 1",
+        "seed = 1\nlookups.gap_min_us = 1000000000\nlookups.gap_max_us = 1000000000",
+        GOOD,
+    ),
+    (
+        "seed = 1",
+        "churn = { life_min_us = 1, life_max_us = 1000000000, down_min_us = 1, down_max_us = 1000000000 }\nseed = 1",
+        GOOD,
+    ),
+    (
+        "seed = 1",
+        "churn = { life_min_us = 0, life_max_us = 5, down_min_us = 1, down_max_us = 1 }\nseed = 1",
+        "S5 OutOfRange churn life_min_us",
+    ),
+    (
+        "seed = 1",
+        "churn = { life_min_us = 5, life_max_us = 1000000001, down_min_us = 1, down_max_us = 1 }\nseed = 1",
+        "S5 OutOfRange churn life_max_us",
+    ),
+    (
+        "seed = 1",
+        "churn = { life_min_us = 5, life_max_us = 5, down_min_us = 0, down_max_us = 1 }\nseed = 1",
+        "S5 OutOfRange churn down_min_us",
+    ),
+    (
+        "seed = 1",
+        "churn = { life_min_us = 5, life_max_us = 5, down_min_us = 1, down_max_us = 1000000001 }\nseed = 1",
+        "S5 OutOfRange churn down_max_us",
+    ),
+    ("at_us = 100", "at_us = 0", GOOD),
+    ("at_us = 100", "at_us = -1", "S5 OutOfRange command 1 at_us"),
 ];
 
 /// Latency texts of the base, and the answer.
