@@ -1,4 +1,5 @@
-//! Worked examples: whole scenarios, with the traces and reports that were computed for them by hand.
+//! Worked examples: whole scenarios, with the traces and reports that they have by the rules. None of them was
+//! made by this program: they were worked out by hand, those of random streams by simulators written apart from it.
 #![tactic(auto)]
 
 #[cfg(test)]
