@@ -11,4 +11,6 @@ mod playing;
 #[cfg(test)]
 mod rings;
 #[cfg(test)]
+mod searches;
+#[cfg(test)]
 mod streams;

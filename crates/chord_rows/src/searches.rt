@@ -1,0 +1,86 @@
+ghost use Rattle.std.specs.Prelude.{◌≡◌, true};
+ghost use Rattle.chord_node.specs.Invariant.{AllNodes};
+
+use crate::playing::{SETTINGS, THREE, text_of};
+use chord_event::Answer;
+use chord_node::initial_ring;
+use chord_ops::{closest_preceding, step_answer};
+use chord_scenario::{Scenario, read_scenario};
+use std::test::Fail;
+
+/// For a node, a key and nodes to avoid: the closest preceding node and the step answer.
+const SEARCHES: [(usize, u64, &[u32], u32, Answer); 27] = [
+    (0, 0, &[], 2, Answer::Next(2)),
+    (0, 1, &[], 0, Answer::Owner(1)),
+    (0, 2, &[], 1, Answer::Next(1)),
+    (0, 3, &[], 1, Answer::Next(1)),
+    (0, 4, &[], 2, Answer::Next(2)),
+    (0, 7, &[], 2, Answer::Next(2)),
+    (0, 1, &[1], 0, Answer::Owner(2)),
+    (0, 3, &[1], 0, Answer::Owner(2)),
+    (0, 4, &[1], 2, Answer::Next(2)),
+    (0, 4, &[2], 1, Answer::Next(1)),
+    (0, 4, &[2, 1], 0, Answer::Stuck),
+    (1, 0, &[], 2, Answer::Next(2)),
+    (1, 1, &[], 0, Answer::Next(0)),
+    (1, 2, &[], 1, Answer::Owner(2)),
+    (1, 3, &[], 1, Answer::Owner(2)),
+    (1, 4, &[], 2, Answer::Next(2)),
+    (1, 1, &[0], 2, Answer::Next(2)),
+    (1, 4, &[2], 1, Answer::Owner(0)),
+    (1, 1, &[0, 2], 1, Answer::Stuck),
+    (2, 0, &[], 2, Answer::Owner(0)),
+    (2, 4, &[], 2, Answer::Owner(0)),
+    (2, 1, &[], 0, Answer::Next(0)),
+    (2, 2, &[], 0, Answer::Next(0)),
+    (2, 3, &[], 0, Answer::Next(0)),
+    (2, 1, &[0], 2, Answer::Owner(1)),
+    (2, 2, &[0], 1, Answer::Next(1)),
+    (2, 2, &[0, 1], 2, Answer::Stuck),
+];
+
+/// Whether all these nodes are the scenario's.
+fn are_known(scenario: &Scenario, nodes: &[u32]) -> bool
+    ensures { result ≡ true → AllNodes scenario.now nodes.now }
+{
+    nodes.iter().all(|node| *node < scenario.nodes())
+}
+
+/// On the ring of three, n0 has the successors n1 and n3 and the fingers n3 and n0, n1 the successors
+/// n3 and n0 and the same fingers, and n3 the successors n0 and n1 and n0 as both fingers. So each
+/// node knows the owner of a key up to its first successor that is not to be avoided. For any other
+/// key it names the node that it knows closest before the key, as n3 for key 4 at n0: the second
+/// entry of a list counts for this only where the first is to be avoided.
+#[test]
+fn searches_of_the_first_ring(rt: HostRuntime) -> Result<(), Fail> {
+    let alloc = rt.alloc();
+    let text = text_of(alloc, SETTINGS, THREE, "")?;
+    let Ok(scenario) = read_scenario(alloc, text.as_str().as_bytes(), b"") else {
+        assert!(rt; false, "the ring is refused");
+        return Ok(());
+    };
+    let Ok(states) = initial_ring(alloc, &scenario) else {
+        assert!(rt; false, "no memory");
+        return Ok(());
+    };
+    scenario.is_in_range();
+    for (node, key, avoid, closest, answer) in &SEARCHES {
+        let Some(state) = states.as_slice().get(*node) else {
+            assert!(rt; false, "no node {node}");
+            return Ok(());
+        };
+        assert!(rt; state.me < scenario.nodes());
+        assert!(rt; are_known(&scenario, state.succ.as_slice()));
+        assert!(rt; are_known(&scenario, state.fingers.as_slice()));
+        let place = scenario.circle().low_bits(*key);
+        assert!(rt;
+            closest_preceding(&scenario, state, place, avoid) == *closest,
+            "node {node}, key {key}"
+        );
+        assert!(rt;
+            step_answer(&scenario, state, place, avoid) == *answer,
+            "node {node}, key {key}"
+        );
+    }
+    Ok(())
+}
