@@ -1,2 +1,3 @@
+pub mod Answers
 pub mod Commands
 pub mod Orders

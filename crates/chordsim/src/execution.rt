@@ -1,5 +1,5 @@
 //! What the program does with an order.
-ghost use Rattle.std.specs.Prelude.{◌≡◌, false, IfOk};
+ghost use Rattle.std.specs.Prelude.{◌≡◌, false, IfErr, IfOk, Err, Ok};
 ghost use Rattle.chord_trace.specs.Watched.{has_failed};
 
 use crate::answers::{check_answer, ids_answer};
@@ -115,11 +115,17 @@ fn play_to<R: Read, Q: Read, W: Write + Drop>(
 }
 
 /// The error of a run whose writer failed, where this failed.
-fn or_write_fault<T: Drop>(outcome: io::Result<T>) -> Result<T, PlayFault> {
+fn or_write_fault<T: Drop>(outcome: io::Result<T>) -> Result<T, PlayFault>
+    ensures ok { IfOk outcome (λ value. result ≡ Ok value) }
+    ensures err { IfErr outcome (λ e. result ≡ Err (PlayFault.Run RunError.Write)) }
+{
     outcome.map_err(|_| PlayFault::Run(RunError::Write))
 }
 
 /// The error of a run without memory, where this failed.
-fn or_memory_fault<T: Drop>(outcome: Result<T, AllocError>) -> Result<T, PlayFault> {
+fn or_memory_fault<T: Drop>(outcome: Result<T, AllocError>) -> Result<T, PlayFault>
+    ensures ok { IfOk outcome (λ value. result ≡ Ok value) }
+    ensures err { IfErr outcome (λ e. result ≡ Err (PlayFault.Run RunError.Memory)) }
+{
     outcome.map_err(|_| PlayFault::Run(RunError::Memory))
 }

@@ -1,3 +1,6 @@
+ghost use Rattle.std.specs.Prelude.{◌≡◌};
+ghost use Rattle.chordsim.specs.Answers.{status_of};
+
 use crate::order::Files;
 use chord_event::RunError;
 use chord_play::PlayFault;
@@ -12,7 +15,9 @@ pub struct Failure<'a> {
 
 impl Failure<'_> {
     /// The status that the program ends with: 1 for refused files, and 3 for a failed run.
-    pub fn status(&self) -> u8 {
+    pub fn status(&self) -> u8
+        ensures { result ≡ status_of self.now.fault }
+    {
         match self.fault {
             PlayFault::Run(_) => 3,
             _ => 1,

@@ -1,3 +1,6 @@
+ghost use Rattle.std.specs.Prelude.{◌≡◌};
+ghost use Rattle.chordsim.specs.Answers.{files_of, name_of};
+
 use chord_play::{Plan, Text};
 
 /// What the words of the program ask for.
@@ -17,7 +20,9 @@ pub enum Order {
 
 impl Order {
     /// The files that the scenario is read from.
-    pub fn files(&self) -> &Files {
+    pub fn files(&self) -> &Files
+        ensures { result.now ≡ files_of self.now }
+    {
         match self {
             Order::Check(files) => files,
             Order::Ids(files) => files,
@@ -35,7 +40,9 @@ pub struct Files {
 
 impl Files {
     /// The name of the file of a text, which is empty where there is none.
-    pub fn name(&self, text: Text) -> &str {
+    pub fn name(&self, text: Text) -> &str
+        ensures { result.now ≡ name_of text self.now }
+    {
         match (text, &self.latency) {
             (Text::Scenario, _) => self.scenario.as_str(),
             (Text::Latency, Some(name)) => name.as_str(),
