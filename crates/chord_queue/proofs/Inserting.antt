@@ -1,9 +1,8 @@
 -- Events that are added one after another.
-use Rattle.std.proofs.Common.{◌≡◌, ◌≢◌, ◌⊎◌, ⊎_elim, inl, inr, ◌↔◌, List, [], ◌∷◌, ◌++◌, refl, sym, ap, subst}
-use Rattle.std.specs.List.{AllByRecursion, AllPairs, Contains}
+use Rattle.std.proofs.Common.{◌≢◌, ⊎_elim, inl, inr, ◌↔◌, List, [], ◌∷◌, ◌++◌, sym, subst}
+use Rattle.std.specs.List.{AllPairs, Contains}
 use Rattle.chord_event.specs.declared.body.Body.{Body}
 use Rattle.chord_event.specs.declared.event.Event.{Event}
-use Rattle.chord_event.specs.declared.key.Key.{Key}
 use Rattle.chord_event.specs.Keys.{IsBefore}
 use Rattle.chord_event.specs.KeyOrder.{InKeyOrder, IsNewKey, put_in_order}
 use Rattle.chord_event.proofs.KeyLists.{IsIn, all_from, all_in, in_put, ordered_put, put_in}

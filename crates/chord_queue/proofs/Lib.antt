@@ -1,2 +1,3 @@
-pub mod Entries
+pub mod Due
 pub mod Inserting
+pub mod Places

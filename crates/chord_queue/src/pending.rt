@@ -1,34 +1,46 @@
 ghost use Rattle.std.specs.Prelude.{◌≡◌, ◌≢◌, ◌↔◌, [], ◌∷◌, ◌++◌, slice_get, option_map, IfOk, IfErr, MatchOption, OnOk};
-ghost use Rattle.std.specs.List.{AllPairs, Contains};
+ghost use Rattle.std.specs.List.{AllPairs, Contains, filter};
+ghost use Rattle.std.specs.List.Sorted.{IsPermutation, IsSorted};
+ghost use Rattle.std.specs.BinaryHeap.{heap_items};
 ghost use Rattle.chord_event.specs.declared.body.Body.{Body as ABody};
 ghost use Rattle.chord_event.specs.declared.event.Event.{Event as AnEvent};
 ghost use Rattle.chord_event.specs.KeyOrder.{InKeyOrder, IsNewKey, put_in_order, before, from_on};
 ghost use Rattle.chord_queue.specs.EventKey.{event_key};
+ghost use Rattle.chord_queue.specs.Places.{waiting_cmp, is_due};
 
 use chord_event::{Event, Key, Memory};
+use slab::Slab;
 use std::alloc::Global;
-use std::collections::BTreeMap;
+use std::cmp::Reverse;
+use std::collections::BinaryHeap;
 use std::marker::Model;
+
+/// A key with the place of its event. The heap gives the greatest first, so the keys are turned round.
+#[derive(Clone, Copy, Debug, PartialEq, Eq, PartialOrd, Ord)]
+struct Waiting {
+    key: Reverse<Key>,
+    place: usize,
+}
 
 /// The events that are still to come, which contracts see as their list in the order of their keys.
 #[derive(Drop)]
 pub struct Pending {
-    events: BTreeMap<Key, Event>,
+    heap: BinaryHeap<Waiting>,
+    events: Slab<Event>,
     alloc: Global,
 }
 
 impl Model for Pending {
     ghost use Rattle.std.specs.Prelude.{List};
-    ghost use Rattle.std.specs.Map.{values_of};
     ghost use Rattle.chord_event.specs.declared.body.Body.{Body};
     ghost use Rattle.chord_event.specs.declared.event.Event.{Event};
-    ghost use Rattle.chord_queue.specs.Keyed.{IsKeyed};
+    ghost use Rattle.chord_queue.specs.Places.{pending_of, IsPlacedHeap};
 
     ghost Value = { List (Event Body) };
 
-    ghost view = { λ p. values_of p.events.entries };
+    ghost view = { λ p. pending_of p };
 
-    ghost invariant = { λ p. IsKeyed p.events.entries };
+    ghost invariant = { λ p. IsPlacedHeap p };
 }
 
 impl Pending {
@@ -36,7 +48,8 @@ impl Pending {
         ensures { result ≡ [] }
     {
         Pending {
-            events: BTreeMap::new(alloc),
+            heap: BinaryHeap::new(alloc),
+            events: Slab::new(alloc),
             alloc,
         }
     }
@@ -54,11 +67,15 @@ impl Pending {
         ensures ok { OnOk result (self.new ≡ put_in_order event_key event self.old) }
         ensures err { IfErr result (λ back. (back ≡ event) × (self.new ≡ self.old)) }
     {
-        if let Err(refused) = self.events.insert(event.key, event) {
-            let (_, event) = refused.value;
+        if self.heap.reserve(1).is_err() || self.events.reserve(1).is_err() {
             return Err(event);
         }
-        Ok(())
+        let key = Reverse(event.key);
+        let place = self.events.insert_reserved(event);
+        match self.heap.push(Waiting { key, place }) {
+            Ok(()) => Ok(()),
+            Err(_) => unreachable!(),
+        }
     }
 
     /// Adds events. After an error it is open which of them were added.
@@ -83,29 +100,26 @@ impl Pending {
     pub fn first_time(&self) -> Option<u64>
         ensures { result ≡ option_map (λ e. e.key.time) (slice_get self.now 0) }
     {
-        let (key, _) = self.events.first_key_value()?;
-        Some(key.time)
+        let waiting = self.heap.peek()?;
+        Some(waiting.key.0.time)
     }
 
     /// Takes the first event out.
     pub fn pop_first(&mut self) -> Option<Event>
         ensures { MatchOption result ((self.old ≡ []) × (self.new ≡ [])) (λ first. self.old ≡ first ∷ self.new) }
     {
-        let (_, event) = self.events.pop_first()?;
-        Some(event)
+        let waiting = self.heap.pop()?;
+        Some(self.events.remove(waiting.place))
     }
 
     /// Copies of the events before a time in microseconds.
     pub fn up_to(&self, horizon: u64) -> Result<Vec<Event>, Memory>
         ensures { IfOk result (λ copies. copies.items ≡ before event_key horizon self.now) }
     {
-        self.is_ordered();
+        let mut due = due_before(&self.heap, self.alloc, horizon)?;
         let mut copies = Vec::new(self.alloc);
-        for event in self.events.values() {
-            if event.key.time >= horizon {
-                break;
-            }
-            copies.push(event.try_clone()?)?;
+        while let Some(waiting) = due.pop() {
+            copies.push(self.events[waiting.place].try_clone()?)?;
         }
         Ok(copies)
     }
@@ -122,4 +136,23 @@ impl Pending {
             drop(self.pop_first());
         }
     }
+}
+
+/// The keys and places of the events before a time in microseconds, the first event last.
+fn due_before(
+    heap: &BinaryHeap<Waiting>,
+    alloc: Global,
+    horizon: u64,
+) -> Result<Vec<Waiting>, Memory>
+    ensures same { IfOk result (λ due. IsPermutation (filter (is_due horizon) (heap_items heap.now)) due.items) }
+    ensures sorted { IfOk result (λ due. IsSorted waiting_cmp due.items) }
+{
+    let mut due = Vec::new(alloc);
+    for waiting in heap {
+        if waiting.key.0.time < horizon {
+            due.push(*waiting)?;
+        }
+    }
+    due.sort_unstable();
+    Ok(due)
 }

@@ -1,19 +1,27 @@
-use Rattle.std.proofs.Common.{◌∙◌, sym, ap, subst}
-use Rattle.std.specs.Map.{values_of}
-use Rattle.chord_event.specs.KeyOrder.{IsNewKey, put_in_order}
+use Rattle.std.proofs.Common.{◌≡◌, ◌∙◌, refl, sym, ap, subst, arith}
+use Rattle.std.specs.BinaryHeap.{IsHeap, heap_items}
+use Rattle.slab.specs.Slab.{slab_len}
+use Rattle.chord_event.specs.KeyOrder.{put_in_order}
 use Rattle.chord_queue.specs.EventKey.{event_key}
-use Rattle.chord_queue.specs.Keyed.{IsKeyed}
-use Rattle.chord_queue.proofs.Entries.{keyed_put, put_entry}
+use Rattle.chord_queue.specs.Places.{waiting_cmp, events_at, in_key_order}
+use Rattle.chord_queue.proofs.Places.{Held, inserted, kept_by, placed_by}
 use Rattle.chord_queue.proofs.pending.Pending.insert.Goals as goal
+
+after : (c : goal.In-Ok) → let t = c.insert_reserved-place.new.self in let more = heap_items c.push.new.self in
+    Held t more × (in_key_order (events_at t more) ≡ put_in_order event_key c.args.event c.args.self.now)
+after c =
+    let s = c.reserve-else-is_err.new.self in let ws = heap_items c.reserve.new.self in let place = c.insert_reserved-place.ensures in
+    let kept = kept_by c.self.inside s ws c.self.invariant c.reserve.ensures.items (λ i. (c.reserve-else-is_err.ensures.rest_kept i).slots) in
+    inserted s c.insert_reserved-place.new.self ws (heap_items c.push.new.self) c.args.self.now _ c.args.event kept.0 (kept.1 ∙ c.self.view_is) c.requires refl
+    place.was_vacant place.updates c.in-Ok.ensures.permutation
 
 pub invariant_of-self-2 : goal.invariant_of-self-2
 invariant_of-self-2 c =
-    let es = c.self.inside.events.entries in let e = c.args.event in
-    let new : IsNewKey event_key e.key (values_of es) = subst (IsNewKey event_key e.key) (sym c.self.view_is) c.requires in
-    subst IsKeyed (sym c.in_default.ensures.entries) (keyed_put es e c.self.invariant new)
+    let p = c.self.inside in let t = c.insert_reserved-place.new.self in
+    let heap : IsHeap waiting_cmp (heap_items c.reserve.new.self) = subst (IsHeap waiting_cmp) (sym c.reserve.ensures.items) c.self.invariant.ordered in
+    let same : slab_len c.reserve-else-is_err.new.self ≡ slab_len p.events = ap slab_len c.reserve-else-is_err.ensures.rest_kept in
+    placed_by (record { heap = c.push.new.self; events = t; alloc = p.alloc }) (c.in-Ok.ensures.heap_order heap) (after c).0
+    (omega (arith, c.insert_reserved-place.ensures.len, same, c.self.invariant.counted, c.reserve.ensures.len, c.in-Ok.ensures.len))
 
 pub returns-clause-ok : goal.returns-clause-ok
-returns-clause-ok c =
-    let es = c.self.inside.events.entries in let e = c.args.event in
-    let new : IsNewKey event_key e.key (values_of es) = subst (IsNewKey event_key e.key) (sym c.self.view_is) c.requires in
-    ap values_of c.in_default.ensures.entries ∙ (put_entry es e c.self.invariant.own new).1 ∙ ap (put_in_order event_key e) c.self.view_is
+returns-clause-ok c = (after c).1

@@ -1,38 +1,37 @@
-use Rattle.std.proofs.Common.{◌≡◌, ◌∙◌, [], ◌∷◌, ◌++◌, sym, ap, subst, append_assoc, append-nil, arith}
+use Rattle.std.proofs.Common.{◌≡◌, List, ◌∙◌, [], ◌∷◌, ◌++◌, sym, ap, subst, append_assoc}
+use Rattle.std.specs.List.{filter}
+use Rattle.std.specs.BinaryHeap.{heap_items}
 use Rattle.chord_event.specs.declared.body.Body.{Body}
 use Rattle.chord_event.specs.declared.event.Event.{Event}
-use Rattle.chord_event.specs.KeyOrder.{before, InKeyOrder}
-use Rattle.chord_event.proofs.KeyLists.{AllBefore, before_push, cut_at, before_all}
+use Rattle.chord_event.specs.KeyOrder.{before}
 use Rattle.chord_queue.specs.EventKey.{event_key}
+use Rattle.chord_queue.specs.Places.{is_due, events_at, in_key_order}
+use Rattle.chord_queue.proofs.Due.{Due, due_events, held_due, last_out, last_some}
+use Rattle.chord_queue.proofs.Places.{held_by, held_permuted, order_permuted}
 use Rattle.chord_queue.proofs.pending.Pending.up_to.Goals as goal
-use Rattle.chord_queue.proofs.pending.Pending.up_to.Goals.{in-None, in-Some+then-event-horizon}
 
-pub loop-event-init : goal.loop-event-init
-loop-event-init c = record {
-  whole = ap (λ l. l ++ c.into_iter-event-iterator.result) c.new-copies.ensures.items;
-  before = subst (AllBefore event_key c.args.horizon) (sym c.new-copies.ensures.items) tt;
-}
-
-pub loop-event-preserved : goal.loop-event-preserved
-loop-event-preserved c =
-    let ys = c.loop-event.copies.items in let z = c.in-Some.event.now in let h = c.args.horizon in
-    let more : c.push.new.self.items ≡ ys ++ z ∷ [] = c.in_ok-push.ensures.items ∙ ap (λ (e : Event Body). ys ++ e ∷ []) c.in_ok-try_clone.ensures in
-    let step : c.loop-event.event-iterator ≡ z ∷ c.next.new.self = c.in-Some.ensures.steps in record {
-      whole = ap (λ l. l ++ c.next.new.self) more ∙ append_assoc ys (z ∷ []) c.next.new.self ∙ ap (λ l. ys ++ l) (sym step) ∙ c.loop-event.invariant.whole;
-      before = subst (AllBefore event_key h) (sym more) (before_push event_key h ys z c.loop-event.invariant.before (omega (arith, c.if-event-horizon.false)));
+pub loop-waiting-init : goal.loop-waiting-init
+loop-waiting-init c =
+    let p = c.self.inside in let h = c.args.horizon in let due = c.in_ok-due.due.items in
+    let held = held_by p c.self.invariant in
+    let first = held_due p.events (heap_items p.heap) h held in let moved = c.in_ok-due.ensures.same in
+    let same = order_permuted p.events (filter (is_due h) (heap_items p.heap)) due moved first in record {
+      due = record { held = held_permuted p.events (filter (is_due h) (heap_items p.heap)) due moved first; sorted = c.in_ok-due.ensures.sorted };
+      whole = ap (λ l. l ++ in_key_order (events_at p.events due)) c.new-copies.ensures.items ∙ sym same ∙ due_events p.events (heap_items p.heap) h held ∙ ap (before event_key h) c.self.view_is;
     }
 
-pub returns : goal.returns
-returns c =
-    let ys = c.loop-event.copies.items in let h = c.args.horizon in
-    let whole : ys ++ c.loop-event.event-iterator ≡ c.args.self.now = c.loop-event.invariant.whole ∙ c.into_iter-event-iterator.ensures.into_iter_gives ∙ c.values-event-items.ensures.rest ∙ c.self.view_is in
-    elim c.match-next.branch [
-      | in-None w ↦
-          let all : ys ≡ c.args.self.now = sym (append-nil ys) ∙ ap (λ l. ys ++ l) (sym w.in-None.ensures.steps.0) ∙ whole in
-          sym (before_all event_key h ys c.loop-event.invariant.before) ∙ ap (before event_key h) all
-      | in-Some+then-event-horizon w ↦
-          let z = w.in-Some.event.now in
-          let all : ys ++ z ∷ c.next.new.self ≡ c.args.self.now = ap (λ l. ys ++ l) (sym w.in-Some.ensures.steps) ∙ whole in
-          let ordered : InKeyOrder event_key (ys ++ z ∷ c.next.new.self) = subst (InKeyOrder event_key) (sym all) c.is_ordered.ensures in
-          sym (cut_at event_key h ys c.next.new.self z ordered c.loop-event.invariant.before w.if-event-horizon.true) ∙ ap (before event_key h) all
-    ]
+pub index-requires : goal.index-requires
+index-requires c =
+    let s = c.self.inside.events in
+    last_some s c.pop.new.self.items c.in-Some.waiting (subst (Due s) c.in-Some.ensures.items c.loop-waiting.invariant.due)
+
+pub loop-waiting-preserved : goal.loop-waiting-preserved
+loop-waiting-preserved c =
+    let s = c.self.inside.events in let rest = c.pop.new.self.items in let w = c.in-Some.waiting in let ys = c.loop-waiting.copies.items in let e = c.index.result.now in
+    let out = last_out s rest w e (subst (Due s) c.in-Some.ensures.items c.loop-waiting.invariant.due) c.index.ensures in
+    let later = in_key_order (events_at s rest) in
+    let more : c.push.new.self.items ≡ ys ++ e ∷ [] = ◌∙◌ {A = List (Event Body)} c.in_ok-push.ensures.items (ap (λ (x : Event Body). ys ++ x ∷ []) c.in_ok-try_clone.ensures) in
+    let front : in_key_order (events_at s c.loop-waiting.due.items) ≡ e ∷ later = ap (λ l. in_key_order (events_at s l)) c.in-Some.ensures.items ∙ out.1 in record {
+      due = out.0;
+      whole = ap (λ l. l ++ later) more ∙ append_assoc ys (e ∷ []) later ∙ ap (λ l. ys ++ l) (sym front) ∙ c.loop-waiting.invariant.whole;
+    }
