@@ -36,7 +36,7 @@ key = 1
 const GOOD: &str = "ok nodes=3 commands=1";
 
 /// The base with a text in place of another, and the answer.
-const CHANGES: [(&str, &str, &str); 124] = [
+const CHANGES: [(&str, &str, &str); 106] = [
     ("", "", GOOD),
     ("[[node]]", "[[nod", "S1 NotToml"),
     ("seed = 1", "seed = 9223372036854775808", "S1 NotToml"),
@@ -335,6 +335,10 @@ const CHANGES: [(&str, &str, &str); 124] = [
         "[[node]]\nname = 3\n[[node]]",
         "S4 WrongType node 1 name",
     ),
+];
+
+/// The same for numbers at the ends of their ranges.
+const LIMITS: [(&str, &str, &str); 18] = [
     (
         "duration_us = 200\nwindow_us = 10\nlatency_us = 10\ntimeout_us = 40\naudit_us = 200",
         "duration_us = 1000000000000\nwindow_us = 10\nlatency_us = 10\ntimeout_us = 40\naudit_us = 1000000",
@@ -441,6 +445,16 @@ fn first_faults(rt: HostRuntime) -> Result<(), Fail> {
     for (csv, want) in &ROWS {
         let got = answer(&rt, BASE.as_bytes(), csv.as_bytes())?;
         assert!(rt; got.as_str() == *want, "{got}, not {want}, at {csv}");
+    }
+    Ok(())
+}
+
+#[test]
+fn limits_of_numbers(rt: HostRuntime) -> Result<(), Fail> {
+    for (old, new, want) in &LIMITS {
+        let text = BASE.replacen(rt.alloc(), *old, *new, 1)?;
+        let got = answer(&rt, text.as_str().as_bytes(), b"")?;
+        assert!(rt; got.as_str() == *want, "{got}, not {want}, at {new}");
     }
     Ok(())
 }
