@@ -21,10 +21,13 @@ fn read(rt: &(impl AllocGlobal + Abort), line: &str) -> Result<Result<Order, Wor
 
 /// Asserts that the words are refused for this reason.
 fn refused(rt: &(impl AllocGlobal + Abort), line: &str, kind: ErrorKind) -> Result<(), Fail> {
-    match read(rt, line)? {
-        Err(WordFault::Refused(error)) => assert!(rt; error.kind() == kind, "{line}: {error}"),
-        _ => assert!(rt; false, "not refused: {line}"),
-    }
+    let outcome = read(rt, line)?;
+    let reason = match &outcome {
+        Err(WordFault::Refused(error)) => Some(error.kind()),
+        _ => None,
+    };
+    drop(outcome);
+    assert!(rt; reason == Some(kind), "{line}");
     Ok(())
 }
 
@@ -151,13 +154,15 @@ fn planned(
     want: &Plan,
     file: &str,
 ) -> Result<(), Fail> {
-    match read(rt, line)? {
+    let outcome = read(rt, line)?;
+    match &outcome {
         Ok(Order::Run { plan, trace, .. }) => {
-            assert!(rt; plan == *want, "{line}");
-            match trace {
-                Some(name) => assert!(rt; name.as_str() == file, "{line}"),
-                None => assert!(rt; file == "", "{line}"),
-            }
+            assert!(rt; *plan == *want, "{line}");
+            let name = match trace {
+                Some(name) => name.as_str(),
+                None => "",
+            };
+            assert!(rt; name == file, "{line}");
         }
         _ => assert!(rt; false, "no run: {line}"),
     }
