@@ -5,12 +5,8 @@ use Rattle.std.specs.Ordering.{nat_cmp, ordering_then}
 use Rattle.std.specs.declared.cmp.Ordering.{Ordering}
 use Rattle.std.specs.declared.cmp.Ordering.TheVariants.{Less, Equal, Greater}
 use Rattle.chord_event.specs.declared.key.Key.{Key}
-use Rattle.chord_event.specs.Keys.{IsBefore, is_before}
+use Rattle.chord_event.specs.Keys.{IsBefore, is_before, key_cmp}
 use Rattle.chord_event.proofs.Order.{key_from, before_not_same, at_most_from_before, before_not_after, is_before-true, is_before-false}
-
--- what the derived comparison computes to
-abbrev pub key_cmp : Key → Key → Ordering
-key_cmp a b = ordering_then (nat_cmp a.time b.time) (ordering_then (nat_cmp a.origin b.origin) (nat_cmp a.number b.number))
 
 -- what the outcome of a comparison says
 abbrev pub Says : Key → Key → Ordering → Type 0

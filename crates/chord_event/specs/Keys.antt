@@ -1,5 +1,7 @@
 -- Keys of events, and their order.
 use Rattle.std.specs.Prelude.{◌≡◌, ◌<◌, ◌≤◌, Bool, nat_lt, ◌==◌, ◌&&◌, ◌||◌}
+use Rattle.std.specs.Ordering.{nat_cmp, ordering_then}
+use Rattle.std.specs.declared.cmp.Ordering.{Ordering}
 use Rattle.chord_event.specs.declared.key.Key.{Key}
 
 -- a comes before b: by time, then by origin, then by number
@@ -21,3 +23,7 @@ is_before a b =
 
 abbrev pub is_same_key : Key → Key → Bool
 is_same_key a b = a.time == b.time && (a.origin == b.origin && a.number == b.number)
+
+-- which of the two comes first, as `Key::cmp` answers it
+abbrev pub key_cmp : Key → Key → Ordering
+key_cmp a b = ordering_then (nat_cmp a.time b.time) (ordering_then (nat_cmp a.origin b.origin) (nat_cmp a.number b.number))

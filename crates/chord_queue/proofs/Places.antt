@@ -12,13 +12,13 @@ use Rattle.slab.specs.Slab.{Slab, get, slab_len, Updates}
 use Rattle.chord_event.specs.declared.body.Body.{Body}
 use Rattle.chord_event.specs.declared.event.Event.{Event}
 use Rattle.chord_event.specs.declared.key.Key.{Key}
-use Rattle.chord_event.specs.Keys.{IsBefore, is_same_key}
+use Rattle.chord_event.specs.Keys.{IsBefore, is_same_key, key_cmp}
 use Rattle.chord_event.specs.KeyOrder.{InKeyOrder, IsNewKey, put_in_order}
 use Rattle.chord_event.proofs.Compare.{compared}
 use Rattle.chord_event.proofs.KeyLists.{IsIn, all_in, all_from, in_put, put_in, ordered_put, put_first, same_list}
 use Rattle.chord_event.proofs.Order.{is_same_key-true, same_key-self}
 use Rattle.chord_queue.specs.EventKey.{event_key}
-use Rattle.chord_queue.specs.Places.{key_cmp, waiting_key, waiting_cmp, events_at, in_key_order, pending_of, IsPlaced, IsPlacedHeap}
+use Rattle.chord_queue.specs.Places.{waiting_key, waiting_cmp, events_at, in_key_order, pending_of, IsPlaced, IsPlacedHeap}
 use Rattle.chord_queue.specs.declared.pending.Waiting.{Waiting}
 use Rattle.chord_queue.specs.declared.pending.Pending.TheInside.{Inside}
 use Rattle.chord_queue.proofs.Inserting.{is_in, contained}

@@ -8,7 +8,7 @@ use Rattle.slab.specs.Slab.{Slab, get, slab_len}
 use Rattle.chord_event.specs.declared.body.Body.{Body}
 use Rattle.chord_event.specs.declared.event.Event.{Event}
 use Rattle.chord_event.specs.declared.key.Key.{Key}
-use Rattle.chord_event.specs.Keys.{is_same_key}
+use Rattle.chord_event.specs.Keys.{is_same_key, key_cmp}
 use Rattle.chord_event.specs.KeyOrder.{put_in_order}
 use Rattle.chord_queue.specs.EventKey.{event_key}
 use Rattle.chord_queue.specs.declared.pending.Waiting.{Waiting}
@@ -17,10 +17,6 @@ use Rattle.chord_queue.specs.declared.pending.Pending.TheInside.{Inside}
 -- the key of an entry
 abbrev pub waiting_key : Waiting → Key
 waiting_key w = w.key.0
-
--- by time, then by origin, then by number
-abbrev pub key_cmp : Key → Key → Ordering
-key_cmp a b = ordering_then (nat_cmp a.time b.time) (ordering_then (nat_cmp a.origin b.origin) (nat_cmp a.number b.number))
 
 -- by key, turned round, and then by place
 abbrev pub waiting_cmp : Waiting → Waiting → Ordering
