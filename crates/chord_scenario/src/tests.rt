@@ -338,7 +338,7 @@ const CHANGES: [(&str, &str, &str); 106] = [
 ];
 
 /// The same for numbers at the ends of their ranges.
-const LIMITS: [(&str, &str, &str); 18] = [
+const LIMITS: [(&str, &str, &str); 24] = [
     (
         "duration_us = 200\nwindow_us = 10\nlatency_us = 10\ntimeout_us = 40\naudit_us = 200",
         "duration_us = 1000000000000\nwindow_us = 10\nlatency_us = 10\ntimeout_us = 40\naudit_us = 1000000",
@@ -349,6 +349,24 @@ const LIMITS: [(&str, &str, &str); 18] = [
         "duration_us = 1000000000000\nwindow_us = 10\nlatency_us = 10\ntimeout_us = 40\naudit_us = 999999",
         "S5 OutOfRange top audit_us",
     ),
+    (
+        "duration_us = 200\nwindow_us = 10\nlatency_us = 10\ntimeout_us = 40\naudit_us = 200",
+        "duration_us = 1000000\nwindow_us = 10\nlatency_us = 10\ntimeout_us = 40\naudit_us = 1",
+        GOOD,
+    ),
+    (
+        "duration_us = 200\nwindow_us = 10\nlatency_us = 10\ntimeout_us = 40\naudit_us = 200",
+        "duration_us = 1000001\nwindow_us = 10\nlatency_us = 10\ntimeout_us = 40\naudit_us = 1",
+        "S5 OutOfRange top audit_us",
+    ),
+    ("duration_us = 200", "duration_us = 101", GOOD),
+    (
+        "window_us = 10\nlatency_us = 10",
+        "window_us = 1\nlatency_us = 1",
+        GOOD,
+    ),
+    ("timeout_us = 40", "timeout_us = 1", GOOD),
+    ("audit_us = 200", "audit_us = 1", GOOD),
     (
         "stabilize_us = 1000",
         "stabilize_us = 0",
@@ -464,6 +482,10 @@ fn limits_of_numbers(rt: HostRuntime) -> Result<(), Fail> {
 fn ends_of_texts(rt: HostRuntime) -> Result<(), Fail> {
     let short = answer(&rt, b"profile = 1\n", b"")?;
     assert!(rt; short.as_str() == "S3 MissingKey top bits", "{short}");
+    let unknown = answer(&rt, b"profile = 1\nx = 1", b"")?;
+    assert!(rt; unknown.as_str() == "S2 UnknownKey top", "{unknown}");
+    let cut = answer(&rt, b"profile = 1\n[[nod", b"")?;
+    assert!(rt; cut.as_str() == "S1 NotToml", "{cut}");
     let empty = answer(&rt, b"", b"")?;
     assert!(rt; empty.as_str() == "S3 MissingKey top profile", "{empty}");
     for i in 0..BASE.len() {
@@ -480,7 +502,7 @@ fn ends_of_texts(rt: HostRuntime) -> Result<(), Fail> {
     ] {
         let mut text = String::from_str(
             rt.alloc(),
-            "profile = 1\nbits = 64\nlist = 2\nseed = 1\nduration_us = 200\nwindow_us = 10\nlatency_us = 10\ntimeout_us = 40\naudit_us = 200\nstabilize_us = 1000\nfinger_us = 1000\n",
+            "profile = 1\nbits = 64\nlist = 16\nseed = 1\nduration_us = 200\nwindow_us = 10\nlatency_us = 10\ntimeout_us = 40\naudit_us = 200\nstabilize_us = 1000\nfinger_us = 1000\n",
         )?;
         for i in 0..nodes {
             text.push_str(format!(in rt.alloc();
@@ -490,6 +512,39 @@ fn ends_of_texts(rt: HostRuntime) -> Result<(), Fail> {
         let got = answer(&rt, text.as_str().as_bytes(), b"")?;
         assert!(rt; got.as_str() == want, "{got}");
     }
+    Ok(())
+}
+
+/// Two nodes, and each number the least that it may be.
+const LEAST: &str = r#"profile = 1
+bits = 3
+list = 1
+seed = 0
+duration_us = 1
+window_us = 1
+latency_us = 1
+timeout_us = 1
+audit_us = 1
+stabilize_us = 1
+finger_us = 1
+[[node]]
+name = "a"
+id = 0
+initial = true
+[[node]]
+name = "b"
+id = 1
+initial = true
+[[command]]
+at_us = 0
+do = "crash"
+node = "a"
+"#;
+
+#[test]
+fn least_of_each(rt: HostRuntime) -> Result<(), Fail> {
+    let got = answer(&rt, LEAST.as_bytes(), b"a,b,1")?;
+    assert!(rt; got.as_str() == "ok nodes=2 commands=1", "{got}");
     Ok(())
 }
 
