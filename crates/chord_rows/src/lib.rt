@@ -1,5 +1,6 @@
 //! Worked examples: whole scenarios, with the traces and reports that they have by the rules. None of them was
-//! made by this program: they were worked out by hand, those of random streams by simulators written apart from it.
+//! made by this program: most traces were given together with the rules, those with random streams by two simulators
+//! written apart from it, and the other numbers were counted by hand.
 #![tactic(auto)]
 
 #[cfg(test)]
