@@ -6,6 +6,9 @@ use chord_event::RunError;
 use chord_play::PlayFault;
 use std::fmt::{self, Display};
 
+/// The status of a run that failed.
+pub const FAILED: u8 = 3;
+
 /// Why an order could not be carried out, as standard error is told.
 #[derive(Drop)]
 pub struct Failure<'a> {
@@ -19,7 +22,7 @@ impl Failure<'_> {
         ensures { result ≡ status_of self.now.fault }
     {
         match self.fault {
-            PlayFault::Run(_) => 3,
+            PlayFault::Run(_) => FAILED,
             _ => 1,
         }
     }
@@ -28,7 +31,7 @@ impl Failure<'_> {
 impl Display for Failure<'_> {
     fn fmt<W: fmt::Write>(&self, f: &mut fmt::Formatter<W>) -> fmt::Result {
         match &self.fault {
-            PlayFault::Run(error) => write!(f, "failed: {}", text_of(*error)),
+            PlayFault::Run(error) => write!(f, "{}", FailedRun(*error)),
             PlayFault::Scenario(fault) => write!(f, "refused: {fault}"),
             PlayFault::Read(text) => write!(f, "refused: cannot read {}", self.files.name(*text)),
             PlayFault::TooLong(text) => write!(f, "refused: too long {}", self.files.name(*text)),
@@ -36,13 +39,18 @@ impl Display for Failure<'_> {
     }
 }
 
-/// The number and the name of the error.
-pub fn text_of(error: RunError) -> &'static str {
-    match error {
-        RunError::Memory => "1 Memory",
-        RunError::Worker => "2 Worker",
-        RunError::TooManyEvents => "3 TooManyEvents",
-        RunError::Write => "4 Write",
-        RunError::BadDivision => "5 BadDivision",
+/// A run that failed, as standard error is told: the error's number and name.
+#[derive(Drop)]
+pub struct FailedRun(pub RunError);
+
+impl Display for FailedRun {
+    fn fmt<W: fmt::Write>(&self, f: &mut fmt::Formatter<W>) -> fmt::Result {
+        f.write_str(match self.0 {
+            RunError::Memory => "failed: 1 Memory",
+            RunError::Worker => "failed: 2 Worker",
+            RunError::TooManyEvents => "failed: 3 TooManyEvents",
+            RunError::Write => "failed: 4 Write",
+            RunError::BadDivision => "failed: 5 BadDivision",
+        })
     }
 }

@@ -13,6 +13,7 @@ mod tests;
 mod words;
 
 use chord_event::RunError;
+use failure::FailedRun;
 use std::env;
 use std::process::ExitCode;
 use words::WordFault;
@@ -22,11 +23,11 @@ fn main(rt: HostRuntime) -> ExitCode {
         return status::refuse_words(&rt, "a word is no UTF-8 text\n");
     };
     let Ok(words) = words.collect(rt.alloc()) else {
-        return status::fail(&rt, RunError::Memory);
+        return status::fail(&rt, FailedRun(RunError::Memory));
     };
     match words::read_words(rt.alloc(), words) {
         Ok(order) => execution::carry_out(&rt, order),
-        Err(WordFault::Memory) => status::fail(&rt, RunError::Memory),
+        Err(WordFault::Memory) => status::fail(&rt, FailedRun(RunError::Memory)),
         Err(WordFault::Refused(error)) => status::refuse_words(&rt, error),
     }
 }

@@ -1,7 +1,6 @@
 //! What the program says on standard error, and the status that it ends with.
 
-use crate::failure::{Failure, text_of};
-use chord_event::RunError;
+use crate::failure::{FAILED, FailedRun, Failure};
 use std::fmt::Display;
 use std::process::ExitCode;
 
@@ -12,10 +11,9 @@ pub fn refuse_words(rt: &impl Eprint, text: impl Display + Drop) -> ExitCode {
 }
 
 /// Status 3: the run failed.
-pub fn fail(rt: &impl Eprint, error: RunError) -> ExitCode {
-    let text = text_of(error);
-    let _ = eprintln!(rt; "failed: {text}");
-    ExitCode::from(3)
+pub fn fail(rt: &impl Eprint, run: FailedRun) -> ExitCode {
+    let _ = eprintln!(rt; "{run}");
+    ExitCode::from(FAILED)
 }
 
 /// Status 1 for refused files, and 3 for a failed run.
