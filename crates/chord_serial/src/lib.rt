@@ -4,5 +4,7 @@
 mod engine;
 mod output;
 mod run;
+#[cfg(test)]
+mod tests;
 
 pub use run::run_serial;
