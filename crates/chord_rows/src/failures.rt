@@ -44,23 +44,28 @@ impl Write for Bounded {
     }
 }
 
-/// A reader that fails after some bytes of a text.
+/// A reader that hands a text out byte by byte, and fails where the text is to end.
 #[derive(Drop)]
-struct Broken {
-    left: usize,
+struct Halting<'a> {
+    text: &'a [u8],
+    fails: bool,
 }
 
-impl Read for Broken {
+impl Read for Halting<'_> {
     fn read(&mut self, buf: &mut [u8]) -> io::Result<usize> {
-        if self.left == 0 {
-            return Err(io::Error::from(ErrorKind::Other));
-        }
-        let count = buf.len().min(self.left);
-        for byte in &mut buf[..count] {
-            *byte = b'#';
-        }
-        self.left -= count;
-        Ok(count)
+        let [first, rest @ ..] = self.text else {
+            return if self.fails {
+                Err(io::Error::from(ErrorKind::Other))
+            } else {
+                Ok(0)
+            };
+        };
+        let Some(place) = buf.first_mut() else {
+            return Ok(0);
+        };
+        *place = *first;
+        self.text = rest;
+        Ok(1)
     }
 }
 
@@ -91,32 +96,62 @@ fn writers_that_fail(rt: HostRuntime) -> Result<(), Fail> {
     Ok(())
 }
 
+/// Plays the two lookups from readers that hand out single bytes, of each text as many as are given.
+fn play_halting(alloc: Global, toml: Halting<'_>, csv: Halting<'_>) -> Played {
+    let mut toml = Watched::new(toml);
+    let mut csv = Watched::new(csv);
+    let mut writer = Watched::new(Vec::new(alloc));
+    let outcome = play(alloc, &mut toml, &mut csv, &SERIAL, &mut writer);
+    Played {
+        trace: writer.into_inner(),
+        outcome,
+    }
+}
+
+fn single_bytes(text: &[u8], fails: bool) -> Halting<'_> {
+    Halting { text, fails }
+}
+
 /// The text that a reader failed in is named, and nothing is written.
 #[test]
 fn readers_that_fail(rt: HostRuntime) -> Result<(), Fail> {
     let alloc = rt.alloc();
     let text = text_of(alloc, SETTINGS, THREE, TWO_LOOKUPS)?;
-    for left in [0, 1, 8191, 8192, 8193] {
-        let mut toml = Watched::new(Broken { left });
-        let mut csv = Watched::new(b"".as_slice());
-        let mut writer = Watched::new(Vec::new(alloc));
-        let outcome = play(alloc, &mut toml, &mut csv, &SERIAL, &mut writer);
-        assert!(rt;
-            matches!(outcome, Err(PlayFault::Read(Text::Scenario))),
-            "after {left}"
+    let toml = text.as_str().as_bytes();
+    let csv = b"n0,n3,10\n".as_slice();
+    for count in 0..=toml.len() {
+        let played = play_halting(
+            alloc,
+            single_bytes(&toml[..count], true),
+            single_bytes(csv, true),
         );
-        assert!(rt; writer.into_inner().is_empty());
-
-        let mut toml = Watched::new(text.as_str().as_bytes());
-        let mut csv = Watched::new(Broken { left });
-        let mut writer = Watched::new(Vec::new(alloc));
-        let outcome = play(alloc, &mut toml, &mut csv, &SERIAL, &mut writer);
-        assert!(rt;
-            matches!(outcome, Err(PlayFault::Read(Text::Latency))),
-            "after {left}"
-        );
-        assert!(rt; writer.into_inner().is_empty());
+        let is_read = matches!(played.outcome, Err(PlayFault::Read(Text::Scenario)));
+        assert!(rt; is_read && played.trace.is_empty(), "after {count}");
     }
+    for count in 0..=csv.len() {
+        let played = play_halting(
+            alloc,
+            single_bytes(toml, false),
+            single_bytes(&csv[..count], true),
+        );
+        let is_read = matches!(played.outcome, Err(PlayFault::Read(Text::Latency)));
+        assert!(rt; is_read && played.trace.is_empty(), "after {count}");
+    }
+    Ok(())
+}
+
+/// Readers that hand out single bytes are read to their ends.
+#[test]
+fn readers_of_single_bytes(rt: HostRuntime) -> Result<(), Fail> {
+    let alloc = rt.alloc();
+    let text = text_of(alloc, SETTINGS, THREE, TWO_LOOKUPS)?;
+    let csv = b"n0,n3,10\n".as_slice();
+    let played = play_halting(
+        alloc,
+        single_bytes(text.as_str().as_bytes(), false),
+        single_bytes(csv, false),
+    );
+    assert!(rt; played.outcome.is_ok() && played.trace.as_slice() == TRACE.as_bytes());
     Ok(())
 }
 
@@ -135,16 +170,18 @@ fn texts_that_are_too_long(rt: HostRuntime) -> Result<(), Fail> {
     Ok(())
 }
 
-/// The eighth event is one too many where seven are allowed; what was written stands.
+/// The run has eight events. Where fewer are allowed it fails, and what was written stands.
 #[test]
 fn too_many_events(rt: HostRuntime) -> Result<(), Fail> {
     let alloc = rt.alloc();
-    let settings = format!(in alloc; "{SETTINGS}max_events = 7\n")?;
-    let text = text_of(alloc, settings.as_str(), THREE, TWO_LOOKUPS)?;
-    let played = play_text(alloc, text.as_str().as_bytes());
-    let is_over = matches!(played.outcome, Err(PlayFault::Run(RunError::TooManyEvents)));
-    assert!(rt; is_over);
-    assert!(rt; TRACE.as_bytes().starts_with(played.trace.as_slice()));
+    for allowed in 1..8 {
+        let settings = format!(in alloc; "{SETTINGS}max_events = {allowed}\n")?;
+        let text = text_of(alloc, settings.as_str(), THREE, TWO_LOOKUPS)?;
+        let played = play_text(alloc, text.as_str().as_bytes());
+        let is_over = matches!(played.outcome, Err(PlayFault::Run(RunError::TooManyEvents)));
+        assert!(rt; is_over, "{allowed}");
+        assert!(rt; TRACE.as_bytes().starts_with(played.trace.as_slice()));
+    }
     Ok(())
 }
 

@@ -31,6 +31,35 @@ fn the_first_ring(rt: HostRuntime) -> Result<(), Fail> {
     Ok(())
 }
 
+/// Nodes without identifiers stand where their names have them: a at 134, b at 233 and c at 132 of 256.
+const NAMED: &str = "profile = 1\nbits = 8\nseed = 1\nlatency_us = 10\n";
+
+#[test]
+fn a_ring_of_names(rt: HostRuntime) -> Result<(), Fail> {
+    let alloc = rt.alloc();
+    let text = format!(in alloc;
+        "{NAMED}{SETTINGS}\
+        [[node]]\nname = \"a\"\ninitial = true\n\
+        [[node]]\nname = \"b\"\ninitial = true\n\
+        [[node]]\nname = \"c\"\ninitial = true\n"
+    )?;
+    let Ok(scenario) = read_scenario(alloc, text.as_str().as_bytes(), b"") else {
+        assert!(rt; false, "the ring is refused");
+        return Ok(());
+    };
+    let Ok(states) = initial_ring(alloc, &scenario) else {
+        assert!(rt; false, "no memory");
+        return Ok(());
+    };
+    let expected = [([1, 2], 2), ([2, 0], 0), ([0, 1], 1)];
+    assert!(rt; states.len() == 3);
+    for (state, (succ, prdc)) in states.as_slice().iter().zip(&expected) {
+        assert!(rt; state.succ.as_slice() == succ.as_slice());
+        assert!(rt; state.prdc == Some(*prdc));
+    }
+    Ok(())
+}
+
 /// Between equal ends lie all other places, and the ends of a half-open interval differ.
 #[test]
 fn between_at_the_ends(rt: HostRuntime) {

@@ -7,7 +7,8 @@ fn has_line(trace: &str, line: &str) -> bool {
     trace.lines().any(|it| it == line)
 }
 
-/// Each node draws from a stream of its own: the first keys that three nodes look up differ.
+/// Each node draws from a stream of its own: the first keys that three nodes look up differ. Its first
+/// four words go into the three first timers and the timer that is set again.
 #[test]
 fn each_node_has_its_own_stream(rt: HostRuntime) -> Result<(), Fail> {
     let alloc = rt.alloc();
@@ -18,6 +19,7 @@ fn each_node_has_its_own_stream(rt: HostRuntime) -> Result<(), Fail> {
     let played = play_text(alloc, text.as_str().as_bytes());
     assert!(rt; played.outcome.is_ok());
     let trace = String::from_utf8_lossy(alloc, played.trace.as_slice())?;
+    assert!(rt; Stream::of(1, 0).word_at(4) % 8 == 2);
     assert!(rt; has_line(trace.as_str(), "50 n0 lookup 2"), "{trace}");
     assert!(rt; has_line(trace.as_str(), "50 n1 lookup 5"), "{trace}");
     assert!(rt; has_line(trace.as_str(), "50 n3 lookup 1"), "{trace}");

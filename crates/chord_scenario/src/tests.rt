@@ -494,6 +494,9 @@ fn ends_of_texts(rt: HostRuntime) -> Result<(), Fail> {
         let no_text = answer(&rt, bytes.as_slice(), b"")?;
         assert!(rt; no_text.as_str() == "S1 NotToml", "{no_text} at {i}");
     }
+    let narrow = NAMED.replacen(rt.alloc(), "bits = 8", "bits = 3", 1)?;
+    let twins = answer(&rt, narrow.as_str().as_bytes(), b"")?;
+    assert!(rt; twins.as_str() == "S8 SameId a c", "{twins}");
     let row = answer(&rt, BASE.as_bytes(), &[255])?;
     assert!(rt; row.as_str() == "S12 BadLatencyRow row 1", "{row}");
     for (nodes, want) in [
