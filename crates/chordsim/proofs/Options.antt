@@ -1,6 +1,6 @@
 -- What the matches of a command have at an option, where the rules of its arguments are known.
-use Rattle.std.proofs.Common.{◌≡◌, ◌∙◌, ◌<◌, ◌&&◌, ◌==◌, ℕ, suc, Bool, true, false, not, List, [], ◌∷◌, length, map, Option, Some, None, refl, sym, ap, subst, inl, inr, arith, codes}
-use Rattle.std.specs.Prelude.{IfSome, Result, Ok, Err, cond, drop, option_map, pos, slice_get, unwrap_or}
+use Rattle.std.proofs.Common.{◌≡◌, ◌∙◌, ◌<◌, ◌&&◌, ℕ, suc, Bool, true, false, not, List, [], ◌∷◌, length, map, Option, Some, None, refl, sym, ap, subst, inl, inr, arith, codes}
+use Rattle.std.specs.Prelude.{IfSome, Result, Ok, Err, cond, option_map, pos, slice_get, unwrap_or}
 use Rattle.std.specs.Str.Parse.{ParsesUnsigned, starts_with_minus}
 use Rattle.std.proofs.lemmas.Int.{ints}
 use Rattle.clap.specs.Lexer.{without_minus}

@@ -1,3 +1,4 @@
 pub mod Answers
 pub mod Commands
+pub mod LatencyFiles
 pub mod Orders

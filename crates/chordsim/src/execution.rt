@@ -49,7 +49,9 @@ fn ids<T: FileSystem + Print + AllocGlobal>(rt: &T, files: &Files) -> Result<(),
     or_write_fault(print!(rt; "{answer}"))
 }
 
-fn run<T: FileSystem + Print + AllocGlobal>(
+/// Runs a scenario: its trace goes to the file of this name or to standard output, and then its report to
+/// standard output.
+pub fn run<T: FileSystem + Print + AllocGlobal>(
     rt: &T,
     files: &Files,
     plan: &Plan,

@@ -1,3 +1,7 @@
+ghost use Rattle.std.specs.Io.{ReadsAtMost};
+ghost use Rattle.std.specs.Io.KnownBytes.{ReadConsumes};
+ghost use Rattle.chordsim.specs.LatencyFiles.{left_in};
+
 use std::io;
 use std::io::Read;
 
@@ -9,7 +13,12 @@ pub enum LatencyFile<F> {
 }
 
 impl<F: Read> Read for LatencyFile<F> {
-    fn read(&mut self, buf: &mut [u8]) -> io::Result<usize> {
+    ghost remaining = { λ file. left_in F.remaining file };
+
+    fn read(&mut self, buf: &mut [u8]) -> io::Result<usize>
+        ensures bound { ReadsAtMost result buf.new }
+        ensures bytes { ReadConsumes (left_in F.remaining self.old) (left_in F.remaining self.new) result buf.new }
+    {
         match self {
             LatencyFile::Absent => Ok(0),
             LatencyFile::Given(file) => file.read(buf),

@@ -5,6 +5,8 @@ mod answers;
 mod commands;
 mod execution;
 mod failure;
+#[cfg(test)]
+mod file_tests;
 mod latency_file;
 mod order;
 mod status;

@@ -1,0 +1,153 @@
+use crate::execution::{carry_out, run};
+use crate::order::{Files, Order};
+use chord_event::RunError;
+use chord_play::{Plan, PlayFault, Split, Text};
+use std::fs;
+use std::process::{Abort, ExitCode};
+use std::rt::Files as FileSystem;
+use std::test::Fail;
+
+/// A ring of three, of which one looks up a key that another one owns.
+const RING: &str = r#"profile = 1
+bits = 3
+list = 2
+seed = 1
+duration_us = 200
+window_us = 10
+latency_us = 10
+timeout_us = 40
+audit_us = 200
+stabilize_us = 1000
+finger_us = 1000
+[[node]]
+name = "n0"
+id = 0
+initial = true
+[[node]]
+name = "n1"
+id = 1
+initial = true
+[[node]]
+name = "n3"
+id = 3
+initial = true
+[[command]]
+at_us = 100
+do = "lookup"
+node = "n3"
+key = 1
+"#;
+
+const AUDIT: &str = "200 audit members=3 dead=0 ring=3 ordered=yes principals=3 sufficient=yes\n";
+
+const SERIAL: Plan = Plan {
+    serial: true,
+    workers: 1,
+    parts: 1,
+    split: Split::RoundRobin,
+};
+
+fn files_of(rt: &impl AllocGlobal, scenario: &str, latency: Option<&str>) -> Result<Files, Fail> {
+    let latency = match latency {
+        Some(name) => Some(String::from_str(rt.alloc(), name)?),
+        None => None,
+    };
+    Ok(Files {
+        scenario: String::from_str(rt.alloc(), scenario)?,
+        latency,
+    })
+}
+
+/// Removes the files that a test made.
+fn remove(rt: &impl FileSystem, names: &[&str]) -> Result<(), Fail> {
+    for name in names {
+        fs::remove_file(rt, *name)?;
+    }
+    Ok(())
+}
+
+/// Runs the scenario of these files with its trace to a file.
+fn run_to<T: FileSystem + Print + AllocGlobal>(
+    rt: &T,
+    files: &Files,
+    trace: &str,
+) -> Result<Result<(), PlayFault>, Fail> {
+    let trace = Some(String::from_str(rt.alloc(), trace)?);
+    Ok(run(rt, files, &SERIAL, &trace))
+}
+
+#[test]
+fn a_trace_goes_to_its_file(rt: HostRuntime) -> Result<(), Fail> {
+    fs::write(&rt, "plain.toml", RING)?;
+    let files = files_of(&rt, "plain.toml", None)?;
+    let outcome = run_to(&rt, &files, "plain.trace")?;
+    assert!(rt; outcome.is_ok());
+    let trace = fs::read_to_string(&rt, "plain.trace")?;
+    let wanted = format!(in rt.alloc();
+        "100 n3 lookup 1\n120 n3 found 1 n1 hops=1 timeouts=0 us=20\n{AUDIT}"
+    )?;
+    assert!(rt; trace.as_str() == wanted.as_str(), "{trace}");
+    remove(&rt, &["plain.toml", "plain.trace"])
+}
+
+#[test]
+fn a_latency_file_is_read(rt: HostRuntime) -> Result<(), Fail> {
+    fs::write(&rt, "slow.toml", RING)?;
+    fs::write(&rt, "slow.csv", "n0,n3,15\n")?;
+    let files = files_of(&rt, "slow.toml", Some("slow.csv"))?;
+    let outcome = run_to(&rt, &files, "slow.trace")?;
+    assert!(rt; outcome.is_ok());
+    let trace = fs::read_to_string(&rt, "slow.trace")?;
+    let wanted = format!(in rt.alloc();
+        "100 n3 lookup 1\n130 n3 found 1 n1 hops=1 timeouts=0 us=30\n{AUDIT}"
+    )?;
+    assert!(rt; trace.as_str() == wanted.as_str(), "{trace}");
+    remove(&rt, &["slow.toml", "slow.csv", "slow.trace"])
+}
+
+/// The scenario is opened first, then the latency file, and the trace is made last.
+#[test]
+fn files_are_opened_in_order(rt: HostRuntime) -> Result<(), Fail> {
+    let neither = files_of(&rt, "none.toml", Some("none.csv"))?;
+    let outcome = run_to(&rt, &neither, "none.trace")?;
+    assert!(rt; matches!(outcome, Err(PlayFault::Read(Text::Scenario))));
+    fs::write(&rt, "alone.toml", RING)?;
+    let alone = files_of(&rt, "alone.toml", Some("none.csv"))?;
+    let outcome = run_to(&rt, &alone, "none.trace")?;
+    assert!(rt; matches!(outcome, Err(PlayFault::Read(Text::Latency))));
+    assert!(rt; fs::open(&rt, "none.trace").is_err());
+    let whole = files_of(&rt, "alone.toml", None)?;
+    let outcome = run_to(&rt, &whole, "none/none.trace")?;
+    assert!(rt; matches!(outcome, Err(PlayFault::Run(RunError::Write))));
+    remove(&rt, &["alone.toml"])
+}
+
+/// Where the scenario is refused the trace is empty.
+#[test]
+fn a_refused_scenario_leaves_no_trace(rt: HostRuntime) -> Result<(), Fail> {
+    fs::write(&rt, "refused.toml", "profile = 1\n")?;
+    let files = files_of(&rt, "refused.toml", None)?;
+    let outcome = run_to(&rt, &files, "refused.trace")?;
+    assert!(rt; matches!(outcome, Err(PlayFault::Scenario(_))));
+    let trace = fs::read_to_string(&rt, "refused.trace")?;
+    assert!(rt; trace.as_str() == "");
+    remove(&rt, &["refused.toml", "refused.trace"])
+}
+
+#[test]
+fn statuses_of_orders(rt: HostRuntime) -> Result<(), Fail> {
+    fs::write(&rt, "status.toml", RING)?;
+    let checked = carry_out(&rt, Order::Check(files_of(&rt, "status.toml", None)?));
+    assert!(rt; checked == ExitCode::SUCCESS);
+    let listed = carry_out(&rt, Order::Ids(files_of(&rt, "status.toml", None)?));
+    assert!(rt; listed == ExitCode::SUCCESS);
+    let missing = carry_out(&rt, Order::Check(files_of(&rt, "missing.toml", None)?));
+    assert!(rt; missing == ExitCode::from(1));
+    let unmade = Order::Run {
+        files: files_of(&rt, "status.toml", None)?,
+        plan: SERIAL,
+        trace: Some(String::from_str(rt.alloc(), "missing/status.trace")?),
+    };
+    assert!(rt; carry_out(&rt, unmade) == ExitCode::from(3));
+    remove(&rt, &["status.toml"])
+}
