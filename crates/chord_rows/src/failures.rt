@@ -170,17 +170,23 @@ fn texts_that_are_too_long(rt: HostRuntime) -> Result<(), Fail> {
     Ok(())
 }
 
-/// The run has eight events. Where fewer are allowed it fails, and what was written stands.
+/// The run has eight events: two lookups begin, two requests come, two replies, and two timeouts that end nothing.
+/// Where fewer are allowed it fails, and what was written are the lines of those that were taken.
 #[test]
 fn too_many_events(rt: HostRuntime) -> Result<(), Fail> {
     let alloc = rt.alloc();
-    for allowed in 1..8 {
+    for (allowed, lines) in [(1, 1), (2, 2), (3, 2), (4, 2), (5, 3), (6, 4), (7, 4)] {
         let settings = format!(in alloc; "{SETTINGS}max_events = {allowed}\n")?;
         let text = text_of(alloc, settings.as_str(), THREE, TWO_LOOKUPS)?;
         let played = play_text(alloc, text.as_str().as_bytes());
         let is_over = matches!(played.outcome, Err(PlayFault::Run(RunError::TooManyEvents)));
         assert!(rt; is_over, "{allowed}");
-        assert!(rt; TRACE.as_bytes().starts_with(played.trace.as_slice()));
+        let trace = String::from_utf8_lossy(alloc, played.trace.as_slice())?;
+        assert!(rt; TRACE.starts_with(trace.as_str()), "{allowed}: {trace}");
+        assert!(rt;
+            trace.as_str().lines().count() == lines,
+            "{allowed}: {trace}"
+        );
     }
     Ok(())
 }

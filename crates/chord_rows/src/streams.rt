@@ -7,8 +7,8 @@ fn has_line(trace: &str, line: &str) -> bool {
     trace.lines().any(|it| it == line)
 }
 
-/// Each node draws from a stream of its own: the first keys that three nodes look up differ. Its first
-/// four words go into the three first timers and the timer that is set again.
+/// Each node draws from a stream of its own: the first keys that three nodes look up differ. The four words
+/// ahead of a node's first key go into its three first timers and the timer that is set again.
 #[test]
 fn each_node_has_its_own_stream(rt: HostRuntime) -> Result<(), Fail> {
     let alloc = rt.alloc();

@@ -338,7 +338,7 @@ const CHANGES: [(&str, &str, &str); 106] = [
 ];
 
 /// The same for numbers at the ends of their ranges.
-const LIMITS: [(&str, &str, &str); 24] = [
+const LIMITS: [(&str, &str, &str); 23] = [
     (
         "duration_us = 200\nwindow_us = 10\nlatency_us = 10\ntimeout_us = 40\naudit_us = 200",
         "duration_us = 1000000000000\nwindow_us = 10\nlatency_us = 10\ntimeout_us = 40\naudit_us = 1000000",
@@ -359,7 +359,6 @@ const LIMITS: [(&str, &str, &str); 24] = [
         "duration_us = 1000001\nwindow_us = 10\nlatency_us = 10\ntimeout_us = 40\naudit_us = 1",
         "S5 OutOfRange top audit_us",
     ),
-    ("duration_us = 200", "duration_us = 101", GOOD),
     (
         "window_us = 10\nlatency_us = 10",
         "window_us = 1\nlatency_us = 1",

@@ -122,9 +122,9 @@ fn files_are_opened_in_order(rt: HostRuntime) -> Result<(), Fail> {
     remove(&rt, &["alone.toml"])
 }
 
-/// Where the scenario is refused the trace is empty.
+/// The trace is made before the scenario is read.
 #[test]
-fn a_refused_scenario_leaves_no_trace(rt: HostRuntime) -> Result<(), Fail> {
+fn a_refused_scenario_leaves_an_empty_trace(rt: HostRuntime) -> Result<(), Fail> {
     fs::write(&rt, "refused.toml", "profile = 1\n")?;
     let files = files_of(&rt, "refused.toml", None)?;
     let outcome = run_to(&rt, &files, "refused.trace")?;
