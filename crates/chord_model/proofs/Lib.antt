@@ -17,3 +17,5 @@ pub mod Ascending
 pub mod Removed
 pub mod Course
 pub mod Audits
+pub mod PartCourse
+pub mod WindowCourse

@@ -6,3 +6,4 @@ pub mod Schedules
 pub mod Laws
 pub mod Relay
 pub mod Worlds
+pub mod PartRuns
