@@ -16,7 +16,7 @@ use Rattle.chord_trace.specs.declared.tally.Tally.{Tally}
 use Rattle.chord_trace.specs.Tally.{IsTallyOf}
 use Rattle.chord_trace.specs.Texts.{audit_text, piece_text, pieces_text}
 use Rattle.chord_trace.specs.Writing.{AppendsFront}
-use Rattle.chord_serial.specs.Output.{Adds, audits_at, due}
+use Rattle.chord_output.specs.Output.{Adds, audits_at, due}
 
 pub texts-append : (sc : Scenario) (xs ys : List Piece) → pieces_text sc (xs ++ ys) ≡ pieces_text sc xs ++ pieces_text sc ys
 texts-append sc xs ys = flat_map-append (piece_text sc) xs ys

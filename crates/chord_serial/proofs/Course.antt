@@ -47,9 +47,10 @@ use Rattle.chord_scenario.specs.Start.{start_events}
 use Rattle.chord_scenario.specs.World.{node_count}
 use Rattle.chord_serial.specs.declared.engine.Engine.{Engine}
 use Rattle.chord_serial.specs.Engine.{HasTaken, IsAt}
-use Rattle.chord_serial.specs.Beginning.{IsBeginning}
-use Rattle.chord_serial.specs.Output.{Adds, audits_at, due}
-use Rattle.chord_serial.proofs.Outputs.{adds_then, fronts_longer, fronts_then, texts-append}
+use Rattle.chord_output.specs.Beginning.{IsBeginning}
+use Rattle.chord_output.specs.Output.{Adds, audits_at, due}
+use Rattle.chord_output.proofs.Ends.{audits-few, audits_at_start, whole_trace_is}
+use Rattle.chord_output.proofs.Outputs.{adds_then, fronts_longer, fronts_then, texts-append}
 use Rattle.chord_trace.proofs.Fronts.{front_of_whole}
 use Rattle.chord_trace.specs.declared.piece.Piece.{Piece}
 use Rattle.chord_trace.specs.declared.piece.Piece.TheVariants as piece
@@ -262,20 +263,6 @@ module _ (sc : Scenario) (ranges : IsInRange sc) where
 
   -- The start
 
-  filter_all : (xs : List ℕ) → filter (λ x. true) xs ≡ xs
-  filter_all [] = refl
-  filter_all (x ∷ xs) = ap (λ l. x ∷ l) (filter_all xs)
-
-  multiples-long : (period n : ℕ) → length (multiples period n) ≡ n
-  multiples-long period zero = refl
-  multiples-long period (suc n) = length-append (multiples period n) ((n + 1) * period ∷ []) ∙ (let rest = multiples-long period n in omega (arith, rest))
-
-  audits-few : length (audit_times sc) ≤ 1000001
-  audits-few =
-      let n : ℕ = (sc.duration - 1) / sc.audit in
-      let low : n < 1000000 = (div-lt_iff_lt-mul ranges.numbers.audit.least).1 (omega (arith, ranges.numbers.audits, ranges.numbers.duration_least)) in
-      omega (arith, length-append (multiples sc.audit n) (sc.duration ∷ []), multiples-long sc.audit n, low)
-
   pub start_at : (now : Option (List ℕ)) (e : Engine) → e.states.items ≡ initial_ring sc → ((x : Event Body) → Contains e.pending x ↔ Contains ([] ++ start_events sc) x) → InKeyOrder event_key e.pending
       → e.clock ≡ audit_times sc → IsTallyOf [] e.tally → e.count ≡ 0 → IsAt sc now now e
   unfolding initial_ring
@@ -289,11 +276,11 @@ module _ (sc : Scenario) (ranges : IsInRange sc) where
         world = subst (λ k. IsWorld (chord sc) e.states.items e.pending k) (sym count_is)
             (subst (λ ss. IsWorld (chord sc) ss e.pending 0) (sym states_are)
             (world_same sc (initial_ring sc) (start_events sc) e.pending 0 same (ordered_apart e.pending ordered) (world_at_start (chord sc) w (initial_ring sc) ring)));
-        audits = clock_is ∙ sym (filter_all (audit_times sc)) ∙ ap (open_audits (chord sc)) (sym none);
+        audits = clock_is ∙ sym (audits_at_start sc ranges) ∙ ap (open_audits (chord sc)) (sym none);
         written = subst (λ h. Appends now now (pieces_text sc (output (chord sc) h))) (sym none) (Appends-nil now);
         tallied = subst (λ h. IsTallyOf (output (chord sc) h) e.tally) (sym none) tally_is;
         within = omega (arith, count_is);
-        room = omega (arith, tally_is.size, ap length clock_is, audits-few, count_is);
+        room = omega (arith, tally_is.size, ap length clock_is, audits-few sc ranges, count_is);
       }
 
   -- The end
@@ -319,26 +306,8 @@ module _ (sc : Scenario) (ranges : IsInRange sc) where
       pub not_over_limit : HasTooManyEvents sc → ⊥
       not_over_limit = (whole.within_limit few).1
 
-      all_due : (times : List ℕ) → AllByRecursion (λ u. u ≤ sc.duration) times → due sc.duration times ≡ times
-      all_due [] most = refl
-      all_due (u ∷ times) most = let first : u ≤ sc.duration = most.0 in let come : nat_le u sc.duration ≡ true = grind (arith, nat_tests) in ap (λ b. cond b (u ∷ due sc.duration times) (due sc.duration times)) come ∙ ap (λ us. u ∷ us) (all_due times most.1)
-
-      each_picked : (b : Bool) (u : ℕ) (us : List ℕ) → u ≤ sc.duration → AllByRecursion (λ v. v ≤ sc.duration) us → AllByRecursion (λ v. v ≤ sc.duration) (cond b (u ∷ us) us)
-      each_picked true u us most others = (most, others)
-      each_picked false u us most others = others
-
-      each_left : (p : ℕ → Bool) (us : List ℕ) → AllByRecursion (λ v. v ≤ sc.duration) us → AllByRecursion (λ v. v ≤ sc.duration) (filter p us)
-      each_left p [] most = tt
-      each_left p (u ∷ us) most = each_picked (p u) u (filter p us) most.0 (each_left p us most.1)
-
-      clock_within : AllByRecursion (λ u. u ≤ sc.duration) e.clock
-      clock_within = subst (λ us. AllByRecursion (λ u. u ≤ sc.duration) us) (sym at.audits) (each_left _ (audit_times sc) (audits-within sc ranges))
-
       trace_is : output (chord sc) (past e.count) ++ rest ≡ whole_trace sc
-      trace_is =
-          ap (λ us. output (chord sc) (past e.count) ++ audits_at sc (state (chord sc) (past e.count)) us) (all_due e.clock clock_within ∙ at.audits)
-          ∙ sym (trace_at_end (chord sc) (past e.count) whole.ended)
-          ∙ ap (trace (chord sc)) ((whole.within_limit few).0)
+      trace_is = whole_trace_is sc ranges (past e.count) e.clock at.audits whole few
 
       pub whole_trace_written : (x : Option (List ℕ)) (last : Tally) → Adds sc now x e.tally last rest → Appends old x (pieces_text sc (whole_trace sc))
       whole_trace_written x last adds = subst (λ ps. Appends old x (pieces_text sc ps)) trace_is

@@ -1,3 +1,1 @@
-pub mod Beginning
 pub mod Engine
-pub mod Output

@@ -3,10 +3,10 @@ ghost use Rattle.std.specs.Io.KnownBytes.{Appends};
 ghost use Rattle.std.specs.List.{All};
 ghost use Rattle.chord_machine.specs.Run.{HasTooManyEvents, IsReport, trace_text};
 ghost use Rattle.chord_serial.specs.Engine.{HasTaken, IsAt};
-ghost use Rattle.chord_serial.specs.Beginning.{IsBeginning};
+ghost use Rattle.chord_output.specs.Beginning.{IsBeginning};
 ghost use Rattle.chord_trace.specs.Watched.{wrapped, has_failed};
 
-use crate::output::{put_audits, put_block};
+use chord_output::{put_audits, put_block};
 use chord_event::{Event, RunError};
 use chord_machine::AuditClock;
 use chord_node::{NodeState, initial_ring};

@@ -2,7 +2,6 @@
 #![tactic(auto)]
 
 mod engine;
-mod output;
 mod run;
 #[cfg(test)]
 mod tests;

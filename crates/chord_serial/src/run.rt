@@ -1,7 +1,7 @@
 ghost use Rattle.std.specs.Prelude.{◌≡◌, ◌⊎◌, true, false, OnOk, IfOk, IfErr, Err};
 ghost use Rattle.std.specs.Io.KnownBytes.{Appends};
 ghost use Rattle.chord_machine.specs.Run.{HasTooManyEvents, IsReport, trace_text};
-ghost use Rattle.chord_serial.specs.Beginning.{IsBeginning};
+ghost use Rattle.chord_output.specs.Beginning.{IsBeginning};
 ghost use Rattle.chord_trace.specs.Watched.{wrapped, has_failed};
 
 use crate::engine::Engine;

@@ -7,7 +7,7 @@ use Rattle.chord_machine.specs.Run.{whole_trace}
 use Rattle.chord_model.specs.Histories.{history, state}
 use Rattle.chord_node.specs.declared.state.NodeState.{NodeState}
 use Rattle.chord_node.specs.Invariant.{AllNodes}
-use Rattle.chord_serial.specs.Output.{Adds, audits_at, due}
+use Rattle.chord_output.specs.Output.{Adds, audits_at, due}
 use Rattle.chord_serial.proofs.Course.{are_states, begin_end, not_over_limit, states_known, whole_trace_tallied, whole_trace_written}
 use Rattle.chord_serial.proofs.engine.Engine.finish.Goals as goal
 use Rattle.chord_trace.specs.Texts.{pieces_text}
