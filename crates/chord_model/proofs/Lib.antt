@@ -19,3 +19,4 @@ pub mod Course
 pub mod Audits
 pub mod PartCourse
 pub mod WindowCourse
+pub mod Unique

@@ -1,13 +1,14 @@
 -- The laws: of histories, of windows, of whole runs. Each is the contract of a function of this crate.
-use Rattle.std.specs.Prelude.{ℕ, ◌≡◌, ◌≢◌, ◌+◌, ◌*◌, ◌<◌, ◌≤◌, ◌==◌, nat_le, List, [], ◌∷◌, ◌++◌, map, reverse, length, None, Some, IsSome, IsTrue, Bool, false, true, ◌⊎◌, ◌↔◌}
+use Rattle.std.specs.Prelude.{ℕ, ◌≡◌, ◌≢◌, ◌+◌, ◌*◌, ◌<◌, ◌≤◌, ◌==◌, nat_le, nat_lt, List, [], ◌∷◌, ◌++◌, map, reverse, length, None, Some, IsSome, IsTrue, Bool, false, true, ◌⊎◌, ◌↔◌}
 use Rattle.std.specs.List.{All, AllPairs, Contains, filter}
 use mathlib.Core.List.{IsPrefix}
 use Rattle.chord_event.specs.Keys.{IsBefore}
 use Rattle.chord_event.specs.declared.event.Event.{Event}
 use Rattle.chord_model.specs.Machine.{Machine}
+use Rattle.chord_model.specs.WellFormed.{IsWellFormedBy}
 use Rattle.chord_model.specs.Histories.{state, effect_after, all_events, pending, IsPossible, IsNext, IsLegal, next, history, IsOverLimit, full_history, history_below, audit_at, open_audits, output, trace}
 use Rattle.chord_model.specs.Windows.{Division, part_of, Divides, Step, restrict, opened, after_picks, IsClosed, ran_by, waiting, IsPartRun, IsSealedRun, events_run, left_by, made_since, pieces_since}
-use Rattle.chord_model.specs.Schedules.{horizon_from, begun, Goes, all_sealed, lowest}
+use Rattle.chord_model.specs.Schedules.{Run, horizon_from, begun, Goes, all_sealed, lowest}
 
 module _ {State Body Piece : Type 0} (m : Machine State Body Piece) where
   -- Each event that is ever made has a key of its own, in whatever order the events are taken.
@@ -46,6 +47,10 @@ module _ {State Body Piece : Type 0} (m : Machine State Body Piece) where
       (measure : State → ℕ) (most : ℕ) → ((s : State) (e : Event Body) → IsTrue (sound e.target s) → IsTrue (fit e) → measure (m.effect s e).state ≤ measure s + most)
       → (h : List (Event Body)) → IsPossible m h → (n : ℕ) → n < m.nodes → measure (state m h n) ≤ measure (m.initial n) + most * length h
 
+  -- A legal history is possible.
+  abbrev pub LegalIsPossible : Type 0
+  LegalIsPossible = (h : List (Event Body)) → IsLegal m h → IsPossible m h
+
   -- The events of a legal history stand in the order of their keys.
   abbrev pub LegalIsAscending : Type 0
   LegalIsAscending = (h : List (Event Body)) → IsLegal m h → AllPairs (λ (a b : Event Body). IsBefore b.key a.key) h
@@ -70,6 +75,10 @@ module _ {State Body Piece : Type 0} (m : Machine State Body Piece) where
   abbrev pub AuditsSeeAll : Type 0
   AuditsSeeAll = (h : List (Event Body)) (t : ℕ) → Contains (open_audits m h) t → audit_at m h t ≡ m.audit t (state m h)
 
+  -- An event closes the audits up to its time: those that are later stay open.
+  abbrev pub EventsCloseAudits : Type 0
+  EventsCloseAudits = (h : List (Event Body)) (e : Event Body) → open_audits m (e ∷ h) ≡ filter (λ t. nat_lt e.key.time t) (open_audits m h)
+
   -- A window may follow h: `time` is the least at which an event is pending, and the horizon lies above it, by at most the lookahead.
   pub record MayOpen (h : List (Event Body)) (time horizon : ℕ) : Type 0 where
     pub legal : IsLegal m h
@@ -78,6 +87,11 @@ module _ {State Body Piece : Type 0} (m : Machine State Body Piece) where
     pub above : time < horizon
     pub ahead : horizon ≤ time + m.lookahead
     pub in_time : horizon ≤ m.duration
+
+  -- What a part runs behind a possible history is possible.
+  abbrev pub PartRunsArePossible : Type 0
+  PartRunsArePossible =
+      (d : Division) (h : List (Event Body)) (horizon p : ℕ) (ran : List (Event Body)) → IsPossible m h → IsPartRun m d h horizon p ran → IsPossible m (ran ++ h)
 
   -- What one node makes in a window for another is due at the horizon or later. What it makes for itself stays in its part.
   abbrev pub OthersComeLater : Type 0
@@ -162,6 +176,13 @@ module _ {State Body Piece : Type 0} (m : Machine State Body Piece) where
       → (ran : List (Event Body)) → 0 < length ran → IsLegal m (ran ++ h) → All (λ (x : Event Body). x.key.time < horizon) ran
       → output m (ran ++ h) ≡ output m h ++ (map (audit_at m h) (filter (λ t. nat_le t time) (open_audits m h)) ++ reverse (map (λ b. b.1) (pieces_since m h ran)))
 
+  -- Such a window closes the audits up to its first time: those that are later stay open.
+  abbrev pub WindowsCloseAudits : Type 0
+  WindowsCloseAudits =
+      (h : List (Event Body)) (time horizon : ℕ) → MayOpen h time horizon → All (λ t. (t ≤ time) ⊎ (horizon ≤ t)) m.audit_times
+      → (ran : List (Event Body)) → 0 < length ran → IsLegal m (ran ++ h) → All (λ (x : Event Body). x.key.time < horizon) ran
+      → open_audits m (ran ++ h) ≡ filter (λ t. nat_lt time t) (open_audits m h)
+
   -- The pieces of the parts, put in key order, are the pieces of the window.
   abbrev pub PiecesMerge : Type 0
   PiecesMerge =
@@ -187,8 +208,18 @@ module _ {State Body Piece : Type 0} (m : Machine State Body Piece) where
       (deals : ℕ → Division) → ((number : ℕ) → Divides (deals number) m.nodes) → (workers : ℕ) (picks : List ℕ) (taken : List (ℕ × Step Body)) (h : List (Event Body))
       → Goes m deals workers (begun m 0 []) picks taken h → IsWhole h
 
+  -- One list of worker numbers has one run: its steps and its end.
+  abbrev pub RunsAreUnique : Type 0
+  RunsAreUnique =
+      (deals : ℕ → Division) (workers : ℕ) (r : Run Body) (picks : List ℕ) (taken taken' : List (ℕ × Step Body)) (h h' : List (Event Body))
+      → Goes m deals workers r picks taken h → Goes m deals workers r picks taken' h' → (taken ≡ taken') × (h ≡ h')
+
   -- Until a window is closed, some worker can take a step.
   abbrev pub WindowsProgress : Type 0
   WindowsProgress =
       (d : Division) (h : List (Event Body)) (horizon workers : ℕ) → 0 < workers → (picks : List ℕ) → All (λ i. i < workers) picks
       → all_sealed (after_picks m d (opened h horizon) picks) d.parts ≡ false → IsSome (lowest m d (after_picks m d (opened h horizon) picks) workers)
+
+-- a law of every machine that is well formed
+abbrev pub IsLaw : (State Body Piece : Type 0) → (Machine State Body Piece → Type 0) → Type 0
+IsLaw State Body Piece law = (m : Machine State Body Piece) (sound : ℕ → State → Bool) (fit : Event Body → Bool) → IsWellFormedBy m sound fit → law m
