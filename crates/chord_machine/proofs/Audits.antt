@@ -1,10 +1,11 @@
 -- The times of audits ascend.
-use Rattle.std.proofs.Common.{ℕ, zero, suc, ◌+◌, ◌-◌, ◌*◌, ◌/◌, ◌<◌, ◌≤◌, List, [], ◌∷◌, ◌++◌, length, get_or, drop, arith}
+use Rattle.std.proofs.Common.{◌≢◌, ℕ, zero, suc, ◌+◌, ◌-◌, ◌*◌, ◌/◌, ◌<◌, ◌≤◌, List, [], ◌∷◌, ◌++◌, length, get_or, drop, arith, ⊎_elim, subst}
 use Rattle.std.proofs.Math.Nat.{div-mul-le_self}
-use Rattle.std.specs.List.{AllByRecursion}
+use Rattle.std.specs.List.{AllByRecursion, AllPairs, Contains}
+use Rattle.chord_event.proofs.Members.{All_from, AllPairs_none, AllPairs_cons, contains_none, contains_cons}
 use Rattle.chord_scenario.specs.declared.scenario.Scenario.{Scenario}
 use Rattle.chord_scenario.specs.Range.{IsInRange}
-use Rattle.chord_machine.specs.AuditTimes.{IsAscending, audit_times, multiples}
+use Rattle.chord_machine.specs.AuditTimes.{AreAuditsInTime, IsAscending, audit_times, multiples}
 
 each-weaker : (P Q : ℕ → Type 0) (xs : List ℕ) → ((x : ℕ) → P x → Q x) → AllByRecursion P xs → AllByRecursion Q xs
 each-weaker P Q [] h all = tt
@@ -57,3 +58,19 @@ pub late-from : (xs : List ℕ) (i t : ℕ) → IsAscending xs → i < length xs
 late-from [] i t up inside late = absurd (omega (arith, inside))
 late-from (x ∷ xs) zero t up inside late = (late, each-weaker (λ u. x < u) (λ u. t < u) xs (λ u h. omega (arith, h, late)) up.0)
 late-from (x ∷ xs) (suc i) t up inside late = late-from xs i t up.1 (omega (arith, inside)) late
+
+each-at : (P : ℕ → Type 0) (xs : List ℕ) → AllByRecursion P xs → (x : ℕ) → Contains xs x → P x
+each-at P [] all x c = absurd (contains_none x c)
+each-at P (y ∷ xs) all x c = ⊎_elim (λ e. subst P e all.0) (λ r. each-at P xs all.1 x r) (contains_cons x y xs c)
+
+ascending-apart : (xs : List ℕ) → IsAscending xs → AllPairs (λ (t u : ℕ). t ≢ u) xs
+ascending-apart [] up = AllPairs_none (λ (t u : ℕ). t ≢ u)
+ascending-apart (x ∷ xs) up = AllPairs_cons (λ (t u : ℕ). t ≢ u) x xs
+    (λ u c s. let late : x < u = each-at (λ u. x < u) xs up.0 u c in omega (arith, late, s)) (ascending-apart xs up.1)
+
+pub audits-in-time : (sc : Scenario) → IsInRange sc → AreAuditsInTime sc
+audits-in-time sc ranges = record {
+  ascending = audits-ascend sc ranges;
+  distinct = ascending-apart (audit_times sc) (audits-ascend sc ranges);
+  in_time = All_from (λ t. t ≤ sc.duration) (audit_times sc) (each-at (λ t. t ≤ sc.duration) (audit_times sc) (audits-within sc ranges));
+}

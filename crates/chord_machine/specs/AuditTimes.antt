@@ -1,6 +1,6 @@
 -- When audits are made.
-use Rattle.std.specs.Prelude.{ℕ, zero, suc, ◌+◌, ◌-◌, ◌*◌, ◌/◌, ◌<◌, List, [], ◌∷◌, ◌++◌}
-use Rattle.std.specs.List.{AllByRecursion}
+use Rattle.std.specs.Prelude.{ℕ, zero, suc, ◌≢◌, ◌+◌, ◌-◌, ◌*◌, ◌/◌, ◌<◌, ◌≤◌, List, [], ◌∷◌, ◌++◌}
+use Rattle.std.specs.List.{All, AllByRecursion, AllPairs}
 use Rattle.chord_scenario.specs.declared.scenario.Scenario.{Scenario}
 
 -- the first n positive multiples of a period
@@ -16,3 +16,9 @@ audit_times sc = multiples sc.audit ((sc.duration - 1) / sc.audit) ++ sc.duratio
 abbrev pub IsAscending : List ℕ → Type 0
 IsAscending [] = Unit {0}
 IsAscending (t ∷ ts) = AllByRecursion (λ u. t < u) ts × IsAscending ts
+
+-- the audits come one after another, none twice, and none after the end
+pub record AreAuditsInTime (sc : Scenario) : Type 0 where
+  pub ascending : IsAscending (audit_times sc)
+  pub distinct : AllPairs (λ (t u : ℕ). t ≢ u) (audit_times sc)
+  pub in_time : All (λ t. t ≤ sc.duration) (audit_times sc)

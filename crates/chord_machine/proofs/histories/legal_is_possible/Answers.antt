@@ -1,0 +1,6 @@
+use Rattle.chord_machine.specs.Chord.{chord}
+use Rattle.chord_model.proofs.Runs.{possible_from_legal}
+use Rattle.chord_machine.proofs.histories.legal_is_possible.Goals as goal
+
+pub returns : goal.returns
+returns c sc ranges = possible_from_legal (chord sc)

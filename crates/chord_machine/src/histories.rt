@@ -1,0 +1,94 @@
+//! Laws of the simulated world: its histories, its states and its trace.
+
+ghost use Rattle.chord_machine.specs.Chord.{chord};
+ghost use Rattle.chord_machine.specs.AuditTimes.{AreAuditsInTime};
+ghost use Rattle.chord_machine.specs.Room.{RoomIsLeft};
+ghost use Rattle.chord_machine.specs.Sound.{HistoriesAreSound};
+ghost use Rattle.chord_model.specs.Laws.{AuditsSeeAll, EndsAreWhole, EventsCloseAudits, HistoryIsLegal, HistoryIsWhole, KeysAreDistinct, LegalIsAscending, LegalIsPossible, LegalIsUnique, NextIsFound, OthersKeepTheirStates, PendingIsTheRest, PendingMoves, TraceGrows};
+ghost use Rattle.chord_scenario.specs.declared.scenario.Scenario.{Scenario};
+ghost use Rattle.chord_scenario.specs.Range.{IsInRange};
+
+/// Each event that is ever made has a key of its own.
+pub fn keys_are_distinct()
+    ensures { (sc : Scenario) → IsInRange sc → KeysAreDistinct (chord sc) }
+{}
+
+/// What is pending is what was made and not taken.
+pub fn pending_is_the_rest()
+    ensures { (sc : Scenario) → IsInRange sc → PendingIsTheRest (chord sc) }
+{}
+
+/// An event that is taken is pending no more, and what it makes is.
+pub fn pending_moves()
+    ensures { (sc : Scenario) → IsInRange sc → PendingMoves (chord sc) }
+{}
+
+/// `next` finds the least pending event below the duration.
+pub fn next_is_found()
+    ensures { (sc : Scenario) → IsInRange sc → NextIsFound (chord sc) }
+{}
+
+/// Each state meets the invariant of its node, and each event is sound, in whatever order events are taken.
+pub fn histories_are_sound()
+    ensures { (sc : Scenario) → IsInRange sc → HistoriesAreSound sc }
+{}
+
+/// Within the event limit no counter of a node outgrows what the rule table may be asked about.
+pub fn room_is_left()
+    ensures { (sc : Scenario) → IsInRange sc → RoomIsLeft sc }
+{}
+
+/// A node that is no event's target keeps its state.
+pub fn others_keep_their_states()
+    ensures { (sc : Scenario) → IsInRange sc → OthersKeepTheirStates (chord sc) }
+{}
+
+/// A legal history is possible.
+pub fn legal_is_possible()
+    ensures { (sc : Scenario) → IsInRange sc → LegalIsPossible (chord sc) }
+{}
+
+/// A legal history takes its events in the order of their keys.
+pub fn legal_is_ascending()
+    ensures { (sc : Scenario) → IsInRange sc → LegalIsAscending (chord sc) }
+{}
+
+/// There is one run: a legal history is its beginning.
+pub fn legal_is_unique()
+    ensures { (sc : Scenario) → IsInRange sc → LegalIsUnique (chord sc) }
+{}
+
+/// The beginning of the run is a legal history.
+pub fn history_is_legal()
+    ensures { (sc : Scenario) → IsInRange sc → HistoryIsLegal (chord sc) }
+{}
+
+/// It has as many events as were asked for, or as many as there are.
+pub fn history_is_whole()
+    ensures { (sc : Scenario) → IsInRange sc → HistoryIsWhole (chord sc) }
+{}
+
+/// A legal history after which no event may follow is the whole run.
+pub fn ends_are_whole()
+    ensures { (sc : Scenario) → IsInRange sc → EndsAreWhole (chord sc) }
+{}
+
+/// What a run puts out is never taken back.
+pub fn trace_grows()
+    ensures { (sc : Scenario) → IsInRange sc → TraceGrows (chord sc) }
+{}
+
+/// The audits come one after another, none twice, and none after the end.
+pub fn audits_are_in_time()
+    ensures { (sc : Scenario) → IsInRange sc → AreAuditsInTime sc }
+{}
+
+/// An audit that no event has reached sees the whole history.
+pub fn audits_see_all()
+    ensures { (sc : Scenario) → IsInRange sc → AuditsSeeAll (chord sc) }
+{}
+
+/// An event closes the audits up to its time.
+pub fn events_close_audits()
+    ensures { (sc : Scenario) → IsInRange sc → EventsCloseAudits (chord sc) }
+{}
