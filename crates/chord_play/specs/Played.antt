@@ -4,7 +4,7 @@ use Rattle.std.specs.Io.KnownBytes.{Appends}
 use Rattle.chord_machine.specs.Run.{HasTooManyEvents, IsReport, trace_text}
 use Rattle.chord_play.specs.Texts.{Gives}
 use Rattle.chord_scenario.specs.declared.scenario.Scenario.{Scenario}
-use Rattle.chord_serial.specs.Beginning.{IsBeginning}
+use Rattle.chord_output.specs.Beginning.{IsBeginning}
 use Rattle.chord_trace.specs.declared.report.Report.{Report}
 
 -- the scenario that the texts give was run to its end: its trace went out, and this is its report
