@@ -26,39 +26,39 @@ cond-add : (b : Bool) (m n : ℕ) → cond b (m + n) 0 ≡ cond b m 0 + cond b n
 cond-add true m n = refl
 cond-add false m n = refl
 
--- one more at a key, where an insertion makes a list longer only at a new key
-pub counted-insert : (test : ℕ → Bool) (es : List (ℕ × ℕ)) (k w : ℕ)
+-- c more at a key, where an insertion makes a list longer only at a new key
+pub counted-insert : (test : ℕ → Bool) (es : List (ℕ × ℕ)) (k w c : ℕ)
     → length (insert_entry nat_cmp es k w) ≡ length es + cond (is_some (lookup (is_at (nat_cmp k)) es)) 0 1
-    → w ≡ unwrap_or (lookup (is_at (nat_cmp k)) es) 0 + 1
-    → counted test (insert_entry nat_cmp es k w) ≡ counted test es + cond (test k) 1 0
-counted-insert test [] k w len one =
-    let value : w ≡ 1 = omega (arith, one) in
+    → w ≡ unwrap_or (lookup (is_at (nat_cmp k)) es) 0 + c
+    → counted test (insert_entry nat_cmp es k w) ≡ counted test es + cond (test k) c 0
+counted-insert test [] k w c len more =
+    let value : w ≡ c = omega (arith, more) in
     omega (arith, ap (λ n. cond (test k) n 0) value)
-counted-insert test (e ∷ es) k w len one = go (nat_cmp k e.0) (ranks k e.0) len one (counted-insert test es k w)
+counted-insert test (e ∷ es) k w c len more = go (nat_cmp k e.0) (ranks k e.0) len more (counted-insert test es k w c)
   where
-    new : (o : Option ℕ) → suc (suc (length es)) ≡ suc (length es) + cond (is_some o) 0 1 → w ≡ unwrap_or o 0 + 1 → w ≡ 1
-    new None len one = one
-    new (Some n) len one = absurd (omega arith)
+    new : (o : Option ℕ) → suc (suc (length es)) ≡ suc (length es) + cond (is_some o) 0 1 → w ≡ unwrap_or o 0 + c → w ≡ c
+    new None len more = omega (arith, more)
+    new (Some n) len more = absurd (omega arith)
 
     go : (o : Ordering) → MatchOrdering o (k < e.0) (k ≡ e.0) (e.0 < k)
         → length (match_ordering o ((k, w) ∷ e ∷ es) ((e.0, w) ∷ es) (e ∷ insert_entry nat_cmp es k w)) ≡ suc (length es) + cond (is_some (cond (is_eq o) (Some e.1) (lookup (is_at (nat_cmp k)) es))) 0 1
-        → w ≡ unwrap_or (cond (is_eq o) (Some e.1) (lookup (is_at (nat_cmp k)) es)) 0 + 1
-        → (length (insert_entry nat_cmp es k w) ≡ length es + cond (is_some (lookup (is_at (nat_cmp k)) es)) 0 1 → w ≡ unwrap_or (lookup (is_at (nat_cmp k)) es) 0 + 1 → counted test (insert_entry nat_cmp es k w) ≡ counted test es + cond (test k) 1 0)
-        → counted test (match_ordering o ((k, w) ∷ e ∷ es) ((e.0, w) ∷ es) (e ∷ insert_entry nat_cmp es k w)) ≡ counted test (e ∷ es) + cond (test k) 1 0
-    go Less lt len one rest =
+        → w ≡ unwrap_or (cond (is_eq o) (Some e.1) (lookup (is_at (nat_cmp k)) es)) 0 + c
+        → (length (insert_entry nat_cmp es k w) ≡ length es + cond (is_some (lookup (is_at (nat_cmp k)) es)) 0 1 → w ≡ unwrap_or (lookup (is_at (nat_cmp k)) es) 0 + c → counted test (insert_entry nat_cmp es k w) ≡ counted test es + cond (test k) c 0)
+        → counted test (match_ordering o ((k, w) ∷ e ∷ es) ((e.0, w) ∷ es) (e ∷ insert_entry nat_cmp es k w)) ≡ counted test (e ∷ es) + cond (test k) c 0
+    go Less lt len more rest =
         let first = counted-cons test (k, w) (e ∷ es) in
-        let value = ap (λ n. cond (test k) n 0) (new (lookup (is_at (nat_cmp k)) es) len one) in
+        let value = ap (λ n. cond (test k) n 0) (new (lookup (is_at (nat_cmp k)) es) len more) in
         omega (arith, first, value)
-    go Equal same len one rest =
+    go Equal same len more rest =
         let first = counted-cons test (e.0, w) es in
         let before = counted-cons test e es in
-        let value = ap (λ n. cond (test e.0) n 0) one ∙ cond-add (test e.0) e.1 1 in
-        let key = ap {B = ℕ} (λ n. cond (test n) 1 0) same in
+        let value = ap (λ n. cond (test e.0) n 0) more ∙ cond-add (test e.0) e.1 c in
+        let key = ap {B = ℕ} (λ n. cond (test n) c 0) same in
         omega (arith, first, before, value, key)
-    go Greater gt len one rest =
+    go Greater gt len more rest =
         let first = counted-cons test e (insert_entry nat_cmp es k w) in
         let before = counted-cons test e es in
-        let after = rest (omega arith) one in
+        let after = rest (omega arith) more in
         omega (arith, first, before, after)
 
 pub counted-append : (test : ℕ → Bool) (es more : List (ℕ × ℕ)) → counted test (es ++ more) ≡ counted test es + counted test more

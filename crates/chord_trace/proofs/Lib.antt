@@ -1,4 +1,7 @@
+pub mod Additive
+pub mod Bounds
 pub mod Counted
 pub mod Fronts
 pub mod Ranks
+pub mod Reports
 pub mod Tallies

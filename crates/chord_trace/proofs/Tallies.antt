@@ -1,10 +1,9 @@
--- A tally of a trace, and of the trace with one piece more.
+-- A tally of a trace, of the trace with one piece more, and of two traces together.
 use Rattle.std.proofs.Common.{◌≡◌, ◌∙◌, ◌+◌, ◌==◌, ℕ, Bool, not, List, [], ◌∷◌, ◌++◌, ap, sym, subst, arith, append-nil, cond, count_by, length}
 use Rattle.std.specs.List.{filter_map}
-use Rattle.std.proofs.lemmas.List.{length_push}
+use Rattle.std.proofs.lemmas.List.{length-append, length_push}
 use Rattle.std.proofs.lemmas.List.Concat.{flat_map-append}
 use Rattle.std.proofs.lemmas.List.Elements.{filter_map-append}
-use Rattle.std.proofs.lemmas.List.Sums.{sum_by-append}
 use Rattle.chord_audit.specs.declared.audit_line.AuditLine.{AuditLine}
 use Rattle.chord_event.specs.declared.block.Block.{Block}
 use Rattle.chord_event.specs.declared.line.Line.{Line}
@@ -15,7 +14,9 @@ use Rattle.chord_trace.specs.Counts.{counts_in, plus}
 use Rattle.chord_trace.specs.FoundLookups.{HasFound}
 use Rattle.chord_trace.specs.Kinds.{found_in}
 use Rattle.chord_trace.specs.Pieces.{block_in, audit_in, lines_in, blocks_of, lines_of, audits_of}
-use Rattle.chord_trace.specs.Tally.{IsTallyOf}
+use Rattle.chord_trace.specs.Report.{found_lookups}
+use Rattle.chord_trace.specs.Tally.{IsTallyOf, taken}
+use Rattle.chord_trace.proofs.Additive.{count_by-append, blocks-add, audits-add, audits_by-add, founds-append, lines-append}
 
 blocks_more : (pieces : List Piece) (b : Block) → blocks_of (pieces ++ piece.OfEvent b ∷ []) ≡ blocks_of pieces ++ b ∷ []
 blocks_more pieces b = filter_map-append block_in pieces (piece.OfEvent b ∷ [])
@@ -34,9 +35,6 @@ lines_more pieces b = flat_map-append lines_in pieces (piece.OfEvent b ∷ []) �
 
 lines_same : (pieces : List Piece) (a : AuditLine) → lines_of (pieces ++ piece.OfAudit a ∷ []) ≡ lines_of pieces
 lines_same pieces a = flat_map-append lines_in pieces (piece.OfAudit a ∷ []) ∙ append-nil (lines_of pieces)
-
-count_by-append : {X : Type 0} (p : X → Bool) (xs ys : List X) → count_by p (xs ++ ys) ≡ count_by p xs + count_by p ys
-count_by-append p xs ys = sum_by-append (λ x. cond (p x) 1 0) xs ys
 
 counts_in-append : (xs ys : List Line) → counts_in (xs ++ ys) ≡ plus (counts_in xs) (counts_in ys)
 counts_in-append xs ys = simp count_by-append
@@ -84,4 +82,23 @@ with_audit pieces a old new t events counts founds audits ringless unordered ins
       ringless = omega (arith, ringless, t.ringless, count (λ audit. audit.ring == 0));
       unordered = omega (arith, unordered, t.unordered, count (λ audit. not audit.ordered));
       insufficient = omega (arith, insufficient, t.insufficient, count (λ audit. not audit.sufficient));
+    }
+
+-- of two traces together
+pub joined : (mine others : List Piece) (a b new : Tally) → IsTallyOf mine a → IsTallyOf others b
+    → new.events ≡ a.events + b.events → new.counts ≡ plus a.counts b.counts
+    → ((seen more : List (ℕ × ℕ)) → HasFound seen a.founds → HasFound more b.founds → HasFound (seen ++ more) new.founds)
+    → new.audits ≡ a.audits + b.audits → new.ringless ≡ a.ringless + b.ringless → new.unordered ≡ a.unordered + b.unordered → new.insufficient ≡ a.insufficient + b.insufficient
+    → IsTallyOf (mine ++ others) new
+joined mine others a b new t u events counts founds audits ringless unordered insufficient =
+    let count = λ (p : AuditLine → Bool). audits_by-add p mine others in
+    record {
+      size = omega (arith, events, audits, t.size, u.size, length-append mine others);
+      events = omega (arith, events, t.events, u.events, blocks-add mine others);
+      counts = counts ∙ ap (λ c. plus c b.counts) t.counts ∙ ap (plus (counts_in (lines_of mine))) u.counts ∙ sym (counts_in-append (lines_of mine) (lines_of others)) ∙ ap counts_in (sym (lines-append mine others));
+      founds = subst (λ l. HasFound l new.founds) (sym (founds-append mine others)) (founds (found_lookups mine) (found_lookups others) t.founds u.founds);
+      audits = omega (arith, audits, t.audits, u.audits, audits-add mine others);
+      ringless = omega (arith, ringless, t.ringless, u.ringless, count (λ audit. audit.ring == 0));
+      unordered = omega (arith, unordered, t.unordered, u.unordered, count (λ audit. not audit.ordered));
+      insufficient = omega (arith, insufficient, t.insufficient, u.insufficient, count (λ audit. not audit.sufficient));
     }

@@ -23,7 +23,7 @@ pub struct FoundLookups {
 }
 
 impl FoundLookups {
-    ghost use Rattle.std.specs.Prelude.{◌≡◌, ◌+◌, ◌^◌, ◌<◌, ◌≤◌, ℕ, List, [], ◌∷◌, ◌++◌, length, OnOk};
+    ghost use Rattle.std.specs.Prelude.{◌≡◌, ◌+◌, ◌^◌, ◌<◌, ◌≤◌, ℕ, List, [], ◌∷◌, ◌++◌, length, IfOk, OnOk};
     ghost use Rattle.std.specs.List.{filter_map};
     ghost use Rattle.chord_trace.specs.FoundLookups.{HasFound, found_len};
     ghost use Rattle.chord_trace.specs.Numbers.{IsMedian, times_of};
@@ -63,7 +63,7 @@ impl FoundLookups {
         ensures one_more { OnOk result (found_len self.new ≡ found_len self.old + 1) }
         ensures at_most { found_len self.new ≤ found_len self.old + 1 }
     {
-        count_one(&mut self.counts, us)?;
+        count_more(&mut self.counts, us, 1)?;
         self.us_least = if self.len == 0 {
             us
         } else {
@@ -75,6 +75,32 @@ impl FoundLookups {
         self.us_sum += u128::from(us);
         self.us_greatest = self.us_greatest.max(us);
         Ok(())
+    }
+
+    /// What both have together.
+    pub fn join(self, other: FoundLookups) -> Result<FoundLookups, AllocError>
+        requires { found_len self + found_len other ≤ 2 ^ 46 }
+        ensures has { IfOk result (λ joined. (seen more : List (ℕ × ℕ)) → HasFound seen self → HasFound more other → HasFound (seen ++ more) joined) }
+        ensures len { IfOk result (λ joined. found_len joined ≡ found_len self + found_len other) }
+    {
+        let mut counts = self.counts;
+        add_counts(&mut counts, &other.counts)?;
+        let us_least = if self.len == 0 {
+            other.us_least
+        } else if other.len == 0 {
+            self.us_least
+        } else {
+            self.us_least.min(other.us_least)
+        };
+        Ok(FoundLookups {
+            len: self.len + other.len,
+            hops_sum: self.hops_sum + other.hops_sum,
+            hops_greatest: self.hops_greatest.max(other.hops_greatest),
+            us_sum: self.us_sum + other.us_sum,
+            us_least,
+            us_greatest: self.us_greatest.max(other.us_greatest),
+            counts,
+        })
     }
 
     /// The time in the middle, the lower one of two, and 0 of none.
@@ -98,14 +124,28 @@ fn found_in(line: Line) -> Option<(u32, u64)>
     }
 }
 
-/// Counts one more at this time.
-fn count_one(counts: &mut BTreeMap<u64, u64>, us: u64) -> Result<(), AllocError>
-    requires { counted (λ _. true) counts.old.entries < 2 ^ 46 }
-    ensures more { OnOk result ((test : ℕ → Bool) → counted test counts.new.entries ≡ counted test counts.old.entries + cond (test us) 1 0) }
+/// Counts so many more at this time.
+fn count_more(counts: &mut BTreeMap<u64, u64>, us: u64, count: u64) -> Result<(), AllocError>
+    requires { counted (λ _. true) counts.old.entries + count ≤ 2 ^ 46 }
+    ensures more { OnOk result ((test : ℕ → Bool) → counted test counts.new.entries ≡ counted test counts.old.entries + cond (test us) count 0) }
     ensures same { OnErr result (counts.new.entries ≡ counts.old.entries) }
 {
     let before = counts.get(&us).copied().unwrap_or(0);
-    counts.insert(us, before + 1)?;
+    counts.insert(us, before + count)?;
+    Ok(())
+}
+
+/// Counts at each time as many more as others have there.
+fn add_counts(
+    counts: &mut BTreeMap<u64, u64>,
+    others: &BTreeMap<u64, u64>,
+) -> Result<(), AllocError>
+    requires { counted (λ _. true) counts.old.entries + counted (λ _. true) others.now.entries ≤ 2 ^ 46 }
+    ensures { OnOk result ((test : ℕ → Bool) → counted test counts.new.entries ≡ counted test counts.old.entries + counted test others.now.entries) }
+{
+    for (us, count) in others {
+        count_more(counts, *us, *count)?;
+    }
     Ok(())
 }
 

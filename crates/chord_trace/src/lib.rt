@@ -14,7 +14,7 @@ mod writing;
 pub use audit_text::write_audit;
 pub use block_text::write_block;
 pub use piece::Piece;
-pub use report::{Report, reports_are_unique};
+pub use report::{Report, reports_are_unique, reports_need_no_order};
 pub use tally::Tally;
 pub use watched::Watched;
 

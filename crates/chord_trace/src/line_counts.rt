@@ -32,6 +32,28 @@ impl LineCounts {
         }
     }
 
+    /// What both have together.
+    pub fn join(self, other: LineCounts) -> LineCounts
+        requires mine { AreWithin (2 ^ 62) self }
+        requires others { AreWithin (2 ^ 62) other }
+        ensures { result ≡ plus self other }
+    {
+        LineCounts {
+            members: self.members + other.members,
+            join_failed: self.join_failed + other.join_failed,
+            crashes: self.crashes + other.crashes,
+            stranded: self.stranded + other.stranded,
+            drops: self.drops + other.drops,
+            late: self.late + other.late,
+            timeouts: self.timeouts + other.timeouts,
+            lookups: self.lookups + other.lookups,
+            found: self.found + other.found,
+            lost: self.lost + other.lost,
+            busy: self.busy + other.busy,
+            ignored: self.ignored + other.ignored,
+        }
+    }
+
     fn add_line(&mut self, line: Line)
         requires { AreWithin (2 ^ 63) self.old }
         ensures { self.new ≡ plus self.old (counts_in (line ∷ [])) }

@@ -1,5 +1,6 @@
 ghost use Rattle.std.specs.Prelude.{◌≡◌, ◌⊎◌, ◌++◌, true, false, List, map, OnOk, IfErr, string_bytes, Err};
 ghost use Rattle.std.specs.Io.KnownBytes.{Appends};
+ghost use Rattle.std.specs.List.Sorted.{IsPermutation};
 ghost use Rattle.chord_trace.specs.Report.{IsReportOf};
 ghost use Rattle.chord_trace.specs.ReportText.{numbers_of, report_text, number_text};
 ghost use Rattle.chord_trace.specs.Watched.{wrapped, has_failed};
@@ -103,4 +104,9 @@ fn push_numbers(text: &mut String, numbers: &[(&str, u128)]) -> Result<(), Alloc
 /// A trace has one report.
 pub fn reports_are_unique()
     ensures { (pieces : List Piece) (a b : Report) → IsReportOf pieces a → IsReportOf pieces b → a ≡ b }
+{}
+
+/// A report does not depend on the order in which the pieces of a trace are gone over.
+pub fn reports_need_no_order()
+    ensures { (pieces others : List Piece) (report : Report) → IsPermutation pieces others → IsReportOf pieces report → IsReportOf others report }
 {}

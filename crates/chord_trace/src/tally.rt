@@ -27,7 +27,7 @@ pub struct Tally {
 }
 
 impl Tally {
-    ghost use Rattle.std.specs.Prelude.{◌≡◌, ◌+◌, ◌^◌, ◌<◌, ◌≤◌, List, [], ◌∷◌, ◌++◌, length, OnOk};
+    ghost use Rattle.std.specs.Prelude.{◌≡◌, ◌+◌, ◌^◌, ◌<◌, ◌≤◌, List, [], ◌∷◌, ◌++◌, length, IfOk, OnOk};
     ghost use Rattle.chord_trace.specs.Report.{IsReportOf};
     ghost use Rattle.chord_trace.specs.Tally.{IsTallyOf, taken};
     ghost use Rattle.chord_trace.specs.declared.piece.Piece.{Piece};
@@ -71,6 +71,23 @@ impl Tally {
         self.ringless += u64::from(audit.ring == 0);
         self.unordered += u64::from(!audit.ordered);
         self.insufficient += u64::from(!audit.sufficient);
+    }
+
+    /// The tally of what both have. Both are given up where memory is refused.
+    pub fn join(self, other: Tally) -> Result<Tally, Memory>
+        requires room { taken self + taken other ≤ 2 ^ 40 }
+        ensures pieces { IfOk result (λ joined. (mine others : List Piece) → IsTallyOf mine self → IsTallyOf others other → IsTallyOf (mine ++ others) joined) }
+        ensures size { IfOk result (λ joined. taken joined ≡ taken self + taken other) }
+    {
+        Ok(Tally {
+            events: self.events + other.events,
+            counts: self.counts.join(other.counts),
+            founds: self.founds.join(other.founds)?,
+            audits: self.audits + other.audits,
+            ringless: self.ringless + other.ringless,
+            unordered: self.unordered + other.unordered,
+            insufficient: self.insufficient + other.insufficient,
+        })
     }
 
     /// The report of the blocks and audits so far.
