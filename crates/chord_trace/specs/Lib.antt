@@ -1,6 +1,8 @@
 pub mod Counts
 pub mod FoundLookups
+pub mod Heads
 pub mod Kinds
+pub mod Merging
 pub mod Numbers
 pub mod Pieces
 pub mod Report

@@ -5,6 +5,7 @@ mod audit_text;
 mod block_text;
 mod found_lookups;
 mod line_counts;
+mod merging;
 mod piece;
 mod report;
 mod tally;
@@ -13,6 +14,7 @@ mod writing;
 
 pub use audit_text::write_audit;
 pub use block_text::write_block;
+pub use merging::merge_blocks;
 pub use piece::Piece;
 pub use report::{Report, reports_are_unique, reports_need_no_order};
 pub use tally::Tally;
