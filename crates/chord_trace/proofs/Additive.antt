@@ -1,6 +1,6 @@
 -- Numbers of a trace that are added up piece by piece: what they are of two traces together, and
 -- that the order of the pieces does not change them.
-use Rattle.std.proofs.Common.{◌≡◌, ◌∙◌, ℕ, ◌+◌, Bool, List, [], ◌∷◌, ◌++◌, refl, ap, sym, arith, cond, count_by, length, map, sum, sum_by}
+use Rattle.std.proofs.Common.{◌≡◌, ◌∙◌, ℕ, ◌+◌, Bool, List, [], ◌∷◌, ◌++◌, ap, arith, cond, count_by, length, sum_by}
 use Rattle.std.specs.List.{filter_map}
 use Rattle.std.specs.List.Sorted.{IsPermutation}
 use Rattle.std.proofs.lemmas.List.{length-append, map-append}
@@ -9,7 +9,6 @@ use Rattle.std.proofs.lemmas.List.Elements.{filter_map-append}
 use Rattle.std.proofs.lemmas.List.Sorted.{sum_by-IsPermutation}
 use Rattle.std.proofs.lemmas.List.Sums.{sum_by-append, sum_by-cons}
 use Rattle.chord_audit.specs.declared.audit_line.AuditLine.{AuditLine}
-use Rattle.chord_event.specs.declared.block.Block.{Block}
 use Rattle.chord_event.specs.declared.line.Line.{Line}
 use Rattle.chord_trace.specs.Kinds.{found_in}
 use Rattle.chord_trace.specs.Numbers.{hops_of, times_of}

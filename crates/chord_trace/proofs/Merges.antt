@@ -1,5 +1,5 @@
 -- A merge on its way: the blocks put out so far, and what is left of the lists.
-use Rattle.std.proofs.Common.{◌≡◌, ◌≢◌, ◌∙◌, ◌⊎◌, inl, inr, ℕ, zero, suc, ◌+◌, ◌<◌, ◌≤◌, ◌↔◌, ◌==◌, Bool, true, false, not, cond, List, [], ◌∷◌, ◌++◌, refl, ap, sym, subst, arith, append_assoc, append-nil, count_by, get_or, length, map, Vec, rules}
+use Rattle.std.proofs.Common.{◌≡◌, ◌≢◌, ◌∙◌, ◌⊎◌, inl, inr, ℕ, suc, ◌<◌, ◌≤◌, ◌↔◌, ◌==◌, Bool, true, false, not, cond, List, [], ◌∷◌, ◌++◌, refl, ap, sym, subst, arith, append_assoc, append-nil, count_by, length, map, Vec}
 use Rattle.std.specs.BinaryHeap.{IsUpperBound}
 use Rattle.std.specs.Global.{Global}
 use Rattle.std.specs.List.{AllByRecursion, AllPairs, Contains, filter}
@@ -186,7 +186,7 @@ least_of h [] up o y k = absurd k
 least_of h (w ∷ ws) up o y (inl e) = subst (λ (b : Block). IsAtMost h.first.key b.key) (sym e) (at_most_from h.first.key w.first.key up.0)
 least_of h (w ∷ ws) up o y (inr k) = elim (in_append (into_iter_items w.rest) (together (map ahead ws)) y k) [
   | inl j ↦ at_most_trans h.first.key w.first.key y.key (at_most_from h.first.key w.first.key up.0)
-    (at_most_from_before w.first.key y.key (all_in (λ (b : Block). IsBefore w.first.key b.key) (into_iter_items w.rest) o.0.0 y j))
+      (at_most_from_before w.first.key y.key (all_in (λ (b : Block). IsBefore w.first.key b.key) (into_iter_items w.rest) o.0.0 y j))
   | inr j ↦ least_of h ws up.1 o.1 y j
 ]
 

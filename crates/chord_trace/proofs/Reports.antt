@@ -1,5 +1,5 @@
 -- The report of a trace does not depend on the order of its pieces.
-use Rattle.std.proofs.Common.{◌≡◌, ◌∙◌, ℕ, ◌+◌, ◌==◌, ◌<◌, ◌≤◌, Bool, not, List, cond, nat_le, nat_lt, arith, count_by, length, subst}
+use Rattle.std.proofs.Common.{◌≡◌, ◌∙◌, ℕ, ◌==◌, Bool, not, List, cond, nat_le, nat_lt, arith, count_by, length}
 use Rattle.std.specs.List.Sorted.{IsPermutation}
 use Rattle.chord_audit.specs.declared.audit_line.AuditLine.{AuditLine}
 use Rattle.chord_event.specs.declared.line.Line.{Line}

@@ -15,7 +15,7 @@ use Rattle.chord_trace.specs.FoundLookups.{HasFound}
 use Rattle.chord_trace.specs.Kinds.{found_in}
 use Rattle.chord_trace.specs.Pieces.{block_in, audit_in, lines_in, blocks_of, lines_of, audits_of}
 use Rattle.chord_trace.specs.Report.{found_lookups}
-use Rattle.chord_trace.specs.Tally.{IsTallyOf, taken}
+use Rattle.chord_trace.specs.Tally.{IsTallyOf}
 use Rattle.chord_trace.proofs.Additive.{count_by-append, blocks-add, audits-add, audits_by-add, founds-append, lines-append}
 
 blocks_more : (pieces : List Piece) (b : Block) → blocks_of (pieces ++ piece.OfEvent b ∷ []) ≡ blocks_of pieces ++ b ∷ []

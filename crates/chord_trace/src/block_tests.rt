@@ -1,10 +1,11 @@
-ghost use Rattle.std.specs.Prelude.{◌<◌};
+ghost use Rattle.std.specs.Prelude.{◌≡◌, ◌<◌, IfOk};
 ghost use Rattle.chord_scenario.specs.World.{node_count};
 ghost use Rattle.chord_scenario.specs.Blocks.{IsLineOf};
+ghost use Rattle.chord_trace.specs.Merging.{CanMerge, block_key};
 
 use super::*;
 use chord_circle::{Circle, Ident};
-use chord_event::{Block, CommandKind, Key, Line, Listed, MessageKind, RunError};
+use chord_event::{Block, CommandKind, Key, Line, Listed, Memory, MessageKind, RunError};
 use chord_scenario::{Scenario, read_scenario};
 use std::alloc::Global;
 use std::io;
@@ -224,5 +225,79 @@ fn a_block_without_lines_calls_no_writer(rt: HostRuntime) -> Result<(), Fail> {
     let mut writer = Watched::new(Failing);
     assert!(rt; write_block(alloc, &scenario, &block, &mut writer) == Ok(()));
     assert!(rt; !writer.failed());
+    Ok(())
+}
+
+fn block(alloc: Global, time: u64, origin: u32, number: u64) -> Block
+    ensures { block_key result ≡ record { time = time; origin = origin; number = number } }
+{
+    let key = Key {
+        time,
+        origin,
+        number,
+    };
+    Block {
+        key,
+        target: 0,
+        lines: Listed::new(alloc),
+    }
+}
+
+/// Lists whose blocks are at one time by turns, and one that is empty.
+fn three_lists(alloc: Global) -> Result<Vec<Vec<Block>>, Memory>
+    ensures { IfOk result (λ lists. CanMerge lists.items) }
+{
+    let first = vec![in alloc;
+        block(alloc, 100, 2, 1),
+        block(alloc, 100, 3, 1),
+        block(alloc, 200, 5, 9),
+    ]?;
+    let third = vec![in alloc;
+        block(alloc, 100, 2, 2),
+        block(alloc, 150, 9, 1),
+        block(alloc, 200, 5, 3),
+    ]?;
+    Ok(vec![in alloc; first, Vec::new(alloc), third]?)
+}
+
+/// One list with blocks, between two that have none.
+fn one_list(alloc: Global) -> Result<Vec<Vec<Block>>, Memory>
+    ensures { IfOk result (λ lists. CanMerge lists.items) }
+{
+    let blocks = vec![in alloc; block(alloc, 100, 2, 2), block(alloc, 100, 3, 1)]?;
+    Ok(vec![in alloc; Vec::new(alloc), blocks, Vec::new(alloc)]?)
+}
+
+/// Whether the blocks have these times, origins and numbers.
+fn are_at(blocks: &[Block], keys: &[(u64, u32, u64)]) -> bool {
+    let mut same = blocks.len() == keys.len();
+    for (block, (time, origin, number)) in blocks.iter().zip(keys) {
+        let key = block.key;
+        same = same && key.time == *time && key.origin == *origin && key.number == *number;
+    }
+    same
+}
+
+#[test]
+fn merges_lists_by_time_origin_and_number(rt: HostRuntime) -> Result<(), Fail> {
+    let alloc = rt.alloc();
+    let merged = merge_blocks(alloc, three_lists(alloc)?)?;
+    assert!(rt;
+        are_at(
+            &merged,
+            &[
+                (100, 2, 1),
+                (100, 2, 2),
+                (100, 3, 1),
+                (150, 9, 1),
+                (200, 5, 3),
+                (200, 5, 9),
+            ]
+        )
+    );
+    let merged = merge_blocks(alloc, one_list(alloc)?)?;
+    assert!(rt; are_at(&merged, &[(100, 2, 2), (100, 3, 1)]));
+    let merged = merge_blocks(alloc, Vec::new(alloc))?;
+    assert!(rt; are_at(&merged, &[]));
     Ok(())
 }

@@ -1,4 +1,5 @@
-ghost use Rattle.std.specs.Prelude.{◌≡◌, false};
+ghost use Rattle.std.specs.Prelude.{◌≡◌, false, IfOk};
+ghost use Rattle.chord_trace.specs.Tally.{taken};
 ghost use Rattle.chord_trace.specs.Watched.{has_failed};
 
 use super::*;
@@ -232,8 +233,10 @@ fn writes_the_front_of_the_text(rt: HostRuntime) -> Result<(), Fail> {
     Ok(())
 }
 
-/// The report of a trace of one block, of lookups found in these times, and of one audit.
-fn report_of(rt: &impl Abort, alloc: Global, times: &[u64]) -> Result<Report, Memory> {
+/// The tally of a trace of one block, of lookups found in these times, and of one audit.
+fn tally_of(rt: &impl Abort, alloc: Global, times: &[u64]) -> Result<Tally, Memory>
+    ensures { IfOk result (λ tally. taken tally ≡ 2) }
+{
     let circle = Circle::new(8).expect(rt, "a circle");
     let key = circle.ident(5).expect(rt, "an identifier");
     let mut lines = Listed::new(alloc);
@@ -261,7 +264,7 @@ fn report_of(rt: &impl Abort, alloc: Global, times: &[u64]) -> Result<Report, Me
     let mut tally = Tally::new(alloc);
     tally.add_audit(&AUDIT);
     tally.add(&block)?;
-    Ok(tally.report())
+    Ok(tally)
 }
 
 #[test]
@@ -274,7 +277,7 @@ fn reports_the_lower_time_in_the_middle(rt: HostRuntime) -> Result<(), Fail> {
         (&[5, 1, 3], 9, 1, 3, 5),
         (&[4, 9, 4, 1, 9, 9], 36, 1, 4, 9),
     ] {
-        let report = report_of(&rt, rt.alloc(), times)?;
+        let report = tally_of(&rt, rt.alloc(), times)?.report();
         let count = times.len() as u64;
         assert_eq!(rt; report.events, 1);
         assert_eq!(rt; report.crashes, 1);
@@ -286,6 +289,50 @@ fn reports_the_lower_time_in_the_middle(rt: HostRuntime) -> Result<(), Fail> {
         assert_eq!(rt; report.us_least, least);
         assert_eq!(rt; report.us_median, median);
         assert_eq!(rt; report.us_greatest, greatest);
+    }
+    Ok(())
+}
+
+#[test]
+fn joins_two_tallies(rt: HostRuntime) -> Result<(), Fail> {
+    let alloc = rt.alloc();
+    let none: &[u64] = &[];
+    let one: &[u64] = &[7];
+    for (mine, others, unfinished, sum, least, median, greatest) in [
+        (none, one, 1, 7, 7, 7, 7),
+        (&[9, 2], &[5, 1, 3], 0, 20, 1, 3, 9),
+        (&[4, 9], none, 0, 13, 4, 4, 9),
+        (&[4, 4], &[9, 4, 9, 9], 0, 39, 4, 4, 9),
+    ] {
+        let tally = tally_of(&rt, alloc, mine)?.join(tally_of(&rt, alloc, others)?)?;
+        let found = mine.len() as u64 + others.len() as u64;
+        let expected = Report {
+            events: 2,
+            members: 0,
+            join_failed: 0,
+            crashes: 2,
+            stranded: 0,
+            drops: 0,
+            late: 0,
+            timeouts: 0,
+            lookups: 2,
+            found,
+            lost: 0,
+            busy: 0,
+            ignored: 0,
+            unfinished,
+            hops_sum: 3 * u128::from(found),
+            hops_greatest: 3,
+            us_sum: sum,
+            us_least: least,
+            us_median: median,
+            us_greatest: greatest,
+            audits: 2,
+            ringless: 0,
+            unordered: 0,
+            insufficient: 2,
+        };
+        assert!(rt; tally.report() == expected, "{found}");
     }
     Ok(())
 }

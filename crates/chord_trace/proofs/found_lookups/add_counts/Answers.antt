@@ -1,4 +1,4 @@
-use Rattle.std.proofs.Common.{◌≡◌, ◌∙◌, ℕ, ◌+◌, true, List, [], ◌∷◌, ◌++◌, ap, sym, arith, append_assoc, append-nil}
+use Rattle.std.proofs.Common.{◌∙◌, ℕ, ◌+◌, true, [], ◌∷◌, ◌++◌, ap, sym, arith, append_assoc, append-nil}
 use Rattle.chord_trace.specs.Numbers.{counted}
 use Rattle.chord_trace.proofs.Counted.{counted-cons, counted-append}
 use Rattle.chord_trace.proofs.found_lookups.add_counts.Goals as goal

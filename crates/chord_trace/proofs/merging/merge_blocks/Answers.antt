@@ -1,5 +1,4 @@
-use Rattle.std.proofs.Common.{◌≡◌, [], arith, rules, subst, sym}
-use Rattle.std.specs.List.{filter}
+use Rattle.std.proofs.Common.{[], arith, rules, subst, sym}
 use Rattle.std.proofs.lemmas.Fn.{filter_same}
 use Rattle.std.proofs.lemmas.Result.{IfOk-weaker}
 use Rattle.chord_trace.specs.Merging.{IsMerged}

@@ -1,4 +1,4 @@
-use Rattle.std.proofs.Common.{◌≡◌, ◌∙◌, ℕ, ◌+◌, List, ◌++◌, ap, sym, arith, count_by, length, sum}
+use Rattle.std.proofs.Common.{◌≡◌, ◌∙◌, ℕ, ◌++◌, ap, sym, arith, count_by, length, sum}
 use Rattle.std.proofs.lemmas.List.{length-append, length-map, map-append}
 use Rattle.std.proofs.lemmas.List.Sums.{sum_by-append}
 use Rattle.chord_trace.specs.Numbers.{greatest, least, hops_of, times_of}
@@ -17,7 +17,7 @@ returns-clause-has c seen more s t =
       | then-self-eq0 w ↦ w.us_least-is ∙ t.us_least ∙ sym (least_of_second (times_of seen) (times_of more) (mine ∙ w.if-self-eq0.true))
       | else-self-eq0+then-other-eq0 w ↦ w.us_least-is ∙ s.us_least ∙ sym (least_of_first (times_of seen) (times_of more) (others ∙ w.if-other-eq0.true))
       | else-self-eq0+else-other-eq0 w ↦
-        omega (arith, w.us_least-is, w.min.ensures, s.us_least, t.us_least, least_of_both (times_of seen) (times_of more) (λ e. w.if-self-eq0.false (sym mine ∙ e)) (λ e. w.if-other-eq0.false (sym others ∙ e)))
+          omega (arith, w.us_least-is, w.min.ensures, s.us_least, t.us_least, least_of_both (times_of seen) (times_of more) (λ e. w.if-self-eq0.false (sym mine ∙ e)) (λ e. w.if-other-eq0.false (sym others ∙ e)))
     ] in
     record {
       len = omega (arith, s.len, t.len, length-append seen more);
