@@ -1,0 +1,15 @@
+//! Records that stand in raw memory, in chunks of 256, and never move.
+#![tactic(auto)]
+
+mod arena;
+mod chunk;
+mod raw_chunk;
+#[cfg(test)]
+mod tests;
+
+pub use arena::{RecordArena, Ticket};
+// Contracts name an arena only where the types of its fields are exported.
+#[doc(hidden)]
+pub use chunk::Chunk;
+#[doc(hidden)]
+pub use raw_chunk::RawChunk;
