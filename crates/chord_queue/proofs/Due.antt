@@ -11,7 +11,7 @@ use Rattle.std.proofs.lemmas.Cmp.{back_total, nat_cmp_total, on_total, then_tota
 use Rattle.std.proofs.lemmas.List.Elements.{recursion_from_All}
 use Rattle.std.proofs.lemmas.List.MinMax.{ranks_by}
 use Rattle.std.proofs.lemmas.List.Sorted.{sorted_far, IsPermutation-append_comm}
-use Rattle.slab.specs.Slab.{get, ContainsKey}
+use Rattle.slab.specs.Slab.{Slab, get, ContainsKey}
 use Rattle.chord_event.specs.declared.body.Body.{Body}
 use Rattle.chord_event.specs.declared.event.Event.{Event}
 use Rattle.chord_event.specs.declared.key.Key.{Key}
@@ -20,10 +20,9 @@ use Rattle.chord_event.specs.KeyOrder.{InKeyOrder, before}
 use Rattle.chord_event.proofs.KeyLists.{IsIn, all_in, all_from, same_list}
 use Rattle.chord_event.proofs.Members.{contains_filter, filter_contains}
 use Rattle.chord_queue.specs.EventKey.{event_key}
-use Rattle.chord_queue.specs.Places.{waiting_key, waiting_cmp, is_due, events_at, in_key_order, IsPlaced}
-use Rattle.chord_queue.specs.declared.pending.Waiting.{Waiting}
+use Rattle.chord_queue.specs.Places.{Events, Entry, waiting_key, waiting_cmp, is_due, events_at, in_key_order, IsPlaced}
 use Rattle.chord_queue.proofs.Inserting.{is_in, contained}
-use Rattle.chord_queue.proofs.Places.{Events, AreDistinct, Held, held_permuted, distinct_first, distinct_more, distinct_rest, in_of_order, of_order_in, event_in, entry_of, event_of, key_at, ordered, first_out}
+use Rattle.chord_queue.proofs.Places.{AreDistinct, Held, held_permuted, distinct_first, distinct_more, distinct_rest, in_of_order, of_order_in, event_in, entry_of, event_of, key_at, ordered, first_out}
 
 -- what a filter keeps
 in_filter : {A : Type 0} (p : A → Bool) (xs : List A) (x : A) → IsIn x (filter p xs) → IsIn x xs × (p x ≡ true)
@@ -32,7 +31,7 @@ in_filter p xs x h = let c = filter_contains p xs x (contained (filter p xs) x h
 filter_in : {A : Type 0} (p : A → Bool) (xs : List A) (x : A) → IsIn x xs → p x ≡ true → IsIn x (filter p xs)
 filter_in p xs x h t = is_in (filter p xs) x (contains_filter p xs x (contained xs x h) t)
 
-distinct_filter : (p : Waiting → Bool) (ws : List Waiting) → AreDistinct ws → AreDistinct (filter p ws)
+distinct_filter : (p : Entry → Bool) (ws : List Entry) → AreDistinct ws → AreDistinct (filter p ws)
 distinct_filter p [] d = d
 distinct_filter p (w ∷ ws) d = by_test (p w) (distinct_filter p ws (distinct_rest w ws d))
   where
@@ -48,14 +47,14 @@ ordered_filter p (e ∷ es) o = by_test (p e) (ordered_filter p es o.1)
     by_test true on = (all_from (λ x. IsBefore (event_key e) (event_key x)) (filter p es) (λ x h. all_in (λ y. IsBefore (event_key e) (event_key y)) es o.0 x (in_filter p es x h).0), on)
     by_test false on = on
 
-pub held_due : (s : Events) (ws : List Waiting) (h : ℕ) → Held s ws → Held s (filter (is_due h) ws)
+pub held_due : (s : Events) (ws : List Entry) (h : ℕ) → Held s ws → Held s (filter (is_due h) ws)
 held_due s ws h held = record {
   placed = all_from (IsPlaced s) (filter (is_due h) ws) (λ w k. all_in (IsPlaced s) ws held.placed w (in_filter (is_due h) ws w k).0);
   distinct = distinct_filter (is_due h) ws held.distinct;
 }
 
 -- the events of the entries before the horizon
-pub due_events : (s : Events) (ws : List Waiting) (h : ℕ) → Held s ws → in_key_order (events_at s (filter (is_due h) ws)) ≡ before event_key h (in_key_order (events_at s ws))
+pub due_events : (s : Events) (ws : List Entry) (h : ℕ) → Held s ws → in_key_order (events_at s (filter (is_due h) ws)) ≡ before event_key h (in_key_order (events_at s ws))
 due_events s ws h held =
     same_list event_key (in_key_order (events_at s (filter (is_due h) ws))) (before event_key h (in_key_order (events_at s ws)))
     (ordered s (filter (is_due h) ws) (held_due s ws h held)) (ordered_filter early (in_key_order (events_at s ws)) (ordered s ws held)) there back
@@ -63,7 +62,7 @@ due_events s ws h held =
     early : Event Body → Bool
     early e = nat_lt (event_key e).time h
 
-    key_of : (w : Waiting) (z : Event Body) → IsIn w ws → get s w.place ≡ Some z → z.key ≡ waiting_key w
+    key_of : (w : Entry) (z : Event Body) → IsIn w ws → s w.place ≡ Some z → z.key ≡ waiting_key w
     key_of w z k g = key_at s w z (all_in (IsPlaced s) ws held.placed w k) g
 
     there : (z : Event Body) → IsIn z (in_key_order (events_at s (filter (is_due h) ws))) → IsIn z (filter early (in_key_order (events_at s ws)))
@@ -81,31 +80,31 @@ due_events s ws h held =
 waiting_total : IsTotalOrder waiting_cmp
 waiting_total =
     then_total (back_total (on_total waiting_key (then_total (on_total (λ (k : Key). k.time) nat_cmp_total) (then_total (on_total (λ (k : Key). k.origin) nat_cmp_total) (on_total (λ (k : Key). k.number) nat_cmp_total)))))
-    (on_total (λ (w : Waiting). w.place) nat_cmp_total)
+    (on_total (λ (w : Entry). w.place) nat_cmp_total)
 
-last_greatest : (ws : List Waiting) (w : Waiting) → IsSorted waiting_cmp (ws ++ w ∷ []) → IsUpperBound waiting_cmp w ws
+last_greatest : (ws : List Entry) (w : Entry) → IsSorted waiting_cmp (ws ++ w ∷ []) → IsUpperBound waiting_cmp w ws
 last_greatest ws w up = recursion_from_All (λ v. is_lt (waiting_cmp w v) ≡ false) ws (λ i d h.
-    let far = sorted_far (λ a b. is_lt (waiting_cmp a b)) (ranks_by waiting_total (λ (v : Waiting). v)) (ws ++ w ∷ []) up i (length ws) d (omega (arith, h)) (omega (arith, length-append ws (w ∷ []))) in
+    let far = sorted_far (λ a b. is_lt (waiting_cmp a b)) (ranks_by waiting_total (λ (v : Entry). v)) (ws ++ w ∷ []) up i (length ws) d (omega (arith, h)) (omega (arith, length-append ws (w ∷ []))) in
     (λ j. is_lt (waiting_cmp (sym (get_or-append_seam ws w [] d) j) (sym (get_or-append ws (w ∷ []) d i h) j))) ∙ far)
 
-sorted_front : (ws : List Waiting) (w : Waiting) → IsSorted waiting_cmp (ws ++ w ∷ []) → IsSorted waiting_cmp ws
+sorted_front : (ws : List Entry) (w : Entry) → IsSorted waiting_cmp (ws ++ w ∷ []) → IsSorted waiting_cmp ws
 sorted_front ws w up k d l h =
     (λ j. is_lt (waiting_cmp (sym (get_or-append ws (w ∷ []) d (k + 1) h) j) (sym (get_or-append ws (w ∷ []) d k (omega (arith, h))) j))) ∙ up k d l (omega (arith, h, length-append ws (w ∷ [])))
 
 -- sorted entries, of which the last has the first key
-pub record Due (s : Events) (ws : List Waiting) : Type 0 where
+pub record Due (s : Events) (ws : List Entry) : Type 0 where
   pub held : Held s ws
   pub sorted : IsSorted waiting_cmp ws
 
 -- the last entry is taken
-pub last_out : (s : Events) (ws : List Waiting) (w : Waiting) (e : Event Body) → Due s (ws ++ w ∷ []) → get s w.place ≡ Some e
+pub last_out : (s : Events) (ws : List Entry) (w : Entry) (e : Event Body) → Due s (ws ++ w ∷ []) → s w.place ≡ Some e
     → Due s ws × (in_key_order (events_at s (ws ++ w ∷ [])) ≡ e ∷ in_key_order (events_at s ws))
 last_out s ws w e due g =
     let out = first_out s (ws ++ w ∷ []) ws w e due.held (IsPermutation-append_comm ws (w ∷ [])) (last_greatest ws w due.sorted) g in
     (record { held = out.0; sorted = sorted_front ws w due.sorted }, out.1)
 
-last_placed : (s : Events) (ws : List Waiting) (w : Waiting) → Due s (ws ++ w ∷ []) → IsPlaced s w
+last_placed : (s : Events) (ws : List Entry) (w : Entry) → Due s (ws ++ w ∷ []) → IsPlaced s w
 last_placed s ws w due = (held_permuted s (ws ++ w ∷ []) (w ∷ ws) (IsPermutation-append_comm ws (w ∷ [])) due.held).placed.0
 
-pub last_some : (s : Events) (ws : List Waiting) (w : Waiting) → Due s (ws ++ w ∷ []) → ContainsKey s w.place
-last_some s ws w due = let own = event_of s w (last_placed s ws w due) in subst IsSome (sym own.1) refl
+pub last_some : (s : Slab (Event Body)) (ws : List Entry) (w : Entry) → Due (get s) (ws ++ w ∷ []) → ContainsKey s w.place
+last_some s ws w due = let own = event_of (get s) w (last_placed (get s) ws w due) in subst IsSome (sym own.1) refl

@@ -1,3 +1,4 @@
 pub mod Due
 pub mod Inserting
 pub mod Places
+pub mod Tickets

@@ -1,34 +1,41 @@
--- The entries of the heap, and the events at their places.
-use Rattle.std.specs.Prelude.{◌≡◌, ℕ, Bool, nat_lt, List, [], ◌∷◌, map, IsSomeAnd}
+-- The entries of a heap, and the events at their places.
+use Rattle.std.specs.Prelude.{◌≡◌, ℕ, Bool, nat_lt, List, [], ◌∷◌, map, Option, IsSomeAnd}
 use Rattle.std.specs.List.{AllByRecursion, IsDistinct, filter_map}
 use Rattle.std.specs.BinaryHeap.{IsHeap, heap_items, heap_len}
 use Rattle.std.specs.Ordering.{nat_cmp, ordering_then}
 use Rattle.std.specs.declared.cmp.Ordering.{Ordering}
-use Rattle.slab.specs.Slab.{Slab, get, slab_len}
+use Rattle.slab.specs.Slab.{get, slab_len}
 use Rattle.chord_event.specs.declared.body.Body.{Body}
 use Rattle.chord_event.specs.declared.event.Event.{Event}
 use Rattle.chord_event.specs.declared.key.Key.{Key}
 use Rattle.chord_event.specs.Keys.{is_same_key, key_cmp}
 use Rattle.chord_event.specs.KeyOrder.{put_in_order}
 use Rattle.chord_queue.specs.EventKey.{event_key}
-use Rattle.chord_queue.specs.declared.pending.Waiting.{Waiting}
+use Rattle.chord_queue.specs.declared.waiting.Waiting.{Waiting}
 use Rattle.chord_queue.specs.declared.pending.Pending.TheInside.{Inside}
 
+-- what stands at each place
+abbrev pub Events : Type 0
+Events = ℕ → Option (Event Body)
+
+abbrev pub Entry : Type 0
+Entry = Waiting ℕ
+
 -- the key of an entry
-abbrev pub waiting_key : Waiting → Key
+abbrev pub waiting_key : Entry → Key
 waiting_key w = w.key.0
 
 -- by key, turned round, and then by place
-abbrev pub waiting_cmp : Waiting → Waiting → Ordering
+abbrev pub waiting_cmp : Entry → Entry → Ordering
 waiting_cmp a b = ordering_then (key_cmp (waiting_key b) (waiting_key a)) (nat_cmp a.place b.place)
 
 -- whether an entry's time is before the horizon
-abbrev pub is_due : (horizon : ℕ) → Waiting → Bool
+abbrev pub is_due : (horizon : ℕ) → Entry → Bool
 is_due horizon w = nat_lt (waiting_key w).time horizon
 
 -- the events at the places of the entries
-abbrev pub events_at : Slab (Event Body) → List Waiting → List (Event Body)
-events_at s ws = filter_map (λ w. get s w.place) ws
+abbrev pub events_at : Events → List Entry → List (Event Body)
+events_at s ws = filter_map (λ w. s w.place) ws
 
 -- the events, in key order
 abbrev pub in_key_order : List (Event Body) → List (Event Body)
@@ -36,15 +43,15 @@ in_key_order [] = []
 in_key_order (e ∷ es) = put_in_order event_key e (in_key_order es)
 
 abbrev pub pending_of : Inside → List (Event Body)
-pending_of p = in_key_order (events_at p.events (heap_items p.heap))
+pending_of p = in_key_order (events_at (get p.events) (heap_items p.heap))
 
 -- the entry's place has an event of its key
-abbrev pub IsPlaced : Slab (Event Body) → Waiting → Type 0
-IsPlaced s w = IsSomeAnd (get s w.place) (λ e. e.key ≡ waiting_key w)
+abbrev pub IsPlaced : Events → Entry → Type 0
+IsPlaced s w = IsSomeAnd (s w.place) (λ e. e.key ≡ waiting_key w)
 
 -- the heap's entries have keys of their own, and places with events of these keys; no other place has an event
 pub record IsPlacedHeap (p : Inside) : Type 0 where
   pub ordered : IsHeap waiting_cmp (heap_items p.heap)
-  pub placed : AllByRecursion (IsPlaced p.events) (heap_items p.heap)
+  pub placed : AllByRecursion (IsPlaced (get p.events)) (heap_items p.heap)
   pub distinct : IsDistinct is_same_key (map waiting_key (heap_items p.heap))
   pub counted : slab_len p.events ≡ heap_len p.heap

@@ -4,5 +4,8 @@
 mod pending;
 #[cfg(test)]
 mod tests;
+mod waiting;
+mod window_queue;
 
 pub use pending::Pending;
+pub use window_queue::WindowQueue;

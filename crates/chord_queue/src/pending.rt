@@ -8,24 +8,18 @@ ghost use Rattle.chord_event.specs.KeyOrder.{InKeyOrder, IsNewKey, put_in_order,
 ghost use Rattle.chord_queue.specs.EventKey.{event_key};
 ghost use Rattle.chord_queue.specs.Places.{waiting_cmp, is_due};
 
-use chord_event::{Event, Key, Memory};
+use crate::waiting::Waiting;
+use chord_event::{Event, Memory};
 use slab::Slab;
 use std::alloc::Global;
 use std::cmp::Reverse;
 use std::collections::BinaryHeap;
 use std::marker::Model;
 
-/// A key with the place of its event. The heap gives the greatest first, so the keys are turned round.
-#[derive(Clone, Copy, Debug, PartialEq, Eq, PartialOrd, Ord)]
-struct Waiting {
-    key: Reverse<Key>,
-    place: usize,
-}
-
 /// The events that are still to come, which contracts see as their list in the order of their keys.
 #[derive(Drop)]
 pub struct Pending {
-    heap: BinaryHeap<Waiting>,
+    heap: BinaryHeap<Waiting<usize>>,
     events: Slab<Event>,
     alloc: Global,
 }
@@ -140,10 +134,10 @@ impl Pending {
 
 /// The keys and places of the events before a time in microseconds, the first event last.
 fn due_before(
-    heap: &BinaryHeap<Waiting>,
+    heap: &BinaryHeap<Waiting<usize>>,
     alloc: Global,
     horizon: u64,
-) -> Result<Vec<Waiting>, Memory>
+) -> Result<Vec<Waiting<usize>>, Memory>
     ensures same { IfOk result (λ due. IsPermutation (filter (is_due horizon) (heap_items heap.now)) due.items) }
     ensures sorted { IfOk result (λ due. IsSorted waiting_cmp due.items) }
 {

@@ -1,19 +1,19 @@
 use Rattle.std.proofs.Common.{◌≡◌, ◌∙◌, refl, sym, ap, subst, arith}
 use Rattle.std.specs.BinaryHeap.{IsHeap, heap_items}
-use Rattle.slab.specs.Slab.{slab_len}
+use Rattle.slab.specs.Slab.{get, slab_len}
 use Rattle.chord_event.specs.KeyOrder.{put_in_order}
 use Rattle.chord_queue.specs.EventKey.{event_key}
 use Rattle.chord_queue.specs.Places.{waiting_cmp, events_at, in_key_order}
-use Rattle.chord_queue.proofs.Places.{Held, inserted, kept_by, placed_by}
+use Rattle.chord_queue.proofs.Places.{Held, changes_by, inserted, kept_by, placed_by}
 use Rattle.chord_queue.proofs.pending.Pending.insert.Goals as goal
 
-after : (c : goal.In-Ok) → let t = c.insert_reserved-place.new.self in let more = heap_items c.push.new.self in
+after : (c : goal.In-Ok) → let t = get c.insert_reserved-place.new.self in let more = heap_items c.push.new.self in
     Held t more × (in_key_order (events_at t more) ≡ put_in_order event_key c.args.event c.args.self.now)
 after c =
     let s = c.reserve-else-is_err.new.self in let ws = heap_items c.reserve.new.self in let place = c.insert_reserved-place.ensures in
     let kept = kept_by c.self.inside s ws c.self.invariant c.reserve.ensures.items (λ i. (c.reserve-else-is_err.ensures.rest_kept i).slots) in
-    inserted s c.insert_reserved-place.new.self ws (heap_items c.push.new.self) c.args.self.now _ c.args.event kept.0 (kept.1 ∙ c.self.view_is) c.requires refl
-    place.was_vacant place.updates c.in-Ok.ensures.permutation
+    inserted (get s) (get c.insert_reserved-place.new.self) ws (heap_items c.push.new.self) c.args.self.now _ c.args.event kept.0 (kept.1 ∙ c.self.view_is) c.requires refl
+    place.was_vacant (changes_by s c.insert_reserved-place.new.self _ _ place.updates) c.in-Ok.ensures.permutation
 
 pub invariant_of-self-2 : goal.invariant_of-self-2
 invariant_of-self-2 c =

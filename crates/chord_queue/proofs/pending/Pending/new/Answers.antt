@@ -1,9 +1,10 @@
 use Rattle.std.proofs.Common.{◌∙◌, is_some, count_by, sym, ap, subst}
+use Rattle.slab.specs.Slab.{get}
 use Rattle.chord_queue.proofs.Places.{Held, held_none, placed_by}
 use Rattle.chord_queue.proofs.pending.Pending.new.Goals as goal
 
 pub invariant_of-result : goal.invariant_of-result
 invariant_of-result c =
     placed_by (record { heap = c.new.result; events = c.new-2.result; alloc = c.args.alloc }) c.new.ensures.heap_order
-    (subst (Held c.new-2.result) (sym c.new.ensures.items) (held_none c.new-2.result))
+    (subst (Held (get c.new-2.result)) (sym c.new.ensures.items) (held_none (get c.new-2.result)))
     (ap (count_by is_some) c.new-2.ensures.empty ∙ sym c.new.ensures.len)

@@ -1,4 +1,5 @@
 use Rattle.std.proofs.Common.{◌≡◌, ◌++◌, vec_len}
+use Rattle.slab.specs.Slab.{get}
 use Rattle.chord_event.specs.KeyOrder.{before}
 use Rattle.chord_queue.specs.EventKey.{event_key}
 use Rattle.chord_queue.specs.Places.{events_at, in_key_order}
@@ -7,8 +8,8 @@ use Rattle.chord_queue.proofs.pending.Pending.up_to.Given as goal
 
 abbrev pub invariant-loop-waiting : goal.invariant-loop-waiting
 invariant-loop-waiting l = record {
-  due : Due l.self-inside.events l.due.items;
-  whole : l.copies.items ++ in_key_order (events_at l.self-inside.events l.due.items) ≡ before event_key l.horizon l.self;
+  due : Due (get l.self-inside.events) l.due.items;
+  whole : l.copies.items ++ in_key_order (events_at (get l.self-inside.events) l.due.items) ≡ before event_key l.horizon l.self;
 }
 
 abbrev pub decreases-loop-waiting : goal.decreases-loop-waiting
