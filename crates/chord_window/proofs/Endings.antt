@@ -1,0 +1,101 @@
+-- The start and the end of a run by windows.
+use Rattle.std.proofs.Common.{◌≡◌, ◌∙◌, ℕ, zero, suc, ◌+◌, ◌*◌, ◌-◌, ◌/◌, ◌<◌, ◌≤◌, Bool, true, false, cond, List, [], ◌∷◌, ◌++◌, Option, None, Some, option_map, length, length-append, ap, sym, refl, subst, arith}
+use Rattle.std.specs.Prelude.{nat_le}
+use Rattle.std.proofs.lemmas.Bool.Decides.{nat_tests}
+use Rattle.std.proofs.lemmas.Option.{none-some}
+use Rattle.std.specs.Io.KnownBytes.{Appends}
+use Rattle.std.specs.List.{AllByRecursion, filter}
+use Rattle.std.proofs.KnownBytes.{Appends-nil, Appends-trans}
+use Rattle.std.proofs.Math.Nat.{div-lt_iff_lt-mul}
+use Rattle.chord_event.specs.declared.body.Body.{Body}
+use Rattle.chord_event.specs.declared.event.Event.{Event}
+use Rattle.chord_machine.specs.AuditTimes.{audit_times, multiples}
+use Rattle.chord_machine.specs.Chord.{chord}
+use Rattle.chord_machine.specs.Run.{HasTooManyEvents, whole_trace}
+use Rattle.chord_machine.proofs.Audits.{audits-within}
+use Rattle.chord_machine.proofs.WellFormed.{well_formed}
+use Rattle.chord_model.specs.Histories.{history, next, open_audits, output, state, trace}
+use Rattle.chord_model.specs.Laws.{IsWhole}
+use Rattle.chord_model.specs.Schedules.{horizon_from}
+use Rattle.chord_model.proofs.Audits.{trace_at_end}
+use Rattle.chord_model.proofs.Horizons.{whole_from}
+use Rattle.chord_model.proofs.Runs.{history_is_legal}
+use Rattle.chord_scenario.specs.declared.scenario.Scenario.{Scenario}
+use Rattle.chord_scenario.specs.Range.{IsInRange}
+use Rattle.chord_output.specs.Beginning.{IsBeginning}
+use Rattle.chord_output.specs.Output.{Adds, audits_at, due}
+use Rattle.chord_output.proofs.Ends.{audits-few, audits_at_start, whole_trace_is}
+use Rattle.chord_output.proofs.Outputs.{fronts_longer, fronts_then, texts-append}
+use Rattle.chord_trace.proofs.Fronts.{front_of_whole}
+use Rattle.chord_trace.specs.declared.piece.Piece.{Piece}
+use Rattle.chord_trace.specs.declared.tally.Tally.{Tally}
+use Rattle.chord_trace.specs.Tally.{IsTallyOf, taken}
+use Rattle.chord_trace.specs.Texts.{pieces_text}
+use Rattle.chord_trace.specs.Writing.{AppendsFront}
+use Rattle.chord_window.specs.declared.engine.Engine.{Engine}
+use Rattle.chord_window.specs.declared.opening.Opening.{Opening}
+use Rattle.chord_window.specs.Engine.{IsAt}
+use Rattle.chord_window.specs.Worlds.{IsWorldOf, opening_after}
+
+-- what has gone out of an engine is the beginning of a trace
+pub begin_at : (sc : Scenario) (old now : Option (List ℕ)) (e : Engine) → IsAt sc old now e → IsBeginning sc old now
+begin_at sc old now e a =
+    (e.world.count, fronts_longer sc old now (output (chord sc) (history (chord sc) e.world.count)) _ (front_of_whole old now (pieces_text sc (output (chord sc) (history (chord sc) e.world.count))) a.written))
+
+module _ (sc : Scenario) (ranges : IsInRange sc) where
+  pub start_at : (now : Option (List ℕ)) (e : Engine) → IsWorldOf sc e.world → e.world.count ≡ 0 → e.clock ≡ audit_times sc → IsTallyOf [] e.tally → IsAt sc now now e
+  start_at now e world count_is clock_is tally_is =
+      let none : history (chord sc) e.world.count ≡ [] = ap (history (chord sc)) count_is in
+      record {
+        world = world;
+        audits = clock_is ∙ sym (audits_at_start sc ranges) ∙ ap (open_audits (chord sc)) (sym none);
+        written = subst (λ h. Appends now now (pieces_text sc (output (chord sc) h))) (sym none) (Appends-nil now);
+        tallied = subst (λ h. IsTallyOf (output (chord sc) h) e.tally) (sym none) tally_is;
+        room = omega (arith, tally_is.size, ap length clock_is, audits-few sc ranges, count_is);
+      }
+
+  -- The end
+
+  module _ (old now : Option (List ℕ)) (e : Engine) (at : IsAt sc old now e) (ended : e.world.opening ≡ None) where
+    abbrev past : List (Event Body)
+    past = history (chord sc) e.world.count
+
+    no_next : next (chord sc) past ≡ None
+    no_next = go (next (chord sc) past) refl (sym at.world.opening_is ∙ ended)
+      where
+        go : (n : Option (Event Body)) → next (chord sc) past ≡ n → option_map {U = Opening} (λ (z : Event Body). record { time = z.key.time; horizon = horizon_from (chord sc) z.key.time }) n ≡ None → next (chord sc) past ≡ None
+        go None s t = s
+        go (Some z) s t = absurd (some_none (record { time = z.key.time; horizon = horizon_from (chord sc) z.key.time }) t)
+          where
+            some_none : (o : Opening) → Some o ≡ None → ⊥
+            some_none o k = none-some o (sym k)
+
+    abbrev rest : List Piece
+    rest = audits_at sc (state (chord sc) past) (due sc.duration e.clock)
+
+    whole : IsWhole (chord sc) past
+    whole = whole_from (chord sc) (well_formed sc ranges) past (history_is_legal (chord sc) e.world.count) no_next
+
+    few : length past ≤ sc.max_events
+    few = omega (arith, at.world.long, at.world.within)
+
+    pub not_over_limit : HasTooManyEvents sc → ⊥
+    not_over_limit = (whole.within_limit few).1
+
+    trace_is : output (chord sc) past ++ rest ≡ whole_trace sc
+    trace_is = whole_trace_is sc ranges past e.clock at.audits whole few
+
+    pub whole_trace_written : (x : Option (List ℕ)) (last : Tally) → Adds sc now x e.tally last rest → Appends old x (pieces_text sc (whole_trace sc))
+    whole_trace_written x last adds = subst (λ ps. Appends old x (pieces_text sc ps)) trace_is
+        (subst (λ text. Appends old x text) (sym (texts-append sc (output (chord sc) (past)) rest))
+        (Appends-trans old now x (pieces_text sc (output (chord sc) (past))) (pieces_text sc rest) at.written adds.written))
+
+    pub whole_trace_tallied : (x : Option (List ℕ)) (last : Tally) → Adds sc now x e.tally last rest → IsTallyOf (whole_trace sc) last
+    whole_trace_tallied x last adds = subst (λ ps. IsTallyOf ps last) trace_is (adds.tallied (output (chord sc) (past)) at.tallied)
+
+    pub begin_end : (x : Option (List ℕ)) → AppendsFront now x (pieces_text sc rest) → IsBeginning sc old x
+    begin_end x front = (
+      e.world.count,
+      subst (λ ps. AppendsFront old x (pieces_text sc ps)) (trace_is ∙ sym (ap (trace (chord sc)) ((whole.within_limit few).0)))
+          (fronts_then sc old now x (output (chord sc) (past)) rest at.written front),
+    )

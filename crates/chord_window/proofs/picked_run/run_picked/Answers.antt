@@ -1,0 +1,47 @@
+use Rattle.std.proofs.Common.{◌≡◌, ◌∙◌, arith, drop, length, subst, sym}
+use Rattle.chord_model.specs.Windows.{Division as ADivision}
+use Rattle.chord_window.specs.Exchanges.{events_in}
+use Rattle.chord_window.specs.Picked.{HasStepped}
+use Rattle.chord_window.proofs.EngineCourse.{begin_at}
+use Rattle.chord_window.proofs.PickedCourse.{all_steps, come_first, come_on}
+use Rattle.chord_window.proofs.picked_run.run_picked.Goals as goal
+
+pub loop-engine-init : goal.loop-engine-init
+loop-engine-init g c = record {
+  at = c.in_ok-engine.ensures.at _;
+  sound = c.requires.sound;
+  division = c.in_ok-engine.ensures.division;
+  workers = c.in_ok-picked.ensures.workers;
+  idle = c.in_ok-picked.ensures.idle;
+  inside = omega arith;
+  come = come_first c.args.scenario.now c.args.division.now c.args.workers c.args.picks.now c.in_ok-engine.engine.world.count c.new-taken.result.items c.in_ok-engine.ensures.count c.new-taken.ensures.items;
+}
+
+pub run-requires-clause-horizon : goal.run-requires-clause-horizon
+run-requires-clause-horizon g c = (c.in-Some.opening.time, c.in-Some.is)
+
+pub returns-in_err-dones-clause-beginning : goal.returns-in_err-dones-clause-beginning
+returns-in_err-dones-clause-beginning g c = begin_at c.args.scenario.now _ _ c.loop-engine.engine c.loop-engine.invariant.at
+
+pub loop-engine-preserved : goal.loop-engine-preserved
+loop-engine-preserved g c =
+    let inv = c.loop-engine.invariant in
+    record {
+      at = c.in_ok-put_window.ensures.at _ inv.at;
+      sound = c.in_ok-put_window.ensures.sound;
+      division = c.in_ok-put_window.ensures.division ∙ inv.division;
+      workers = c.in_ok-dones.ensures.workers ∙ inv.workers;
+      idle = c.in_ok-dones.ensures.idle;
+      inside = c.in_ok-dones.ensures.next;
+      come = come_on c.args.scenario.now c.loop-engine.engine.world inv.at.world c.args.division.now c.args.workers c.args.picks.now (drop c.loop-engine.next c.args.picks.now) c.loop-engine.taken.items inv.come
+          c.in-Some.opening c.in-Some.is (drop c.run.new.next c.args.picks.now) c.run.new.taken.items (events_in c.in_ok-dones.dones.items) c.put_window.new.self.world.count
+          (subst (λ (d : ADivision). HasStepped c.args.scenario.now d c.args.workers c.loop-engine.engine.world.count c.in-Some.opening.horizon (drop c.loop-engine.next c.args.picks.now) (drop c.run.new.next c.args.picks.now) c.loop-engine.taken.items c.run.new.taken.items (events_in c.in_ok-dones.dones.items)) inv.division
+          (subst (λ n. HasStepped c.args.scenario.now c.loop-engine.engine.world.division n c.loop-engine.engine.world.count c.in-Some.opening.horizon (drop c.loop-engine.next c.args.picks.now) (drop c.run.new.next c.args.picks.now) c.loop-engine.taken.items c.run.new.taken.items (events_in c.in_ok-dones.dones.items)) inv.workers
+          c.in_ok-dones.ensures.steps))
+          c.in_ok-put_window.ensures.count;
+    }
+
+pub returns-clause-steps : goal.returns-clause-steps
+returns-clause-steps g c =
+    let inv = c.loop-engine.invariant in
+    all_steps c.args.scenario.now c.loop-engine.engine.world inv.at.world c.args.division.now c.args.workers c.args.picks.now (drop c.loop-engine.next c.args.picks.now) c.loop-engine.taken.items inv.come c.in_default.is

@@ -1,0 +1,10 @@
+use Rattle.std.proofs.Common.{length}
+use Rattle.chord_window.specs.Picked.{can_go}
+use Rattle.chord_window.proofs.PickedTurns.{lowest_is}
+use Rattle.chord_window.proofs.picked_window.PickedWindow.turn.Goals as goal
+
+pub returns-clause-worker : goal.returns-clause-worker
+returns-clause-worker c = (lowest_is (can_go c.args.self.now) (length c.args.self.now.workers.items) c.args.lowest c.requires.lowest).0
+
+pub returns-clause-can_go : goal.returns-clause-can_go
+returns-clause-can_go c = (lowest_is (can_go c.args.self.now) (length c.args.self.now.workers.items) c.args.lowest c.requires.lowest).1

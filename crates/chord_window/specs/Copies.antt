@@ -1,0 +1,31 @@
+-- States that were copied at the first touch.
+use Rattle.std.specs.Prelude.{◌≡◌, ◌⊎◌, ◌<◌, ℕ, List, [], Option, Some, None, length, slice_index_or}
+use Rattle.chord_model.specs.Windows.{Division, part_of}
+use Rattle.chord_node.specs.declared.state.NodeState.{NodeState}
+use Rattle.chord_window.specs.declared.copies.Copies.{Copies}
+
+-- the state in a slot of the copies, where there is one, or else the world's
+abbrev pub in_slot : NodeState → Option ℕ → List NodeState → List NodeState → ℕ → NodeState
+in_slot other None copies states i = slice_index_or states i other
+in_slot other (Some k) copies states i = slice_index_or copies k other
+
+-- the state of a node as a part sees it
+abbrev pub seen : NodeState → List NodeState → Copies → ℕ → NodeState
+seen other states c i = in_slot other (slice_index_or c.slots.items i None) c.states.items states i
+
+-- the slot is the node's
+pub record IsSlot (c : Copies) (i k : ℕ) : Type 0 where
+  pub slot : slice_index_or c.slots.items i None ≡ Some k
+  pub inside : k < length c.states.items
+
+-- there is a slot for each node, or none at all; each slot has a state of its node, and each state is in the slot of its node, which is of the part
+pub record AreCopies (d : Division) (part : ℕ) (states : List NodeState) (c : Copies) : Type 0 where
+  pub long : (length c.slots.items ≡ length states) ⊎ (c.slots.items ≡ [])
+  pub filled : (i k : ℕ) → slice_index_or c.slots.items i None ≡ Some k → k < length c.states.items
+  pub named : (i k : ℕ) (s : NodeState) → slice_index_or c.slots.items i None ≡ Some k → (slice_index_or c.states.items k s).me ≡ i
+  pub placed : (k : ℕ) (s : NodeState) → k < length c.states.items → slice_index_or c.slots.items (slice_index_or c.states.items k s).me None ≡ Some k
+  pub inside : (k : ℕ) (s : NodeState) → k < length c.states.items → ((slice_index_or c.states.items k s).me < length states) × (part_of d (slice_index_or c.states.items k s).me ≡ part)
+
+-- each node is seen in the same state
+pub record HaveSeen (states : List NodeState) (old new : Copies) : Type 0 where
+  pub same : (i : ℕ) (s : NodeState) → i < length states → seen s states new i ≡ seen s states old i

@@ -1,0 +1,13 @@
+pub mod Copies
+pub mod PartRuns
+pub mod Workers
+pub mod Slots
+pub mod Picked
+pub mod Worlds
+pub mod Delivery
+pub mod Exchanges
+pub mod Merging
+pub mod Engine
+pub mod Divisions
+pub mod Ordering
+pub mod PickedRuns

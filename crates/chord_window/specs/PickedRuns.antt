@@ -1,0 +1,26 @@
+-- Runs whose workers take their steps in turn.
+use Rattle.std.specs.Prelude.{◌≡◌, ◌++◌, ℕ, List, [], map}
+use Rattle.chord_event.specs.declared.body.Body.{Body}
+use Rattle.chord_event.specs.declared.event.Event.{Event}
+use Rattle.chord_machine.specs.Chord.{chord}
+use Rattle.chord_model.specs.Histories.{history}
+use Rattle.chord_model.specs.Schedules.{Goes, begun}
+use Rattle.chord_model.specs.Windows.{Division, Step}
+use Rattle.chord_scenario.specs.declared.scenario.Scenario.{Scenario}
+use Rattle.chord_window.specs.declared.taken.Taken.{Taken}
+use Rattle.chord_window.specs.Picked.{shown}
+
+-- these are the steps of the window machine under the picks, from the first window to the end of the run
+pub record AreStepsOf (sc : Scenario) (d : Division) (workers : ℕ) (picks : List ℕ) (taken : List Taken) : Type 0 where
+  pub steps : List (ℕ × Step Body)
+  pub told : taken ≡ map shown steps
+  pub history_left : List (Event Body)
+  pub goes : Goes (chord sc) (λ _. d) workers (begun (chord sc) 0 []) picks steps history_left
+
+-- these are its steps as far as the first so many events, and these picks are left
+pub record HasCome (sc : Scenario) (d : Division) (workers : ℕ) (picks rest : List ℕ) (count : ℕ) (taken : List Taken) : Type 0 where
+  pub number : ℕ
+  pub steps : List (ℕ × Step Body)
+  pub told : taken ≡ map shown steps
+  pub leads : (more : List (ℕ × Step Body)) (h : List (Event Body)) → Goes (chord sc) (λ _. d) workers (begun (chord sc) number (history (chord sc) count)) rest more h
+      → Goes (chord sc) (λ _. d) workers (begun (chord sc) 0 []) picks (steps ++ more) h

@@ -1,0 +1,62 @@
+ghost use Rattle.std.specs.Prelude.{◌≡◌, ◌⊎◌, ◌<◌, ℕ, Some, None, [], length, slice_index_or, IfOk, OnOk};
+ghost use Rattle.chord_node.specs.declared.state.NodeState.{NodeState as AState};
+ghost use Rattle.chord_model.specs.Windows.{Division, part_of};
+ghost use Rattle.chord_window.specs.Copies.{AreCopies, IsSlot, seen, HaveSeen};
+
+use chord_event::Memory;
+use chord_node::NodeState;
+use std::alloc::Global;
+
+/// The states of the nodes that a part's run has touched, and for each node where its copy stands.
+/// There are no slots until a node is touched.
+#[derive(Drop)]
+pub struct Copies {
+    pub slots: Vec<Option<usize>>,
+    pub states: Vec<NodeState>,
+}
+
+impl Copies {
+    /// No copies, and no slots yet.
+    pub(crate) fn new(alloc: Global) -> Copies
+        ensures slots { result.slots.items ≡ [] }
+        ensures states { result.states.items ≡ [] }
+    {
+        Copies {
+            slots: Vec::new(alloc),
+            states: Vec::new(alloc),
+        }
+    }
+
+    /// Makes a slot for each node, where there is none yet.
+    fn make_slots(&mut self, nodes: usize) -> Result<(), Memory>
+        requires { (length self.old.slots.items ≡ nodes) ⊎ (self.old.slots.items ≡ []) }
+        ensures long { OnOk result (length self.new.slots.items ≡ nodes) }
+        ensures same { OnOk result ((i : ℕ) → slice_index_or self.new.slots.items i None ≡ slice_index_or self.old.slots.items i None) }
+        ensures states { self.new.states ≡ self.old.states }
+    {
+        if self.slots.is_empty() {
+            let alloc = *self.slots.allocator();
+            self.slots = vec![in alloc; None; nodes]?;
+        }
+        Ok(())
+    }
+
+    /// Where the copy of a node's state stands, which is made at the first call.
+    pub(crate) fn touch(&mut self, states: &[NodeState], node: usize) -> Result<usize, Memory>
+        requires copies { (d : Division) × (part : ℕ) × AreCopies d part states.now self.old }
+        requires node { node < length states.now }
+        requires me { (s : AState) → (slice_index_or states.now node s).me ≡ node }
+        ensures same { OnOk result (HaveSeen states.now self.old self.new) }
+        ensures copies { OnOk result ((d : Division) (part : ℕ) → part_of d node ≡ part → AreCopies d part states.now self.old → AreCopies d part states.now self.new) }
+        ensures slot { IfOk result (λ slot. IsSlot self.new node slot) }
+    {
+        self.make_slots(states.len())?;
+        if let Some(slot) = self.slots[node] {
+            return Ok(slot);
+        }
+        let slot = self.states.len();
+        self.states.push(states[node].clone_state()?)?;
+        self.slots[node] = Some(slot);
+        Ok(slot)
+    }
+}

@@ -1,0 +1,127 @@
+ghost use Rattle.std.specs.Prelude.{◌≡◌, ◌⊎◌, ◌+◌, ◌<◌, ◌≤◌, ◌++◌, ℕ, List, map, length, IfOk, IfErr, OnOk, Err};
+ghost use Rattle.std.specs.List.{AllByRecursion};
+ghost use Rattle.chord_machine.specs.Run.{HasTooManyEvents};
+ghost use Rattle.chord_window.specs.Ordering.{AreBlocksInOrder, ArePartsDone};
+ghost use Rattle.chord_window.specs.Exchanges.{AreDone, NameNodes, block_lists, events_in, mails, with_all, with_states};
+ghost use Rattle.chord_window.specs.Worlds.{IsWorldOf};
+
+use crate::ordering::in_part_order;
+use crate::part_run::Done;
+use crate::world::{World, deliver, open_window};
+use chord_event::{Block, Event, RunError};
+use chord_node::NodeState;
+use chord_scenario::Scenario;
+use std::alloc::Global;
+
+/// What the parts of a window leave together.
+#[derive(Drop)]
+pub struct Gathered {
+    pub events: u64,
+    pub mail: Vec<Event>,
+    pub blocks: Vec<Vec<Block>>,
+}
+
+/// Puts states in the places of their nodes.
+fn put_states(states: &mut Vec<NodeState>, nodes: Vec<NodeState>)
+    requires { AllByRecursion (λ s. s.me < length states.old.items) nodes.items }
+    ensures { states.new.items ≡ with_states nodes.items states.old.items }
+{
+    for node in nodes {
+        let at = node.me as usize;
+        states[at] = node;
+    }
+}
+
+/// Takes what the parts leave: their states into the places of their nodes, and the rest together.
+fn gather(
+    alloc: Global,
+    room: u64,
+    states: &mut Vec<NodeState>,
+    dones: Vec<Done>,
+) -> Result<Gathered, RunError>
+    requires { NameNodes (length states.old.items) dones.items }
+    ensures states { OnOk result (states.new.items ≡ with_all dones.items states.old.items) }
+    ensures events { IfOk result (λ g. (g.events ≡ events_in dones.items) × (g.events ≤ room)) }
+    ensures mail { IfOk result (λ g. g.mail.items ≡ mails dones.items) }
+    ensures blocks { IfOk result (λ g. g.blocks.items ≡ block_lists dones.items) }
+    ensures over { result ≡ Err RunError.TooManyEvents → room < events_in dones.items }
+    ensures only { IfErr result (λ e. (e ≡ RunError.Memory) ⊎ (e ≡ RunError.TooManyEvents)) }
+{
+    let mut events = 0;
+    let mut mail = Vec::new(alloc);
+    let mut blocks = Vec::new(alloc);
+    for done in dones {
+        if done.events > room - events {
+            return Err(RunError::TooManyEvents);
+        }
+        events += done.events;
+        put_states(states, done.nodes);
+        let mut more = done.mail;
+        mail.append(&mut more)?;
+        blocks.push(done.blocks)?;
+    }
+    Ok(Gathered {
+        events,
+        mail,
+        blocks,
+    })
+}
+
+/// Puts together what the parts of a window leave, and opens the next window. There is one result of
+/// each part, in any order. The answer is the blocks of each part, in the order of the parts. After
+/// an error the world is spent.
+///
+/// # Errors
+///
+/// `TooManyEvents`, where the run has more events than the scenario allows, and `Memory`, where a
+/// growth is refused.
+pub fn exchange(
+    alloc: Global,
+    scenario: &Scenario,
+    world: &mut World,
+    dones: Vec<Done>,
+) -> Result<Vec<Vec<Block>>, RunError>
+    requires world { IsWorldOf scenario.now world.old }
+    requires done { (horizon : ℕ) × ArePartsDone scenario.now world.old horizon dones.items }
+    ensures world { OnOk result (IsWorldOf scenario.now world.new) }
+    ensures count { OnOk result (world.new.count ≡ world.old.count + events_in dones.items) }
+    ensures division { OnOk result (world.new.division ≡ world.old.division) }
+    ensures blocks { IfOk result (λ blocks. AreBlocksInOrder dones.items world.old.division.parts blocks.items) }
+    ensures over { result ≡ Err RunError.TooManyEvents → HasTooManyEvents scenario.now }
+    ensures only { IfErr result (λ e. (e ≡ RunError.Memory) ⊎ (e ≡ RunError.TooManyEvents)) }
+{
+    let list = in_part_order(alloc, world.division.parts(), dones)?;
+    exchange_in_order(alloc, scenario, world, list)
+}
+
+/// `exchange` of results that are in the order of their parts.
+pub(crate) fn exchange_in_order(
+    alloc: Global,
+    scenario: &Scenario,
+    world: &mut World,
+    dones: Vec<Done>,
+) -> Result<Vec<Vec<Block>>, RunError>
+    requires world { IsWorldOf scenario.now world.old }
+    requires done { (horizon : ℕ) × AreDone scenario.now world.old horizon dones.items }
+    ensures world { OnOk result (IsWorldOf scenario.now world.new) }
+    ensures count { OnOk result (world.new.count ≡ world.old.count + events_in dones.items) }
+    ensures division { OnOk result (world.new.division ≡ world.old.division) }
+    ensures blocks { IfOk result (λ blocks. blocks.items ≡ block_lists dones.items) }
+    ensures over { result ≡ Err RunError.TooManyEvents → HasTooManyEvents scenario.now }
+    ensures only { IfErr result (λ e. (e ≡ RunError.Memory) ⊎ (e ≡ RunError.TooManyEvents)) }
+{
+    scenario.is_in_range();
+    let room = scenario.max_events() - world.count;
+    let Gathered {
+        events,
+        mail,
+        blocks,
+    } = match gather(alloc, room, &mut world.states, dones) {
+        Ok(gathered) => gathered,
+        Err(error) => return Err(error),
+    };
+    world.count += events;
+    deliver(&mut world.parts, &world.division, mail)?;
+    world.opening = open_window(scenario, &mut world.parts)?;
+    Ok(blocks)
+}

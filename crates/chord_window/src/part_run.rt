@@ -1,0 +1,252 @@
+ghost use Rattle.std.specs.Prelude.{◌≡◌, ◌≢◌, ◌⊎◌, ◌+◌, ◌-◌, ◌*◌, ◌<◌, ◌≤◌, ◌^◌, ◌↔◌, ◌++◌, ◌∷◌, [], ℕ, Some, drop, length, slice_index_or, IfOk, IfErr, IfSome, OnOk, Err, IfNone};
+ghost use Rattle.std.specs.List.{AllPairs, Contains};
+ghost use Rattle.chord_event.specs.declared.body.Body.{Body as ABody};
+ghost use Rattle.chord_event.specs.declared.event.Event.{Event as AnEvent};
+ghost use Rattle.chord_event.specs.KeyOrder.{InKeyOrder, from_on};
+ghost use Rattle.chord_machine.specs.Run.{HasTooManyEvents};
+ghost use Rattle.chord_model.specs.Windows.{Division as ADivision};
+ghost use Rattle.chord_node.specs.declared.state.NodeState.{NodeState as AState};
+ghost use Rattle.chord_queue.specs.EventKey.{event_key};
+ghost use Rattle.chord_window.specs.PartRuns.{HasBegun, HasHandled, HasLeft, IsDone, IsFresh, IsHorizon, IsNextKey, IsReady, IsRunning, IsWindow, comes_first};
+ghost use Rattle.chord_window.specs.Worlds.{IsWorldOf};
+
+use crate::copies::Copies;
+use crate::world::World;
+use chord_event::{Block, Event, Key, Memory, RunError};
+use chord_node::NodeState;
+use chord_ops::{Effect, act};
+use chord_queue::WindowQueue;
+use chord_scenario::Scenario;
+use std::alloc::Global;
+
+/// What a part ran in a window.
+#[derive(Drop)]
+pub struct Done {
+    pub part: u32,
+    /// The states of the nodes that it touched.
+    pub nodes: Vec<NodeState>,
+    /// What it made for the horizon or later.
+    pub mail: Vec<Event>,
+    /// What its events left in the trace, in the order of their keys.
+    pub blocks: Vec<Block>,
+    /// How many events it ran.
+    pub events: u64,
+}
+
+/// The run of a part, as far as it has come.
+#[derive(Drop)]
+pub struct PartRun {
+    pub part: u32,
+    /// How many of the due events were taken.
+    pub taken: usize,
+    pub copies: Copies,
+    pub mail: Vec<Event>,
+    pub blocks: Vec<Block>,
+}
+
+impl PartRun {
+    /// Lets the target of an event act on it. The answer is the events that it made.
+    fn handle(
+        &mut self,
+        alloc: Global,
+        scenario: &Scenario,
+        states: &[NodeState],
+        event: &Event,
+    ) -> Result<Vec<Event>, Memory>
+        requires { (division : ADivision) × IsReady scenario.now division states.now self.old event.now }
+        ensures { IfOk result (λ made. (division : ADivision) → IsReady scenario.now division states.now self.old event.now → HasHandled scenario.now division states.now event.now self.old self.new made.items) }
+    {
+        scenario.is_in_range();
+        let slot = self.copies.touch(states, event.target as usize)?;
+        let Effect { events, block } = act(alloc, scenario, &mut self.copies.states[slot], event)?;
+        self.blocks.push(block)?;
+        Ok(events.into_vec())
+    }
+
+    /// The run of a part, before its first event.
+    pub(crate) fn start(
+        alloc: Global,
+        scenario: &Scenario,
+        world: &World,
+        part: u32,
+        horizon: u64,
+    ) -> PartRun
+        requires world { IsWorldOf scenario.now world.now }
+        requires part { part < world.now.division.parts }
+        requires horizon { IsHorizon world.now horizon }
+        ensures { HasBegun scenario.now world.now horizon part result }
+    {
+        scenario.is_in_range();
+        PartRun {
+            part,
+            taken: 0,
+            copies: Copies::new(alloc),
+            mail: Vec::new(alloc),
+            blocks: Vec::new(alloc),
+        }
+    }
+
+    /// What a run leaves to which no event is left.
+    pub(crate) fn finish(self) -> Done
+        ensures { HasLeft self result }
+    {
+        let events = self.blocks.len() as u64;
+        let PartRun {
+            part,
+            taken: _,
+            copies,
+            mail,
+            blocks,
+        } = self;
+        let Copies {
+            slots: _,
+            states: nodes,
+        } = copies;
+        Done {
+            part,
+            nodes,
+            mail,
+            blocks,
+            events,
+        }
+    }
+
+    /// Runs the least event that waits at the part, and answers its key, or `None` where no event is
+    /// left. Where the run may have no more events the answer is `TooManyEvents`.
+    pub(crate) fn step(
+        &mut self,
+        alloc: Global,
+        scenario: &Scenario,
+        world: &World,
+        due: &[Event],
+        horizon: u64,
+        queue: &mut WindowQueue,
+    ) -> Result<Option<Key>, RunError>
+        requires world { IsWorldOf scenario.now world.now }
+        requires window { IsWindow scenario.now world.now horizon due.now }
+        requires part { self.old.part < world.now.division.parts }
+        requires running { IsRunning scenario.now world.now horizon due.now self.old queue.old }
+        ensures running { OnOk result (IsRunning scenario.now world.now horizon due.now self.new queue.new) }
+        ensures part { OnOk result (self.new.part ≡ self.old.part) }
+        ensures more { IfOk result (λ next. IfSome next (λ _. length self.new.blocks.items ≡ length self.old.blocks.items + 1)) }
+        ensures key { IfOk result (λ next. IfSome next (λ key. IsNextKey scenario.now world.now horizon self.old key)) }
+        ensures ended { IfOk result (λ next. IfNone next (drop self.new.taken due.now ++ queue.new.events ≡ [])) }
+        ensures kept { IfOk result (λ next. IfNone next (self.new ≡ self.old)) }
+        ensures over { result ≡ Err RunError.TooManyEvents → HasTooManyEvents scenario.now }
+        ensures only { IfErr result (λ e. (e ≡ RunError.Memory) ⊎ (e ≡ RunError.TooManyEvents)) }
+    {
+        scenario.is_in_range();
+        queue.is_ordered();
+        let full = world.count + self.blocks.len() as u64 >= scenario.max_events();
+        if comes_first(due, self.taken, queue) {
+            if full {
+                return Err(RunError::TooManyEvents);
+            }
+            let event = &due[self.taken];
+            let key = event.key;
+            let made = self.handle(alloc, scenario, &world.states, event)?;
+            self.taken += 1;
+            sort_out(made, horizon, queue, &mut self.mail)?;
+            return Ok(Some(key));
+        }
+        let Some(event) = queue.pop_least() else {
+            return Ok(None);
+        };
+        if full {
+            return Err(RunError::TooManyEvents);
+        }
+        let key = event.key;
+        let made = self.handle(alloc, scenario, &world.states, event)?;
+        sort_out(made, horizon, queue, &mut self.mail)?;
+        Ok(Some(key))
+    }
+}
+
+/// Whether the next due event comes before all that wait in the queue.
+fn comes_first(due: &[Event], taken: usize, queue: &WindowQueue) -> bool
+    ensures { result ≡ comes_first due.now taken queue.now.events }
+{
+    if taken >= due.len() {
+        return false;
+    }
+    match queue.least_key() {
+        None => true,
+        Some(key) => due[taken].key < key,
+    }
+}
+
+/// Puts events for this window into the queue, and the others into the mail.
+fn sort_out(
+    made: Vec<Event>,
+    horizon: u64,
+    queue: &mut WindowQueue,
+    mail: &mut Vec<Event>,
+) -> Result<(), Memory>
+    requires apart { AllPairs (λ a b. a.key ≢ b.key) (queue.old.events ++ made.items) }
+    requires few { queue.old.pushes + length made.items < 2 ^ 32 }
+    ensures queue { OnOk result ((x : AnEvent ABody) → Contains queue.new.events x ↔ (Contains queue.old.events x ⊎ (Contains made.items x × (x.key.time < horizon)))) }
+    ensures ordered { InKeyOrder event_key queue.new.events }
+    ensures pushes { OnOk result (queue.new.pushes ≤ queue.old.pushes + length made.items) }
+    ensures mail { OnOk result (mail.new.items ≡ mail.old.items ++ from_on event_key horizon made.items) }
+{
+    queue.is_ordered();
+    for event in made {
+        if event.key.time < horizon {
+            if let Err(_refused) = queue.push(event) {
+                queue.is_ordered();
+                return Err(Memory);
+            }
+            queue.is_ordered();
+        } else {
+            mail.push(event)?;
+        }
+    }
+    Ok(())
+}
+
+/// Runs the events of a part below the horizon, the least first. The queue is empty after it.
+pub fn run_part(
+    alloc: Global,
+    scenario: &Scenario,
+    world: &World,
+    part: u32,
+    horizon: u64,
+    queue: &mut WindowQueue,
+) -> Result<Done, RunError>
+    requires world { IsWorldOf scenario.now world.now }
+    requires part { part < world.now.division.parts }
+    requires horizon { IsHorizon world.now horizon }
+    requires queue { IsFresh queue.old }
+    ensures done { IfOk result (λ done. IsDone scenario.now world.now horizon part done) }
+    ensures queue { IsFresh queue.new }
+    ensures over { result ≡ Err RunError.TooManyEvents → HasTooManyEvents scenario.now }
+    ensures only { IfErr result (λ e. (e ≡ RunError.Memory) ⊎ (e ≡ RunError.TooManyEvents)) }
+{
+    let outcome = run_events(alloc, scenario, world, part, horizon, queue);
+    queue.give_up();
+    outcome
+}
+
+fn run_events(
+    alloc: Global,
+    scenario: &Scenario,
+    world: &World,
+    part: u32,
+    horizon: u64,
+    queue: &mut WindowQueue,
+) -> Result<Done, RunError>
+    requires world { IsWorldOf scenario.now world.now }
+    requires part { part < world.now.division.parts }
+    requires horizon { IsHorizon world.now horizon }
+    requires queue { IsFresh queue.old }
+    ensures done { IfOk result (λ done. IsDone scenario.now world.now horizon part done) }
+    ensures over { result ≡ Err RunError.TooManyEvents → HasTooManyEvents scenario.now }
+    ensures only { IfErr result (λ e. (e ≡ RunError.Memory) ⊎ (e ≡ RunError.TooManyEvents)) }
+{
+    scenario.is_in_range();
+    let events = &world.parts[part as usize];
+    let due = events.due.as_slice();
+    let mut run = PartRun::start(alloc, scenario, world, part, horizon);
+    while let Some(_key) = run.step(alloc, scenario, world, due, horizon, queue)? {}
+    Ok(run.finish())
+}

@@ -1,0 +1,62 @@
+ghost use Rattle.std.specs.Prelude.{◌≡◌, ◌≢◌, ◌⊎◌, ◌<◌, ◌≤◌, true, false, length, OnOk, IfOk, IfErr, Err};
+ghost use Rattle.std.specs.Io.KnownBytes.{Appends};
+ghost use Rattle.chord_machine.specs.Run.{HasTooManyEvents, IsReport, trace_text};
+ghost use Rattle.chord_output.specs.Beginning.{IsBeginning};
+ghost use Rattle.chord_scenario.specs.World.{node_count};
+ghost use Rattle.chord_trace.specs.Watched.{wrapped, has_failed};
+ghost use Rattle.chord_window.specs.PickedRuns.{AreStepsOf};
+
+use crate::division::Division;
+use crate::engine::Engine;
+use crate::picked_window::PickedWindow;
+use crate::taken::Taken;
+use chord_event::RunError;
+use chord_scenario::Scenario;
+use chord_trace::{Report, Watched};
+use std::alloc::Global;
+use std::io::Write;
+
+/// Runs a scenario by windows, with 1 to 64 workers that take their steps in turn on the calling
+/// thread: each pick names the worker that takes the next step, and after the picks the lowest
+/// worker that can go does. Picks that name no worker, or one that can take no step, are passed over.
+/// Writes the trace and answers the report and the steps. What the writer took of the trace before an
+/// error is its beginning.
+///
+/// # Errors
+///
+/// `BadDivision`, with nothing written, where the division has another number of nodes than the
+/// scenario; `TooManyEvents`, `Write` and `Memory` as `chord_serial::run_serial`.
+pub fn run_picked<W: Write>(
+    alloc: Global,
+    scenario: &Scenario,
+    division: &Division,
+    workers: u32,
+    picks: &[u32],
+    writer: &mut Watched<W>,
+) -> Result<(Report, Vec<Taken>), RunError>
+    requires workers { (0 < workers) × (workers ≤ 64) }
+    requires sound { has_failed writer.old ≡ false }
+    ensures trace { OnOk result (Appends (W.contents (wrapped writer.old)) (W.contents (wrapped writer.new)) (trace_text scenario.now)) }
+    ensures report { IfOk result (λ run. IsReport scenario.now run.0) }
+    ensures steps { IfOk result (λ run. AreStepsOf scenario.now division.now workers picks.now run.1.items) }
+    ensures within { OnOk result (HasTooManyEvents scenario.now → ⊥) }
+    ensures beginning { IsBeginning scenario.now (W.contents (wrapped writer.old)) (W.contents (wrapped writer.new)) }
+    ensures sound { OnOk result (has_failed writer.new ≡ false) }
+    ensures failed { result ≡ Err RunError.Write → has_failed writer.new ≡ true }
+    ensures over { result ≡ Err RunError.TooManyEvents → HasTooManyEvents scenario.now }
+    ensures bad { result ≡ Err RunError.BadDivision → (length division.now.of_node ≢ node_count scenario.now) × (writer.new ≡ writer.old) }
+{
+    scenario.is_in_range();
+    let mut engine = Engine::start(alloc, scenario, division)?;
+    let mut picked = PickedWindow::new(alloc, workers)?;
+    let mut next = 0;
+    let mut taken = Vec::new(alloc);
+    while let Some(opening) = engine.world.opening {
+        let horizon = opening.horizon;
+        let world = &engine.world;
+        let dones = picked.run(alloc, scenario, world, horizon, picks, &mut next, &mut taken)?;
+        engine.put_window(alloc, scenario, opening, dones, writer)?;
+    }
+    let report = engine.finish(alloc, scenario, writer)?;
+    Ok((report, taken))
+}
