@@ -1,19 +1,20 @@
 -- How a run goes on from window to window.
-use Rattle.std.proofs.Common.{◌≡◌, ◌∙◌, ℕ, suc, ◌+◌, ◌<◌, ◌≤◌, ◌^◌, List, [], ◌∷◌, ◌++◌, Option, None, Some, length, map, reverse, get_or, ap, sym, refl, subst, arith, add-one, ◌⊎◌, ⊎_elim}
-use Rattle.std.proofs.lemmas.List.{length-reverse, length-map}
-use Rattle.std.specs.Prelude.{nat_le, nat_lt}
+use Rattle.std.proofs.Common.{◌≡◌, ◌∙◌, ℕ, zero, suc, ◌+◌, ◌<◌, ◌≤◌, ◌^◌, ◌==◌, List, [], ◌∷◌, ◌++◌, Option, None, Some, length, length-append, append_assoc, map, set, get_or, ap, sym, refl, subst, arith, add-one, ⊎_elim}
+use Rattle.std.proofs.lemmas.List.{length-map, length-reverse, length-set}
+use Rattle.std.proofs.lemmas.List.Sums.{length-filter, count_by-le-length}
+use Rattle.std.specs.Prelude.{nat_lt}
 use Rattle.std.specs.Io.KnownBytes.{Appends}
-use Rattle.std.specs.List.{All, Contains, cons_option, filter}
+use Rattle.std.specs.List.{All, Contains, cons_option, filter, flat_map}
 use Rattle.std.proofs.KnownBytes.{Appends-trans}
-use Rattle.chord_audit.specs.Audit.{AreStates}
+use Rattle.chord_audit.specs.Audit.{AreStates, audit_facts}
 use Rattle.chord_event.specs.declared.block.Block.{Block}
 use Rattle.chord_event.specs.declared.body.Body.{Body}
 use Rattle.chord_event.specs.declared.event.Event.{Event}
 use Rattle.chord_event.proofs.Members.{All_at, All_from, contains_append, contains_none}
 use Rattle.chord_machine.specs.Chord.{chord}
-use Rattle.chord_machine.specs.Sound.{IsStateOf}
 use Rattle.chord_machine.proofs.WellFormed.{well_formed}
-use Rattle.chord_model.specs.Histories.{effect_after, history, next, open_audits, output, state}
+use Rattle.chord_model.specs.Histories.{effect_after, history, open_audits, output, state}
+use Rattle.chord_model.specs.Windows.{Division, pieces_since}
 use Rattle.chord_model.proofs.Audits.{output_next}
 use Rattle.chord_model.proofs.Distinct.{meets}
 use Rattle.chord_model.proofs.Runs.{history_is_legal, possible_from_legal}
@@ -24,13 +25,13 @@ use Rattle.chord_scenario.specs.Range.{IsInRange}
 use Rattle.chord_scenario.specs.World.{node_count}
 use Rattle.chord_output.specs.Beginning.{IsBeginning}
 use Rattle.chord_output.specs.Output.{Adds, audits_at, due}
-use Rattle.chord_output.proofs.Outputs.{adds_then, fronts_longer, fronts_then, texts-append}
+use Rattle.chord_output.proofs.Outputs.{fronts_longer, fronts_then, texts-append}
 use Rattle.chord_trace.proofs.Fronts.{front_of_whole}
 use Rattle.chord_trace.specs.declared.piece.Piece.{Piece}
 use Rattle.chord_trace.specs.declared.piece.Piece.TheVariants as piece
 use Rattle.chord_trace.specs.declared.tally.Tally.{Tally}
 use Rattle.chord_trace.specs.Tally.{IsTallyOf, taken}
-use Rattle.chord_trace.specs.Texts.{pieces_text}
+use Rattle.chord_trace.specs.Texts.{block_text, pieces_text}
 use Rattle.chord_trace.specs.Writing.{AppendsFront}
 use Rattle.chord_window.specs.declared.engine.Engine.{Engine}
 use Rattle.chord_window.specs.declared.opening.Opening.{Opening}
@@ -38,12 +39,14 @@ use Rattle.chord_window.specs.declared.part_run.Done.{Done}
 use Rattle.chord_window.specs.declared.world.World.{World}
 use Rattle.chord_window.specs.Engine.{IsAt}
 use Rattle.chord_window.specs.Exchanges.{AreDone, AreDoneFrom, block_lists, events_in}
-use Rattle.chord_window.specs.Merging.{IsMerged, all_blocks}
-use Rattle.chord_window.specs.PartRuns.{IsShortBlock}
+use Rattle.chord_trace.specs.Merging.{IsMerged, all_blocks}
+use Rattle.chord_window.specs.PartRuns.{IsDone, IsShortBlock, ran_by}
+use Rattle.chord_window.specs.Tallies.{AreTalliesOf, blocks_at, share_of, tally_part}
 use Rattle.chord_window.specs.Worlds.{IsWorldOf}
-use Rattle.chord_window.proofs.NextWorld.{exchange_some}
 use Rattle.chord_window.proofs.Openings.{OpensWith, opens_with}
-use Rattle.chord_window.proofs.WindowOutput.{merged_length, window_adds, window_leaves_open}
+use Rattle.chord_window.proofs.Shares.{own_blocks, share-append, share_events, with_audits}
+use Rattle.chord_window.proofs.Tallied.{first_added, with_first}
+use Rattle.chord_window.proofs.WindowOutput.{can_merge, merged_length, of_own_parts, window_adds, window_leaves_open}
 
 pub nowhere : Block
 nowhere = record { key = record { time = 0; origin = 0; number = 0 }; target = 0; lines = [] }
@@ -59,6 +62,62 @@ begin_at sc old now e at = (
 short_lists : (sc : Scenario) (world : World) (horizon k : ℕ) (xs : List Done) → AreDoneFrom sc world horizon k xs → (b : Block) → Contains (all_blocks (block_lists xs)) b → IsShortBlock sc b
 short_lists sc world horizon k [] each b c = absurd (contains_none b c)
 short_lists sc world horizon k (d ∷ xs) each b c = ⊎_elim (λ m. All_at (IsShortBlock sc) d.blocks.items b (each.0).blocks_are m) (λ m. short_lists sc world horizon (suc k) xs each.1 b m) (contains_append d.blocks.items (all_blocks (block_lists xs)) b c)
+
+-- the texts of blocks are those of their pieces
+blocks_text : (sc : Scenario) (bs : List Block) → pieces_text sc (map piece.OfEvent bs) ≡ flat_map (block_text sc) bs
+blocks_text sc [] = refl
+blocks_text sc (b ∷ bs) = ap (λ l. block_text sc b ++ l) (blocks_text sc bs)
+
+pub share_shorter : (d : Division) (pieces : List Piece) (part : ℕ) → length (share_of d pieces part) ≤ length pieces
+share_shorter d pieces part = omega (arith, length-filter (λ p. tally_part d p == part) pieces, count_by-le-length (λ p. tally_part d p == part) pieces)
+
+-- the tallies after audits, which go into the first one
+module _ {sc : Scenario} {old now : Option (List ℕ)} {e : Engine} (at : IsAt sc old now e) where
+  pub first_tally : 0 < e.world.division.parts → (before : Tally) → before ≡ get_or e.tallies.items 0 before → IsTallyOf (share_of e.world.division (output (chord sc) (history (chord sc) e.world.count)) 0) before
+  first_tally some before is = subst (λ t. IsTallyOf (share_of e.world.division (output (chord sc) (history (chord sc) e.world.count)) 0) t) (sym is) (at.tallied 0 before (omega (arith, some, at.each)))
+
+  pub audits_fit : 0 < e.world.division.parts → sc.max_events ≤ 50000000 → (before : Tally) → before ≡ get_or e.tallies.items 0 before → taken before + length e.clock ≤ 2 ^ 40
+  audits_fit some few before is = omega (arith, (first_tally some before is).size, share_shorter e.world.division (output (chord sc) (history (chord sc) e.world.count)) 0, at.room, at.world.within, few)
+
+  pub middle_tallied : (audits : List Piece) (before after : Tally) → before ≡ get_or e.tallies.items 0 before → ((earlier : List Piece) → IsTallyOf earlier before → IsTallyOf (earlier ++ audits) after)
+      → AreTalliesOf (with_first (share_of e.world.division (output (chord sc) (history (chord sc) e.world.count))) audits) (set e.tallies.items 0 after)
+  middle_tallied audits before after is adds = first_added (share_of e.world.division (output (chord sc) (history (chord sc) e.world.count))) e.tallies.items audits at.tallied before after is adds
+
+  pub few_audits : 0 < e.world.division.parts → (audits : List Piece) (before after : Tally) → before ≡ get_or e.tallies.items 0 before → ((earlier : List Piece) → IsTallyOf earlier before → IsTallyOf (earlier ++ audits) after)
+      → (left : ℕ) → taken after + left ≡ taken before + length e.clock → length audits + left ≡ length e.clock
+  few_audits some audits before after is adds left size =
+      let first = first_tally some before is in
+      let more = adds (share_of e.world.division (output (chord sc) (history (chord sc) e.world.count)) 0) first in
+      omega (arith, first.size, more.size, size, length-append (share_of e.world.division (output (chord sc) (history (chord sc) e.world.count)) 0) audits)
+
+pieces_long : (sc : Scenario) (h g : List (Event Body)) → length (pieces_since (chord sc) h g) ≡ length g
+pieces_long sc h [] = refl
+pieces_long sc h (e ∷ g) = ap suc (pieces_long sc h g)
+
+-- a part has a block for each of its events
+done_length : (sc : Scenario) (world : World) (horizon k : ℕ) (done : Done) → IsDone sc world horizon k done → length done.blocks.items ≡ done.events
+done_length sc world horizon k done is =
+    let pieces = pieces_since (chord sc) (history (chord sc) world.count) (ran_by sc world horizon done) in
+    omega (
+      arith,
+      length-map done.blocks.items piece.OfEvent,
+      ap length is.pieces_are,
+      length-reverse (map (λ b. b.1) pieces),
+      length-map pieces (λ b. b.1),
+      pieces_long sc (history (chord sc) world.count) (ran_by sc world horizon done),
+      is.long,
+    )
+
+list_within : (sc : Scenario) (world : World) (horizon k : ℕ) (xs : List Done) → AreDoneFrom sc world horizon k xs → (part : ℕ) → length (blocks_at (block_lists xs) part) ≤ events_in xs
+list_within sc world horizon k [] each part = omega arith
+list_within sc world horizon k (d ∷ xs) each zero = omega (arith, done_length sc world horizon k d each.0)
+list_within sc world horizon k (d ∷ xs) each (suc part) = omega (arith, list_within sc world horizon (suc k) xs each.1 part)
+
+-- the blocks of each part are short
+pub lists_short : (sc : Scenario) (world : World) (horizon k : ℕ) (xs : List Done) → AreDoneFrom sc world horizon k xs → (part : ℕ) → All (λ (b : Block). length b.lines ≤ 64) (blocks_at (block_lists xs) part)
+lists_short sc world horizon k [] each part = λ i b l. absurd (omega (arith, l))
+lists_short sc world horizon k (d ∷ xs) each zero = λ i b l. ((each.0).blocks_are i b l).short
+lists_short sc world horizon k (d ∷ xs) each (suc part) = lists_short sc world horizon (suc k) xs each.1 part
 
 module _ (sc : Scenario) (ranges : IsInRange sc) (old now : Option (List ℕ)) (e : Engine) (at : IsAt sc old now e) where
   abbrev past : List (Event Body)
@@ -98,8 +157,29 @@ module _ (sc : Scenario) (ranges : IsInRange sc) (old now : Option (List ℕ)) (
             ∙ ap (λ t. output (chord sc) past ++ (audits_at sc (state (chord sc) past) (due t (open_audits (chord sc) past)) ++ last)) (sym first.time_is)
             ∙ ap (λ ts. output (chord sc) past ++ (audits_at sc (state (chord sc) past) (due o.time ts) ++ last)) (sym at.audits)
 
-    pub begin_middle : (x : Option (List ℕ)) (middle : Tally) → Adds sc now x e.tally middle (audits_at sc (state (chord sc) past) (due o.time e.clock)) → IsBeginning sc old x
-    begin_middle x middle audits = begin_audits x (front_of_whole now x (pieces_text sc (audits_at sc (state (chord sc) past) (due o.time e.clock))) audits.written)
+    pub begin_middle : (x : Option (List ℕ)) (before after : Tally) → Adds sc now x before after (audits_at sc (state (chord sc) past) (due o.time e.clock)) → IsBeginning sc old x
+    begin_middle x before after audits = begin_audits x (front_of_whole now x (pieces_text sc (audits_at sc (state (chord sc) past) (due o.time e.clock))) audits.written)
+
+    -- each tally has room for the blocks of its part
+    pub blocks_fit : (dones : List Done) → AreDone sc e.world o.horizon dones → (middle : Option (List ℕ)) (before after : Tally) → 0 < e.world.division.parts → before ≡ get_or e.tallies.items 0 before
+        → Adds sc now middle before after (audits_at sc (state (chord sc) past) (due o.time e.clock)) → (left : ℕ) → taken after + left ≡ taken before + length e.clock → e.world.count + events_in dones ≤ sc.max_events
+        → (part : ℕ) (t : Tally) → part < length (set e.tallies.items 0 after) → taken (get_or (set e.tallies.items 0 after) part t) + length (blocks_at (block_lists dones) part) ≤ 2 ^ 40
+    blocks_fit dones a middle before after some first_is audits left size many part t l =
+        let d = e.world.division in
+        let new = audits_at sc (state (chord sc) past) (due o.time e.clock) in
+        let is = middle_tallied at new before after first_is audits.tallied part t l in
+        omega (
+          arith,
+          is.size,
+          ap length (with_audits d (audit_facts sc (state (chord sc) past)) (output (chord sc) past) (due o.time e.clock) part),
+          share_shorter d (output (chord sc) past ++ new) part,
+          length-append (output (chord sc) past) new,
+          few_audits at some new before after first_is audits.tallied left size,
+          at.room,
+          many,
+          list_within sc e.world o.horizon 0 dones a.each part,
+          ranges.numbers.max_events_greatest,
+        )
 
     module _ (dones : List Done) (a : AreDone sc e.world o.horizon dones) (same_time : a.time ≡ o.time) (bs : List Block) (merged : IsMerged (block_lists dones) bs) where
       abbrev put : List Piece
@@ -116,31 +196,68 @@ module _ (sc : Scenario) (ranges : IsInRange sc) (old now : Option (List ℕ)) (
       pub all_short : All (IsShortBlock sc) bs
       all_short = All_from (IsShortBlock sc) bs (λ b c. short_lists sc e.world o.horizon 0 dones a.each b ((merged.same b).0 c))
 
-      pub begin_blocks : (middle x : Option (List ℕ)) (t : Tally) → Adds sc now middle e.tally t (audits_at sc (state (chord sc) past) (due o.time e.clock)) → AppendsFront middle x (pieces_text sc (map piece.OfEvent bs)) → IsBeginning sc old x
-      begin_blocks middle x t audits front = (
+      -- the text of the blocks is that of their pieces
+      text_is : pieces_text sc (map piece.OfEvent bs) ≡ flat_map (block_text sc) bs
+      text_is = blocks_text sc bs
+
+      pub begin_blocks : (middle x : Option (List ℕ)) (before after : Tally) → Adds sc now middle before after (audits_at sc (state (chord sc) past) (due o.time e.clock)) → AppendsFront middle x (flat_map (block_text sc) bs) → IsBeginning sc old x
+      begin_blocks middle x before after audits front = (
         e.world.count + events_in dones,
         fronts_longer sc old x (output (chord sc) (history (chord sc) (e.world.count + events_in dones))) _
             (subst (λ ps. AppendsFront old x (pieces_text sc ps)) (sym outputs)
             (fronts_then sc old now x (output (chord sc) past) put at.written
-            (fronts_then sc now middle x (audits_at sc (state (chord sc) past) (due o.time e.clock)) (map piece.OfEvent bs) audits.written front))),
+            (fronts_then sc now middle x (audits_at sc (state (chord sc) past) (due o.time e.clock)) (map piece.OfEvent bs) audits.written
+            (subst (λ t. AppendsFront middle x t) (sym text_is) front)))),
       )
 
-      pub next_at : (f : Engine) (middle new : Option (List ℕ)) (t : Tally) → IsWorldOf sc f.world → f.world.count ≡ e.world.count + events_in dones → f.clock ≡ filter (λ u. nat_lt o.time u) e.clock
-          → Adds sc now middle e.tally t (audits_at sc (state (chord sc) past) (due o.time e.clock)) → Adds sc middle new t f.tally (map piece.OfEvent bs)
-          → taken t + length f.clock ≡ taken e.tally + length e.clock → taken f.tally ≡ taken t + length bs → IsAt sc old new f
-      next_at f middle new t world count clock audits blocks first_size second_size =
-          let all : Adds sc now new e.tally f.tally put = adds_then sc now middle new e.tally t f.tally _ _ audits blocks in
-          let pieces : output (chord sc) (history (chord sc) f.world.count) ≡ output (chord sc) past ++ put = ap (λ k. output (chord sc) (history (chord sc) k)) count ∙ outputs in
-          record {
-            world = world;
-            audits = clock ∙ ap (filter (λ u. nat_lt o.time u)) at.audits ∙ ap (λ t. filter (λ u. nat_lt t u) (open_audits (chord sc) past)) (sym same_time)
-                ∙ sym (window_leaves_open sc ranges e.world at.world o.horizon dones a nowhere) ∙ ap (λ k. open_audits (chord sc) (history (chord sc) k)) (sym count);
-            written = subst (λ ps. Appends old new (pieces_text sc ps)) (sym pieces)
-                (subst (λ text. Appends old new text) (sym (texts-append sc (output (chord sc) past) put))
-                (Appends-trans old now new (pieces_text sc (output (chord sc) past)) (pieces_text sc put) at.written all.written));
-            tallied = subst (λ ps. IsTallyOf ps f.tally) (sym pieces) (all.tallied (output (chord sc) past) at.tallied);
-            room = omega (arith, at.room, first_size, second_size, as_many, count);
-          }
+      -- what each part's tally has after the audits and the blocks is its share
+      abbrev middle_share : ℕ → List Piece
+      middle_share = with_first (share_of e.world.division (output (chord sc) past)) (audits_at sc (state (chord sc) past) (due o.time e.clock))
+
+      shares_are : (part : ℕ) → middle_share part ++ map piece.OfEvent (blocks_at (block_lists dones) part) ≡ share_of e.world.division (output (chord sc) past ++ put) part
+      shares_are part =
+          let d = e.world.division in
+          let audits = audits_at sc (state (chord sc) past) (due o.time e.clock) in
+          ap (λ l. l ++ map piece.OfEvent (blocks_at (block_lists dones) part)) (with_audits d (audit_facts sc (state (chord sc) past)) (output (chord sc) past) (due o.time e.clock) part)
+          ∙ ap (λ l. share_of d (output (chord sc) past ++ audits) part ++ map piece.OfEvent l)
+          (sym (own_blocks d (block_lists dones) bs (can_merge sc ranges e.world at.world o.horizon dones a nowhere) (of_own_parts sc ranges e.world at.world o.horizon dones a nowhere) merged part))
+          ∙ ap (λ l. share_of d (output (chord sc) past ++ audits) part ++ l) (sym (share_events d bs part))
+          ∙ sym (share-append d (output (chord sc) past ++ audits) (map piece.OfEvent bs) part)
+          ∙ ap (λ l. share_of d l part) (append_assoc (output (chord sc) past) audits (map piece.OfEvent bs))
+
+      module _ (middle : Option (List ℕ)) (before after : Tally) (some : 0 < e.world.division.parts) (first_is : before ≡ get_or e.tallies.items 0 before)
+          (audits : Adds sc now middle before after (audits_at sc (state (chord sc) past) (due o.time e.clock))) (left : ℕ) (size : taken after + left ≡ taken before + length e.clock) where
+        pub next_at : (f : Engine) (new : Option (List ℕ)) → IsWorldOf sc f.world → f.world.count ≡ e.world.count + events_in dones → f.world.division ≡ e.world.division
+            → f.clock ≡ filter (λ u. nat_lt o.time u) e.clock → length f.clock ≡ left → Appends middle new (flat_map (block_text sc) bs) → length f.tallies.items ≡ length (set e.tallies.items 0 after)
+            → ((share : ℕ → List Piece) → AreTalliesOf share (set e.tallies.items 0 after) → AreTalliesOf (λ part. share part ++ map piece.OfEvent (blocks_at (block_lists dones) part)) f.tallies.items) → IsAt sc old new f
+        next_at f new world count division clock left_is blocks each adds =
+            let pieces : output (chord sc) (history (chord sc) f.world.count) ≡ output (chord sc) past ++ put = ap (λ k. output (chord sc) (history (chord sc) k)) count ∙ outputs in
+            record {
+              world = world;
+              audits = clock ∙ ap (filter (λ u. nat_lt o.time u)) at.audits ∙ ap (λ t. filter (λ u. nat_lt t u) (open_audits (chord sc) past)) (sym same_time)
+                  ∙ sym (window_leaves_open sc ranges e.world at.world o.horizon dones a nowhere) ∙ ap (λ k. open_audits (chord sc) (history (chord sc) k)) (sym count);
+              written = subst (λ ps. Appends old new (pieces_text sc ps)) (sym pieces)
+                  (subst (λ text. Appends old new text) (sym (texts-append sc (output (chord sc) past) put))
+                  (Appends-trans old now new (pieces_text sc (output (chord sc) past)) (pieces_text sc put) at.written
+                  (subst (λ text. Appends now new text) (sym (texts-append sc (audits_at sc (state (chord sc) past) (due o.time e.clock)) (map piece.OfEvent bs)))
+                  (Appends-trans now middle new (pieces_text sc (audits_at sc (state (chord sc) past) (due o.time e.clock))) (pieces_text sc (map piece.OfEvent bs)) audits.written
+                  (subst (λ t. Appends middle new t) (sym text_is) blocks)))));
+              each = each ∙ length-set e.tallies.items 0 after ∙ at.each ∙ ap (λ (d : Division). d.parts) (sym division);
+              tallied = λ part t l. subst (λ ps. IsTallyOf ps (get_or f.tallies.items part t)) (shares_are part ∙ ap (λ ps. share_of e.world.division ps part) (sym pieces) ∙ ap (λ d. share_of d (output (chord sc) (history (chord sc) f.world.count)) part) (sym division))
+                  (adds middle_share (middle_tallied at (audits_at sc (state (chord sc) past) (due o.time e.clock)) before after first_is audits.tallied) part t l);
+              room = omega (
+                arith,
+                at.room,
+                ap length pieces,
+                length-append (output (chord sc) past) put,
+                length-append (audits_at sc (state (chord sc) past) (due o.time e.clock)) (map piece.OfEvent bs),
+                length-map bs piece.OfEvent,
+                as_many,
+                few_audits at some (audits_at sc (state (chord sc) past) (due o.time e.clock)) before after first_is audits.tallied left size,
+                left_is,
+                count,
+              );
+            }
 
 time_in : ℕ → Option Opening → ℕ
 time_in other None = other

@@ -1,5 +1,5 @@
 -- The start and the end of a part's run.
-use Rattle.std.proofs.Common.{◌≡◌, ◌≢◌, ℕ, ◌+◌, ◌<◌, ◌≤◌, List, [], ◌∷◌, ◌++◌, Option, None, Some, length, map, drop, get_or, refl, ap, sym, ◌∙◌, subst, arith, append-nil, ◌↔◌}
+use Rattle.std.proofs.Common.{◌≡◌, ◌≢◌, ℕ, ◌<◌, List, [], ◌++◌, Option, None, Some, length, map, drop, get_or, refl, ap, sym, ◌∙◌, subst, arith, append-nil}
 use Rattle.std.specs.List.{All, Contains}
 use Rattle.std.specs.Prelude.{IfNone, IfSome}
 use Rattle.chord_event.specs.declared.block.Block.{Block}
@@ -10,13 +10,12 @@ use Rattle.chord_machine.specs.Chord.{chord}
 use Rattle.chord_machine.proofs.WellFormed.{well_formed}
 use Rattle.chord_model.specs.Histories.{history, state}
 use Rattle.chord_model.specs.PartRuns.{IsPartAt, part_run}
-use Rattle.chord_model.specs.Windows.{part_of, waiting}
+use Rattle.chord_model.specs.Windows.{part_of}
 use Rattle.chord_model.proofs.Course.{same_read}
 use Rattle.chord_model.proofs.PartCourse.{part_at_start, part_sealed}
 use Rattle.chord_node.specs.declared.state.NodeState.{NodeState}
 use Rattle.chord_node.specs.Ring.{initial_state}
 use Rattle.chord_queue.specs.Queue.{Queue}
-use Rattle.chord_queue.proofs.Inserting.{AreApart}
 use Rattle.chord_scenario.specs.declared.scenario.Scenario.{Scenario}
 use Rattle.chord_scenario.specs.Range.{IsInRange}
 use Rattle.chord_scenario.specs.World.{node_count}
@@ -27,7 +26,7 @@ use Rattle.chord_window.specs.declared.part_run.PartRun.{PartRun}
 use Rattle.chord_window.specs.declared.world.PartEvents.{PartEvents}
 use Rattle.chord_window.specs.declared.world.World.{World}
 use Rattle.chord_window.specs.Copies.{in_slot}
-use Rattle.chord_window.specs.PartRuns.{HasBegun, HasLeft, IsDone, IsFresh, IsHorizon, IsRunningAt, IsRunning, IsShortBlock, IsWindow, HasTouched, seen_in}
+use Rattle.chord_window.specs.PartRuns.{HasBegun, HasLeft, IsDone, IsFresh, IsHorizon, IsRunningAt, IsRunning, IsWindow, HasTouched, seen_in}
 use Rattle.chord_window.specs.Worlds.{IsWorldOf}
 use Rattle.chord_window.proofs.CopyFacts.{no_copies, seen_first}
 use Rattle.chord_window.proofs.Openings.{due_apart, due_waits, window_may_open}

@@ -10,10 +10,10 @@ pub mod Deliveries
 pub mod Ends
 pub mod Exchanged
 pub mod NextWorld
+pub mod Tallied
+pub mod Shares
 pub mod WindowOutput
-pub mod Putting
 pub mod EngineCourse
-pub mod Mergings
 pub mod Endings
 pub mod WorkerSteps
 pub mod PickedSteps

@@ -9,14 +9,14 @@ use Rattle.chord_model.specs.Histories.{history, next}
 use Rattle.chord_model.specs.Schedules.{Goes, begun, begun_at, horizon_from}
 use Rattle.chord_model.specs.Schedules.Goes.{ends}
 use Rattle.chord_model.specs.Schedules.Run.{Ended, Within}
-use Rattle.chord_model.specs.Windows.{Division, Step, opened}
+use Rattle.chord_model.specs.Windows.{Division, opened}
 use Rattle.chord_scenario.specs.declared.scenario.Scenario.{Scenario}
 use Rattle.chord_window.specs.declared.opening.Opening.{Opening}
 use Rattle.chord_window.specs.declared.taken.Taken.{Taken}
 use Rattle.chord_window.specs.declared.world.World.{World}
 use Rattle.chord_window.specs.Picked.{HasStepped, shown}
 use Rattle.chord_window.specs.PickedRuns.{AreStepsOf, HasCome}
-use Rattle.chord_window.specs.Worlds.{IsWorldOf, opening_after}
+use Rattle.chord_window.specs.Worlds.{IsWorldOf}
 use Rattle.chord_window.proofs.Openings.{opens_with}
 
 module _ (sc : Scenario) (world : World) (is : IsWorldOf sc world) where

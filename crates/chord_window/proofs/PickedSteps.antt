@@ -1,6 +1,6 @@
 -- What one step of a worker makes of a window.
-use Rattle.std.proofs.Common.{◌≡◌, ◌≢◌, ℕ, zero, suc, ◌+◌, ◌-◌, ◌*◌, ◌<◌, ◌≤◌, ◌++◌, Bool, true, false, List, [], ◌∷◌, Option, None, Some, length, get_or, set, slice_get, refl, ap, sym, ◌∙◌, subst, inl, inr, ◌⊎◌, ⊎_elim, arith, lt-ltb, ltb-true, eq-eqb}
-use Rattle.std.specs.Prelude.{nat_lt, ◌||◌, is_some, if◌then◌else◌, sum_by}
+use Rattle.std.proofs.Common.{◌≡◌, ◌≢◌, ℕ, zero, suc, ◌+◌, ◌-◌, ◌*◌, ◌<◌, ◌≤◌, true, false, List, [], ◌∷◌, Option, None, Some, length, get_or, set, slice_get, refl, ap, sym, ◌∙◌, subst, inl, inr, ◌⊎◌, ⊎_elim, arith, lt-ltb, ltb-true}
+use Rattle.std.specs.Prelude.{nat_lt, ◌||◌, is_some, if◌then◌else◌}
 use Rattle.std.specs.List.{cons_option}
 use Rattle.std.proofs.Math.ListN.{length-set}
 use Rattle.std.proofs.lemmas.Bool.{cases_eq}
@@ -11,7 +11,7 @@ use Rattle.chord_event.specs.declared.key.Key.{Key}
 use Rattle.chord_machine.specs.Chord.{chord}
 use Rattle.chord_model.specs.Histories.{history, least}
 use Rattle.chord_model.specs.PartRuns.{part_run}
-use Rattle.chord_model.specs.Windows.{Division, Part, Step, Window, after_option, after_pick, after_step, next_step, put, running, waiting}
+use Rattle.chord_model.specs.Windows.{Part, Step, Window, after_option, after_pick, after_step, next_step, put, running, waiting}
 use Rattle.chord_model.specs.Windows.Step.{Drew, Ran, Sealed}
 use Rattle.chord_model.proofs.Steps.{put_other, put_same}
 use Rattle.chord_model.proofs.Turns.{held_pick}
@@ -279,10 +279,10 @@ module _ (sc : Scenario) (world : World) (horizon : ℕ) where
       module _ (x' : Worker) (done : Done) (is_done : IsDone sc world horizon run.part done) (events : done.events ≡ length run.blocks.items) (idle : IsIdle x') where
         pub sealed_next : next_step (chord sc) world.division w (w.held i) ≡ Some (Sealed run.part)
         sealed_next = next_is None (ap least (
-          ap (λ q. waiting (chord sc) world.division (history (chord sc) world.count) horizon q (runs q (length run.blocks.items))) (sym is_done.part_is)
-          ∙ ap (λ n. waiting (chord sc) world.division (history (chord sc) world.count) horizon done.part (runs done.part n)) (sym events)
-          ∙ is_done.sealed.done
-        ))
+            ap (λ q. waiting (chord sc) world.division (history (chord sc) world.count) horizon q (runs q (length run.blocks.items))) (sym is_done.part_is)
+            ∙ ap (λ n. waiting (chord sc) world.division (history (chord sc) world.count) horizon done.part (runs done.part n)) (sym events)
+            ∙ is_done.sealed.done
+            ))
 
         sealed_part : (q : ℕ) → q ≡ run.part → put w.part run.part (record (w.part run.part) { sealed = true }) q ≡ record { ran = ran_by sc world horizon done; sealed = true }
         sealed_part q same = put_same w.part run.part (record (w.part run.part) { sealed = true }) q same

@@ -1,20 +1,18 @@
 -- Whose turn it is, and where the turns lead.
-use Rattle.std.proofs.Common.{◌≡◌, ◌≢◌, ℕ, zero, suc, ◌+◌, ◌<◌, ◌≤◌, ◌++◌, Bool, true, false, cond, List, [], ◌∷◌, Option, None, Some, length, map, slice_get, refl, ap, sym, ◌∙◌, subst, inl, inr, ◌⊎◌, ⊎_elim, arith, append_assoc, append-nil, lt-ltb, ltb-true, ltb-false}
+use Rattle.std.proofs.Common.{◌≡◌, ◌≢◌, ℕ, zero, suc, ◌+◌, ◌<◌, ◌≤◌, ◌++◌, Bool, true, false, List, [], ◌∷◌, Option, None, Some, length, map, refl, ap, sym, ◌∙◌, subst, ⊎_elim, arith, append_assoc, ltb-true}
 use Rattle.std.specs.Prelude.{nat_lt, ◌&&◌, ◌||◌, is_some, IsSome, if◌then◌else◌}
-use Rattle.std.specs.List.{All, AllByRecursion}
 use Rattle.std.specs.Option.{option_or}
-use Rattle.std.proofs.lemmas.Bool.{cases_eq, and_from, and_parts}
+use Rattle.std.proofs.lemmas.Bool.{cases_eq}
 use Rattle.std.proofs.lemmas.List.{map-append}
 use Rattle.chord_event.specs.declared.body.Body.{Body}
 use Rattle.chord_event.specs.declared.event.Event.{Event}
 use Rattle.chord_machine.specs.Chord.{chord}
-use Rattle.chord_model.specs.Histories.{history}
-use Rattle.chord_model.specs.Schedules.{Goes, Run, all_sealed, begun, can_step, lowest, settled, turn}
-use Rattle.chord_model.specs.Schedules.Goes.{ends, steps}
+use Rattle.chord_model.specs.Schedules.{Goes, all_sealed, begun, can_step, lowest, settled, turn}
+use Rattle.chord_model.specs.Schedules.Goes.{steps}
 use Rattle.chord_model.specs.Schedules.Run.{Within}
 use Rattle.chord_model.specs.Windows.{Division, Step, Window, after_step, left_by, next_step, opened, ran_by}
 use Rattle.chord_model.specs.Windows.Step.{Drew}
-use Rattle.chord_model.proofs.Turns.{sealed_from_each, someone_can_step}
+use Rattle.chord_model.proofs.Turns.{someone_can_step}
 use Rattle.chord_scenario.specs.declared.scenario.Scenario.{Scenario}
 use Rattle.chord_window.specs.declared.part_run.Done.{Done}
 use Rattle.chord_window.specs.declared.part_run.PartRun.{PartRun}
@@ -23,7 +21,7 @@ use Rattle.chord_window.specs.declared.taken.Taken.{Taken}
 use Rattle.chord_window.specs.declared.worker.Worker.{Worker}
 use Rattle.chord_window.specs.declared.world.World.{World}
 use Rattle.chord_window.specs.Picked.{IsHeldBy, IsPartOf, IsPickedWith, Leads, can_go_with, has_part, lowest_by, shown, shown_step, turn_by}
-use Rattle.chord_window.proofs.PickedSteps.{get_inside, slot_there}
+use Rattle.chord_window.proofs.PickedSteps.{slot_there}
 
 -- the first that can is the lowest
 pub lowest_found : (can : ℕ → Bool) (i n : ℕ) → lowest_by can i ≡ None → can i ≡ true → i < n → lowest_by can n ≡ Some i

@@ -1,16 +1,15 @@
 -- A window from the first draw to the last seal.
-use Rattle.std.proofs.Common.{◌≡◌, ◌≢◌, ℕ, zero, suc, ◌+◌, ◌<◌, ◌≤◌, ◌++◌, Bool, true, false, List, [], ◌∷◌, Option, None, Some, length, slice_get, refl, ap, sym, ◌∙◌, subst, ⊎_elim, arith}
-use Rattle.std.specs.Prelude.{nat_lt, ◌&&◌, ◌||◌, is_some, if◌then◌else◌}
+use Rattle.std.proofs.Common.{◌≡◌, ◌≢◌, ℕ, zero, suc, ◌+◌, ◌<◌, true, false, List, [], ◌∷◌, Option, None, Some, length, slice_get, refl, ap, sym, ◌∙◌, subst, ⊎_elim, arith}
+use Rattle.std.specs.Prelude.{nat_lt, ◌||◌, is_some, if◌then◌else◌}
 use Rattle.std.specs.List.{AllByRecursion}
 use Rattle.std.proofs.lemmas.Bool.{and_parts, cases_eq}
 use Rattle.chord_event.specs.declared.body.Body.{Body}
-use Rattle.chord_event.specs.declared.event.Event.{Event}
 use Rattle.chord_machine.specs.Chord.{chord}
 use Rattle.chord_machine.proofs.WellFormed.{well_formed}
 use Rattle.chord_model.specs.Histories.{history}
-use Rattle.chord_model.specs.Schedules.{Goes, all_sealed, begun, settled}
+use Rattle.chord_model.specs.Schedules.{Goes, all_sealed, begun}
 use Rattle.chord_model.specs.Schedules.Run.{Within}
-use Rattle.chord_model.specs.Windows.{IsSealedRun, Part, Step, Window, events_run, left_by, opened, ran_by}
+use Rattle.chord_model.specs.Windows.{IsSealedRun, Part, Window, left_by, opened, ran_by}
 use Rattle.chord_model.proofs.Commuting.{windows_leave_histories}
 use Rattle.chord_model.proofs.WindowCourse.{events_run_is, sum_to}
 use Rattle.chord_scenario.specs.declared.scenario.Scenario.{Scenario}

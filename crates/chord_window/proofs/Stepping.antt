@@ -1,13 +1,12 @@
 -- How the run of a part goes on.
-use Rattle.std.proofs.Common.{◌≡◌, ◌≢◌, ℕ, suc, Option, None, Some, ◌+◌, ◌*◌, ◌<◌, ◌≤◌, List, [], ◌∷◌, ◌++◌, length, map, drop, refl, ap, sym, ◌∙◌, subst, inl, inr, ◌⊎◌, ⊎_elim, ◌↔◌, arith, length-append, ◌^◌}
-use Rattle.std.specs.List.{All, Contains, AllPairs, cons_option}
+use Rattle.std.proofs.Common.{◌≡◌, ◌≢◌, ℕ, suc, Option, None, Some, ◌+◌, ◌<◌, ◌≤◌, List, [], ◌∷◌, ◌++◌, length, map, drop, refl, ap, sym, ◌∙◌, subst, inl, inr, ◌⊎◌, ⊎_elim, ◌↔◌, arith, length-append, ◌^◌}
+use Rattle.std.specs.List.{All, Contains, cons_option}
 use Rattle.std.proofs.lemmas.List.{map-append}
-use Rattle.chord_event.specs.declared.block.Block.{Block}
 use Rattle.chord_event.specs.declared.body.Body.{Body}
 use Rattle.chord_event.specs.declared.event.Event.{Event}
 use Rattle.chord_event.specs.Keys.{IsAtMost}
 use Rattle.chord_event.specs.KeyOrder.{InKeyOrder, from_on}
-use Rattle.chord_event.proofs.Members.{All_at, All_from, AllPairs_append, AllPairs_front, AllPairs_at, AllPairs_rest, AllPairs_none, AllPairs_cons, contains_append, contains_cons, contains_here, contains_left, contains_none, contains_right, contains_there}
+use Rattle.chord_event.proofs.Members.{All_at, All_from, AllPairs_append, AllPairs_front, AllPairs_at, AllPairs_rest, contains_append, contains_cons, contains_here, contains_left, contains_none, contains_right, contains_there}
 use Rattle.chord_machine.specs.Chord.{chord}
 use Rattle.chord_machine.specs.Room.{HasRoom}
 use Rattle.chord_machine.specs.Run.{HasTooManyEvents}
@@ -18,9 +17,8 @@ use Rattle.chord_model.specs.Histories.{history, state}
 use Rattle.chord_model.specs.Laws.{MayOpen}
 use Rattle.chord_model.specs.PartRuns.{IsPartAt, part_run}
 use Rattle.chord_model.specs.WellFormed.{IsWellFormed}
-use Rattle.chord_model.specs.Windows.{Division}
 use Rattle.chord_model.proofs.Distinct.{meets}
-use Rattle.chord_model.proofs.PartCourse.{made_all_apart, made_new, part_event_early, part_event_fit, part_event_in, part_goes_on, part_more, part_over, part_possible, part_seen, part_sound, part_target}
+use Rattle.chord_model.proofs.PartCourse.{made_all_apart, made_new, part_event_early, part_event_fit, part_event_in, part_goes_on, part_more, part_over, part_possible, part_seen, part_sound}
 use Rattle.chord_model.proofs.Runs.{history_is_legal, possible_from_legal}
 use Rattle.chord_node.specs.declared.state.NodeState.{NodeState}
 use Rattle.chord_node.specs.Ring.{initial_state}

@@ -1,9 +1,5 @@
 -- The steps of a worker.
-use Rattle.std.proofs.Common.{◌≡◌, ◌∙◌, ℕ, ◌+◌, ◌<◌, ◌≤◌, Option, None, Some, length, refl, ap, sym, subst, arith, List}
-use Rattle.chord_event.specs.declared.body.Body.{Body}
-use Rattle.chord_event.specs.declared.event.Event.{Event}
-use Rattle.chord_event.specs.declared.key.Key.{Key}
-use Rattle.chord_node.specs.declared.state.NodeState.{NodeState}
+use Rattle.std.proofs.Common.{◌≡◌, ℕ, ◌<◌, ◌≤◌, None, Some, sym, subst}
 use Rattle.chord_queue.specs.Queue.{Queue}
 use Rattle.chord_scenario.specs.declared.scenario.Scenario.{Scenario}
 use Rattle.chord_window.specs.declared.part_run.PartRun.{PartRun}
@@ -11,7 +7,7 @@ use Rattle.chord_window.specs.declared.worker.Progress.{Progress}
 use Rattle.chord_window.specs.declared.worker.Progress.TheVariants as progress
 use Rattle.chord_window.specs.declared.worker.Worker.{Worker}
 use Rattle.chord_window.specs.declared.world.World.{World}
-use Rattle.chord_window.specs.PartRuns.{HasBegun, IsFresh, IsRunningAt}
+use Rattle.chord_window.specs.PartRuns.{HasBegun, IsFresh}
 use Rattle.chord_window.specs.Workers.{HasDrawn, HasGoneOn, HasProgressed, IsBusy, IsIdle, MayGoOn, MayGoOnWith}
 
 module _ (sc : Scenario) (w : World) (horizon drawn : ℕ) (x : Worker) (may : MayGoOn sc w horizon drawn x) where

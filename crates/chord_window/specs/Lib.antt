@@ -6,7 +6,7 @@ pub mod Picked
 pub mod Worlds
 pub mod Delivery
 pub mod Exchanges
-pub mod Merging
+pub mod Tallies
 pub mod Engine
 pub mod Divisions
 pub mod Ordering

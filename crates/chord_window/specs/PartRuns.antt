@@ -1,5 +1,5 @@
 -- The run of a part.
-use Rattle.std.specs.Prelude.{◌≡◌, ◌≢◌, ◌+◌, ◌*◌, ◌<◌, ◌≤◌, ◌++◌, ◌∷◌, ◌↔◌, ℕ, Bool, true, false, List, [], Option, None, Some, drop, length, map, reverse, slice_get, slice_index_or, nat_lt, ◌&&◌}
+use Rattle.std.specs.Prelude.{◌≡◌, ◌≢◌, ◌+◌, ◌*◌, ◌<◌, ◌≤◌, ◌++◌, ◌∷◌, ◌↔◌, ℕ, Bool, true, false, List, [], Option, None, Some, drop, length, map, reverse, slice_get, slice_index_or}
 use Rattle.std.specs.List.{All, AllPairs, Contains}
 use Rattle.chord_event.specs.declared.block.Block.{Block}
 use Rattle.chord_event.specs.declared.body.Body.{Body}

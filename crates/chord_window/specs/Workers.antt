@@ -6,7 +6,7 @@ use Rattle.chord_window.specs.declared.worker.Progress.{Progress}
 use Rattle.chord_window.specs.declared.worker.Progress.TheVariants as progress
 use Rattle.chord_window.specs.declared.worker.Worker.{Worker}
 use Rattle.chord_window.specs.declared.world.World.{World}
-use Rattle.chord_window.specs.PartRuns.{HasBegun, IsDone, IsFresh, IsNextKey, IsRunningAt}
+use Rattle.chord_window.specs.PartRuns.{IsDone, IsFresh, IsNextKey, IsRunningAt}
 
 -- the worker has no part
 pub record IsIdle (x : Worker) : Type 0 where

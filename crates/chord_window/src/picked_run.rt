@@ -43,18 +43,22 @@ pub fn run_picked<W: Write>(
     ensures beginning { IsBeginning scenario.now (W.contents (wrapped writer.old)) (W.contents (wrapped writer.new)) }
     ensures sound { OnOk result (has_failed writer.new ≡ false) }
     ensures failed { result ≡ Err RunError.Write → has_failed writer.new ≡ true }
-    ensures over { result ≡ Err RunError.TooManyEvents → HasTooManyEvents scenario.now }
+    ensures memory { result ≡ Err RunError.Memory → has_failed writer.new ≡ false }
+    ensures over { result ≡ Err RunError.TooManyEvents → (HasTooManyEvents scenario.now) × (has_failed writer.new ≡ false) }
     ensures bad { result ≡ Err RunError.BadDivision → (length division.now.of_node ≢ node_count scenario.now) × (writer.new ≡ writer.old) }
+    ensures only { IfErr result (λ e. (e ≡ RunError.Memory) ⊎ (e ≡ RunError.TooManyEvents) ⊎ (e ≡ RunError.Write) ⊎ (e ≡ RunError.BadDivision)) }
 {
     scenario.is_in_range();
     let mut engine = Engine::start(alloc, scenario, division)?;
     let mut picked = PickedWindow::new(alloc, workers)?;
     let mut next = 0;
     let mut taken = Vec::new(alloc);
-    while let Some(opening) = engine.world.opening {
+    while let Some(opening) = engine.opening() {
         let horizon = opening.horizon;
-        let world = &engine.world;
-        let dones = picked.run(alloc, scenario, world, horizon, picks, &mut next, &mut taken)?;
+        let world = engine.world();
+        let dones = picked.run(
+            alloc, scenario, world, horizon, picks, &mut next, &mut taken,
+        )?;
         engine.put_window(alloc, scenario, opening, dones, writer)?;
     }
     let report = engine.finish(alloc, scenario, writer)?;

@@ -117,8 +117,7 @@ impl PickedWindow {
         ensures only { IfErr result (λ e. (e ≡ RunError.Memory) ⊎ (e ≡ RunError.TooManyEvents)) }
     {
         world.division.is_whole();
-        let progress =
-            self.workers[worker].step(alloc, scenario, world, horizon, self.drawn)?;
+        let progress = self.workers[worker].step(alloc, scenario, world, horizon, self.drawn)?;
         match progress {
             Progress::Drew => {
                 let part = self.drawn;

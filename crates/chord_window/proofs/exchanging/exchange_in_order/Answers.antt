@@ -1,4 +1,4 @@
-use Rattle.std.proofs.Common.{◌≡◌, ◌∙◌, ◌+◌, ◌<◌, [], List, length, ap, sym, subst, refl, Err, arith}
+use Rattle.std.proofs.Common.{◌+◌, ◌<◌, [], List, length, ap, sym, subst, refl, Err, arith}
 use Rattle.std.specs.List.{All}
 use Rattle.chord_event.specs.declared.body.Body.{Body}
 use Rattle.chord_event.specs.declared.event.Event.{Event}

@@ -1,13 +1,14 @@
-use Rattle.std.proofs.Common.{◌≡◌, ◌∙◌, arith, drop, length, subst, sym}
+use Rattle.std.proofs.Common.{◌∙◌, ap, arith, drop, length, subst, sym}
 use Rattle.chord_model.specs.Windows.{Division as ADivision}
+use Rattle.chord_window.specs.declared.world.World.{World}
 use Rattle.chord_window.specs.Exchanges.{events_in}
 use Rattle.chord_window.specs.Picked.{HasStepped}
 use Rattle.chord_window.proofs.EngineCourse.{begin_at}
 use Rattle.chord_window.proofs.PickedCourse.{all_steps, come_first, come_on}
 use Rattle.chord_window.proofs.picked_run.run_picked.Goals as goal
 
-pub loop-engine-init : goal.loop-engine-init
-loop-engine-init g c = record {
+pub loop-opening-init : goal.loop-opening-init
+loop-opening-init g c = record {
   at = c.in_ok-engine.ensures.at _;
   sound = c.requires.sound;
   division = c.in_ok-engine.ensures.division;
@@ -18,14 +19,14 @@ loop-engine-init g c = record {
 }
 
 pub run-requires-clause-horizon : goal.run-requires-clause-horizon
-run-requires-clause-horizon g c = (c.in-Some.opening.time, c.in-Some.is)
+run-requires-clause-horizon g c = (c.in-Some.opening.time, ap (λ (w : World). w.opening) c.world-world.ensures ∙ sym c.opening.ensures ∙ c.in-Some.is)
 
 pub returns-in_err-dones-clause-beginning : goal.returns-in_err-dones-clause-beginning
-returns-in_err-dones-clause-beginning g c = begin_at c.args.scenario.now _ _ c.loop-engine.engine c.loop-engine.invariant.at
+returns-in_err-dones-clause-beginning g c = begin_at c.args.scenario.now _ _ c.loop-opening.engine c.loop-opening.invariant.at
 
-pub loop-engine-preserved : goal.loop-engine-preserved
-loop-engine-preserved g c =
-    let inv = c.loop-engine.invariant in
+pub loop-opening-preserved : goal.loop-opening-preserved
+loop-opening-preserved g c =
+    let inv = c.loop-opening.invariant in
     record {
       at = c.in_ok-put_window.ensures.at _ inv.at;
       sound = c.in_ok-put_window.ensures.sound;
@@ -33,15 +34,15 @@ loop-engine-preserved g c =
       workers = c.in_ok-dones.ensures.workers ∙ inv.workers;
       idle = c.in_ok-dones.ensures.idle;
       inside = c.in_ok-dones.ensures.next;
-      come = come_on c.args.scenario.now c.loop-engine.engine.world inv.at.world c.args.division.now c.args.workers c.args.picks.now (drop c.loop-engine.next c.args.picks.now) c.loop-engine.taken.items inv.come
-          c.in-Some.opening c.in-Some.is (drop c.run.new.next c.args.picks.now) c.run.new.taken.items (events_in c.in_ok-dones.dones.items) c.put_window.new.self.world.count
-          (subst (λ (d : ADivision). HasStepped c.args.scenario.now d c.args.workers c.loop-engine.engine.world.count c.in-Some.opening.horizon (drop c.loop-engine.next c.args.picks.now) (drop c.run.new.next c.args.picks.now) c.loop-engine.taken.items c.run.new.taken.items (events_in c.in_ok-dones.dones.items)) inv.division
-          (subst (λ n. HasStepped c.args.scenario.now c.loop-engine.engine.world.division n c.loop-engine.engine.world.count c.in-Some.opening.horizon (drop c.loop-engine.next c.args.picks.now) (drop c.run.new.next c.args.picks.now) c.loop-engine.taken.items c.run.new.taken.items (events_in c.in_ok-dones.dones.items)) inv.workers
-          c.in_ok-dones.ensures.steps))
+      come = come_on c.args.scenario.now c.loop-opening.engine.world inv.at.world c.args.division.now c.args.workers c.args.picks.now (drop c.loop-opening.next c.args.picks.now) c.loop-opening.taken.items inv.come
+          c.in-Some.opening (sym c.opening.ensures ∙ c.in-Some.is) (drop c.run.new.next c.args.picks.now) c.run.new.taken.items (events_in c.in_ok-dones.dones.items) c.put_window.new.self.world.count
+          (subst (λ (d : ADivision). HasStepped c.args.scenario.now d c.args.workers c.loop-opening.engine.world.count c.in-Some.opening.horizon (drop c.loop-opening.next c.args.picks.now) (drop c.run.new.next c.args.picks.now) c.loop-opening.taken.items c.run.new.taken.items (events_in c.in_ok-dones.dones.items)) inv.division
+          (subst (λ n. HasStepped c.args.scenario.now c.loop-opening.engine.world.division n c.loop-opening.engine.world.count c.in-Some.opening.horizon (drop c.loop-opening.next c.args.picks.now) (drop c.run.new.next c.args.picks.now) c.loop-opening.taken.items c.run.new.taken.items (events_in c.in_ok-dones.dones.items)) inv.workers
+          (subst (λ (w : World). HasStepped c.args.scenario.now w.division (length c.loop-opening.picked.workers.items) w.count c.in-Some.opening.horizon (drop c.loop-opening.next c.args.picks.now) (drop c.run.new.next c.args.picks.now) c.loop-opening.taken.items c.run.new.taken.items (events_in c.in_ok-dones.dones.items)) c.world-world.ensures c.in_ok-dones.ensures.steps)))
           c.in_ok-put_window.ensures.count;
     }
 
 pub returns-clause-steps : goal.returns-clause-steps
 returns-clause-steps g c =
-    let inv = c.loop-engine.invariant in
-    all_steps c.args.scenario.now c.loop-engine.engine.world inv.at.world c.args.division.now c.args.workers c.args.picks.now (drop c.loop-engine.next c.args.picks.now) c.loop-engine.taken.items inv.come c.in_default.is
+    let inv = c.loop-opening.invariant in
+    all_steps c.args.scenario.now c.loop-opening.engine.world inv.at.world c.args.division.now c.args.workers c.args.picks.now (drop c.loop-opening.next c.args.picks.now) c.loop-opening.taken.items inv.come (sym c.opening.ensures ∙ c.in_default.is)

@@ -6,8 +6,8 @@ use Rattle.chord_window.specs.PickedRuns.{HasCome}
 use Rattle.chord_window.specs.Workers.{IsIdle}
 use Rattle.chord_window.proofs.picked_run.run_picked.Given as goal
 
-abbrev pub invariant-loop-engine : goal.invariant-loop-engine
-invariant-loop-engine g l = record {
+abbrev pub invariant-loop-opening : goal.invariant-loop-opening
+invariant-loop-opening g l = record {
   at : IsAt l.scenario (g.W.Write.contents (wrapped l.fn.writer)) (g.W.Write.contents (wrapped l.writer)) l.engine;
   sound : has_failed l.writer ≡ false;
   division : l.engine.world.division ≡ l.division;
@@ -17,5 +17,5 @@ invariant-loop-engine g l = record {
   come : HasCome l.scenario l.division l.workers l.picks (drop l.next l.picks) l.engine.world.count l.taken.items;
 }
 
-abbrev pub decreases-loop-engine : goal.decreases-loop-engine
-decreases-loop-engine g l = l.scenario.max_events - l.engine.world.count
+abbrev pub decreases-loop-opening : goal.decreases-loop-opening
+decreases-loop-opening g l = l.scenario.max_events - l.engine.world.count

@@ -1,9 +1,7 @@
-use Rattle.std.proofs.Common.{arith, sym, ap, subst, refl, ◌∙◌, None, Some, get_or, length, ◌<◌, ◌≡◌, ℕ, Option, List, set, Vec}
+use Rattle.std.proofs.Common.{arith, sym, ap, ◌∙◌, None, Some, length, ◌≡◌, set, Vec}
 use Rattle.std.specs.Global.{Global}
 use Rattle.chord_model.proofs.Course.{same_read}
 use Rattle.chord_node.specs.declared.state.NodeState.{NodeState}
-use Rattle.std.specs.Vec.{with_item}
-use Rattle.chord_window.specs.declared.copies.Copies.{Copies}
 use Rattle.chord_window.proofs.CopyFacts.{copies_more, slots_made}
 use Rattle.chord_window.proofs.copies.Copies.touch.Goals as goal
 

@@ -1,4 +1,3 @@
-use Rattle.std.proofs.Common.{arith}
 use Rattle.std.proofs.Math.Nat.{mod-lt}
 use Rattle.chord_window.specs.Divisions.{dealt_part}
 use Rattle.chord_window.proofs.Divided.{one_more}

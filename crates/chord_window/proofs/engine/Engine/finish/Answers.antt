@@ -1,5 +1,5 @@
 -- After the last event, the audits that are left end the trace.
-use Rattle.std.proofs.Common.{ℕ, List, sym, subst}
+use Rattle.std.proofs.Common.{ℕ, List, length, sym, subst}
 use Rattle.std.specs.List.{All}
 use Rattle.chord_audit.specs.Audit.{AreStates}
 use Rattle.chord_machine.specs.Chord.{chord}
@@ -8,61 +8,85 @@ use Rattle.chord_model.specs.Histories.{history, state}
 use Rattle.chord_node.specs.declared.state.NodeState.{NodeState}
 use Rattle.chord_node.specs.Invariant.{AllNodes}
 use Rattle.chord_output.specs.Output.{Adds, audits_at, due}
-use Rattle.chord_window.proofs.EngineCourse.{are_states, states_known}
-use Rattle.chord_window.proofs.Endings.{begin_end, not_over_limit, whole_trace_tallied, whole_trace_written}
-use Rattle.chord_window.proofs.engine.Engine.finish.Goals as goal
 use Rattle.chord_trace.specs.Texts.{pieces_text}
 use Rattle.chord_trace.specs.Writing.{AppendsFront}
+use Rattle.chord_window.specs.Tallies.{share_of}
+use Rattle.chord_window.proofs.EngineCourse.{are_states, audits_fit, states_known}
+use Rattle.chord_window.proofs.Endings.{begin_end, not_over_limit, shares_fit, whole_trace_reported, whole_trace_shared, whole_trace_written}
+use Rattle.chord_window.proofs.engine.Engine.finish.Goals as goal
 
 pub put_audits-requires-clause-succ : goal.put_audits-requires-clause-succ
 put_audits-requires-clause-succ g c =
-    let e = c.args.self.now in
     subst (λ (ss : List NodeState). All (λ (s : NodeState). AllNodes c.args.scenario.now s.succ) ss) (sym c.as_slice.ensures.value)
-    (states_known c.args.scenario.now c.is_in_range.ensures c.requires.at.0 _ c.args.self.now c.requires.at.1)
+    (states_known c.args.scenario.now c.is_in_range.ensures c.requires.at.0 _ c.args.self c.requires.at.1)
+
+pub put_audits-requires-clause-room : goal.put_audits-requires-clause-room
+put_audits-requires-clause-room g c = audits_fit c.requires.at.1 c.is_whole.ensures.few.0 c.is_in_range.ensures.numbers.max_events_greatest c.index_mut.result.now c.index_mut.ensures.value
 
 pub returns-in_err-put_audits-clause-front : goal.returns-in_err-put_audits-clause-front
-returns-in_err-put_audits-clause-front g c = λ old at.
+returns-in_err-put_audits-clause-front g c = λ old t.
     let sc = c.args.scenario.now in
-    let e = c.args.self.now in
+    let ranges = c.is_in_range.ensures in
+    let e = c.args.self in
     let S = state (chord sc) (history (chord sc) e.world.count) in
-    let are = subst (λ (ss : List NodeState). AreStates sc ss S) (sym c.as_slice.ensures.value) (are_states sc c.is_in_range.ensures old _ e at) in
-    begin_end sc c.is_in_range.ensures old _ e at c.requires.ended _
+    begin_end sc ranges old _ e t c.requires.ended _
     (subst (λ (d : ℕ). AppendsFront (g.W.Write.contents c.args.writer.now.inner) (g.W.Write.contents c.put_audits.new.writer.inner) (pieces_text sc (audits_at sc S (due d e.clock)))) c.duration.ensures
-    (c.put_audits.ensures.front S are))
+    (c.put_audits.ensures.front S (subst (λ (ss : List NodeState). AreStates sc ss S) (sym c.as_slice.ensures.value) (are_states sc ranges old _ e t))))
+
+pub returns-in_err-tally-clause-front : goal.returns-in_err-tally-clause-front
+returns-in_err-tally-clause-front g c = λ old t.
+    let sc = c.args.scenario.now in
+    let ranges = c.is_in_range.ensures in
+    let e = c.args.self in
+    let S = state (chord sc) (history (chord sc) e.world.count) in
+    begin_end sc ranges old _ e t c.requires.ended _
+    (subst (λ (d : ℕ). AppendsFront (g.W.Write.contents c.args.writer.now.inner) (g.W.Write.contents c.put_audits.new.writer.inner) (pieces_text sc (audits_at sc S (due d e.clock)))) c.duration.ensures
+    (c.put_audits.ensures.front S (subst (λ (ss : List NodeState). AreStates sc ss S) (sym c.as_slice.ensures.value) (are_states sc ranges old _ e t))))
+
+pub returns-clause-front : goal.returns-clause-front
+returns-clause-front g c = λ old t.
+    let sc = c.args.scenario.now in
+    let ranges = c.is_in_range.ensures in
+    let e = c.args.self in
+    let S = state (chord sc) (history (chord sc) e.world.count) in
+    begin_end sc ranges old _ e t c.requires.ended _
+    (subst (λ (d : ℕ). AppendsFront (g.W.Write.contents c.args.writer.now.inner) (g.W.Write.contents c.put_audits.new.writer.inner) (pieces_text sc (audits_at sc S (due d e.clock)))) c.duration.ensures
+    (c.put_audits.ensures.front S (subst (λ (ss : List NodeState). AreStates sc ss S) (sym c.as_slice.ensures.value) (are_states sc ranges old _ e t))))
+
+pub join_all-requires : goal.join_all-requires
+join_all-requires g c =
+    let sc = c.args.scenario.now in
+    let ranges = c.is_in_range.ensures in
+    let e = c.args.self in
+    let S = state (chord sc) (history (chord sc) e.world.count) in
+    let adds = (subst (λ (d : ℕ). Adds sc (g.W.Write.contents c.args.writer.now.inner) (g.W.Write.contents c.put_audits.new.writer.inner) c.index_mut.result.now c.put_audits.new.tally (audits_at sc S (due d e.clock))) c.duration.ensures (c.in_ok-put_audits.ensures.adds S (subst (λ (ss : List NodeState). AreStates sc ss S) (sym c.as_slice.ensures.value) (are_states sc ranges c.requires.at.0 _ e c.requires.at.1)))) in
+    let some = c.is_whole.ensures.few.0 in
+    record {
+      room = (
+        share_of e.world.division (whole_trace sc),
+        whole_trace_shared sc ranges c.requires.at.0 _ e c.requires.at.1 c.requires.ended some c.is_whole.ensures.below c.index_mut.result.now c.put_audits.new.tally c.index_mut.ensures.value adds.tallied,
+        shares_fit sc ranges c.requires.at.0 _ e c.requires.at.1 c.requires.ended some c.is_whole.ensures.below c.index_mut.result.now c.put_audits.new.tally c.index_mut.ensures.value adds.tallied (length c.put_audits.new.clock) c.in_ok-put_audits.ensures.size,
+      );
+    }
 
 pub returns-clause-whole : goal.returns-clause-whole
-returns-clause-whole g c = λ old at.
+returns-clause-whole g c = λ old t.
     let sc = c.args.scenario.now in
-    let e = c.args.self.now in
+    let ranges = c.is_in_range.ensures in
+    let e = c.args.self in
     let S = state (chord sc) (history (chord sc) e.world.count) in
-    let are = subst (λ (ss : List NodeState). AreStates sc ss S) (sym c.as_slice.ensures.value) (are_states sc c.is_in_range.ensures old _ e at) in
-    whole_trace_written sc c.is_in_range.ensures old _ e at c.requires.ended _ c.put_audits.new.tally
-    (subst (λ (d : ℕ). Adds sc (g.W.Write.contents c.args.writer.now.inner) (g.W.Write.contents c.put_audits.new.writer.inner) e.tally c.put_audits.new.tally (audits_at sc S (due d e.clock))) c.duration.ensures
-    (c.in_ok-put_audits.ensures.adds S are))
+    whole_trace_written sc ranges old _ e t c.requires.ended _ c.index_mut.result.now c.put_audits.new.tally
+    (subst (λ (d : ℕ). Adds sc (g.W.Write.contents c.args.writer.now.inner) (g.W.Write.contents c.put_audits.new.writer.inner) c.index_mut.result.now c.put_audits.new.tally (audits_at sc S (due d e.clock))) c.duration.ensures (c.in_ok-put_audits.ensures.adds S (subst (λ (ss : List NodeState). AreStates sc ss S) (sym c.as_slice.ensures.value) (are_states sc ranges old _ e t))))
 
 pub returns-clause-report : goal.returns-clause-report
 returns-clause-report g c =
     let sc = c.args.scenario.now in
-    let e = c.args.self.now in
+    let ranges = c.is_in_range.ensures in
+    let e = c.args.self in
     let S = state (chord sc) (history (chord sc) e.world.count) in
-    let at = c.requires.at.1 in
-    let are = subst (λ (ss : List NodeState). AreStates sc ss S) (sym c.as_slice.ensures.value) (are_states sc c.is_in_range.ensures c.requires.at.0 _ e at) in
-    c.report.ensures (whole_trace sc)
-    (whole_trace_tallied sc c.is_in_range.ensures c.requires.at.0 _ e at c.requires.ended (g.W.Write.contents c.put_audits.new.writer.inner) c.put_audits.new.tally
-    (subst (λ (d : ℕ). Adds sc (g.W.Write.contents c.args.writer.now.inner) (g.W.Write.contents c.put_audits.new.writer.inner) e.tally c.put_audits.new.tally (audits_at sc S (due d e.clock))) c.duration.ensures
-    (c.in_ok-put_audits.ensures.adds S are)))
+    let adds = (subst (λ (d : ℕ). Adds sc (g.W.Write.contents c.args.writer.now.inner) (g.W.Write.contents c.put_audits.new.writer.inner) c.index_mut.result.now c.put_audits.new.tally (audits_at sc S (due d e.clock))) c.duration.ensures (c.in_ok-put_audits.ensures.adds S (subst (λ (ss : List NodeState). AreStates sc ss S) (sym c.as_slice.ensures.value) (are_states sc ranges c.requires.at.0 _ e c.requires.at.1)))) in
+    whole_trace_reported sc ranges c.requires.at.0 _ e c.requires.at.1 c.requires.ended c.is_whole.ensures.few.0 c.is_whole.ensures.below c.index_mut.result.now c.put_audits.new.tally c.index_mut.ensures.value adds.tallied
+    c.in_ok-tally.tally c.report.result c.in_ok-tally.ensures.pieces c.report.ensures
 
 pub returns-clause-within : goal.returns-clause-within
-returns-clause-within g c =
-    let e = c.args.self.now in
-    not_over_limit c.args.scenario.now c.is_in_range.ensures c.requires.at.0 _ e c.requires.at.1 c.requires.ended
-
-pub returns-clause-front : goal.returns-clause-front
-returns-clause-front g c = λ old at.
-    let sc = c.args.scenario.now in
-    let e = c.args.self.now in
-    let S = state (chord sc) (history (chord sc) e.world.count) in
-    let are = subst (λ (ss : List NodeState). AreStates sc ss S) (sym c.as_slice.ensures.value) (are_states sc c.is_in_range.ensures old _ e at) in
-    begin_end sc c.is_in_range.ensures old _ e at c.requires.ended _
-    (subst (λ (d : ℕ). AppendsFront (g.W.Write.contents c.args.writer.now.inner) (g.W.Write.contents c.put_audits.new.writer.inner) (pieces_text sc (audits_at sc S (due d e.clock)))) c.duration.ensures
-    (c.put_audits.ensures.front S are))
+returns-clause-within g c = not_over_limit c.args.scenario.now c.is_in_range.ensures c.requires.at.0 _ c.args.self c.requires.at.1 c.requires.ended

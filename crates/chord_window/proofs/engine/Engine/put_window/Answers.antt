@@ -1,57 +1,148 @@
-use Rattle.std.proofs.Common.{◌≡◌, ◌∙◌, ◌+◌, ◌≤◌, List, Vec, length, ap, sym, subst, refl, arith}
+-- A window puts out its audits and its blocks, and each part's blocks go into its tally.
+use Rattle.std.proofs.Common.{◌∙◌, ◌≤◌, ◌++◌, ℕ, List, Vec, length, map, set, ap, sym, subst, refl, arith}
 use Rattle.std.specs.Global.{Global}
-use Rattle.std.specs.List.{All}
+use Rattle.std.specs.List.{All, flat_map}
+use Rattle.std.specs.Io.KnownBytes.{Appends}
 use Rattle.chord_audit.specs.Audit.{AreStates}
 use Rattle.chord_event.specs.declared.block.Block.{Block}
 use Rattle.chord_machine.specs.Chord.{chord}
 use Rattle.chord_model.specs.Histories.{history, state}
 use Rattle.chord_node.specs.declared.state.NodeState.{NodeState}
 use Rattle.chord_node.specs.Invariant.{AllNodes}
+use Rattle.chord_scenario.specs.Blocks.{IsBlockOf}
+use Rattle.chord_trace.specs.declared.piece.Piece.{Piece}
+use Rattle.chord_trace.specs.declared.piece.Piece.TheVariants as piece
+use Rattle.chord_trace.specs.Merging.{CanMerge, IsMerged}
+use Rattle.chord_trace.specs.Texts.{block_text}
+use Rattle.chord_trace.specs.Writing.{AppendsFront}
 use Rattle.chord_window.specs.declared.engine.Engine.{Engine}
-use Rattle.chord_window.specs.Merging.{CanMerge, IsMerged}
-use Rattle.chord_window.proofs.EngineCourse.{all_short, are_states, as_many, begin_audits, begin_blocks, begin_middle, next_at, nowhere, same_opening, states_known}
+use Rattle.chord_window.specs.Tallies.{AreTalliesOf, blocks_at}
+use Rattle.chord_window.proofs.EngineCourse.{all_short, are_states, audits_fit, begin_audits, begin_blocks, begin_middle, blocks_fit, lists_short, next_at, nowhere, same_opening, states_known}
 use Rattle.chord_window.proofs.NextWorld.{exchange_some}
 use Rattle.chord_window.proofs.WindowOutput.{can_merge}
 use Rattle.chord_window.proofs.engine.Engine.put_window.Goals as goal
 
 pub put_audits-requires-clause-succ : goal.put_audits-requires-clause-succ
-put_audits-requires-clause-succ g c = subst (λ (ss : List NodeState). All (λ (s : NodeState). AllNodes c.args.scenario.now s.succ) ss) (sym c.as_slice.ensures.value) (states_known c.args.scenario.now c.is_in_range.ensures c.requires.at.0 _ c.args.self.now c.requires.at.1)
+put_audits-requires-clause-succ g c = subst (λ (ss : List NodeState). All (λ (s : NodeState). AllNodes c.args.scenario.now s.succ) ss) (sym c.as_slice.ensures.value)
+    (states_known c.args.scenario.now c.is_in_range.ensures c.requires.at.0 _ c.args.self.now c.requires.at.1)
+
+pub put_audits-requires-clause-room : goal.put_audits-requires-clause-room
+put_audits-requires-clause-room g c = audits_fit c.requires.at.1 c.is_whole.ensures.few.0 c.is_in_range.ensures.numbers.max_events_greatest c.index_mut.result.now c.index_mut.ensures.value
 
 pub returns-in_err-put_audits-clause-front : goal.returns-in_err-put_audits-clause-front
-returns-in_err-put_audits-clause-front g c = λ old t. begin_audits c.args.scenario.now c.is_in_range.ensures old _ c.args.self.now t c.args.opening c.requires.opening _ (c.in_err-put_audits.ensures.front (state (chord c.args.scenario.now) (history (chord c.args.scenario.now) c.args.self.now.world.count)) (subst (λ (ss : List NodeState). AreStates c.args.scenario.now ss (state (chord c.args.scenario.now) (history (chord c.args.scenario.now) c.args.self.now.world.count))) (sym c.as_slice.ensures.value) (are_states c.args.scenario.now c.is_in_range.ensures old _ c.args.self.now t)))
+returns-in_err-put_audits-clause-front g c = λ old t.
+    let sc = c.args.scenario.now in
+    let ranges = c.is_in_range.ensures in
+    let e = c.args.self.now in
+    let o = c.args.opening in
+    let S = state (chord sc) (history (chord sc) e.world.count) in
+    begin_audits sc ranges old _ e t o c.requires.opening _ (c.in_err-put_audits.ensures.front S (subst (λ (ss : List NodeState). AreStates sc ss S) (sym c.as_slice.ensures.value) (are_states sc ranges old _ e t)))
 
 pub returns-in-Err-clause-front : goal.returns-in-Err-clause-front
-returns-in-Err-clause-front g c = λ old t. begin_middle c.args.scenario.now c.is_in_range.ensures old _ c.args.self.now t c.args.opening c.requires.opening _ _ (c.in_ok-put_audits.ensures.adds (state (chord c.args.scenario.now) (history (chord c.args.scenario.now) c.args.self.now.world.count)) (subst (λ (ss : List NodeState). AreStates c.args.scenario.now ss (state (chord c.args.scenario.now) (history (chord c.args.scenario.now) c.args.self.now.world.count))) (sym c.as_slice.ensures.value) (are_states c.args.scenario.now c.is_in_range.ensures old _ c.args.self.now t)))
+returns-in-Err-clause-front g c = λ old t.
+    let sc = c.args.scenario.now in
+    let ranges = c.is_in_range.ensures in
+    let e = c.args.self.now in
+    let o = c.args.opening in
+    let S = state (chord sc) (history (chord sc) e.world.count) in
+    begin_middle sc ranges old _ e t o c.requires.opening _ c.index_mut.result.now c.put_audits.new.tally (c.in_ok-put_audits.ensures.adds S (subst (λ (ss : List NodeState). AreStates sc ss S) (sym c.as_slice.ensures.value) (are_states sc ranges old _ e t)))
+
+pub returns-in_err-tally_parts-clause-front : goal.returns-in_err-tally_parts-clause-front
+returns-in_err-tally_parts-clause-front g c = λ old t.
+    let sc = c.args.scenario.now in
+    let ranges = c.is_in_range.ensures in
+    let e = c.args.self.now in
+    let o = c.args.opening in
+    let S = state (chord sc) (history (chord sc) e.world.count) in
+    begin_middle sc ranges old _ e t o c.requires.opening _ c.index_mut.result.now c.put_audits.new.tally (c.in_ok-put_audits.ensures.adds S (subst (λ (ss : List NodeState). AreStates sc ss S) (sym c.as_slice.ensures.value) (are_states sc ranges old _ e t)))
+
+pub returns-in_err-blocks-clause-front : goal.returns-in_err-blocks-clause-front
+returns-in_err-blocks-clause-front g c = λ old t.
+    let sc = c.args.scenario.now in
+    let ranges = c.is_in_range.ensures in
+    let e = c.args.self.now in
+    let o = c.args.opening in
+    let S = state (chord sc) (history (chord sc) e.world.count) in
+    begin_middle sc ranges old _ e t o c.requires.opening _ c.index_mut.result.now c.put_audits.new.tally (c.in_ok-put_audits.ensures.adds S (subst (λ (ss : List NodeState). AreStates sc ss S) (sym c.as_slice.ensures.value) (are_states sc ranges old _ e t)))
+
+pub tally_parts-requires-clause-short : goal.tally_parts-requires-clause-short
+tally_parts-requires-clause-short g c = subst (λ (ls : List (Vec Block Global)). (part : ℕ) → All (λ (b : Block). length b.lines ≤ 64) (blocks_at ls part)) (sym (c.as_slice-2.ensures.value ∙ c.in-Ok.ensures.blocks))
+    (lists_short c.args.scenario.now c.args.self.now.world c.args.opening.horizon 0 c.args.dones.items c.requires.done.each)
+
+pub tally_parts-requires-clause-room : goal.tally_parts-requires-clause-room
+tally_parts-requires-clause-room g c = λ part t l.
+    let sc = c.args.scenario.now in
+    let ranges = c.is_in_range.ensures in
+    let e = c.args.self.now in
+    let o = c.args.opening in
+    let S = state (chord sc) (history (chord sc) e.world.count) in
+    omega (
+      arith,
+      ap (λ (ls : List (Vec Block Global)). length (blocks_at ls part)) (c.as_slice-2.ensures.value ∙ c.in-Ok.ensures.blocks),
+      blocks_fit sc ranges c.requires.at.0 _ e c.requires.at.1 o c.requires.opening c.args.dones.items c.requires.done _ c.index_mut.result.now c.put_audits.new.tally c.is_whole.ensures.few.0 c.index_mut.ensures.value
+          (c.in_ok-put_audits.ensures.adds S (subst (λ (ss : List NodeState). AreStates sc ss S) (sym c.as_slice.ensures.value) (are_states sc ranges c.requires.at.0 _ e c.requires.at.1))) (length c.put_audits.new.clock) c.in_ok-put_audits.ensures.size (omega (arith, c.in-Ok.ensures.world.within, c.in-Ok.ensures.count)) part t l,
+    )
 
 pub merge_blocks-requires : goal.merge_blocks-requires
 merge_blocks-requires g c = subst (λ (ls : List (Vec Block Global)). CanMerge ls) (sym c.in-Ok.ensures.blocks)
     (can_merge c.args.scenario.now c.is_in_range.ensures c.args.self.now.world c.requires.at.1.world c.args.opening.horizon c.args.dones.items c.requires.done nowhere)
 
-pub returns-in_err-blocks-clause-front : goal.returns-in_err-blocks-clause-front
-returns-in_err-blocks-clause-front g c = λ old t. begin_middle c.args.scenario.now c.is_in_range.ensures old _ c.args.self.now t c.args.opening c.requires.opening _ _ (c.in_ok-put_audits.ensures.adds (state (chord c.args.scenario.now) (history (chord c.args.scenario.now) c.args.self.now.world.count)) (subst (λ (ss : List NodeState). AreStates c.args.scenario.now ss (state (chord c.args.scenario.now) (history (chord c.args.scenario.now) c.args.self.now.world.count))) (sym c.as_slice.ensures.value) (are_states c.args.scenario.now c.is_in_range.ensures old _ c.args.self.now t)))
+pub write_blocks-requires-clause-blocks : goal.write_blocks-requires-clause-blocks
+write_blocks-requires-clause-blocks g c =
+    let sc = c.args.scenario.now in
+    let ranges = c.is_in_range.ensures in
+    let e = c.args.self.now in
+    let o = c.args.opening in
+    let S = state (chord sc) (history (chord sc) e.world.count) in
+    let time = same_opening o e.world.opening c.requires.done.time c.requires.done.opening c.requires.opening in
+    let merged = subst (λ (ls : List (Vec Block Global)). IsMerged ls c.in_ok-blocks.blocks.items) c.in-Ok.ensures.blocks c.in_ok-blocks.ensures in
+    let short = all_short sc ranges c.requires.at.0 _ e c.requires.at.1 o c.requires.opening c.args.dones.items c.requires.done time c.in_ok-blocks.blocks.items merged in
+    subst (λ (bs : List Block). All (IsBlockOf sc) bs) (sym c.as_slice-3.ensures.value) (λ k b l. (short k b l).known)
 
-pub put_blocks-requires-clause-blocks : goal.put_blocks-requires-clause-blocks
-put_blocks-requires-clause-blocks g c = all_short c.args.scenario.now c.is_in_range.ensures c.requires.at.0 _ c.args.self.now c.requires.at.1 c.args.opening c.requires.opening c.args.dones.items c.requires.done (same_opening c.args.opening c.args.self.now.world.opening c.requires.done.time c.requires.done.opening c.requires.opening) c.in_ok-blocks.blocks.items (subst (λ (ls : List (Vec Block Global)). IsMerged ls c.in_ok-blocks.blocks.items) c.in-Ok.ensures.blocks c.in_ok-blocks.ensures)
+pub returns-in_err-write_blocks-clause-front : goal.returns-in_err-write_blocks-clause-front
+returns-in_err-write_blocks-clause-front g c = λ old t.
+    let sc = c.args.scenario.now in
+    let ranges = c.is_in_range.ensures in
+    let e = c.args.self.now in
+    let o = c.args.opening in
+    let S = state (chord sc) (history (chord sc) e.world.count) in
+    let time = same_opening o e.world.opening c.requires.done.time c.requires.done.opening c.requires.opening in
+    let merged = subst (λ (ls : List (Vec Block Global)). IsMerged ls c.in_ok-blocks.blocks.items) c.in-Ok.ensures.blocks c.in_ok-blocks.ensures in
+    begin_blocks sc ranges old _ e t o c.requires.opening c.args.dones.items c.requires.done time c.in_ok-blocks.blocks.items merged _ _ c.index_mut.result.now c.put_audits.new.tally
+    (c.in_ok-put_audits.ensures.adds S (subst (λ (ss : List NodeState). AreStates sc ss S) (sym c.as_slice.ensures.value) (are_states sc ranges old _ e t)))
+    (subst (λ (bs : List Block). AppendsFront (g.W.Write.contents c.put_audits.new.writer.inner) (g.W.Write.contents c.write_blocks.new.writer.inner) (flat_map (block_text sc) bs)) c.as_slice-3.ensures.value c.in_err-write_blocks.ensures.front)
 
-pub put_blocks-requires-clause-room : goal.put_blocks-requires-clause-room
-put_blocks-requires-clause-room g c =
-    let many = as_many c.args.scenario.now c.is_in_range.ensures c.requires.at.0 _ c.args.self.now c.requires.at.1 c.args.opening c.requires.opening c.args.dones.items c.requires.done (same_opening c.args.opening c.args.self.now.world.opening c.requires.done.time c.requires.done.opening c.requires.opening) c.in_ok-blocks.blocks.items (subst (λ (ls : List (Vec Block Global)). IsMerged ls c.in_ok-blocks.blocks.items) c.in-Ok.ensures.blocks c.in_ok-blocks.ensures) in
-    let within = c.in-Ok.ensures.world.within in
-    omega (arith, many, within, c.requires.at.1.room, c.in_ok-put_audits.ensures.size, c.in-Ok.ensures.count, c.is_in_range.ensures.numbers.max_events_greatest)
-
-pub returns-in_err-put_blocks-clause-front : goal.returns-in_err-put_blocks-clause-front
-returns-in_err-put_blocks-clause-front g c = λ old t. begin_blocks c.args.scenario.now c.is_in_range.ensures old _ c.args.self.now t c.args.opening c.requires.opening c.args.dones.items c.requires.done (same_opening c.args.opening c.args.self.now.world.opening c.requires.done.time c.requires.done.opening c.requires.opening) c.in_ok-blocks.blocks.items (subst (λ (ls : List (Vec Block Global)). IsMerged ls c.in_ok-blocks.blocks.items) c.in-Ok.ensures.blocks c.in_ok-blocks.ensures) _ _ _ (c.in_ok-put_audits.ensures.adds (state (chord c.args.scenario.now) (history (chord c.args.scenario.now) c.args.self.now.world.count)) (subst (λ (ss : List NodeState). AreStates c.args.scenario.now ss (state (chord c.args.scenario.now) (history (chord c.args.scenario.now) c.args.self.now.world.count))) (sym c.as_slice.ensures.value) (are_states c.args.scenario.now c.is_in_range.ensures old _ c.args.self.now t))) c.in_err-put_blocks.ensures.front
+pub returns-clause-front : goal.returns-clause-front
+returns-clause-front g c = λ old t.
+    let sc = c.args.scenario.now in
+    let ranges = c.is_in_range.ensures in
+    let e = c.args.self.now in
+    let o = c.args.opening in
+    let S = state (chord sc) (history (chord sc) e.world.count) in
+    let time = same_opening o e.world.opening c.requires.done.time c.requires.done.opening c.requires.opening in
+    let merged = subst (λ (ls : List (Vec Block Global)). IsMerged ls c.in_ok-blocks.blocks.items) c.in-Ok.ensures.blocks c.in_ok-blocks.ensures in
+    begin_blocks sc ranges old _ e t o c.requires.opening c.args.dones.items c.requires.done time c.in_ok-blocks.blocks.items merged _ _ c.index_mut.result.now c.put_audits.new.tally
+    (c.in_ok-put_audits.ensures.adds S (subst (λ (ss : List NodeState). AreStates sc ss S) (sym c.as_slice.ensures.value) (are_states sc ranges old _ e t)))
+    (subst (λ (bs : List Block). AppendsFront (g.W.Write.contents c.put_audits.new.writer.inner) (g.W.Write.contents c.write_blocks.new.writer.inner) (flat_map (block_text sc) bs)) c.as_slice-3.ensures.value c.in_ok-write_blocks.ensures.front)
 
 pub returns-clause-at : goal.returns-clause-at
 returns-clause-at g c = λ old t.
-    let f : Engine = record { world = c.exchange_in_order.new.world; clock = c.put_audits.new.clock; tally = c.put_blocks.new.tally } in
-    next_at c.args.scenario.now c.is_in_range.ensures old _ c.args.self.now t c.args.opening c.requires.opening c.args.dones.items c.requires.done (same_opening c.args.opening c.args.self.now.world.opening c.requires.done.time c.requires.done.opening c.requires.opening) c.in_ok-blocks.blocks.items (subst (λ (ls : List (Vec Block Global)). IsMerged ls c.in_ok-blocks.blocks.items) c.in-Ok.ensures.blocks c.in_ok-blocks.ensures) f _ _ _ c.in-Ok.ensures.world c.in-Ok.ensures.count c.in_ok-put_audits.ensures.left
-    (c.in_ok-put_audits.ensures.adds (state (chord c.args.scenario.now) (history (chord c.args.scenario.now) c.args.self.now.world.count)) (subst (λ (ss : List NodeState). AreStates c.args.scenario.now ss (state (chord c.args.scenario.now) (history (chord c.args.scenario.now) c.args.self.now.world.count))) (sym c.as_slice.ensures.value) (are_states c.args.scenario.now c.is_in_range.ensures old _ c.args.self.now t))) c.in_ok-put_blocks.ensures.adds c.in_ok-put_audits.ensures.size c.in_ok-put_blocks.ensures.size
+    let sc = c.args.scenario.now in
+    let ranges = c.is_in_range.ensures in
+    let e = c.args.self.now in
+    let o = c.args.opening in
+    let S = state (chord sc) (history (chord sc) e.world.count) in
+    let time = same_opening o e.world.opening c.requires.done.time c.requires.done.opening c.requires.opening in
+    let merged = subst (λ (ls : List (Vec Block Global)). IsMerged ls c.in_ok-blocks.blocks.items) c.in-Ok.ensures.blocks c.in_ok-blocks.ensures in
+    let f : Engine = record { world = c.exchange_in_order.new.world; clock = c.put_audits.new.clock; tallies = c.tally_parts.new.tallies } in
+    next_at sc ranges old _ e t o c.requires.opening c.args.dones.items c.requires.done time c.in_ok-blocks.blocks.items merged _ c.index_mut.result.now c.put_audits.new.tally c.is_whole.ensures.few.0 c.index_mut.ensures.value
+    (c.in_ok-put_audits.ensures.adds S (subst (λ (ss : List NodeState). AreStates sc ss S) (sym c.as_slice.ensures.value) (are_states sc ranges old _ e t))) (length c.put_audits.new.clock) c.in_ok-put_audits.ensures.size f _ c.in-Ok.ensures.world c.in-Ok.ensures.count c.in-Ok.ensures.division c.in_ok-put_audits.ensures.left refl
+    (subst (λ (bs : List Block). Appends (g.W.Write.contents c.put_audits.new.writer.inner) (g.W.Write.contents c.write_blocks.new.writer.inner) (flat_map (block_text sc) bs)) c.as_slice-3.ensures.value c.in_ok-write_blocks.ensures.whole)
+    c.in_ok-tally_parts.ensures.each
+    (subst (λ (ls : List (Vec Block Global)). (share : ℕ → List Piece) → AreTalliesOf share (set e.tallies.items 0 c.put_audits.new.tally) → AreTalliesOf (λ part. share part ++ map piece.OfEvent (blocks_at ls part)) c.tally_parts.new.tallies.items)
+    (c.as_slice-2.ensures.value ∙ c.in-Ok.ensures.blocks) c.in_ok-tally_parts.ensures.pieces)
 
 pub returns-clause-more : goal.returns-clause-more
 returns-clause-more g c =
     let some = exchange_some c.args.scenario.now c.is_in_range.ensures c.args.self.now.world c.requires.at.1.world c.args.opening.horizon c.args.dones.items c.requires.done in
     omega (arith, some, c.in-Ok.ensures.count)
-
-pub returns-clause-front : goal.returns-clause-front
-returns-clause-front g c = λ old t. begin_blocks c.args.scenario.now c.is_in_range.ensures old _ c.args.self.now t c.args.opening c.requires.opening c.args.dones.items c.requires.done (same_opening c.args.opening c.args.self.now.world.opening c.requires.done.time c.requires.done.opening c.requires.opening) c.in_ok-blocks.blocks.items (subst (λ (ls : List (Vec Block Global)). IsMerged ls c.in_ok-blocks.blocks.items) c.in-Ok.ensures.blocks c.in_ok-blocks.ensures) _ _ _ (c.in_ok-put_audits.ensures.adds (state (chord c.args.scenario.now) (history (chord c.args.scenario.now) c.args.self.now.world.count)) (subst (λ (ss : List NodeState). AreStates c.args.scenario.now ss (state (chord c.args.scenario.now) (history (chord c.args.scenario.now) c.args.self.now.world.count))) (sym c.as_slice.ensures.value) (are_states c.args.scenario.now c.is_in_range.ensures old _ c.args.self.now t))) c.in_ok-put_blocks.ensures.front

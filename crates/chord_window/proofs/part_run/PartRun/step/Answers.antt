@@ -1,10 +1,7 @@
-use Rattle.std.proofs.Common.{◌≡◌, ◌∙◌, ◌<◌, ◌+◌, suc, sym, ap, refl, subst, arith, length, Some, None, true, false, slice_get, [], ◌∷◌, ◌++◌, List, drop, length-append}
-use Rattle.chord_event.specs.declared.event.Event.{Event}
-use Rattle.chord_event.specs.declared.body.Body.{Body}
+use Rattle.std.proofs.Common.{sym, ap, refl, subst, arith, length, [], ◌∷◌, List, length-append}
 use Rattle.chord_node.specs.declared.state.NodeState.{NodeState}
 use Rattle.chord_ops.specs.Rules.{block_of}
-use Rattle.chord_queue.specs.Queue.{queue}
-use Rattle.chord_window.specs.PartRuns.{HasHandled, IsReady, comes_first, seen_in}
+use Rattle.chord_window.specs.PartRuns.{HasHandled, IsReady, seen_in}
 use Rattle.chord_window.proofs.Ahead.{due_at, due_inside, no_first}
 use Rattle.chord_window.proofs.StepCases.{all_taken, due_apart, due_few, due_key, due_next, due_over, due_ready, made_apart, made_few, made_key, made_next, made_over, made_ready}
 use Rattle.chord_window.proofs.part_run.PartRun.step.Goals as goal

@@ -1,11 +1,11 @@
-use Rattle.std.proofs.Common.{◌≡◌, ◌∙◌, ◌<◌, ℕ, List, Option, Vec, ap, arith, drop, length, subst}
+use Rattle.std.proofs.Common.{◌∙◌, ◌<◌, ℕ, Option, Vec, ap, arith, drop, length, subst}
 use Rattle.std.specs.Global.{Global}
 use Rattle.chord_window.specs.declared.part_run.Done.{Done}
 use Rattle.chord_window.specs.declared.worker.Worker.{Worker}
 use Rattle.chord_window.specs.Exchanges.{events_in}
 use Rattle.chord_window.specs.Picked.{HasStepped}
 use Rattle.chord_window.specs.Slots.{in_slots}
-use Rattle.chord_window.proofs.PickedWindows.{opened_picked, turns_done, turns_idle, turns_stepped}
+use Rattle.chord_window.proofs.PickedWindows.{turns_done, turns_idle, turns_stepped}
 use Rattle.chord_window.proofs.picked_window.PickedWindow.run.Goals as goal
 
 pub returns-clause-done : goal.returns-clause-done

@@ -1,8 +1,5 @@
-use Rattle.std.proofs.Common.{◌≡◌, ◌+◌, ◌<◌, ◌≤◌, arith, sym, subst, refl, ap, length, true}
-use Rattle.chord_window.specs.declared.part_run.PartRun.{PartRun}
+use Rattle.std.proofs.Common.{◌<◌, arith, sym, subst, ap}
 use Rattle.chord_window.specs.declared.taken.Step.TheVariants as answer
-use Rattle.chord_window.specs.declared.worker.Progress.{Progress}
-use Rattle.chord_window.specs.declared.worker.Worker.{Worker}
 use Rattle.chord_window.specs.Workers.{HasProgressed}
 use Rattle.chord_model.specs.Windows.Step.{Drew, Ran, Sealed}
 use Rattle.chord_window.proofs.PickedSteps.{drew_few, drew_fewer, drew_next, drew_picked, get_here, may_go, ran_fewer, ran_next, ran_picked, run_within, sealed_fewer, sealed_next, sealed_picked}

@@ -1,11 +1,9 @@
-use Rattle.std.proofs.Common.{◌≡◌, ◌∙◌, ℕ, ◌++◌, ◌∷◌, [], List, drop, length, map, refl, sym, subst, append-nil}
-use Rattle.chord_event.specs.declared.body.Body.{Body}
+use Rattle.std.proofs.Common.{◌∙◌, ℕ, ◌++◌, ◌∷◌, [], drop, length, refl, sym, subst, append-nil}
 use Rattle.chord_machine.specs.Chord.{chord}
 use Rattle.chord_model.specs.Histories.{history}
 use Rattle.chord_model.specs.Schedules.{settled}
-use Rattle.chord_model.specs.Windows.{Step, after_step, opened}
-use Rattle.chord_window.specs.declared.taken.Taken.{Taken}
-use Rattle.chord_window.specs.Picked.{Leads, shown}
+use Rattle.chord_model.specs.Windows.{after_step, opened}
+use Rattle.chord_window.specs.Picked.{Leads}
 use Rattle.chord_window.proofs.PickedTurns.{begins, leads_on, told_more}
 use Rattle.chord_window.proofs.picked_window.PickedWindow.take_turns.Goals as goal
 
@@ -31,7 +29,7 @@ loop-lowest-preserved c =
       steps = inv.steps ++ (c.turn-worker.result, t.step) ∷ [];
       told = c.in_ok-push.ensures.items ∙ told_more c.args.taken.now.items c.loop-lowest.taken.items inv.steps c.turn-worker.result t.step c.in_ok-step.step inv.told t.shown_is;
       leads = subst (λ (n : ℕ). Leads c.args.scenario.now c.args.world.now.division n (opened (history (chord c.args.scenario.now) c.args.world.now.count) c.args.horizon) (drop c.args.next.now c.args.picks.now) (inv.steps ++ (c.turn-worker.result, t.step) ∷ [])
-              (λ number. settled (chord c.args.scenario.now) (λ _. c.args.world.now.division) number (after_step inv.window c.turn-worker.result t.step)) (drop c.turn-worker.new.next c.args.picks.now)) inv.same_workers
+          (λ number. settled (chord c.args.scenario.now) (λ _. c.args.world.now.division) number (after_step inv.window c.turn-worker.result t.step)) (drop c.turn-worker.new.next c.args.picks.now)) inv.same_workers
           (leads_on c.args.scenario.now c.args.world.now c.args.horizon c.loop-lowest.self.drawn c.loop-lowest.self.workers.items c.loop-lowest.self.dones.items inv.window inv.picked (opened (history (chord c.args.scenario.now) c.args.world.now.count) c.args.horizon)
           (drop c.args.next.now c.args.picks.now) (drop c.loop-lowest.next c.args.picks.now) (drop c.turn-worker.new.next c.args.picks.now) inv.steps c.turn-worker.result t.step
           (subst (λ (n : ℕ). Leads c.args.scenario.now c.args.world.now.division n (opened (history (chord c.args.scenario.now) c.args.world.now.count) c.args.horizon) (drop c.args.next.now c.args.picks.now) inv.steps

@@ -1,6 +1,4 @@
-use Rattle.std.proofs.Common.{◌≡◌, ◌∙◌, sym, subst, refl, ap}
-use Rattle.std.proofs.lemmas.Result.{IfOk-weaker}
-use Rattle.chord_window.specs.Workers.{HasGoneOn, HasProgressed}
+use Rattle.std.proofs.Common.{sym, refl}
 use Rattle.chord_window.proofs.WorkerSteps.{has_drawn, has_progressed}
 use Rattle.chord_window.proofs.worker.Worker.step.Goals as goal
 

@@ -1,0 +1,62 @@
+//! One tally for each part.
+ghost use Rattle.std.specs.Prelude.{◌≡◌, ℕ, ◌+◌, ◌<◌, ◌≤◌, ◌^◌, ◌++◌, List, [], length, map, slice_index_or, IfOk, OnOk};
+ghost use Rattle.std.specs.List.{All};
+ghost use Rattle.chord_trace.specs.declared.piece.Piece.{Piece};
+ghost use Rattle.chord_trace.specs.declared.piece.Piece.TheVariants as piece;
+ghost use Rattle.chord_trace.specs.declared.tally.Tally.{Tally as ATally};
+ghost use Rattle.chord_trace.specs.Tally.{IsTallyOf, taken};
+ghost use Rattle.chord_window.specs.Tallies.{AreTalliesOf, blocks_at, shares_to};
+
+use chord_event::{Block, Memory};
+use chord_trace::Tally;
+use std::alloc::Global;
+
+/// A tally of nothing for each part.
+pub(crate) fn no_tallies(alloc: Global, parts: u32) -> Result<Vec<Tally>, Memory>
+    ensures each { IfOk result (λ tallies. length tallies.items ≡ parts) }
+    ensures empty { IfOk result (λ tallies. AreTalliesOf (λ part. []) tallies.items) }
+{
+    let mut tallies = Vec::new(alloc);
+    for _part in 0..parts {
+        tallies.push(Tally::new(alloc))?;
+    }
+    Ok(tallies)
+}
+
+/// Adds blocks to a tally.
+fn tally_blocks(tally: &mut Tally, blocks: &[Block]) -> Result<(), Memory>
+    requires short { All (λ block. length block.lines ≤ 64) blocks.now }
+    requires room { taken tally.old + length blocks.now ≤ 2 ^ 40 }
+    ensures pieces { OnOk result ((pieces : List Piece) → IsTallyOf pieces tally.old → IsTallyOf (pieces ++ map piece.OfEvent blocks.now) tally.new) }
+{
+    for block in blocks {
+        tally.add(block)?;
+    }
+    Ok(())
+}
+
+/// Adds the blocks of each part to its tally.
+pub(crate) fn tally_parts(tallies: &mut Vec<Tally>, lists: &[Vec<Block>]) -> Result<(), Memory>
+    requires each { length lists.now ≡ length tallies.old.items }
+    requires short { (part : ℕ) → All (λ block. length block.lines ≤ 64) (blocks_at lists.now part) }
+    requires room { (part : ℕ) (t : ATally) → part < length tallies.old.items → taken (slice_index_or tallies.old.items part t) + length (blocks_at lists.now part) ≤ 2 ^ 40 }
+    ensures each { OnOk result (length tallies.new.items ≡ length tallies.old.items) }
+    ensures pieces { OnOk result ((share : ℕ → List Piece) → AreTalliesOf share tallies.old.items → AreTalliesOf (λ part. share part ++ map piece.OfEvent (blocks_at lists.now part)) tallies.new.items) }
+{
+    for part in 0..lists.len() {
+        tally_blocks(&mut tallies[part], lists[part].as_slice())?;
+    }
+    Ok(())
+}
+
+/// The tally of what all have, in their order.
+pub(crate) fn join_all(alloc: Global, tallies: Vec<Tally>) -> Result<Tally, Memory>
+    requires room { (share : ℕ → List Piece) × AreTalliesOf share tallies.items × (length (shares_to share (length tallies.items)) ≤ 2 ^ 40) }
+    ensures pieces { IfOk result (λ joined. (share : ℕ → List Piece) → AreTalliesOf share tallies.items → IsTallyOf (shares_to share (length tallies.items)) joined) }
+{
+    let mut joined = Tally::new(alloc);
+    for tally in tallies {
+        joined = joined.join(tally)?;
+    }
+    Ok(joined)
+}
