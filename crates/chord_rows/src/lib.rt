@@ -4,6 +4,8 @@
 #![tactic(auto)]
 
 #[cfg(test)]
+mod divisions;
+#[cfg(test)]
 mod examples;
 #[cfg(test)]
 mod failures;
