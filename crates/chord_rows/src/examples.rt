@@ -3,13 +3,13 @@ use std::test::Fail;
 
 /// An example: its settings, nodes and commands, its trace, and those lines of its report whose
 /// number is not 0.
-struct Example {
-    name: &'static str,
-    settings: &'static str,
-    nodes: &'static str,
-    commands: &'static str,
-    trace: &'static str,
-    report: &'static str,
+pub struct Example {
+    pub name: &'static str,
+    pub settings: &'static str,
+    pub nodes: &'static str,
+    pub commands: &'static str,
+    pub trace: &'static str,
+    pub report: &'static str,
 }
 
 /// Two nodes that stand opposite each other.
@@ -54,7 +54,7 @@ const ONE_OF_CHURN: &str = "[[node]]\n\
     id = 3\n\
     initial = true\n";
 
-const EXAMPLES: [Example; 19] = [
+pub const EXAMPLES: [Example; 19] = [
     Example {
         name: "three lookups",
         settings: SETTINGS,

@@ -8,20 +8,20 @@ use std::io::{ErrorKind, Read, Write};
 use std::test::Fail;
 
 /// Two lookups at one time, and what they leave.
-const TWO_LOOKUPS: &str = "[[command]]\nat_us = 100\ndo = \"lookup\"\nnode = \"n0\"\nkey = 4\n\
+pub const TWO_LOOKUPS: &str = "[[command]]\nat_us = 100\ndo = \"lookup\"\nnode = \"n0\"\nkey = 4\n\
     [[command]]\nat_us = 100\ndo = \"lookup\"\nnode = \"n3\"\nkey = 1\n";
 
-const TRACE: &str = "100 n0 lookup 4\n100 n3 lookup 1\n\
+pub const TRACE: &str = "100 n0 lookup 4\n100 n3 lookup 1\n\
     120 n3 found 1 n1 hops=1 timeouts=0 us=20\n\
     120 n0 found 4 n0 hops=1 timeouts=0 us=20\n\
     200 audit members=3 dead=0 ring=3 ordered=yes principals=3 sufficient=yes\n";
 
 /// A writer with room for some bytes. After that it fails, or takes nothing.
 #[derive(Drop)]
-struct Bounded {
-    taken: Vec<u8>,
-    room: usize,
-    takes_nothing: bool,
+pub struct Bounded {
+    pub taken: Vec<u8>,
+    pub room: usize,
+    pub takes_nothing: bool,
 }
 
 impl Write for Bounded {

@@ -17,3 +17,5 @@ mod rings;
 mod searches;
 #[cfg(test)]
 mod streams;
+#[cfg(test)]
+mod windows;
