@@ -1,6 +1,7 @@
 //! Worked examples: whole scenarios, with the traces and reports that they have by the rules. None of them was
 //! made by this program: most traces were given together with the rules, those with random streams by two simulators
-//! written apart from it, and the other numbers were counted by hand.
+//! written apart from it, and the other numbers were counted by hand. And random scenarios, which leave the same one
+//! event at a time and by windows.
 #![tactic(auto)]
 
 #[cfg(test)]
@@ -17,5 +18,7 @@ mod rings;
 mod searches;
 #[cfg(test)]
 mod streams;
+#[cfg(test)]
+mod triples;
 #[cfg(test)]
 mod windows;

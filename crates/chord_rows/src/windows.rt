@@ -14,27 +14,22 @@ use std::test::Fail;
 
 /// How the nodes are dealt to parts, and the workers and the picks of a run by windows.
 #[derive(Drop)]
-pub struct Way {
-    pub split: Split,
-    pub parts: u32,
-    pub workers: u32,
-    pub picks: &'static [u32],
+struct Way {
+    split: Split,
+    parts: u32,
+    workers: u32,
+    picks: &'static [u32],
 }
 
 /// What a run by windows left: the text of its trace, and its report and steps, or why it did not end.
 #[derive(Drop)]
-pub struct Ran {
-    pub trace: Vec<u8>,
-    pub outcome: Result<(Report, Vec<Taken>), RunError>,
+struct Ran {
+    trace: Vec<u8>,
+    outcome: Result<(Report, Vec<Taken>), RunError>,
 }
 
 /// The division of a scenario's nodes.
-pub fn divide(
-    alloc: Global,
-    scenario: &Scenario,
-    split: Split,
-    parts: u32,
-) -> Result<Division, Memory>
+fn divide(alloc: Global, scenario: &Scenario, split: Split, parts: u32) -> Result<Division, Memory>
     requires { (0 < parts) × (parts ≤ MOST_PARTS) }
 {
     scenario.is_in_range();
@@ -65,21 +60,26 @@ fn run_way(alloc: Global, scenario: &Scenario, way: &Way) -> Result<Ran, Memory>
     })
 }
 
-/// The two ways that all examples are run.
-const EXAMPLE_WAYS: [Way; 2] = [
-    Way {
-        split: Split::RoundRobin,
-        parts: 2,
-        workers: 2,
-        picks: &[],
-    },
-    Way {
-        split: Split::Blocks,
-        parts: 3,
-        workers: 3,
-        picks: &[2, 0, 1, 1],
-    },
-];
+/// The texts of a run's trace and of its report.
+#[derive(Drop)]
+struct Texts {
+    trace: String,
+    report: String,
+}
+
+/// The texts that a run by windows leaves, where it ends.
+fn texts_of(alloc: Global, scenario: &Scenario, way: &Way) -> Result<Option<Texts>, Fail>
+    requires parts { (0 < way.now.parts) × (way.now.parts ≤ MOST_PARTS) }
+    requires workers { (0 < way.now.workers) × (way.now.workers ≤ 64) }
+{
+    let Ran { trace, outcome } = run_way(alloc, scenario, way)?;
+    let Ok((report, _steps)) = outcome else {
+        return Ok(None);
+    };
+    let trace = String::from_utf8_lossy(alloc, trace.as_slice())?;
+    let report = shown(alloc, &report)?;
+    Ok(Some(Texts { trace, report }))
+}
 
 /// By windows each example has the trace and the report that it has one event at a time.
 #[test]
@@ -92,19 +92,32 @@ fn examples_by_windows(rt: HostRuntime) -> Result<(), Fail> {
             assert!(rt; false, "{name} is refused");
             return Ok(());
         };
-        for way in &EXAMPLE_WAYS {
-            assert!(rt; 0 < way.parts && way.parts <= MOST_PARTS);
-            assert!(rt; 0 < way.workers && way.workers <= 64);
-            let ran = run_way(alloc, &scenario, way)?;
-            let trace = String::from_utf8_lossy(alloc, ran.trace.as_slice())?;
-            assert!(rt; trace.as_str() == example.trace, "{name}: {trace}");
-            let Ok((report, _steps)) = ran.outcome else {
-                assert!(rt; false, "{name} does not end");
-                return Ok(());
-            };
-            let report = shown(alloc, &report)?;
-            assert!(rt; report.as_str() == example.report, "{name}: {report}");
-        }
+        let dealt = Way {
+            split: Split::RoundRobin,
+            parts: 2,
+            workers: 2,
+            picks: &[],
+        };
+        let Some(texts) = texts_of(alloc, &scenario, &dealt)? else {
+            assert!(rt; false, "{name} does not end in two parts");
+            return Ok(());
+        };
+        let Texts { trace, report } = texts;
+        assert!(rt; trace.as_str() == example.trace, "{name}: {trace}");
+        assert!(rt; report.as_str() == example.report, "{name}: {report}");
+        let blocks = Way {
+            split: Split::Blocks,
+            parts: 3,
+            workers: 3,
+            picks: &[2, 0, 1, 1],
+        };
+        let Some(texts) = texts_of(alloc, &scenario, &blocks)? else {
+            assert!(rt; false, "{name} does not end in three parts");
+            return Ok(());
+        };
+        let Texts { trace, report } = texts;
+        assert!(rt; trace.as_str() == example.trace, "{name}: {trace}");
+        assert!(rt; report.as_str() == example.report, "{name}: {report}");
     }
     Ok(())
 }
@@ -113,71 +126,7 @@ fn examples_by_windows(rt: HostRuntime) -> Result<(), Fail> {
 const REPORT: &str = "events 8\nlookups 2\nfound 2\nhops-sum 2\nhops-greatest 1\nus-sum 40\n\
     us-least 20\nus-median 20\nus-greatest 20\naudits 1\n";
 
-/// One part and several, empty ones too, and more workers than parts.
-const LOOKUP_WAYS: [Way; 10] = [
-    Way {
-        split: Split::Blocks,
-        parts: 2,
-        workers: 1,
-        picks: &[],
-    },
-    Way {
-        split: Split::Blocks,
-        parts: 2,
-        workers: 2,
-        picks: &[],
-    },
-    Way {
-        split: Split::Blocks,
-        parts: 2,
-        workers: 2,
-        picks: &[1, 1, 0, 9, 0],
-    },
-    Way {
-        split: Split::Blocks,
-        parts: 1,
-        workers: 2,
-        picks: &[],
-    },
-    Way {
-        split: Split::Blocks,
-        parts: 1,
-        workers: 2,
-        picks: &[1, 1, 0, 9, 0],
-    },
-    Way {
-        split: Split::RoundRobin,
-        parts: 3,
-        workers: 2,
-        picks: &[],
-    },
-    Way {
-        split: Split::RoundRobin,
-        parts: 3,
-        workers: 2,
-        picks: &[1, 1, 0, 9, 0],
-    },
-    Way {
-        split: Split::Blocks,
-        parts: 5,
-        workers: 2,
-        picks: &[],
-    },
-    Way {
-        split: Split::Blocks,
-        parts: 5,
-        workers: 2,
-        picks: &[1, 1, 0, 9, 0],
-    },
-    Way {
-        split: Split::RoundRobin,
-        parts: 3,
-        workers: 64,
-        picks: &[],
-    },
-];
-
-/// Neither the parts nor the workers nor their turns change what two lookups at one time leave.
+/// Neither the parts, empty ones too, nor the workers nor their turns change what two lookups at one time leave.
 #[test]
 fn two_lookups_in_any_parts(rt: HostRuntime) -> Result<(), Fail> {
     let alloc = rt.alloc();
@@ -186,21 +135,43 @@ fn two_lookups_in_any_parts(rt: HostRuntime) -> Result<(), Fail> {
         assert!(rt; false, "the lookups are refused");
         return Ok(());
     };
-    for way in &LOOKUP_WAYS {
-        assert!(rt; 0 < way.parts && way.parts <= MOST_PARTS);
-        assert!(rt; 0 < way.workers && way.workers <= 64);
-        let (parts, workers) = (way.parts, way.workers);
-        let ran = run_way(alloc, &scenario, way)?;
-        let trace = String::from_utf8_lossy(alloc, ran.trace.as_slice())?;
+    for (parts, workers) in [(1, 2), (2, 1), (2, 2), (3, 2), (3, 64), (5, 2)] {
+        assert!(rt; 0 < parts && parts <= MOST_PARTS);
+        assert!(rt; 0 < workers && workers <= 64);
+        let lowest = Way {
+            split: Split::Blocks,
+            parts,
+            workers,
+            picks: &[],
+        };
+        let Some(texts) = texts_of(alloc, &scenario, &lowest)? else {
+            assert!(rt; false, "{parts} parts, {workers} workers: no end");
+            return Ok(());
+        };
+        let Texts { trace, report } = texts;
         assert!(rt;
             trace.as_str() == TRACE,
             "{parts} parts, {workers} workers: {trace}"
         );
-        let Ok((report, _steps)) = ran.outcome else {
-            assert!(rt; false, "{parts} parts, {workers} workers: no end");
+        assert!(rt;
+            report.as_str() == REPORT,
+            "{parts} parts, {workers} workers: {report}"
+        );
+        let picked = Way {
+            split: Split::Blocks,
+            parts,
+            workers,
+            picks: &[1, 1, 0, 9, 0],
+        };
+        let Some(texts) = texts_of(alloc, &scenario, &picked)? else {
+            assert!(rt; false, "{parts} parts, {workers} workers, picked: no end");
             return Ok(());
         };
-        let report = shown(alloc, &report)?;
+        let Texts { trace, report } = texts;
+        assert!(rt;
+            trace.as_str() == TRACE,
+            "{parts} parts, {workers} workers: {trace}"
+        );
         assert!(rt;
             report.as_str() == REPORT,
             "{parts} parts, {workers} workers: {report}"
@@ -273,8 +244,8 @@ fn steps_as_they_are_picked(rt: HostRuntime) -> Result<(), Fail> {
         workers: 2,
         picks: &[1, 1, 0, 9, 0],
     };
-    let ran = run_way(alloc, &scenario, &way)?;
-    let Ok((_report, steps)) = ran.outcome else {
+    let Ran { trace: _, outcome } = run_way(alloc, &scenario, &way)?;
+    let Ok((_report, steps)) = outcome else {
         assert!(rt; false, "the run does not end");
         return Ok(());
     };
