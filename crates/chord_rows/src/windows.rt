@@ -1,14 +1,18 @@
-ghost use Rattle.std.specs.Prelude.{◌<◌, ◌≤◌};
+ghost use Rattle.std.specs.Prelude.{◌≡◌, ◌<◌, ◌≤◌, OnOk};
+ghost use Rattle.chord_window.specs.PartRuns.{IsDone, IsHorizon};
+ghost use Rattle.chord_window.specs.Worlds.{IsWorldOf};
 
 use crate::examples::EXAMPLES;
 use crate::failures::{Bounded, TRACE, TWO_LOOKUPS};
 use crate::playing::{SETTINGS, THREE, shown, text_of};
-use chord_event::{Key, Memory, RunError};
+use chord_event::{Block, Key, Memory, RunError};
 use chord_play::Split;
 use chord_queue::WindowQueue;
 use chord_scenario::{Scenario, read_scenario};
 use chord_trace::{Report, Watched};
-use chord_window::{Division, MOST_PARTS, Step, Taken, World, run_part, run_picked};
+use chord_window::{
+    Division, Done, MOST_PARTS, Step, Taken, World, exchange, run_part, run_picked,
+};
 use std::alloc::Global;
 use std::test::Fail;
 
@@ -300,6 +304,70 @@ fn parts_one_by_one(rt: HostRuntime) -> Result<(), Fail> {
         );
         assert!(rt; done.blocks.len() == 1, "part {part}");
     }
+    Ok(())
+}
+
+/// Puts together what two parts leave, the second part's result first.
+fn put_together(
+    alloc: Global,
+    scenario: &Scenario,
+    world: &mut World,
+    horizon: u64,
+    first: Done,
+    second: Done,
+) -> Result<Vec<Vec<Block>>, RunError>
+    requires world { IsWorldOf scenario.now world.old }
+    requires horizon { IsHorizon world.old horizon }
+    requires parts { world.old.division.parts ≡ 2 }
+    requires first { IsDone scenario.now world.old horizon 0 first }
+    requires second { IsDone scenario.now world.old horizon 1 second }
+    ensures world { OnOk result (IsWorldOf scenario.now world.new) }
+{
+    let mut dones = Vec::new(alloc);
+    dones.push(second)?;
+    dones.push(first)?;
+    exchange(alloc, scenario, world, dones)
+}
+
+/// What two parts leave in their first window makes the world of the second, in whatever order it comes.
+#[test]
+fn parts_put_together(rt: HostRuntime) -> Result<(), Fail> {
+    let alloc = rt.alloc();
+    let text = text_of(alloc, SETTINGS, THREE, TWO_LOOKUPS)?;
+    let Ok(scenario) = read_scenario(alloc, text.as_str().as_bytes(), b"") else {
+        assert!(rt; false, "the lookups are refused");
+        return Ok(());
+    };
+    let division = divide(alloc, &scenario, Split::Blocks, 2)?;
+    let Ok(mut world) = World::start(alloc, &scenario, &division) else {
+        assert!(rt; false, "no start");
+        return Ok(());
+    };
+    let Some(horizon) = world.horizon(&scenario) else {
+        assert!(rt; false, "no window");
+        return Ok(());
+    };
+    if world.division.parts() != 2 {
+        assert!(rt; false, "not two parts");
+        return Ok(());
+    }
+    let mut queue = WindowQueue::new(alloc);
+    let Ok(first) = run_part(alloc, &scenario, &world, 0, horizon, &mut queue) else {
+        assert!(rt; false, "part 0 does not end");
+        return Ok(());
+    };
+    let Ok(second) = run_part(alloc, &scenario, &world, 1, horizon, &mut queue) else {
+        assert!(rt; false, "part 1 does not end");
+        return Ok(());
+    };
+    let Ok(blocks) = put_together(alloc, &scenario, &mut world, horizon, first, second) else {
+        assert!(rt; false, "the window does not close");
+        return Ok(());
+    };
+    assert!(rt; blocks.len() == 2 && blocks[0].len() == 1 && blocks[1].len() == 1);
+    assert!(rt; blocks[0][0].key.number == 1 && blocks[1][0].key.number == 2);
+    assert!(rt; world.count == 2);
+    assert!(rt; world.horizon(&scenario) == Some(120));
     Ok(())
 }
 

@@ -6,11 +6,11 @@ ghost use Rattle.chord_serial.specs.Engine.{HasTaken, IsAt};
 ghost use Rattle.chord_output.specs.Beginning.{IsBeginning};
 ghost use Rattle.chord_trace.specs.Watched.{wrapped, has_failed};
 
-use chord_output::{put_audits, put_block};
 use chord_event::{Event, RunError};
 use chord_machine::AuditClock;
 use chord_node::{NodeState, initial_ring};
 use chord_ops::{Effect, act};
+use chord_output::{put_audits, put_block};
 use chord_queue::Pending;
 use chord_scenario::Scenario;
 use chord_trace::{Report, Tally, Watched};

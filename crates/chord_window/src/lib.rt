@@ -19,13 +19,22 @@ mod world;
 
 pub use division::{Division, MOST_PARTS};
 pub use division_fault::DivisionFault;
-pub use engine::Engine;
-pub use exchanging::{Gathered, exchange};
-pub use opening::Opening;
+pub use exchanging::exchange;
 pub use ordering::in_part_order;
-pub use part_run::{Done, PartRun, run_part};
+pub use part_run::{Done, run_part};
 pub use picked_run::run_picked;
-pub use picked_window::PickedWindow;
 pub use taken::{Step, Taken};
+pub use world::World;
+// What runs windows in another way goes by the engine, and contracts name the types of its fields.
+#[doc(hidden)]
+pub use engine::Engine;
+#[doc(hidden)]
+pub use opening::Opening;
+#[doc(hidden)]
+pub use part_run::PartRun;
+#[doc(hidden)]
+pub use picked_window::PickedWindow;
+#[doc(hidden)]
 pub use worker::{Progress, Worker};
-pub use world::{PartEvents, World};
+#[doc(hidden)]
+pub use world::PartEvents;

@@ -204,7 +204,13 @@ fn sort_out(
     Ok(())
 }
 
-/// Runs the events of a part below the horizon, the least first. The queue is empty after it.
+/// Runs the events of a part below the world's horizon, in microseconds, the least first. The world is
+/// left as it was, and the queue empty, after an error too.
+///
+/// # Errors
+///
+/// `TooManyEvents`, where this part alone shows that the run has more events than the scenario allows;
+/// `Memory`.
 pub fn run_part(
     alloc: Global,
     scenario: &Scenario,
