@@ -1,0 +1,6 @@
+pub mod Lists
+pub mod Counts
+pub mod Steps
+pub mod Knowledge
+pub mod Results
+pub mod Gathering

@@ -1,0 +1,5 @@
+pub mod Draws
+pub mod Seats
+pub mod Inside
+pub mod Shifts
+pub mod Windows

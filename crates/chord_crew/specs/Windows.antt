@@ -1,0 +1,45 @@
+-- What the workers of a window hand on together.
+use Rattle.std.specs.Prelude.{◌≡◌, ◌⊎◌, ◌+◌, ◌&&◌, ◌||◌, ◌++◌, ℕ, true, None, Result, IsOk, IfOk}
+use Rattle.chord_crew.specs.declared.gathered.Gathered.{Gathered}
+use Rattle.chord_crew.specs.declared.shift.Shift.{Shift}
+use Rattle.chord_crew.specs.Seats.{SeatState}
+use Rattle.chord_crew.specs.Shifts.{AreResults, IsPartFault, IsSameSeat}
+use Rattle.chord_event.specs.declared.error.RunError.{RunError}
+use Rattle.chord_event.specs.declared.error.RunError.TheVariants as run
+use Rattle.chord_scenario.specs.declared.scenario.Scenario.{Scenario}
+use Rattle.chord_window.specs.declared.world.World.{World}
+
+-- a window ends early where the run of a part does, or where a thread start was refused
+abbrev pub IsWindowFault : Scenario → RunError → Type 0
+IsWindowFault sc fault = (fault ≡ run.Worker) ⊎ IsPartFault sc fault
+
+-- how far back a fault stands where several meet in one window: a refused thread comes first
+abbrev pub rank_of : RunError → ℕ
+rank_of run.Worker = 0
+rank_of run.Memory = 1
+rank_of run.TooManyEvents = 2
+rank_of run.Write = 3
+rank_of run.BadDivision = 4
+
+-- the seat that two seats of one counter make
+abbrev pub joined_seats : SeatState → SeatState → SeatState
+joined_seats first second =
+    record first {
+      numbers = first.numbers ++ second.numbers;
+      allowance = first.allowance + second.allowance;
+      met_end = first.met_end || second.met_end;
+      is_exhausted = first.is_exhausted && second.is_exhausted;
+    }
+
+-- the workers were all told of the end, and have what each part that they drew leaves
+pub record IsGathered (sc : Scenario) (w : World) (horizon : ℕ) (seat : SeatState) (gathered : Gathered) : Type 0 where
+  pub same_seat : IsSameSeat seat gathered.seat
+  pub exhausted : gathered.seat.is_exhausted ≡ true
+  pub results : AreResults sc w horizon gathered.seat.numbers gathered.done.items
+
+-- what the others and one more worker hand on, none of them with a fault, put together
+pub record JoinsBoth (others : Result Gathered RunError) (shift : Shift) (whole : Gathered) : Type 0 where
+  pub others_are : IsOk others
+  pub no_fault : shift.fault ≡ None
+  pub seat : IfOk others (λ o. whole.seat ≡ joined_seats o.seat shift.seat)
+  pub done : IfOk others (λ o. whole.done.items ≡ o.done.items ++ shift.done.items)

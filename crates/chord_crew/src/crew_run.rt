@@ -1,0 +1,106 @@
+ghost use Rattle.std.specs.Prelude.{◌≡◌, ◌≢◌, ◌⊎◌, ◌<◌, ◌≤◌, true, false, length, OnOk, IfOk, IfErr, Err};
+ghost use Rattle.std.specs.Io.KnownBytes.{Appends};
+ghost use Rattle.chord_machine.specs.Run.{HasTooManyEvents, IsReport, trace_text};
+ghost use Rattle.chord_output.specs.Beginning.{IsBeginning};
+ghost use Rattle.chord_scenario.specs.World.{node_count};
+ghost use Rattle.chord_trace.specs.Watched.{wrapped, has_failed};
+ghost use Rattle.chord_window.specs.Exchanges.{AreDone};
+ghost use Rattle.chord_window.specs.PartRuns.{IsHorizon};
+ghost use Rattle.chord_window.specs.Worlds.{IsWorldOf};
+
+use crate::draws::{Draws, MOST_SEATS};
+use crate::gate::Gate;
+use crate::gathered::Gathered;
+use crate::window_run::WindowRun;
+use crate::workers::run_workers;
+use chord_event::RunError;
+use chord_scenario::Scenario;
+use chord_trace::{Report, Watched};
+use chord_window::{Division, Done, Engine, World, in_part_order};
+use std::alloc::Global;
+use std::io::Write;
+use std::sync::Wait;
+use std::thread::Threads;
+
+/// Lets so many workers run the parts of the world's next window. The answer is what the parts
+/// leave, in their order. Where several faults meet it is a refused thread, else memory, else too
+/// many events.
+fn run_parts<R: Threads + Wait + Sync, G: Gate + Sync>(
+    rt: &R,
+    alloc: Global,
+    scenario: &Scenario,
+    world: &World,
+    horizon: u64,
+    workers: u32,
+    gate: &G,
+) -> Result<Vec<Done>, RunError>
+    requires world { IsWorldOf scenario.now world.now }
+    requires horizon { IsHorizon world.now horizon }
+    requires workers { (0 < workers) × (workers ≤ MOST_SEATS) }
+    ensures done { IfOk result (λ dones. AreDone scenario.now world.now horizon dones.items) }
+    ensures over { result ≡ Err RunError.TooManyEvents → HasTooManyEvents scenario.now }
+    ensures only { IfErr result (λ e. (e ≡ RunError.Worker) ⊎ (e ≡ RunError.Memory) ⊎ (e ≡ RunError.TooManyEvents)) }
+{
+    world.division.is_whole();
+    let parts = world.division.parts();
+    let (draws, seat) = Draws::start(alloc, parts, workers)?;
+    let run = WindowRun {
+        alloc,
+        scenario,
+        world,
+        horizon,
+        draws: &draws,
+        gate,
+    };
+    let Gathered { seat, done } = match run_workers(rt, &run, seat, 0, workers) {
+        Ok(gathered) => gathered,
+        Err(fault) => return Err(fault),
+    };
+    draws.close(seat);
+    let dones = in_part_order(alloc, parts, done)?;
+    Ok(dones)
+}
+
+/// Runs a scenario by windows, the parts of each by 1 to 64 workers, each of which has a thread of
+/// its own in each window: writes the trace, window by window, and answers the report. The bytes
+/// and the report do not depend on who draws which part. What the writer took of the trace before
+/// an error is its beginning.
+///
+/// # Errors
+///
+/// `Worker`, where the start of a thread is refused; `BadDivision`, with nothing written, where the
+/// division has another number of nodes than the scenario; `TooManyEvents`, `Write` and `Memory` as
+/// `chord_serial::run_serial`. Where several workers of a window fail, `Worker` comes before
+/// `Memory`, and that before `TooManyEvents`.
+pub fn run_crew<R: Threads + Wait + Sync, G: Gate + Sync, W: Write>(
+    rt: &R,
+    alloc: Global,
+    scenario: &Scenario,
+    division: &Division,
+    workers: u32,
+    gate: &G,
+    writer: &mut Watched<W>,
+) -> Result<Report, RunError>
+    requires workers { (0 < workers) × (workers ≤ MOST_SEATS) }
+    requires sound { has_failed writer.old ≡ false }
+    ensures trace { OnOk result (Appends (W.contents (wrapped writer.old)) (W.contents (wrapped writer.new)) (trace_text scenario.now)) }
+    ensures report { IfOk result (λ report. IsReport scenario.now report) }
+    ensures within { OnOk result (HasTooManyEvents scenario.now → ⊥) }
+    ensures beginning { IsBeginning scenario.now (W.contents (wrapped writer.old)) (W.contents (wrapped writer.new)) }
+    ensures sound { OnOk result (has_failed writer.new ≡ false) }
+    ensures failed { result ≡ Err RunError.Write → has_failed writer.new ≡ true }
+    ensures memory { result ≡ Err RunError.Memory → has_failed writer.new ≡ false }
+    ensures worker { result ≡ Err RunError.Worker → has_failed writer.new ≡ false }
+    ensures over { result ≡ Err RunError.TooManyEvents → (HasTooManyEvents scenario.now) × (has_failed writer.new ≡ false) }
+    ensures bad { result ≡ Err RunError.BadDivision → (length division.now.of_node ≢ node_count scenario.now) × (writer.new ≡ writer.old) }
+{
+    scenario.is_in_range();
+    let mut engine = Engine::start(alloc, scenario, division)?;
+    while let Some(opening) = engine.opening() {
+        let horizon = opening.horizon;
+        let world = engine.world();
+        let dones = run_parts(rt, alloc, scenario, world, horizon, workers, gate)?;
+        engine.put_window(alloc, scenario, opening, dones, writer)?;
+    }
+    engine.finish(alloc, scenario, writer)
+}

@@ -1,0 +1,74 @@
+ghost use Rattle.std.specs.Prelude.{◌≡◌, ◌≤◌, ◌⊎◌, ◌++◌, Some, None, Err, IfOk, IfErr, IfSome};
+ghost use Rattle.std.specs.Result.{ForOk};
+ghost use Rattle.chord_crew.specs.Windows.{JoinsBoth, joined_seats, rank_of};
+
+use crate::draws::Draws;
+use crate::faults::graver;
+use crate::seat::Seat;
+use crate::shift::Shift;
+use chord_event::RunError;
+use chord_window::Done;
+
+/// What the workers of a window hand on together: the joined seat, and what the parts that they
+/// drew leave, in the order of its numbers.
+#[derive(Drop)]
+pub struct Gathered {
+    pub seat: Seat,
+    pub done: Vec<Done>,
+}
+
+/// What one worker hands on by itself.
+pub(crate) fn alone(shift: Shift) -> Result<Gathered, RunError>
+    ensures ok { IfOk result (λ g. (g.seat ≡ shift.seat) × (g.done.items ≡ shift.done.items) × (shift.fault ≡ None)) }
+    ensures fault { IfErr result (λ e. shift.fault ≡ Some e) }
+{
+    match shift.fault {
+        None => Ok(Gathered {
+            seat: shift.seat,
+            done: shift.done,
+        }),
+        Some(fault) => Err(fault),
+    }
+}
+
+/// Puts one more worker's seat and results behind those of the others.
+fn append(draws: &Draws, others: Gathered, mine: Gathered) -> Result<Gathered, RunError>
+    requires others { others.seat.table ≡ draws.now.table }
+    requires mine { mine.seat.table ≡ draws.now.table }
+    ensures seat { IfOk result (λ g. g.seat ≡ joined_seats others.seat mine.seat) }
+    ensures done { IfOk result (λ g. g.done.items ≡ others.done.items ++ mine.done.items) }
+    ensures memory { IfErr result (λ e. e ≡ RunError.Memory) }
+{
+    let Gathered { mut seat, mut done } = others;
+    let Gathered {
+        seat: last,
+        done: mut more,
+    } = mine;
+    draws.join(&mut seat, last);
+    match done.append(&mut more) {
+        Ok(()) => Ok(Gathered { seat, done }),
+        Err(_refused) => Err(RunError::Memory),
+    }
+}
+
+/// What the others and one more worker hand on, or the graver of their faults.
+pub(crate) fn gather(
+    draws: &Draws,
+    others: Result<Gathered, RunError>,
+    shift: Shift,
+) -> Result<Gathered, RunError>
+    requires others { ForOk others (λ o. o.seat.table ≡ draws.now.table) }
+    requires shift { shift.seat.table ≡ draws.now.table }
+    ensures ok { IfOk result (JoinsBoth others shift) }
+    ensures fault { IfErr result (λ e. (e ≡ RunError.Memory) ⊎ (others ≡ Err e) ⊎ (shift.fault ≡ Some e)) }
+
+    // No fault of the others or of the one is graver.
+    ensures theirs { IfErr result (λ e. IfErr others (λ f. rank_of e ≤ rank_of f)) }
+    ensures mine { IfErr result (λ e. IfSome shift.fault (λ f. rank_of e ≤ rank_of f)) }
+{
+    match (others, alone(shift)) {
+        (Ok(others), Ok(mine)) => append(draws, others, mine),
+        (Ok(_), Err(fault)) | (Err(fault), Ok(_)) => Err(fault),
+        (Err(one), Err(other)) => Err(graver(one, other)),
+    }
+}

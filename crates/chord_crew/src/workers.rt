@@ -1,0 +1,163 @@
+ghost use Rattle.std.specs.Prelude.{◌≡◌, ◌+◌, ◌<◌, ◌≤◌, [], IfOk, IfErr};
+ghost use Rattle.std.specs.Thread.{IsSync};
+ghost use Rattle.chord_crew.specs.Shifts.{IsWindowOf};
+ghost use Rattle.chord_crew.specs.Windows.{IsGathered, IsWindowFault, joined_seats};
+
+use crate::draws::MOST_SEATS;
+use crate::gate::Gate;
+use crate::gathered::{Gathered, alone, gather};
+use crate::seat::Seat;
+use crate::shift::{Shift, work};
+use crate::window_run::{ShiftOf, WindowRun};
+use chord_event::RunError;
+use std::snapshot::Snapshot;
+use std::sync::Wait;
+use std::thread;
+use std::thread::{PromisedHandle, Scope, Threads};
+
+/// Starts a worker's thread, whose result is the shift of the seat that it is given.
+fn start_worker<'s, E, G: Gate + Sync>(
+    scope: &Scope<'s, E>,
+    run: &WindowRun<'s, G>,
+    seat: Seat,
+    worker: u32,
+) -> Result<PromisedHandle<Shift, ShiftOf<'s>>, RunError>
+    requires run { IsWindowOf run.now.scenario.now run.now.world.now run.now.horizon run.now.draws.now }
+    requires of { seat.table ≡ run.now.draws.now.table }
+    requires new { seat.numbers ≡ [] }
+    ensures scenario { IfOk result (λ child. child.promise.scenario.now ≡ run.now.scenario.now) }
+    ensures world { IfOk result (λ child. child.promise.world.now ≡ run.now.world.now) }
+    ensures horizon { IfOk result (λ child. child.promise.horizon ≡ run.now.horizon) }
+    ensures seat { IfOk result (λ child. child.promise.seat.value ≡ seat) }
+    ensures refused { IfErr result (λ e. e ≡ RunError.Worker) }
+{
+    let &WindowRun {
+        alloc,
+        scenario,
+        world,
+        horizon,
+        draws,
+        gate,
+    } = run;
+    let promise = ShiftOf {
+        scenario,
+        world,
+        horizon,
+        seat: Snapshot::of(&seat),
+    };
+    let started = scope.spawn_with(
+        promise,
+        move || work(alloc, scenario, world, horizon, draws, seat, worker, gate),
+    );
+    match started {
+        Ok(child) => Ok(child),
+        Err(_refused) => Err(RunError::Worker),
+    }
+}
+
+/// Starts a thread for each of the workers that are left, from this worker on, joins them, and puts
+/// together what they hand on. The seat has 1 of the allowance for each of them.
+#[cycle(workers)]
+pub(crate) fn run_workers<R: Threads + Wait + Sync, G: Gate + Sync>(
+    rt: &R,
+    run: &WindowRun<'_, G>,
+    seat: Seat,
+    worker: u32,
+    left: u32,
+) -> Result<Gathered, RunError>
+    requires run { IsWindowOf run.now.scenario.now run.now.world.now run.now.horizon run.now.draws.now }
+    requires of { seat.table ≡ run.now.draws.now.table }
+    requires new { seat.numbers ≡ [] }
+    requires allowance { seat.allowance ≡ left }
+    requires some { 0 < left }
+    requires few { worker + left ≤ MOST_SEATS }
+    ensures ok { IfOk result (IsGathered run.now.scenario.now run.now.world.now run.now.horizon seat) }
+    ensures fault { IfErr result (IsWindowFault run.now.scenario.now) }
+{
+    if left == 1 {
+        return run_last(rt, run, seat, worker);
+    }
+    let mut seat = seat;
+    let mine = run.draws.split(&mut seat);
+    let &WindowRun {
+        alloc,
+        scenario,
+        world,
+        horizon,
+        draws,
+        gate,
+    } = run;
+    thread::scope(
+        thread::scope_env(),
+        rt,
+        |scope| -> Result<Gathered, RunError>
+            requires sync { IsSync G.row × IsSync R.row }
+            requires run { IsWindowOf scenario.now world.now horizon draws.now }
+            requires of { (seat.table ≡ draws.now.table) × (mine.table ≡ draws.now.table) }
+            requires new { (seat.numbers ≡ []) × (mine.numbers ≡ []) }
+            requires allowance { (seat.allowance + 1 ≡ left) × (mine.allowance ≡ 1) }
+            requires some { 1 < left }
+            requires few { worker + left ≤ MOST_SEATS }
+            ensures ok { IfOk result (IsGathered scenario.entry.now world.entry.now horizon (joined_seats seat mine)) }
+            ensures fault { IfErr result (IsWindowFault scenario.entry.now) }
+        {
+            let run = WindowRun {
+                alloc,
+                scenario,
+                world,
+                horizon,
+                draws,
+                gate,
+            };
+            let child = start_worker(scope, &run, mine, worker)?;
+            let others = run_workers(rt, &run, seat, worker + 1, left - 1);
+            gather(draws, others, child.join(rt))
+        },
+    )
+}
+
+/// Runs the last worker, who takes the seat that is left.
+fn run_last<R: Threads + Wait + Sync, G: Gate + Sync>(
+    rt: &R,
+    run: &WindowRun<'_, G>,
+    seat: Seat,
+    worker: u32,
+) -> Result<Gathered, RunError>
+    requires run { IsWindowOf run.now.scenario.now run.now.world.now run.now.horizon run.now.draws.now }
+    requires of { seat.table ≡ run.now.draws.now.table }
+    requires new { seat.numbers ≡ [] }
+    ensures ok { IfOk result (IsGathered run.now.scenario.now run.now.world.now run.now.horizon seat) }
+    ensures fault { IfErr result (IsWindowFault run.now.scenario.now) }
+{
+    let &WindowRun {
+        alloc,
+        scenario,
+        world,
+        horizon,
+        draws,
+        gate,
+    } = run;
+    thread::scope(
+        thread::scope_env(),
+        rt,
+        |scope| -> Result<Gathered, RunError>
+            requires sync { IsSync G.row × IsSync R.row }
+            requires run { IsWindowOf scenario.now world.now horizon draws.now }
+            requires of { seat.table ≡ draws.now.table }
+            requires new { seat.numbers ≡ [] }
+            ensures ok { IfOk result (IsGathered scenario.entry.now world.entry.now horizon seat) }
+            ensures fault { IfErr result (IsWindowFault scenario.entry.now) }
+        {
+            let run = WindowRun {
+                alloc,
+                scenario,
+                world,
+                horizon,
+                draws,
+                gate,
+            };
+            let child = start_worker(scope, &run, seat, worker)?;
+            alone(child.join(rt))
+        },
+    )
+}
