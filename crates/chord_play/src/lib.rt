@@ -5,6 +5,7 @@ mod fault;
 mod plan;
 mod playing;
 mod reading;
+mod running;
 mod text;
 
 pub use fault::PlayFault;

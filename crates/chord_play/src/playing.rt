@@ -8,13 +8,15 @@ ghost use Rattle.chord_trace.specs.Watched.{wrapped, has_failed};
 use crate::fault::{PlayFault, fault_of_text};
 use crate::plan::Plan;
 use crate::reading::read_text;
+use crate::running::run_planned;
 use crate::text::Text;
 use chord_event::RunError;
 use chord_scenario::{Scenario, ScenarioFault, read_scenario};
-use chord_serial::run_serial;
 use chord_trace::{Report, Watched};
 use std::alloc::Global;
 use std::io::{Read, Write};
+use std::sync::Wait;
+use std::thread::Threads;
 
 /// Reads the scenario text, then the latency text, and answers the scenario that they give, or the
 /// first fault. A text of more than 16,777,216 bytes is not read further than one byte beyond.
@@ -47,14 +49,15 @@ pub fn load<R: Read, Q: Read>(
     Ok(scenario)
 }
 
-/// Loads a scenario and runs it: writes its trace and answers its report. The plan changes neither;
-/// so far each is carried out one event at a time. What the writer took before an error is the
-/// beginning of the trace.
-pub fn play<R: Read, Q: Read, W: Write>(
+/// Loads a scenario and runs it: writes its trace and answers its report. The plan changes neither:
+/// a serial one is carried out one event at a time, any other by its workers, to whom the nodes come
+/// in its parts. What the writer took before an error is the beginning of the trace.
+pub fn play<T: Threads + Wait + Sync, R: Read, Q: Read, W: Write>(
+    rt: &T,
     alloc: Global,
     scenario: &mut Watched<R>,
     latency: &mut Watched<Q>,
-    _plan: &Plan,
+    plan: &Plan,
     writer: &mut Watched<W>,
 ) -> Result<Report, PlayFault>
     requires scenario_sound { has_failed scenario.old ≡ false }
@@ -72,10 +75,11 @@ pub fn play<R: Read, Q: Read, W: Write>(
     ensures sound { OnOk result (has_failed writer.new ≡ false) }
     ensures failed { result ≡ Err (PlayFault.Run RunError.Write) → has_failed writer.new ≡ true }
     ensures memory { result ≡ Err (PlayFault.Run RunError.Memory) → has_failed writer.new ≡ false }
-    ensures only { (e : RunError) → result ≡ Err (PlayFault.Run e) → (e ≡ RunError.Memory) ⊎ (e ≡ RunError.Write) ⊎ (e ≡ RunError.TooManyEvents) }
+    ensures worker { result ≡ Err (PlayFault.Run RunError.Worker) → (plan.now.serial ≡ false) × (has_failed writer.new ≡ false) }
+    ensures only { (e : RunError) → result ≡ Err (PlayFault.Run e) → (e ≡ RunError.Memory) ⊎ (e ≡ RunError.Worker) ⊎ (e ≡ RunError.TooManyEvents) ⊎ (e ≡ RunError.Write) }
 {
     let loaded = load(alloc, scenario, latency)?;
-    match run_serial(alloc, &loaded, writer) {
+    match run_planned(rt, alloc, &loaded, plan, writer) {
         Ok(report) => Ok(report),
         Err(error) => Err(PlayFault::Run(error)),
     }

@@ -10,14 +10,19 @@ use crate::status::explain;
 use chord_event::RunError;
 use chord_play::{Plan, PlayFault, Text, load, play};
 use chord_trace::{Report, Watched};
-use std::alloc::{AllocError, Global};
+use std::alloc::AllocError;
 use std::io::{BufWriter, Read, Write};
 use std::process::ExitCode;
 use std::rt::Files as FileSystem;
+use std::sync::Wait;
+use std::thread::Threads;
 use std::{fs, io};
 
 /// Carries out the order, and answers the status of the program.
-pub fn carry_out<T: FileSystem + Print + Eprint + AllocGlobal>(rt: &T, order: Order) -> ExitCode {
+pub fn carry_out<T: FileSystem + Print + Eprint + AllocGlobal + Threads + Wait + Sync>(
+    rt: &T,
+    order: Order,
+) -> ExitCode {
     let outcome = match &order {
         Order::Check(files) => check(rt, files),
         Order::Ids(files) => ids(rt, files),
@@ -51,7 +56,7 @@ fn ids<T: FileSystem + Print + AllocGlobal>(rt: &T, files: &Files) -> Result<(),
 
 /// Runs a scenario: its trace goes to the file of this name or to standard output, and then its report to
 /// standard output.
-pub fn run<T: FileSystem + Print + AllocGlobal>(
+pub fn run<T: FileSystem + Print + AllocGlobal + Threads + Wait + Sync>(
     rt: &T,
     files: &Files,
     plan: &Plan,
@@ -61,11 +66,11 @@ pub fn run<T: FileSystem + Print + AllocGlobal>(
     let report = match trace {
         Some(name) => {
             let file = or_write_fault(fs::create(rt, name.as_str()))?;
-            play_to(rt.alloc(), &mut scenario, &mut latency, plan, file)?
+            play_to(rt, &mut scenario, &mut latency, plan, file)?
         }
         None => {
             let output = io::writer(rt);
-            play_to(rt.alloc(), &mut scenario, &mut latency, plan, output)?
+            play_to(rt, &mut scenario, &mut latency, plan, output)?
         }
     };
     let mut output = Watched::new(io::writer(rt));
@@ -95,8 +100,8 @@ fn open<T: FileSystem>(rt: &T, files: &Files) -> Result<Texts<T::File>, PlayFaul
 }
 
 /// Plays to a buffer in front of the writer, which is emptied at the end, whatever play answers.
-fn play_to<R: Read, Q: Read, W: Write + Drop>(
-    alloc: Global,
+fn play_to<T: AllocGlobal + Threads + Wait + Sync, R: Read, Q: Read, W: Write + Drop>(
+    rt: &T,
     scenario: &mut Watched<R>,
     latency: &mut Watched<Q>,
     plan: &Plan,
@@ -105,11 +110,11 @@ fn play_to<R: Read, Q: Read, W: Write + Drop>(
     requires scenario_sound { has_failed scenario.old ≡ false }
     requires latency_sound { has_failed latency.old ≡ false }
 {
-    let Ok(buffered) = BufWriter::new(alloc, writer) else {
+    let Ok(buffered) = BufWriter::new(rt.alloc(), writer) else {
         return Err(PlayFault::Run(RunError::Memory));
     };
     let mut writer = Watched::new(buffered);
-    let outcome = play(alloc, scenario, latency, plan, &mut writer);
+    let outcome = play(rt, rt.alloc(), scenario, latency, plan, &mut writer);
     let flushed = or_write_fault(writer.flush());
     let report = outcome?;
     flushed?;

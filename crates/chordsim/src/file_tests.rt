@@ -5,7 +5,9 @@ use chord_play::{Plan, PlayFault, Split, Text};
 use std::fs;
 use std::process::{Abort, ExitCode};
 use std::rt::Files as FileSystem;
+use std::sync::Wait;
 use std::test::Fail;
+use std::thread::Threads;
 
 /// A ring of three, of which one looks up a key that another one owns.
 const RING: &str = r#"profile = 1
@@ -67,20 +69,21 @@ fn remove(rt: &impl FileSystem, names: &[&str]) -> Result<(), Fail> {
 }
 
 /// Runs the scenario of these files with its trace to a file.
-fn run_to<T: FileSystem + Print + AllocGlobal>(
+fn run_to<T: FileSystem + Print + AllocGlobal + Threads + Wait + Sync>(
     rt: &T,
     files: &Files,
+    plan: &Plan,
     trace: &str,
 ) -> Result<Result<(), PlayFault>, Fail> {
     let trace = Some(String::from_str(rt.alloc(), trace)?);
-    Ok(run(rt, files, &SERIAL, &trace))
+    Ok(run(rt, files, plan, &trace))
 }
 
 #[test]
 fn a_trace_goes_to_its_file(rt: HostRuntime) -> Result<(), Fail> {
     fs::write(&rt, "plain.toml", RING)?;
     let files = files_of(&rt, "plain.toml", None)?;
-    let outcome = run_to(&rt, &files, "plain.trace")?;
+    let outcome = run_to(&rt, &files, &SERIAL, "plain.trace")?;
     assert!(rt; outcome.is_ok());
     let trace = fs::read_to_string(&rt, "plain.trace")?;
     let wanted = format!(in rt.alloc();
@@ -90,12 +93,39 @@ fn a_trace_goes_to_its_file(rt: HostRuntime) -> Result<(), Fail> {
     remove(&rt, &["plain.toml", "plain.trace"])
 }
 
+/// The file is the same by workers.
+#[test]
+fn a_trace_by_workers(rt: HostRuntime) -> Result<(), Fail> {
+    fs::write(&rt, "crew.toml", RING)?;
+    let files = files_of(&rt, "crew.toml", None)?;
+    let wanted = format!(in rt.alloc();
+        "100 n3 lookup 1\n120 n3 found 1 n1 hops=1 timeouts=0 us=20\n{AUDIT}"
+    )?;
+    for (workers, parts, split) in [(1, 1, Split::RoundRobin), (3, 2, Split::Blocks)] {
+        assert!(rt; 1 <= workers && workers <= 64 && 1 <= parts && parts <= 512);
+        let plan = Plan {
+            serial: false,
+            workers,
+            parts,
+            split,
+        };
+        let outcome = run_to(&rt, &files, &plan, "crew.trace")?;
+        assert!(rt; outcome.is_ok(), "{workers} workers");
+        let trace = fs::read_to_string(&rt, "crew.trace")?;
+        assert!(rt;
+            trace.as_str() == wanted.as_str(),
+            "{workers} workers: {trace}"
+        );
+    }
+    remove(&rt, &["crew.toml", "crew.trace"])
+}
+
 #[test]
 fn a_latency_file_is_read(rt: HostRuntime) -> Result<(), Fail> {
     fs::write(&rt, "slow.toml", RING)?;
     fs::write(&rt, "slow.csv", "n0,n3,15\n")?;
     let files = files_of(&rt, "slow.toml", Some("slow.csv"))?;
-    let outcome = run_to(&rt, &files, "slow.trace")?;
+    let outcome = run_to(&rt, &files, &SERIAL, "slow.trace")?;
     assert!(rt; outcome.is_ok());
     let trace = fs::read_to_string(&rt, "slow.trace")?;
     let wanted = format!(in rt.alloc();
@@ -109,15 +139,15 @@ fn a_latency_file_is_read(rt: HostRuntime) -> Result<(), Fail> {
 #[test]
 fn files_are_opened_in_order(rt: HostRuntime) -> Result<(), Fail> {
     let neither = files_of(&rt, "none.toml", Some("none.csv"))?;
-    let outcome = run_to(&rt, &neither, "none.trace")?;
+    let outcome = run_to(&rt, &neither, &SERIAL, "none.trace")?;
     assert!(rt; matches!(outcome, Err(PlayFault::Read(Text::Scenario))));
     fs::write(&rt, "alone.toml", RING)?;
     let alone = files_of(&rt, "alone.toml", Some("none.csv"))?;
-    let outcome = run_to(&rt, &alone, "none.trace")?;
+    let outcome = run_to(&rt, &alone, &SERIAL, "none.trace")?;
     assert!(rt; matches!(outcome, Err(PlayFault::Read(Text::Latency))));
     assert!(rt; fs::open(&rt, "none.trace").is_err());
     let whole = files_of(&rt, "alone.toml", None)?;
-    let outcome = run_to(&rt, &whole, "none/none.trace")?;
+    let outcome = run_to(&rt, &whole, &SERIAL, "none/none.trace")?;
     assert!(rt; matches!(outcome, Err(PlayFault::Run(RunError::Write))));
     remove(&rt, &["alone.toml"])
 }
@@ -127,7 +157,7 @@ fn files_are_opened_in_order(rt: HostRuntime) -> Result<(), Fail> {
 fn a_refused_scenario_leaves_an_empty_trace(rt: HostRuntime) -> Result<(), Fail> {
     fs::write(&rt, "refused.toml", "profile = 1\n")?;
     let files = files_of(&rt, "refused.toml", None)?;
-    let outcome = run_to(&rt, &files, "refused.trace")?;
+    let outcome = run_to(&rt, &files, &SERIAL, "refused.trace")?;
     assert!(rt; matches!(outcome, Err(PlayFault::Scenario(_))));
     let trace = fs::read_to_string(&rt, "refused.trace")?;
     assert!(rt; trace.as_str() == "");
