@@ -21,6 +21,20 @@ fn a_list_that_is_no_division_is_refused_for_the_first_fault(rt: HostRuntime) ->
 }
 
 #[test]
+fn texts_of_division_faults(rt: HostRuntime) -> Result<(), Fail> {
+    for (fault, expected) in [
+        (DivisionFault::NoParts, "NoParts"),
+        (DivisionFault::TooManyParts, "TooManyParts"),
+        (DivisionFault::WrongLength, "WrongLength"),
+        (DivisionFault::PartOutOfRange, "PartOutOfRange"),
+    ] {
+        let text = format!(in rt.alloc(); "{fault}")?;
+        assert!(rt; text.as_str() == expected, "{text}");
+    }
+    Ok(())
+}
+
+#[test]
 fn a_list_is_taken_as_it_stands(rt: HostRuntime) -> Result<(), Fail> {
     let Ok(division) = Division::new(3, 2, Vec::from_slice(rt.alloc(), &[1, 0, 1])?) else {
         assert!(rt; false, "the division is refused");

@@ -1,4 +1,4 @@
-use crate::playing::{SETTINGS, THREE, play_text, play_texts, shown, text_of};
+use crate::playing::{SERIAL, SETTINGS, THREE, play_text, play_texts, shown, text_of};
 use std::test::Fail;
 
 /// An example: its settings, nodes and commands, its trace, and those lines of its report whose
@@ -595,7 +595,7 @@ fn examples(rt: HostRuntime) -> Result<(), Fail> {
             example.nodes,
             example.commands,
         )?;
-        let played = play_text(rt.alloc(), text.as_str().as_bytes());
+        let played = play_text(&rt, text.as_str().as_bytes());
         let trace = String::from_utf8_lossy(rt.alloc(), played.trace.as_slice())?;
         assert!(rt; trace.as_str() == example.trace, "{name}: {trace}");
         let Ok(report) = played.outcome else {
@@ -629,7 +629,7 @@ fn sixty_lookups_and_one_more(rt: HostRuntime) -> Result<(), Fail> {
         "200 audit members=3 dead=0 ring=3 ordered=yes principals=3 sufficient=yes\n",
     )?;
     let text = text_of(alloc, SETTINGS, THREE, commands.as_str())?;
-    let played = play_text(alloc, text.as_str().as_bytes());
+    let played = play_text(&rt, text.as_str().as_bytes());
     assert!(rt; played.trace.as_slice() == expected.as_str().as_bytes());
     let Ok(report) = played.outcome else {
         assert!(rt; false, "the run does not end");
@@ -651,7 +651,7 @@ fn a_latency_of_its_own(rt: HostRuntime) -> Result<(), Fail> {
     let alloc = rt.alloc();
     let commands = "[[command]]\nat_us = 100\ndo = \"lookup\"\nnode = \"n3\"\nkey = 1\n";
     let text = text_of(alloc, SETTINGS, THREE, commands)?;
-    let played = play_texts(alloc, text.as_str().as_bytes(), b"n0,n3,15");
+    let played = play_texts(&rt, text.as_str().as_bytes(), b"n0,n3,15", &SERIAL);
     assert!(rt; played.outcome.is_ok());
     let trace = String::from_utf8_lossy(alloc, played.trace.as_slice())?;
     assert!(rt;

@@ -2,10 +2,11 @@ use crate::playing::{Played, SERIAL, SETTINGS, THREE, play_text, text_of};
 use chord_event::RunError;
 use chord_play::{PlayFault, Text, play};
 use chord_trace::Watched;
-use std::alloc::Global;
 use std::io;
 use std::io::{ErrorKind, Read, Write};
+use std::sync::Wait;
 use std::test::Fail;
+use std::thread::Threads;
 
 /// Two lookups at one time, and what they leave.
 pub const TWO_LOOKUPS: &str = "[[command]]\nat_us = 100\ndo = \"lookup\"\nnode = \"n0\"\nkey = 4\n\
@@ -83,7 +84,7 @@ fn writers_that_fail(rt: HostRuntime) -> Result<(), Fail> {
                 room,
                 takes_nothing,
             });
-            let outcome = play(alloc, &mut toml, &mut csv, &SERIAL, &mut writer);
+            let outcome = play(&rt, alloc, &mut toml, &mut csv, &SERIAL, &mut writer);
             let is_write = matches!(outcome, Err(PlayFault::Run(RunError::Write)));
             assert!(rt; is_write, "room {room}");
             let taken = writer.into_inner().taken;
@@ -97,11 +98,15 @@ fn writers_that_fail(rt: HostRuntime) -> Result<(), Fail> {
 }
 
 /// Plays the two lookups from readers that hand out single bytes, of each text as many as are given.
-fn play_halting(alloc: Global, toml: Halting<'_>, csv: Halting<'_>) -> Played {
+fn play_halting<T: AllocGlobal + Threads + Wait + Sync>(
+    rt: &T,
+    toml: Halting<'_>,
+    csv: Halting<'_>,
+) -> Played {
     let mut toml = Watched::new(toml);
     let mut csv = Watched::new(csv);
-    let mut writer = Watched::new(Vec::new(alloc));
-    let outcome = play(alloc, &mut toml, &mut csv, &SERIAL, &mut writer);
+    let mut writer = Watched::new(Vec::new(rt.alloc()));
+    let outcome = play(rt, rt.alloc(), &mut toml, &mut csv, &SERIAL, &mut writer);
     Played {
         trace: writer.into_inner(),
         outcome,
@@ -121,7 +126,7 @@ fn readers_that_fail(rt: HostRuntime) -> Result<(), Fail> {
     let csv = b"n0,n3,10\n".as_slice();
     for count in 0..=toml.len() {
         let played = play_halting(
-            alloc,
+            &rt,
             single_bytes(&toml[..count], true),
             single_bytes(csv, true),
         );
@@ -130,7 +135,7 @@ fn readers_that_fail(rt: HostRuntime) -> Result<(), Fail> {
     }
     for count in 0..=csv.len() {
         let played = play_halting(
-            alloc,
+            &rt,
             single_bytes(toml, false),
             single_bytes(&csv[..count], true),
         );
@@ -147,7 +152,7 @@ fn readers_of_single_bytes(rt: HostRuntime) -> Result<(), Fail> {
     let text = text_of(alloc, SETTINGS, THREE, TWO_LOOKUPS)?;
     let csv = b"n0,n3,10\n".as_slice();
     let played = play_halting(
-        alloc,
+        &rt,
         single_bytes(text.as_str().as_bytes(), false),
         single_bytes(csv, false),
     );
@@ -161,10 +166,10 @@ fn texts_that_are_too_long(rt: HostRuntime) -> Result<(), Fail> {
     let alloc = rt.alloc();
     let mut text = text_of(alloc, SETTINGS, THREE, TWO_LOOKUPS)?.into_bytes();
     text.resize(16_777_216, b'\n')?;
-    let longest = play_text(alloc, text.as_slice());
+    let longest = play_text(&rt, text.as_slice());
     assert!(rt; longest.outcome.is_ok() && longest.trace.as_slice() == TRACE.as_bytes());
     text.push(b'\n')?;
-    let longer = play_text(alloc, text.as_slice());
+    let longer = play_text(&rt, text.as_slice());
     assert!(rt; matches!(longer.outcome, Err(PlayFault::TooLong(Text::Scenario))));
     assert!(rt; longer.trace.is_empty());
     Ok(())
@@ -178,7 +183,7 @@ fn too_many_events(rt: HostRuntime) -> Result<(), Fail> {
     for (allowed, lines) in [(1, 1), (2, 2), (3, 2), (4, 2), (5, 3), (6, 4), (7, 4)] {
         let settings = format!(in alloc; "{SETTINGS}max_events = {allowed}\n")?;
         let text = text_of(alloc, settings.as_str(), THREE, TWO_LOOKUPS)?;
-        let played = play_text(alloc, text.as_str().as_bytes());
+        let played = play_text(&rt, text.as_str().as_bytes());
         let is_over = matches!(played.outcome, Err(PlayFault::Run(RunError::TooManyEvents)));
         assert!(rt; is_over, "{allowed}");
         let trace = String::from_utf8_lossy(alloc, played.trace.as_slice())?;
@@ -192,9 +197,14 @@ fn too_many_events(rt: HostRuntime) -> Result<(), Fail> {
 }
 
 /// The text of the fault that a scenario is refused for.
-fn refusal(alloc: Global, settings: &str, nodes: &str) -> Result<String, Fail> {
+fn refusal<T: AllocGlobal + Threads + Wait + Sync>(
+    rt: &T,
+    settings: &str,
+    nodes: &str,
+) -> Result<String, Fail> {
+    let alloc = rt.alloc();
     let text = text_of(alloc, settings, nodes, "")?;
-    let Played { outcome, .. } = play_text(alloc, text.as_str().as_bytes());
+    let Played { outcome, .. } = play_text(rt, text.as_str().as_bytes());
     match outcome {
         Err(PlayFault::Scenario(fault)) => Ok(format!(in alloc; "{fault}")?),
         _ => Ok(format!(in alloc; "not refused")?),
@@ -208,12 +218,12 @@ fn scenarios_that_are_refused(rt: HostRuntime) -> Result<(), Fail> {
         [[node]]\nname = \"n4\"\nid = 4\ninitial = true\n";
     let wide =
         "list = 1\nduration_us = 200\nwindow_us = 11\ntimeout_us = 40\naudit_us = 200\nstabilize_us = 1000\nfinger_us = 1000\n";
-    let near = refusal(alloc, wide, opposite)?;
+    let near = refusal(&rt, wide, opposite)?;
     assert!(rt; near.as_str() == "S15 LatencyBelowWindow n0 n4", "{near}");
-    let few = refusal(alloc, SETTINGS, opposite)?;
+    let few = refusal(&rt, SETTINGS, opposite)?;
     assert!(rt; few.as_str() == "S10 TooFewInitial", "{few}");
     let twins = THREE.replacen(alloc, "id = 1", "id = 0", 1)?;
-    let same = refusal(alloc, SETTINGS, twins.as_str())?;
+    let same = refusal(&rt, SETTINGS, twins.as_str())?;
     assert!(rt; same.as_str() == "S8 SameId n0 n1", "{same}");
     Ok(())
 }

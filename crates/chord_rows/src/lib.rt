@@ -1,9 +1,11 @@
 //! Worked examples: whole scenarios, with the traces and reports that they have by the rules. None of them was
 //! made by this program: most traces were given together with the rules, those with random streams by two simulators
 //! written apart from it, and the other numbers were counted by hand. And random scenarios, which leave the same one
-//! event at a time and by windows.
+//! event at a time, by windows and by crews.
 #![tactic(auto)]
 
+#[cfg(test)]
+mod crews;
 #[cfg(test)]
 mod divisions;
 #[cfg(test)]
@@ -11,7 +13,13 @@ mod examples;
 #[cfg(test)]
 mod failures;
 #[cfg(test)]
+mod gates;
+#[cfg(test)]
+mod plans;
+#[cfg(test)]
 mod playing;
+#[cfg(test)]
+mod random;
 #[cfg(test)]
 mod rings;
 #[cfg(test)]

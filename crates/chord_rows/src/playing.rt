@@ -2,7 +2,9 @@ use chord_play::{Plan, PlayFault, Split, play};
 use chord_trace::{Report, Watched};
 use std::alloc::{AllocError, Global};
 use std::fmt::Write as _;
+use std::sync::Wait;
 use std::test::Fail;
+use std::thread::Threads;
 
 /// One event at a time.
 pub const SERIAL: Plan = Plan {
@@ -41,17 +43,22 @@ pub struct Played {
     pub outcome: Result<Report, PlayFault>,
 }
 
-/// Plays a scenario without a latency text.
-pub fn play_text(alloc: Global, scenario: &[u8]) -> Played {
-    play_texts(alloc, scenario, b"")
+/// Plays a scenario without a latency text, one event at a time.
+pub fn play_text<T: AllocGlobal + Threads + Wait + Sync>(rt: &T, scenario: &[u8]) -> Played {
+    play_texts(rt, scenario, b"", &SERIAL)
 }
 
-/// Plays a scenario with a latency text.
-pub fn play_texts(alloc: Global, scenario: &[u8], latency: &[u8]) -> Played {
+/// Plays a scenario with a latency text, as planned.
+pub fn play_texts<T: AllocGlobal + Threads + Wait + Sync>(
+    rt: &T,
+    scenario: &[u8],
+    latency: &[u8],
+    plan: &Plan,
+) -> Played {
     let mut toml = Watched::new(scenario);
     let mut csv = Watched::new(latency);
-    let mut writer = Watched::new(Vec::new(alloc));
-    let outcome = play(alloc, &mut toml, &mut csv, &SERIAL, &mut writer);
+    let mut writer = Watched::new(Vec::new(rt.alloc()));
+    let outcome = play(rt, rt.alloc(), &mut toml, &mut csv, plan, &mut writer);
     Played {
         trace: writer.into_inner(),
         outcome,

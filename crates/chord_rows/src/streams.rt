@@ -16,7 +16,7 @@ fn each_node_has_its_own_stream(rt: HostRuntime) -> Result<(), Fail> {
         "{SETTINGS}lookups = {{ gap_min_us = 50, gap_max_us = 50 }}\n"
     )?;
     let text = text_of(alloc, settings.as_str(), THREE, "")?;
-    let played = play_text(alloc, text.as_str().as_bytes());
+    let played = play_text(&rt, text.as_str().as_bytes());
     assert!(rt; played.outcome.is_ok());
     let trace = String::from_utf8_lossy(alloc, played.trace.as_slice())?;
     assert!(rt; Stream::of(1, 0).word_at(4) % 8 == 2);
@@ -36,7 +36,7 @@ fn a_crash_keeps_the_place_in_the_stream(rt: HostRuntime) -> Result<(), Fail> {
     let commands = "[[command]]\nat_us = 45\ndo = \"crash\"\nnode = \"n1\"\n\
         [[command]]\nat_us = 150\ndo = \"join\"\nnode = \"n1\"\nvia = \"n0\"\n";
     let text = text_of(alloc, settings, THREE, commands)?;
-    let played = play_text(alloc, text.as_str().as_bytes());
+    let played = play_text(&rt, text.as_str().as_bytes());
     assert!(rt; played.outcome.is_ok());
     let trace = String::from_utf8_lossy(alloc, played.trace.as_slice())?;
     assert!(rt; has_line(trace.as_str(), "190 n1 member n0"), "{trace}");

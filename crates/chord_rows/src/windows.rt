@@ -33,7 +33,12 @@ struct Ran {
 }
 
 /// The division of a scenario's nodes.
-fn divide(alloc: Global, scenario: &Scenario, split: Split, parts: u32) -> Result<Division, Memory>
+pub fn divide(
+    alloc: Global,
+    scenario: &Scenario,
+    split: Split,
+    parts: u32,
+) -> Result<Division, Memory>
     requires { (0 < parts) × (parts ≤ MOST_PARTS) }
 {
     scenario.is_in_range();
@@ -127,7 +132,7 @@ fn examples_by_windows(rt: HostRuntime) -> Result<(), Fail> {
 }
 
 /// The report of two lookups that begin at one time.
-const REPORT: &str = "events 8\nlookups 2\nfound 2\nhops-sum 2\nhops-greatest 1\nus-sum 40\n\
+pub const REPORT: &str = "events 8\nlookups 2\nfound 2\nhops-sum 2\nhops-greatest 1\nus-sum 40\n\
     us-least 20\nus-median 20\nus-greatest 20\naudits 1\n";
 
 /// Neither the parts, empty ones too, nor the workers nor their turns change what two lookups at one time leave.

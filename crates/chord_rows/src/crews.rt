@@ -1,0 +1,287 @@
+//! Runs by crews: workers in threads of their own.
+ghost use Rattle.std.specs.Prelude.{◌≡◌, ◌<◌, ◌≤◌, None, Some, true, slice_get, IfOk};
+ghost use Rattle.chord_window.specs.Ordering.{ArePartsDone, HasEachOnce};
+ghost use Rattle.chord_window.specs.PartRuns.{IsHorizon};
+ghost use Rattle.chord_window.specs.Worlds.{IsWorldOf};
+
+use crate::failures::{Bounded, TRACE, TWO_LOOKUPS};
+use crate::gates::{CountGate, Counting, PairGate, SizeGate};
+use crate::playing::{SETTINGS, THREE, shown, text_of};
+use crate::windows::{REPORT, divide};
+use chord_crew::{Draws, Gate, MOST_SEATS, OpenGate, Seat, run_crew, work};
+use chord_event::{Memory, RunError};
+use chord_play::Split;
+use chord_scenario::{Scenario, read_scenario};
+use chord_trace::{Report, Watched};
+use chord_window::{Division, Done, World, exchange};
+use std::alloc::Global;
+use std::snapshot::Snapshot;
+use std::sync::atomic::{AtomicU64, Ordering};
+use std::sync::{Mutex, Wait};
+use std::test::Fail;
+use std::thread::Threads;
+
+/// What a crew left: the text of its trace, and its report, or why it did not end.
+#[derive(Drop)]
+struct Ran {
+    trace: Vec<u8>,
+    outcome: Result<Report, RunError>,
+}
+
+/// Runs a scenario by so many workers.
+fn run_by<T: AllocGlobal + Threads + Wait + Sync, G: Gate + Sync>(
+    rt: &T,
+    scenario: &Scenario,
+    division: &Division,
+    workers: u32,
+    gate: &G,
+) -> Ran
+    requires { (0 < workers) × (workers ≤ MOST_SEATS) }
+{
+    let alloc = rt.alloc();
+    let mut writer = Watched::new(Vec::new(alloc));
+    let outcome = run_crew(rt, alloc, scenario, division, workers, gate, &mut writer);
+    Ran {
+        trace: writer.into_inner(),
+        outcome,
+    }
+}
+
+/// Two lookups at one time, of a run that allows so many events.
+fn two_lookups(alloc: Global, allowed: u32) -> Result<Scenario, Fail> {
+    let settings = format!(in alloc; "{SETTINGS}max_events = {allowed}\n")?;
+    let text = text_of(alloc, settings.as_str(), THREE, TWO_LOOKUPS)?;
+    let scenario = read_scenario(alloc, text.as_str().as_bytes(), b"")
+        .ok()
+        .ok_or("the lookups are refused")?;
+    Ok(scenario)
+}
+
+/// Neither the parts, empty ones too, nor the workers change what two lookups at one time leave.
+#[test]
+fn two_lookups_by_any_crew(rt: HostRuntime) -> Result<(), Fail> {
+    let alloc = rt.alloc();
+    let scenario = two_lookups(alloc, 50)?;
+    for (split, parts) in [
+        (Split::Blocks, 1),
+        (Split::Blocks, 2),
+        (Split::RoundRobin, 2),
+        (Split::Blocks, 3),
+        (Split::RoundRobin, 5),
+    ] {
+        let division = divide(alloc, &scenario, split, parts)?;
+        for workers in [1, 2, 3, 64] {
+            let ran = run_by(&rt, &scenario, &division, workers, &OpenGate);
+            let trace = String::from_utf8_lossy(alloc, ran.trace.as_slice())?;
+            assert!(rt;
+                trace.as_str() == TRACE,
+                "{parts} parts, {workers} workers: {trace}"
+            );
+            let Ok(report) = ran.outcome else {
+                assert!(rt; false, "{parts} parts, {workers} workers: no end");
+                return Ok(());
+            };
+            let report = shown(alloc, &report)?;
+            assert!(rt;
+                report.as_str() == REPORT,
+                "{parts} parts, {workers} workers: {report}"
+            );
+        }
+    }
+    Ok(())
+}
+
+/// The run has eight events. Where fewer are allowed it fails, and the lines of the windows before are written.
+#[test]
+fn too_many_events_by_crews(rt: HostRuntime) -> Result<(), Fail> {
+    let alloc = rt.alloc();
+    for (allowed, lines) in [(1, 0), (2, 2), (5, 2), (6, 4), (7, 4), (8, 5)] {
+        let scenario = two_lookups(alloc, allowed)?;
+        let division = divide(alloc, &scenario, Split::Blocks, 2)?;
+        let ran = run_by(&rt, &scenario, &division, 2, &OpenGate);
+        let is_over = matches!(ran.outcome, Err(RunError::TooManyEvents));
+        assert!(rt;
+            is_over == (allowed < 8) && ran.outcome.is_ok() == (allowed == 8),
+            "{allowed}"
+        );
+        let trace = String::from_utf8_lossy(alloc, ran.trace.as_slice())?;
+        assert!(rt; TRACE.starts_with(trace.as_str()), "{allowed}: {trace}");
+        assert!(rt;
+            trace.as_str().lines().count() >= lines,
+            "{allowed}: {trace}"
+        );
+        assert!(rt;
+            allowed == 8 || trace.as_str() != TRACE,
+            "{allowed}: {trace}"
+        );
+    }
+    Ok(())
+}
+
+/// A division of four nodes does not fit a ring of three, and nothing is written.
+#[test]
+fn a_crew_with_a_division_of_other_nodes(rt: HostRuntime) -> Result<(), Fail> {
+    let alloc = rt.alloc();
+    let scenario = two_lookups(alloc, 50)?;
+    let division = Division::dealt(alloc, 4, 2)?;
+    let ran = run_by(&rt, &scenario, &division, 2, &OpenGate);
+    assert!(rt; matches!(ran.outcome, Err(RunError::BadDivision)));
+    assert!(rt; ran.trace.is_empty());
+    Ok(())
+}
+
+/// What goes out before a writer fails is the beginning of the trace.
+#[test]
+fn writers_that_fail_by_crews(rt: HostRuntime) -> Result<(), Fail> {
+    let alloc = rt.alloc();
+    let scenario = two_lookups(alloc, 50)?;
+    let division = divide(alloc, &scenario, Split::Blocks, 2)?;
+    for room in 0..TRACE.len() {
+        for takes_nothing in [false, true] {
+            let mut writer = Watched::new(Bounded {
+                taken: Vec::new(alloc),
+                room,
+                takes_nothing,
+            });
+            let outcome = run_crew(&rt, alloc, &scenario, &division, 2, &OpenGate, &mut writer);
+            assert!(rt; matches!(outcome, Err(RunError::Write)), "room {room}");
+            let taken = writer.into_inner().taken;
+            assert!(rt;
+                taken.as_slice() == &TRACE.as_bytes()[..room],
+                "room {room}"
+            );
+        }
+    }
+    Ok(())
+}
+
+/// Each window has two parts. While one worker is held at its part, another one must come to the other part: so two
+/// threads run, in each of the four windows, and neither holds a lock from its draw to the end of its part.
+#[test]
+fn two_workers_pass_in_pairs(rt: HostRuntime) -> Result<(), Fail> {
+    let alloc = rt.alloc();
+    let scenario = two_lookups(alloc, 50)?;
+    let division = divide(alloc, &scenario, Split::Blocks, 2)?;
+    let gate = PairGate::new();
+    let ran = run_by(&rt, &scenario, &division, 2, &gate);
+    assert!(rt; ran.trace.as_slice() == TRACE.as_bytes());
+    assert!(rt; gate.passes.load(Ordering::SeqCst) == 8);
+    assert!(rt; gate.alone.load(Ordering::SeqCst) == 0);
+    for pair in gate.workers.chunks(2) {
+        let [one, other] = pair else {
+            assert!(rt; false, "no pair");
+            return Ok(());
+        };
+        let (one, other) = (one.load(Ordering::SeqCst), other.load(Ordering::SeqCst));
+        assert!(rt;
+            (one == 0 && other == 1) || (one == 1 && other == 0),
+            "{one} {other}"
+        );
+    }
+    Ok(())
+}
+
+/// What a window leaves is written before the next one begins: the two lookups' lines after the first, the answers'
+/// after the third, the audit at the end.
+#[test]
+fn each_window_is_put_out_at_its_end(rt: HostRuntime) -> Result<(), Fail> {
+    let alloc = rt.alloc();
+    let scenario = two_lookups(alloc, 50)?;
+    let division = divide(alloc, &scenario, Split::Blocks, 2)?;
+    let taken = AtomicU64::new(0);
+    let gate = SizeGate::new(&taken);
+    let mut writer = Watched::new(Counting { taken: &taken });
+    let outcome = run_crew(&rt, alloc, &scenario, &division, 1, &gate, &mut writer);
+    assert!(rt; outcome.is_ok());
+    assert!(rt; gate.passes.load(Ordering::SeqCst) == 8);
+    for (size, expected) in gate.sizes.iter().zip([0, 0, 32, 32, 32, 32, 116, 116]) {
+        assert!(rt; size.load(Ordering::SeqCst) == expected, "{expected}");
+    }
+    assert!(rt; taken.load(Ordering::SeqCst) == 190);
+    Ok(())
+}
+
+#[test]
+fn a_gate_may_wait(rt: HostRuntime) -> Result<(), Fail> {
+    let scenario = two_lookups(rt.alloc(), 50)?;
+    let division = divide(rt.alloc(), &scenario, Split::Blocks, 3)?;
+    let gate = CountGate {
+        rt: &rt,
+        passes: Mutex::new(0),
+    };
+    let ran = run_by(&rt, &scenario, &division, 3, &gate);
+    assert!(rt; ran.trace.as_slice() == TRACE.as_bytes());
+    assert!(rt; *gate.passes.lock(&rt) == 12);
+    Ok(())
+}
+
+/// A window by one worker, on the thread that calls.
+fn window_by_one(
+    alloc: Global,
+    scenario: &Scenario,
+    world: &World,
+    horizon: u64,
+) -> Result<Vec<Done>, RunError>
+    requires world { IsWorldOf scenario.now world.now }
+    requires horizon { IsHorizon world.now horizon }
+    ensures { IfOk result (λ dones. ArePartsDone scenario.now world.now horizon dones.items) }
+{
+    world.division.is_whole();
+    let parts = world.division.parts();
+    let Ok((draws, seat)) = Draws::start(alloc, parts, 1) else {
+        return Err(RunError::Memory);
+    };
+    let shift = work(alloc, scenario, world, horizon, &draws, seat, 0, &OpenGate);
+    match shift.fault {
+        None => {
+            draws.close(shift.seat);
+            Ok(shift.done)
+        }
+        Some(fault) => Err(fault),
+    }
+}
+
+/// One worker alone draws both parts of the first window, and each runs its one event.
+#[test]
+fn one_worker_alone(rt: HostRuntime) -> Result<(), Fail> {
+    let alloc = rt.alloc();
+    let scenario = two_lookups(alloc, 50)?;
+    let division = divide(alloc, &scenario, Split::Blocks, 2)?;
+    let mut world = World::start(alloc, &scenario, &division)?;
+    let horizon = world.horizon(&scenario).ok_or("the run is over")?;
+    assert!(rt; horizon == 110);
+    let dones = window_by_one(alloc, &scenario, &world, horizon)?;
+    assert!(rt; dones.len() == 2);
+    for done in dones.iter() {
+        assert!(rt; done.events == 1);
+    }
+    let lists = exchange(alloc, &scenario, &mut world, dones)?;
+    assert!(rt; lists.len() == 2 && world.count == 2);
+    Ok(())
+}
+
+/// Two seats draw five times in turn, and are joined. The snapshot shows the joined seat to the contract.
+fn draw_in_turn(alloc: Global) -> Result<([Option<u32>; 5], Snapshot<Seat>), Memory>
+    ensures allowance { IfOk result (λ r. r.1.value.allowance ≡ 2) }
+    ensures exhausted { IfOk result (λ r. slice_get r.0 3 ≡ Some None → slice_get r.0 4 ≡ Some None → r.1.value.is_exhausted ≡ true) }
+    ensures each_once { IfOk result (λ r. slice_get r.0 4 ≡ Some None → HasEachOnce 3 r.1.value.numbers) }
+{
+    let (draws, mut first) = Draws::start(alloc, 3, 2)?;
+    let mut second = draws.split(&mut first);
+    let a = draws.draw(&mut first);
+    let b = draws.draw(&mut second);
+    let c = draws.draw(&mut first);
+    let d = draws.draw(&mut second);
+    let e = draws.draw(&mut first);
+    draws.join(&mut first, second);
+    let seat = Snapshot::of(&first);
+    draws.close(first);
+    Ok(([a, b, c, d, e], seat))
+}
+
+#[test]
+fn numbers_come_in_turn(rt: HostRuntime) -> Result<(), Fail> {
+    let (answers, _seat) = draw_in_turn(rt.alloc())?;
+    assert!(rt; answers == [Some(0), Some(1), Some(2), None, None]);
+    Ok(())
+}

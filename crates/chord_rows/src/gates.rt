@@ -1,0 +1,120 @@
+//! Gates that note what passes them.
+use chord_crew::Gate;
+use std::io;
+use std::io::Write;
+use std::sync::atomic::{AtomicU64, Ordering};
+use std::sync::{Mutex, Wait};
+
+/// Eight places for a note, of which none is written yet.
+fn eight_notes() -> [AtomicU64; 8] {
+    [
+        AtomicU64::new(99),
+        AtomicU64::new(99),
+        AtomicU64::new(99),
+        AtomicU64::new(99),
+        AtomicU64::new(99),
+        AtomicU64::new(99),
+        AtomicU64::new(99),
+        AtomicU64::new(99),
+    ]
+}
+
+/// Holds the first of two passes until the second has come, and notes the worker of each.
+#[derive(Drop)]
+pub struct PairGate {
+    pub passes: AtomicU64,
+    /// How many passes were not followed by another one in time.
+    pub alone: AtomicU64,
+    pub workers: [AtomicU64; 8],
+}
+
+impl PairGate {
+    pub fn new() -> PairGate {
+        PairGate {
+            passes: AtomicU64::new(0),
+            alone: AtomicU64::new(0),
+            workers: eight_notes(),
+        }
+    }
+
+    /// Whether the pass after this one came in time.
+    fn is_followed(&self, pass: u64) -> bool {
+        for _turn in 0..1_000_000_000u64 {
+            if self.passes.load(Ordering::SeqCst) > pass.wrapping_add(1) {
+                return true;
+            }
+            std::hint::spin_loop();
+        }
+        false
+    }
+}
+
+impl Gate for PairGate {
+    fn pass(&self, worker: u32, _part: u32) {
+        let pass = self.passes.fetch_add(1, Ordering::SeqCst);
+        if let Some(note) = self.workers.get((pass % 8) as usize) {
+            note.store(worker as u64, Ordering::SeqCst);
+        }
+        if pass % 2 == 0 && !self.is_followed(pass) {
+            self.alone.fetch_add(1, Ordering::SeqCst);
+        }
+    }
+}
+
+/// A writer that counts the bytes that it takes where others can see them.
+#[derive(Drop)]
+pub struct Counting<'a> {
+    pub taken: &'a AtomicU64,
+}
+
+impl Write for Counting<'_> {
+    fn write(&mut self, buf: &[u8]) -> io::Result<usize> {
+        self.taken.fetch_add(buf.len() as u64, Ordering::SeqCst);
+        Ok(buf.len())
+    }
+
+    fn flush(&mut self) -> io::Result<()> {
+        Ok(())
+    }
+}
+
+/// Notes at each of the first eight passes how many bytes a writer has taken so far.
+#[derive(Drop)]
+pub struct SizeGate<'a> {
+    pub taken: &'a AtomicU64,
+    pub passes: AtomicU64,
+    pub sizes: [AtomicU64; 8],
+}
+
+impl SizeGate<'_> {
+    pub fn new<'a>(taken: &'a AtomicU64) -> SizeGate<'a> {
+        SizeGate {
+            taken,
+            passes: AtomicU64::new(0),
+            sizes: eight_notes(),
+        }
+    }
+}
+
+impl Gate for SizeGate<'_> {
+    fn pass(&self, _worker: u32, _part: u32) {
+        let pass = self.passes.fetch_add(1, Ordering::SeqCst);
+        if let Some(size) = self.sizes.get(pass as usize) {
+            size.store(self.taken.load(Ordering::SeqCst), Ordering::SeqCst);
+        }
+    }
+}
+
+/// Counts the passes under a lock, for which it holds a handle that may wait.
+#[derive(Drop)]
+pub struct CountGate<T> {
+    pub rt: T,
+    pub passes: Mutex<u32>,
+}
+
+impl<T: Wait> Gate for CountGate<T> {
+    fn pass(&self, _worker: u32, _part: u32) {
+        let mut passes = self.passes.lock(&self.rt);
+        *passes = passes.saturating_add(1);
+    }
+}

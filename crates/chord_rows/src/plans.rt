@@ -1,0 +1,108 @@
+//! Neither the workers nor the parts of a plan change what a scenario leaves.
+ghost use Rattle.std.specs.Prelude.{◌≡◌, ◌≤◌};
+
+use crate::examples::EXAMPLES;
+use crate::playing::{Played, SERIAL, play_texts, shown, text_of};
+use crate::random::{Dice, RandomTexts, random_texts};
+use chord_play::{Plan, PlayFault, Split};
+use std::sync::Wait;
+use std::test::Fail;
+use std::thread::Threads;
+
+/// From how many seeds a random scenario is made.
+const SEEDS: u64 = 44;
+
+/// The plan of this number: 1, 2, 3, 8 or 64 workers, 1, 2, 7 or 512 parts, and one split or the other.
+fn plan_of(number: u64) -> Plan {
+    let workers = match number % 5 {
+        0 => 1,
+        1 => 2,
+        2 => 3,
+        3 => 8,
+        _ => 64,
+    };
+    let parts = match number / 5 % 4 {
+        0 => 1,
+        1 => 2,
+        2 => 7,
+        _ => 512,
+    };
+    Plan {
+        serial: false,
+        workers,
+        parts,
+        split: if number / 20 % 2 == 0 {
+            Split::RoundRobin
+        } else {
+            Split::Blocks
+        },
+    }
+}
+
+/// By workers, three plans for each and all plans among them, the examples have the traces and the reports that they
+/// have one event at a time.
+#[test]
+fn examples_by_plans(rt: HostRuntime) -> Result<(), Fail> {
+    let alloc = rt.alloc();
+    let mut number = 0;
+    for example in &EXAMPLES {
+        let name = example.name;
+        let text = text_of(alloc, example.settings, example.nodes, example.commands)?;
+        for _time in 0..3 {
+            let plan = plan_of(number);
+            number = number.wrapping_add(1);
+            let Played { trace, outcome } = play_texts(&rt, text.as_str().as_bytes(), b"", &plan);
+            let trace = String::from_utf8_lossy(alloc, trace.as_slice())?;
+            assert!(rt;
+                trace.as_str() == example.trace,
+                "{name}, {plan:?}: {trace}"
+            );
+            let Ok(report) = outcome else {
+                assert!(rt; false, "{name}, {plan:?}: no end");
+                return Ok(());
+            };
+            let report = shown(alloc, &report)?;
+            assert!(rt;
+                report.as_str() == example.report,
+                "{name}, {plan:?}: {report}"
+            );
+        }
+    }
+    Ok(())
+}
+
+/// Whether a random scenario leaves the same by a plan as one event at a time, where it is accepted.
+fn is_same<T: AllocGlobal + Threads + Wait + Sync>(
+    rt: &T,
+    texts: &RandomTexts,
+    plan: &Plan,
+) -> Option<bool> {
+    let toml = texts.toml.as_str().as_bytes();
+    let csv = texts.csv.as_str().as_bytes();
+    let one = play_texts(rt, toml, csv, &SERIAL);
+    if matches!(one.outcome, Err(PlayFault::Scenario(_))) {
+        return None;
+    }
+    let other = play_texts(rt, toml, csv, plan);
+    let (Ok(first), Ok(second)) = (one.outcome, other.outcome) else {
+        return Some(false);
+    };
+    Some(one.trace == other.trace && first == second)
+}
+
+#[test]
+fn random_scenarios_by_plans(rt: HostRuntime) -> Result<(), Fail> {
+    let alloc = rt.alloc();
+    let mut accepted = Vec::new(alloc);
+    for seed in 0..SEEDS {
+        let mut dice = Dice { state: 1000 + seed };
+        let texts = random_texts(alloc, &mut dice, 400)?;
+        let plan = plan_of(seed);
+        if let Some(same) = is_same(&rt, &texts, &plan) {
+            assert!(rt; same, "seed {seed}, {plan:?}");
+            accepted.push(seed)?;
+        }
+    }
+    assert!(rt; accepted.len() >= 40, "{accepted:?}");
+    Ok(())
+}
