@@ -9,12 +9,14 @@ ghost use Rattle.chord_window.specs.PickedRuns.{AreStepsOf};
 use crate::division::Division;
 use crate::engine::Engine;
 use crate::picked_window::PickedWindow;
+use crate::spares::Spares;
 use crate::taken::Taken;
 use chord_event::RunError;
 use chord_scenario::Scenario;
 use chord_trace::{Report, Watched};
 use std::alloc::Global;
 use std::io::Write;
+use std::mem;
 
 /// Runs a scenario by windows, with 1 to 64 workers that take their steps in turn on the calling
 /// thread: each pick names the worker that takes the next step, and after the picks the lowest
@@ -60,6 +62,7 @@ pub fn run_picked<W: Write>(
             alloc, scenario, world, horizon, picks, &mut next, &mut taken,
         )?;
         engine.put_window(alloc, scenario, opening, dones, writer)?;
+        picked.spares = mem::replace(&mut engine.spares, Spares::new(alloc));
     }
     let report = engine.finish(alloc, scenario, writer)?;
     Ok((report, taken))
