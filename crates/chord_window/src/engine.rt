@@ -175,7 +175,7 @@ impl Engine {
             &mut self.tallies[0],
             writer,
         )?;
-        self.spares = Spares::new(alloc);
+        self.spares.clear();
         let lists = match exchange_in_order(
             alloc,
             scenario,

@@ -81,12 +81,13 @@ impl PartRun {
     {
         scenario.is_in_range();
         let due = world.parts[part as usize].due.len();
+        let many = due.saturating_add(due / 4);
         PartRun {
             part,
             taken: 0,
             copies: Copies::new(alloc, due.min(world.states.len())),
-            mail: list_with_room(alloc, due),
-            blocks: list_with_room(alloc, due),
+            mail: list_with_room(alloc, many),
+            blocks: list_with_room(alloc, many),
         }
     }
 

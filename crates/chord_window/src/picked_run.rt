@@ -9,7 +9,6 @@ ghost use Rattle.chord_window.specs.PickedRuns.{AreStepsOf};
 use crate::division::Division;
 use crate::engine::Engine;
 use crate::picked_window::PickedWindow;
-use crate::spares::Spares;
 use crate::taken::Taken;
 use chord_event::RunError;
 use chord_scenario::Scenario;
@@ -62,7 +61,7 @@ pub fn run_picked<W: Write>(
             alloc, scenario, world, horizon, picks, &mut next, &mut taken,
         )?;
         engine.put_window(alloc, scenario, opening, dones, writer)?;
-        picked.spares = mem::replace(&mut engine.spares, Spares::new(alloc));
+        mem::swap(&mut engine.spares, &mut picked.spares);
     }
     let report = engine.finish(alloc, scenario, writer)?;
     Ok((report, taken))

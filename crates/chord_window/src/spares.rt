@@ -77,6 +77,11 @@ impl Spares {
         let _refused = self.states.push(state);
     }
 
+    /// Drops the states, and keeps the room for them.
+    pub(crate) fn clear(&mut self) {
+        self.states.clear();
+    }
+
     /// An equal state.
     pub(crate) fn copy_of(&mut self, state: &NodeState) -> Result<NodeState, Memory>
         ensures { IfOk result (λ copy. copy ≡ state.now) }

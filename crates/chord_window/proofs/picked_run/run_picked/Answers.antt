@@ -28,7 +28,7 @@ pub loop-opening-preserved : goal.loop-opening-preserved
 loop-opening-preserved g c =
     let inv = c.loop-opening.invariant in
     record {
-      at = at_spared c.args.scenario.now _ _ c.put_window.new.self c.replace.new.dest (c.in_ok-put_window.ensures.at _ inv.at);
+      at = at_spared c.args.scenario.now _ _ c.put_window.new.self c.swap.new.x (c.in_ok-put_window.ensures.at _ inv.at);
       sound = c.in_ok-put_window.ensures.sound;
       division = c.in_ok-put_window.ensures.division ∙ inv.division;
       workers = c.in_ok-dones.ensures.workers ∙ inv.workers;
