@@ -1,4 +1,4 @@
-use Rattle.std.proofs.Common.{◌≡◌, ◌∙◌, ◌+◌, ◌<◌, Some, arith, get_or, length, sym, subst, List, refl, ap}
+use Rattle.std.proofs.Common.{◌≡◌, ◌∙◌, ◌+◌, Some, arith, get_or, length, sym, subst, List, refl, ap}
 use Rattle.chord_event.specs.declared.body.Body.{Body}
 use Rattle.chord_event.specs.declared.event.Event.{Event}
 use Rattle.chord_event.specs.declared.key.Key.{Key}
@@ -6,7 +6,6 @@ use Rattle.chord_window.specs.declared.opening.Opening.{Opening}
 use Rattle.chord_window.specs.declared.part_run.PartRun.{PartRun}
 use Rattle.chord_window.specs.declared.worker.Worker.{Worker}
 use Rattle.chord_window.specs.PartRuns.{IsDone, IsNextKey, IsRunning, IsWindow}
-use Rattle.chord_window.specs.Workers.{IsIdle}
 use Rattle.chord_window.proofs.Finishing.{none_after, run_left, running_everywhere, running_here, some_after}
 use Rattle.chord_window.proofs.Openings.{window_is}
 use Rattle.chord_window.proofs.WorkerSteps.{busy_from, has_drawn}
