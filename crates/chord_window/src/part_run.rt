@@ -1,5 +1,5 @@
-ghost use Rattle.std.specs.Prelude.{◌≡◌, ◌≢◌, ◌⊎◌, ◌+◌, ◌-◌, ◌*◌, ◌<◌, ◌≤◌, ◌^◌, ◌↔◌, ◌++◌, ◌∷◌, [], ℕ, Some, drop, length, slice_index_or, IfOk, IfErr, IfSome, OnOk, Err, IfNone};
-ghost use Rattle.std.specs.List.{AllPairs, Contains};
+ghost use Rattle.std.specs.Prelude.{◌≡◌, ◌≢◌, ◌⊎◌, ◌+◌, ◌-◌, ◌*◌, ◌<◌, ◌≤◌, ◌^◌, ◌↔◌, ◌++◌, ◌∷◌, [], ℕ, Some, drop, length, nat_le, slice_index_or, IfOk, IfErr, IfSome, OnOk, Err, IfNone};
+ghost use Rattle.std.specs.List.{AllPairs, Contains, list_all};
 ghost use Rattle.chord_event.specs.declared.body.Body.{Body as ABody};
 ghost use Rattle.chord_event.specs.declared.event.Event.{Event as AnEvent};
 ghost use Rattle.chord_event.specs.KeyOrder.{InKeyOrder, from_on};
@@ -181,6 +181,13 @@ fn comes_first(due: &[Event], taken: usize, queue: &WindowQueue) -> bool
     }
 }
 
+/// Whether all events are at a time or later.
+fn are_from(events: &[Event], time: u64) -> bool
+    ensures { result ≡ list_all (λ e. nat_le time e.key.time) events.now }
+{
+    events.iter().all(|event| event.key.time >= time)
+}
+
 /// Puts events for this window into the queue, and the others into the mail.
 fn sort_out(
     made: Vec<Event>,
@@ -196,6 +203,11 @@ fn sort_out(
     ensures mail { OnOk result (mail.new.items ≡ mail.old.items ++ from_on event_key horizon made.items) }
 {
     queue.is_ordered();
+    if are_from(made.as_slice(), horizon) {
+        let mut later = made;
+        mail.append(&mut later)?;
+        return Ok(());
+    }
     for event in made {
         if event.key.time < horizon {
             if let Err(_refused) = queue.push(event) {
