@@ -36,6 +36,7 @@ use Rattle.chord_trace.specs.Writing.{AppendsFront}
 use Rattle.chord_window.specs.declared.engine.Engine.{Engine}
 use Rattle.chord_window.specs.declared.opening.Opening.{Opening}
 use Rattle.chord_window.specs.declared.part_run.Done.{Done}
+use Rattle.chord_window.specs.declared.spares.Spares.{Spares}
 use Rattle.chord_window.specs.declared.world.World.{World}
 use Rattle.chord_window.specs.Engine.{IsAt}
 use Rattle.chord_window.specs.Exchanges.{AreDone, AreDoneFrom, block_lists, events_in}
@@ -58,6 +59,10 @@ begin_at sc old now e at = (
   fronts_longer sc old now (output (chord sc) (history (chord sc) e.world.count)) _
       (front_of_whole old now (pieces_text sc (output (chord sc) (history (chord sc) e.world.count))) at.written),
 )
+
+-- which states are spare says nothing of the run
+pub at_spared : (sc : Scenario) (old now : Option (List ℕ)) (e : Engine) (s : Spares) → IsAt sc old now e → IsAt sc old now (record e { spares = s })
+at_spared sc old now e s at = record { world = at.world; audits = at.audits; written = at.written; each = at.each; tallied = at.tallied; room = at.room }
 
 short_lists : (sc : Scenario) (world : World) (horizon k : ℕ) (xs : List Done) → AreDoneFrom sc world horizon k xs → (b : Block) → Contains (all_blocks (block_lists xs)) b → IsShortBlock sc b
 short_lists sc world horizon k [] each b c = absurd (contains_none b c)

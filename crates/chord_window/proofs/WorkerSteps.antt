@@ -3,12 +3,10 @@ use Rattle.std.proofs.Common.{◌≡◌, ℕ, ◌<◌, ◌≤◌, None, Some, sy
 use Rattle.chord_queue.specs.Queue.{Queue}
 use Rattle.chord_scenario.specs.declared.scenario.Scenario.{Scenario}
 use Rattle.chord_window.specs.declared.part_run.PartRun.{PartRun}
-use Rattle.chord_window.specs.declared.worker.Progress.{Progress}
-use Rattle.chord_window.specs.declared.worker.Progress.TheVariants as progress
 use Rattle.chord_window.specs.declared.worker.Worker.{Worker}
 use Rattle.chord_window.specs.declared.world.World.{World}
 use Rattle.chord_window.specs.PartRuns.{HasBegun, IsFresh}
-use Rattle.chord_window.specs.Workers.{HasDrawn, HasGoneOn, HasProgressed, IsBusy, IsIdle, MayGoOn, MayGoOnWith}
+use Rattle.chord_window.specs.Workers.{HasDrawn, IsBusy, IsIdle, MayGoOn, MayGoOnWith}
 
 module _ (sc : Scenario) (w : World) (horizon drawn : ℕ) (x : Worker) (may : MayGoOn sc w horizon drawn x) where
   pub idle_from : x.run ≡ None → IsIdle x × (drawn < w.division.parts)
@@ -27,9 +25,3 @@ module _ (sc : Scenario) (w : World) (horizon drawn : ℕ) (x : Worker) (may : M
     none = begun.none;
     running = begun.running new.queue (subst (λ (q : Queue). IsFresh q) (sym same) (idle_from none).0.fresh);
   }
-
-  -- it goes on with its part
-  pub has_progressed : (new : Worker) (run : PartRun) (p : Progress) → x.run ≡ Some run → HasGoneOn sc w horizon run new p → HasProgressed sc w horizon drawn x new p
-  has_progressed new run progress.Drew some gone = absurd gone
-  has_progressed new run (progress.Ran key) some gone = (run, (busy_from run some).0, gone)
-  has_progressed new run (progress.Sealed done) some gone = (run, (busy_from run some).0, gone)

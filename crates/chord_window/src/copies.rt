@@ -3,6 +3,8 @@ ghost use Rattle.chord_node.specs.declared.state.NodeState.{NodeState as AState}
 ghost use Rattle.chord_model.specs.Windows.{Division, part_of};
 ghost use Rattle.chord_window.specs.Copies.{AreCopies, IsSlot, seen, HaveSeen};
 
+use crate::room::list_with_room;
+use crate::spares::Spares;
 use chord_event::Memory;
 use chord_node::NodeState;
 use std::alloc::Global;
@@ -16,14 +18,14 @@ pub struct Copies {
 }
 
 impl Copies {
-    /// No copies, and no slots yet.
-    pub(crate) fn new(alloc: Global) -> Copies
+    /// No copies, and no slots yet. There is to be room for copies of so many states.
+    pub(crate) fn new(alloc: Global, many: usize) -> Copies
         ensures slots { result.slots.items ≡ [] }
         ensures states { result.states.items ≡ [] }
     {
         Copies {
             slots: Vec::new(alloc),
-            states: Vec::new(alloc),
+            states: list_with_room(alloc, many),
         }
     }
 
@@ -42,7 +44,12 @@ impl Copies {
     }
 
     /// Where the copy of a node's state stands, which is made at the first call.
-    pub(crate) fn touch(&mut self, states: &[NodeState], node: usize) -> Result<usize, Memory>
+    pub(crate) fn touch(
+        &mut self,
+        states: &[NodeState],
+        node: usize,
+        spares: &mut Spares,
+    ) -> Result<usize, Memory>
         requires copies { (d : Division) × (part : ℕ) × AreCopies d part states.now self.old }
         requires node { node < length states.now }
         requires me { (s : AState) → (slice_index_or states.now node s).me ≡ node }
@@ -55,7 +62,7 @@ impl Copies {
             return Ok(slot);
         }
         let slot = self.states.len();
-        self.states.push(states[node].clone_state()?)?;
+        self.states.push(spares.copy_of(&states[node])?)?;
         self.slots[node] = Some(slot);
         Ok(slot)
     }

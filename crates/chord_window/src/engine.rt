@@ -15,6 +15,7 @@ use crate::division::Division;
 use crate::exchanging::exchange_in_order;
 use crate::opening::Opening;
 use crate::part_run::Done;
+use crate::spares::Spares;
 use crate::tallies::{join_all, no_tallies, tally_parts};
 use crate::world::World;
 use chord_event::{Block, RunError};
@@ -33,6 +34,8 @@ pub struct Engine {
     pub(crate) clock: AuditClock,
     /// The tally of each part. The first has the audits besides.
     pub(crate) tallies: Vec<Tally>,
+    /// The states that the last window replaced.
+    pub(crate) spares: Spares,
 }
 
 /// Writes blocks, in their order.
@@ -78,6 +81,7 @@ impl Engine {
             world,
             clock,
             tallies,
+            spares: Spares::new(alloc),
         })
     }
 
@@ -120,6 +124,7 @@ impl Engine {
             world,
             mut clock,
             mut tallies,
+            spares: _,
         } = self;
         put_audits(
             alloc,
@@ -170,7 +175,14 @@ impl Engine {
             &mut self.tallies[0],
             writer,
         )?;
-        let lists = match exchange_in_order(alloc, scenario, &mut self.world, dones) {
+        self.spares.clear();
+        let lists = match exchange_in_order(
+            alloc,
+            scenario,
+            &mut self.world,
+            dones,
+            &mut self.spares,
+        ) {
             Ok(lists) => lists,
             Err(error) => return Err(error),
         };

@@ -7,11 +7,13 @@ ghost use Rattle.chord_window.specs.Worlds.{IsWorldOf};
 
 use crate::ordering::in_part_order;
 use crate::part_run::Done;
+use crate::spares::Spares;
 use crate::world::{World, deliver, open_window};
-use chord_event::{Block, Event, RunError};
+use chord_event::{Block, Event, Memory, RunError};
 use chord_node::NodeState;
 use chord_scenario::Scenario;
 use std::alloc::Global;
+use std::mem;
 
 /// What the parts of a window leave together.
 #[derive(Drop)]
@@ -21,15 +23,28 @@ pub struct Gathered {
     pub blocks: Vec<Vec<Block>>,
 }
 
-/// Puts states in the places of their nodes.
-fn put_states(states: &mut Vec<NodeState>, nodes: Vec<NodeState>)
+/// Puts states in the places of their nodes. Those that stood there are spare.
+fn put_states(states: &mut Vec<NodeState>, nodes: Vec<NodeState>, spares: &mut Spares)
     requires { AllByRecursion (λ s. s.me < length states.old.items) nodes.items }
     ensures { states.new.items ≡ with_states nodes.items states.old.items }
 {
     for node in nodes {
         let at = node.me as usize;
-        states[at] = node;
+        spares.keep(mem::replace(&mut states[at], node));
     }
+}
+
+/// The items of both lists, the first list's first.
+fn joined(first: Vec<Event>, second: Vec<Event>) -> Result<Vec<Event>, Memory>
+    ensures { IfOk result (λ list. list.items ≡ first.items ++ second.items) }
+{
+    if first.is_empty() {
+        return Ok(second);
+    }
+    let mut list = first;
+    let mut rest = second;
+    list.append(&mut rest)?;
+    Ok(list)
 }
 
 /// Takes what the parts leave: their states into the places of their nodes, and the rest together.
@@ -38,6 +53,7 @@ fn gather(
     room: u64,
     states: &mut Vec<NodeState>,
     dones: Vec<Done>,
+    spares: &mut Spares,
 ) -> Result<Gathered, RunError>
     requires { NameNodes (length states.old.items) dones.items }
     ensures states { OnOk result (states.new.items ≡ with_all dones.items states.old.items) }
@@ -55,9 +71,8 @@ fn gather(
             return Err(RunError::TooManyEvents);
         }
         events += done.events;
-        put_states(states, done.nodes);
-        let mut more = done.mail;
-        mail.append(&mut more)?;
+        put_states(states, done.nodes, spares);
+        mail = joined(mail, done.mail)?;
         blocks.push(done.blocks)?;
     }
     Ok(Gathered {
@@ -90,16 +105,18 @@ pub fn exchange(
     ensures over { result ≡ Err RunError.TooManyEvents → HasTooManyEvents scenario.now }
     ensures only { IfErr result (λ e. (e ≡ RunError.Memory) ⊎ (e ≡ RunError.TooManyEvents)) }
 {
+    let mut spares = Spares::new(alloc);
     let list = in_part_order(alloc, world.division.parts(), dones)?;
-    exchange_in_order(alloc, scenario, world, list)
+    exchange_in_order(alloc, scenario, world, list, &mut spares)
 }
 
-/// `exchange` of results that are in the order of their parts.
+/// `exchange` of results that are in the order of their parts. The states that were replaced are spare.
 pub(crate) fn exchange_in_order(
     alloc: Global,
     scenario: &Scenario,
     world: &mut World,
     dones: Vec<Done>,
+    spares: &mut Spares,
 ) -> Result<Vec<Vec<Block>>, RunError>
     requires world { IsWorldOf scenario.now world.old }
     requires done { (horizon : ℕ) × AreDone scenario.now world.old horizon dones.items }
@@ -116,7 +133,7 @@ pub(crate) fn exchange_in_order(
         events,
         mail,
         blocks,
-    } = match gather(alloc, room, &mut world.states, dones) {
+    } = match gather(alloc, room, &mut world.states, dones, spares) {
         Ok(gathered) => gathered,
         Err(error) => return Err(error),
     };

@@ -1,5 +1,5 @@
-ghost use Rattle.std.specs.Prelude.{◌≡◌, ◌≢◌, ◌⊎◌, ◌+◌, ◌-◌, ◌*◌, ◌<◌, ◌≤◌, ◌^◌, ◌↔◌, ◌++◌, ◌∷◌, [], ℕ, Some, drop, length, slice_index_or, IfOk, IfErr, IfSome, OnOk, Err, IfNone};
-ghost use Rattle.std.specs.List.{AllPairs, Contains};
+ghost use Rattle.std.specs.Prelude.{◌≡◌, ◌≢◌, ◌⊎◌, ◌+◌, ◌-◌, ◌*◌, ◌<◌, ◌≤◌, ◌^◌, ◌↔◌, ◌++◌, ◌∷◌, [], ℕ, Some, drop, length, nat_le, slice_index_or, IfOk, IfErr, IfSome, OnOk, Err, IfNone};
+ghost use Rattle.std.specs.List.{AllPairs, Contains, list_all};
 ghost use Rattle.chord_event.specs.declared.body.Body.{Body as ABody};
 ghost use Rattle.chord_event.specs.declared.event.Event.{Event as AnEvent};
 ghost use Rattle.chord_event.specs.KeyOrder.{InKeyOrder, from_on};
@@ -11,6 +11,8 @@ ghost use Rattle.chord_window.specs.PartRuns.{HasBegun, HasHandled, HasLeft, IsD
 ghost use Rattle.chord_window.specs.Worlds.{IsWorldOf};
 
 use crate::copies::Copies;
+use crate::room::list_with_room;
+use crate::spares::Spares;
 use crate::world::World;
 use chord_event::{Block, Event, Key, Memory, RunError};
 use chord_node::NodeState;
@@ -52,12 +54,13 @@ impl PartRun {
         scenario: &Scenario,
         states: &[NodeState],
         event: &Event,
+        spares: &mut Spares,
     ) -> Result<Vec<Event>, Memory>
         requires { (division : ADivision) × IsReady scenario.now division states.now self.old event.now }
         ensures { IfOk result (λ made. (division : ADivision) → IsReady scenario.now division states.now self.old event.now → HasHandled scenario.now division states.now event.now self.old self.new made.items) }
     {
         scenario.is_in_range();
-        let slot = self.copies.touch(states, event.target as usize)?;
+        let slot = self.copies.touch(states, event.target as usize, spares)?;
         let Effect { events, block } = act(alloc, scenario, &mut self.copies.states[slot], event)?;
         self.blocks.push(block)?;
         Ok(events.into_vec())
@@ -77,12 +80,14 @@ impl PartRun {
         ensures { HasBegun scenario.now world.now horizon part result }
     {
         scenario.is_in_range();
+        let due = world.parts[part as usize].due.len();
+        let many = due.saturating_add(due / 4);
         PartRun {
             part,
             taken: 0,
-            copies: Copies::new(alloc),
-            mail: Vec::new(alloc),
-            blocks: Vec::new(alloc),
+            copies: Copies::new(alloc, due.min(world.states.len())),
+            mail: list_with_room(alloc, many),
+            blocks: list_with_room(alloc, many),
         }
     }
 
@@ -121,6 +126,7 @@ impl PartRun {
         due: &[Event],
         horizon: u64,
         queue: &mut WindowQueue,
+        spares: &mut Spares,
     ) -> Result<Option<Key>, RunError>
         requires world { IsWorldOf scenario.now world.now }
         requires window { IsWindow scenario.now world.now horizon due.now }
@@ -144,7 +150,7 @@ impl PartRun {
             }
             let event = &due[self.taken];
             let key = event.key;
-            let made = self.handle(alloc, scenario, &world.states, event)?;
+            let made = self.handle(alloc, scenario, &world.states, event, spares)?;
             self.taken += 1;
             sort_out(made, horizon, queue, &mut self.mail)?;
             return Ok(Some(key));
@@ -156,7 +162,7 @@ impl PartRun {
             return Err(RunError::TooManyEvents);
         }
         let key = event.key;
-        let made = self.handle(alloc, scenario, &world.states, event)?;
+        let made = self.handle(alloc, scenario, &world.states, event, spares)?;
         sort_out(made, horizon, queue, &mut self.mail)?;
         Ok(Some(key))
     }
@@ -175,6 +181,13 @@ fn comes_first(due: &[Event], taken: usize, queue: &WindowQueue) -> bool
     }
 }
 
+/// Whether all events are at a time or later.
+fn are_from(events: &[Event], time: u64) -> bool
+    ensures { result ≡ list_all (λ e. nat_le time e.key.time) events.now }
+{
+    events.iter().all(|event| event.key.time >= time)
+}
+
 /// Puts events for this window into the queue, and the others into the mail.
 fn sort_out(
     made: Vec<Event>,
@@ -190,6 +203,11 @@ fn sort_out(
     ensures mail { OnOk result (mail.new.items ≡ mail.old.items ++ from_on event_key horizon made.items) }
 {
     queue.is_ordered();
+    if are_from(made.as_slice(), horizon) {
+        let mut later = made;
+        mail.append(&mut later)?;
+        return Ok(());
+    }
     for event in made {
         if event.key.time < horizon {
             if let Err(_refused) = queue.push(event) {
@@ -252,7 +270,8 @@ fn run_events(
     scenario.is_in_range();
     let events = &world.parts[part as usize];
     let due = events.due.as_slice();
+    let mut spares = Spares::new(alloc);
     let mut run = PartRun::start(alloc, scenario, world, part, horizon);
-    while let Some(_key) = run.step(alloc, scenario, world, due, horizon, queue)? {}
+    while let Some(_key) = run.step(alloc, scenario, world, due, horizon, queue, &mut spares)? {}
     Ok(run.finish())
 }

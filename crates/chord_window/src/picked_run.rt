@@ -15,6 +15,7 @@ use chord_scenario::Scenario;
 use chord_trace::{Report, Watched};
 use std::alloc::Global;
 use std::io::Write;
+use std::mem;
 
 /// Runs a scenario by windows, with 1 to 64 workers that take their steps in turn on the calling
 /// thread: each pick names the worker that takes the next step, and after the picks the lowest
@@ -60,6 +61,7 @@ pub fn run_picked<W: Write>(
             alloc, scenario, world, horizon, picks, &mut next, &mut taken,
         )?;
         engine.put_window(alloc, scenario, opening, dones, writer)?;
+        mem::swap(&mut engine.spares, &mut picked.spares);
     }
     let report = engine.finish(alloc, scenario, writer)?;
     Ok((report, taken))

@@ -13,6 +13,7 @@ ghost use Rattle.chord_window.specs.Worlds.{IsWorldOf};
 
 use crate::part_run::Done;
 use crate::slots::{empty_slots, take_out};
+use crate::spares::Spares;
 use crate::taken::{Step, Taken};
 use crate::worker::{Progress, Worker};
 use crate::world::World;
@@ -28,6 +29,8 @@ pub struct PickedWindow {
     pub workers: Vec<Worker>,
     /// By part, what those left that are sealed.
     pub dones: Vec<Option<Done>>,
+    /// Memory for the copies of states.
+    pub spares: Spares,
 }
 
 impl PickedWindow {
@@ -44,6 +47,7 @@ impl PickedWindow {
             drawn: 0,
             workers: list,
             dones: Vec::new(alloc),
+            spares: Spares::new(alloc),
         })
     }
 
@@ -117,7 +121,10 @@ impl PickedWindow {
         ensures only { IfErr result (λ e. (e ≡ RunError.Memory) ⊎ (e ≡ RunError.TooManyEvents)) }
     {
         world.division.is_whole();
-        let progress = self.workers[worker].step(alloc, scenario, world, horizon, self.drawn)?;
+        let spares = &mut self.spares;
+        let progress = self.workers[worker].step(
+            alloc, scenario, world, horizon, self.drawn, spares,
+        )?;
         match progress {
             Progress::Drew => {
                 let part = self.drawn;

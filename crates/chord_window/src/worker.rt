@@ -1,10 +1,12 @@
-ghost use Rattle.std.specs.Prelude.{◌≡◌, ◌⊎◌, ◌<◌, IfOk, IfErr, Err, None};
+ghost use Rattle.std.specs.Prelude.{◌≡◌, ◌⊎◌, IfOk, IfErr, IsSome, Err, Some};
 ghost use Rattle.chord_machine.specs.Run.{HasTooManyEvents};
-ghost use Rattle.chord_window.specs.PartRuns.{IsHorizon, IsRunningAt};
-ghost use Rattle.chord_window.specs.Workers.{HasGoneOn, HasProgressed, IsIdle, MayGoOn};
+ghost use Rattle.chord_window.specs.declared.part_run.PartRun.{PartRun as APartRun};
+ghost use Rattle.chord_window.specs.PartRuns.{HasLeft, IsHorizon};
+ghost use Rattle.chord_window.specs.Workers.{HasProgressed, IsIdle, MayGoOn};
 ghost use Rattle.chord_window.specs.Worlds.{IsWorldOf};
 
 use crate::part_run::{Done, PartRun};
+use crate::spares::Spares;
 use crate::world::World;
 use chord_event::{Key, RunError};
 use chord_queue::WindowQueue;
@@ -45,6 +47,7 @@ impl Worker {
         world: &World,
         horizon: u64,
         drawn: u32,
+        spares: &mut Spares,
     ) -> Result<Progress, RunError>
         requires world { IsWorldOf scenario.now world.now }
         requires horizon { IsHorizon world.now horizon }
@@ -53,44 +56,36 @@ impl Worker {
         ensures over { result ≡ Err RunError.TooManyEvents → HasTooManyEvents scenario.now }
         ensures only { IfErr result (λ e. (e ≡ RunError.Memory) ⊎ (e ≡ RunError.TooManyEvents)) }
     {
-        let Some(run) = self.run.take() else {
+        scenario.is_in_range();
+        let Some(run) = &mut self.run else {
             self.run = Some(PartRun::start(alloc, scenario, world, drawn, horizon));
             return Ok(Progress::Drew);
         };
-        let progress = self.go_on(alloc, scenario, world, horizon, run)?;
-        Ok(progress)
+        let due = world.parts[run.part as usize].due.as_slice();
+        match run.step(
+            alloc,
+            scenario,
+            world,
+            due,
+            horizon,
+            &mut self.queue,
+            spares,
+        )? {
+            Some(key) => Ok(Progress::Ran(key)),
+            None => Ok(Progress::Sealed(self.seal())),
+        }
     }
 
-    fn go_on(
-        &mut self,
-        alloc: Global,
-        scenario: &Scenario,
-        world: &World,
-        horizon: u64,
-        run: PartRun,
-    ) -> Result<Progress, RunError>
-        requires world { IsWorldOf scenario.now world.now }
-        requires horizon { IsHorizon world.now horizon }
-        requires part { run.part < world.now.division.parts }
-        requires running { IsRunningAt scenario.now world.now horizon run self.old.queue }
-        requires none { self.old.run ≡ None }
-        ensures progress { IfOk result (λ progress. HasGoneOn scenario.now world.now horizon run self.new progress) }
-        ensures over { result ≡ Err RunError.TooManyEvents → HasTooManyEvents scenario.now }
-        ensures only { IfErr result (λ e. (e ≡ RunError.Memory) ⊎ (e ≡ RunError.TooManyEvents)) }
+    /// Ends the run of the worker's part, to which no event is left.
+    fn seal(&mut self) -> Done
+        requires { IsSome self.old.run }
+        ensures left { (run : APartRun) → self.old.run ≡ Some run → HasLeft run result }
+        ensures idle { IsIdle self.new }
     {
-        let mut run = run;
-        scenario.is_in_range();
-        let events = &world.parts[run.part as usize];
-        let due = events.due.as_slice();
-        match run.step(alloc, scenario, world, due, horizon, &mut self.queue)? {
-            Some(key) => {
-                self.run = Some(run);
-                Ok(Progress::Ran(key))
-            }
-            None => {
-                self.queue.give_up();
-                Ok(Progress::Sealed(run.finish()))
-            }
+        self.queue.give_up();
+        match self.run.take() {
+            Some(run) => run.finish(),
+            None => unreachable!(),
         }
     }
 }

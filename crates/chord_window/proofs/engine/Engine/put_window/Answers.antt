@@ -134,7 +134,7 @@ returns-clause-at g c = λ old t.
     let S = state (chord sc) (history (chord sc) e.world.count) in
     let time = same_opening o e.world.opening c.requires.done.time c.requires.done.opening c.requires.opening in
     let merged = subst (λ (ls : List (Vec Block Global)). IsMerged ls c.in_ok-blocks.blocks.items) c.in-Ok.ensures.blocks c.in_ok-blocks.ensures in
-    let f : Engine = record { world = c.exchange_in_order.new.world; clock = c.put_audits.new.clock; tallies = c.tally_parts.new.tallies } in
+    let f : Engine = record { world = c.exchange_in_order.new.world; clock = c.put_audits.new.clock; tallies = c.tally_parts.new.tallies; spares = c.exchange_in_order.new.spares } in
     next_at sc ranges old _ e t o c.requires.opening c.args.dones.items c.requires.done time c.in_ok-blocks.blocks.items merged _ c.index_mut.result.now c.put_audits.new.tally c.is_whole.ensures.few.0 c.index_mut.ensures.value
     (c.in_ok-put_audits.ensures.adds S (subst (λ (ss : List NodeState). AreStates sc ss S) (sym c.as_slice.ensures.value) (are_states sc ranges old _ e t))) (length c.put_audits.new.clock) c.in_ok-put_audits.ensures.size f _ c.in-Ok.ensures.world c.in-Ok.ensures.count c.in-Ok.ensures.division c.in_ok-put_audits.ensures.left refl
     (subst (λ (bs : List Block). Appends (g.W.Write.contents c.put_audits.new.writer.inner) (g.W.Write.contents c.write_blocks.new.writer.inner) (flat_map (block_text sc) bs)) c.as_slice-3.ensures.value c.in_ok-write_blocks.ensures.whole)
