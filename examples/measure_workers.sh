@@ -13,10 +13,10 @@ turns=${1:-3}
 work=$(mktemp -d)
 trap 'rm -rf "$work"' EXIT
 
-# The 512-node example with this window and latency, and this timeout, in microseconds.
+# The 512-node example with this window and latency, and this timeout, in microseconds, and an audit each 100 seconds.
 scenario() {
     sed -e "s/^window_us = .*/window_us = $1/" -e "s/^latency_us = .*/latency_us = $1/" \
-        -e "s/^timeout_us = .*/timeout_us = $2/" "$top/examples/churn512.toml"
+        -e "s/^timeout_us = .*/timeout_us = $2/" -e "s/^audit_us = .*/audit_us = 100000000/" "$top/examples/churn512.toml"
 }
 
 # Runs the scenario with these words, and prints the seconds.
@@ -27,7 +27,7 @@ seconds() {
     echo "$before $after" | awk '{ printf "%.2f\n", ($2 - $1) / 1000000000 }'
 }
 
-for shape in "200 12400 200000" "2000 124000 600000" "20000 1240000 5000000"; do
+for shape in "200 12400 200000" "2000 124000 600000" "20000 4800000 18000000"; do
     set -- $shape
     scenario "$2" "$3" > "$work/scenario.toml"
     : > "$work/serial" ; : > "$work/1" ; : > "$work/2" ; : > "$work/4"
