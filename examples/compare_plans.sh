@@ -65,7 +65,10 @@ compare() {
     echo "$1: the same by 40 plans, $(wc -c < "$work/serial") bytes of trace"
 }
 
-if [ "${1-}" = -r ]; then
+if [ $# -eq 0 ] || { [ "$1" = -r ] && [ $# -ne 2 ]; }; then
+    echo "usage: examples/compare_plans.sh FILE.. | -r N" >&2
+    exit 2
+elif [ "$1" = -r ]; then
     seed=1
     while [ "$seed" -le "$2" ]; do
         random_scenario "$seed" > "$work/random$seed.toml"

@@ -182,7 +182,7 @@ fn two_workers_pass_in_pairs(rt: HostRuntime) -> Result<(), Fail> {
 }
 
 /// What a window leaves is written before the next one begins: the two lookups' lines after the first, the answers'
-/// after the third, the audit at the end.
+/// after the third, the audit at the end. The gate is told the parts in the order in which the one worker draws them.
 #[test]
 fn each_window_is_put_out_at_its_end(rt: HostRuntime) -> Result<(), Fail> {
     let alloc = rt.alloc();
@@ -194,10 +194,29 @@ fn each_window_is_put_out_at_its_end(rt: HostRuntime) -> Result<(), Fail> {
     let outcome = run_crew(&rt, alloc, &scenario, &division, 1, &gate, &mut writer);
     assert!(rt; outcome.is_ok());
     assert!(rt; gate.passes.load(Ordering::SeqCst) == 8);
+    for (part, expected) in gate.parts.iter().zip([0, 1, 0, 1, 0, 1, 0, 1]) {
+        assert!(rt; part.load(Ordering::SeqCst) == expected, "part {expected}");
+    }
     for (size, expected) in gate.sizes.iter().zip([0, 0, 32, 32, 32, 32, 116, 116]) {
         assert!(rt; size.load(Ordering::SeqCst) == expected, "{expected}");
     }
     assert!(rt; taken.load(Ordering::SeqCst) == 190);
+    Ok(())
+}
+
+/// One event is allowed, and the first window has two in its one part. The part's run fails, and its gate was passed
+/// before.
+#[test]
+fn a_gate_is_passed_before_its_part_is_run(rt: HostRuntime) -> Result<(), Fail> {
+    let scenario = two_lookups(rt.alloc(), 1)?;
+    let division = divide(rt.alloc(), &scenario, Split::Blocks, 1)?;
+    let gate = CountGate {
+        rt: &rt,
+        passes: Mutex::new(0),
+    };
+    let ran = run_by(&rt, &scenario, &division, 1, &gate);
+    assert!(rt; matches!(ran.outcome, Err(RunError::TooManyEvents)));
+    assert!(rt; *gate.passes.lock(&rt) == 1);
     Ok(())
 }
 

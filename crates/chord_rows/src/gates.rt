@@ -78,11 +78,12 @@ impl Write for Counting<'_> {
     }
 }
 
-/// Notes at each of the first eight passes how many bytes a writer has taken so far.
+/// Notes at each of the first eight passes which part it is of, and how many bytes a writer has taken so far.
 #[derive(Drop)]
 pub struct SizeGate<'a> {
     pub taken: &'a AtomicU64,
     pub passes: AtomicU64,
+    pub parts: [AtomicU64; 8],
     pub sizes: [AtomicU64; 8],
 }
 
@@ -91,14 +92,18 @@ impl SizeGate<'_> {
         SizeGate {
             taken,
             passes: AtomicU64::new(0),
+            parts: eight_notes(),
             sizes: eight_notes(),
         }
     }
 }
 
 impl Gate for SizeGate<'_> {
-    fn pass(&self, _worker: u32, _part: u32) {
+    fn pass(&self, _worker: u32, part: u32) {
         let pass = self.passes.fetch_add(1, Ordering::SeqCst);
+        if let Some(note) = self.parts.get(pass as usize) {
+            note.store(part as u64, Ordering::SeqCst);
+        }
         if let Some(size) = self.sizes.get(pass as usize) {
             size.store(self.taken.load(Ordering::SeqCst), Ordering::SeqCst);
         }

@@ -2,12 +2,17 @@
 ghost use Rattle.std.specs.Prelude.{◌≡◌, ◌≤◌};
 
 use crate::examples::EXAMPLES;
-use crate::playing::{Played, SERIAL, play_texts, shown, text_of};
+use crate::failures::TWO_LOOKUPS;
+use crate::playing::{Played, SERIAL, SETTINGS, THREE, play_text, play_texts, shown, text_of};
 use crate::random::{Dice, RandomTexts, random_texts};
+use chord_event::RunError;
 use chord_play::{Plan, PlayFault, Split};
 use std::sync::Wait;
 use std::test::Fail;
 use std::thread::Threads;
+
+/// How many plans there are.
+const PLANS: u64 = 40;
 
 /// From how many seeds a random scenario is made.
 const SEEDS: u64 = 44;
@@ -67,6 +72,24 @@ fn examples_by_plans(rt: HostRuntime) -> Result<(), Fail> {
                 "{name}, {plan:?}: {report}"
             );
         }
+    }
+    Ok(())
+}
+
+/// Where one event is allowed, a serial plan writes what that one leaves. By workers the first window has two events,
+/// and a window that fails writes nothing: so they do not run one event at a time.
+#[test]
+fn plans_differ_in_what_fails(rt: HostRuntime) -> Result<(), Fail> {
+    let alloc = rt.alloc();
+    let settings = format!(in alloc; "{SETTINGS}max_events = 1\n")?;
+    let text = text_of(alloc, settings.as_str(), THREE, TWO_LOOKUPS)?;
+    let serial = play_text(&rt, text.as_str().as_bytes());
+    assert!(rt; serial.outcome.is_err());
+    assert!(rt; serial.trace.as_slice() == b"100 n0 lookup 4\n".as_slice());
+    for number in 0..PLANS {
+        let crew = play_texts(&rt, text.as_str().as_bytes(), b"", &plan_of(number));
+        let is_over = matches!(crew.outcome, Err(PlayFault::Run(RunError::TooManyEvents)));
+        assert!(rt; is_over && crew.trace.is_empty(), "{number}");
     }
     Ok(())
 }
