@@ -13,7 +13,7 @@ use std::alloc::Global;
 pub(crate) fn ranks_of(alloc: Global, scenario: &Scenario) -> Result<Vec<usize>, Memory>
     ensures { IfOk result (λ ranks. AreRanks scenario.now ranks.items) }
 {
-    scenario.is_in_range();
+    scenario.recall_range();
     let idents = idents_of(alloc, scenario)?;
     let mut sorted = Vec::from_slice(alloc, idents.as_slice())?;
     sorted.sort_unstable();

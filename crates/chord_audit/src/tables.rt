@@ -32,7 +32,7 @@ impl Tables {
         requires succ { All (λ state. AllNodes scenario.now state.succ) states.now }
         ensures { IfOk result (HoldFacts scenario.now states.now) }
     {
-        scenario.is_in_range();
+        scenario.recall_range();
         let members = members_of(alloc, states)?;
         let best = best_successors(alloc, states, &members)?;
         let ring = ring_of(alloc, &best)?;

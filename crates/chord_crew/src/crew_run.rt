@@ -41,7 +41,7 @@ fn run_parts<R: Threads + Wait + Sync, G: Gate + Sync>(
     ensures over { result ≡ Err RunError.TooManyEvents → HasTooManyEvents scenario.now }
     ensures only { IfErr result (λ e. (e ≡ RunError.Worker) ⊎ (e ≡ RunError.Memory) ⊎ (e ≡ RunError.TooManyEvents)) }
 {
-    world.division.is_whole();
+    world.division.recall_division();
     let parts = world.division.parts();
     let (draws, seat) = Draws::start(alloc, parts, workers)?;
     let run = WindowRun {
@@ -94,7 +94,7 @@ pub fn run_crew<R: Threads + Wait + Sync, G: Gate + Sync, W: Write>(
     ensures over { result ≡ Err RunError.TooManyEvents → (HasTooManyEvents scenario.now) × (has_failed writer.new ≡ false) }
     ensures bad { result ≡ Err RunError.BadDivision → (length division.now.of_node ≢ node_count scenario.now) × (writer.new ≡ writer.old) }
 {
-    scenario.is_in_range();
+    scenario.recall_range();
     let mut engine = Engine::start(alloc, scenario, division)?;
     while let Some(opening) = engine.opening() {
         let horizon = opening.horizon;

@@ -30,7 +30,7 @@ impl AuditClock {
     pub fn start(alloc: Global, scenario: &Scenario) -> Result<AuditClock, Memory>
         ensures { IfOk result (λ clock. clock ≡ audit_times scenario.now) }
     {
-        scenario.is_in_range();
+        scenario.recall_range();
         let mut times = Vec::new(alloc);
         for k in 0..(scenario.duration() - 1) / scenario.audit() {
             times.push((k + 1) * scenario.audit())?;

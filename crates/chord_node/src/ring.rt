@@ -80,7 +80,7 @@ fn clockwise(
     requires nodes { nodes.now ≡ others scenario.now node }
     ensures { IfOk result (λ met. met.items ≡ tagged scenario.now node (clockwise scenario.now node)) }
 {
-    scenario.is_in_range();
+    scenario.recall_range();
     let mut met = ways(alloc, scenario, node, nodes)?;
     sort_by_way(&mut met)?;
     Ok(met)
@@ -117,7 +117,7 @@ fn fingers(
     requires { met.now ≡ tagged scenario.now node (clockwise scenario.now node) }
     ensures { IfOk result (λ fingers. fingers ≡ map (finger scenario.now node) (range_with_len 2 (scenario.now.bits - 1))) }
 {
-    scenario.is_in_range();
+    scenario.recall_range();
     let mut fingers = Listed::new(alloc);
     for i in 2..scenario.circle().bits() + 1 {
         fingers.push(first_at(node, 1 << (i - 1), met))?;

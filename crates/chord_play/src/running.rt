@@ -52,7 +52,7 @@ pub(crate) fn run_planned<T: Threads + Wait + Sync, W: Write>(
     if plan.serial {
         return run_serial(alloc, scenario, writer);
     }
-    scenario.is_in_range();
+    scenario.recall_range();
     let division = divide(alloc, plan, scenario.nodes())?;
     run_crew(
         rt,

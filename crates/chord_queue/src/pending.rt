@@ -49,7 +49,7 @@ impl Pending {
     }
 
     /// What holds of all pending events.
-    pub fn is_ordered(&self)
+    pub fn recall_order(&self)
         ensures { InKeyOrder event_key self.now }
     {
         let _ = &self.alloc;
@@ -80,13 +80,13 @@ impl Pending {
     {
         let mut events = events;
         while let Some(event) = events.pop() {
-            self.is_ordered();
+            self.recall_order();
             if let Err(_refused) = self.insert(event) {
-                self.is_ordered();
+                self.recall_order();
                 return Err(Memory);
             }
         }
-        self.is_ordered();
+        self.recall_order();
         Ok(())
     }
 
@@ -123,7 +123,7 @@ impl Pending {
         ensures { self.new ≡ from_on event_key horizon self.old }
     {
         while let Some(time) = self.first_time() {
-            self.is_ordered();
+            self.recall_order();
             if time >= horizon {
                 break;
             }

@@ -245,7 +245,7 @@ fn window_by_one(
     requires horizon { IsHorizon world.now horizon }
     ensures { IfOk result (λ dones. ArePartsDone scenario.now world.now horizon dones.items) }
 {
-    world.division.is_whole();
+    world.division.recall_division();
     let parts = world.division.parts();
     let Ok((draws, seat)) = Draws::start(alloc, parts, 1) else {
         return Err(RunError::Memory);

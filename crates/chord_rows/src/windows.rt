@@ -41,7 +41,7 @@ pub fn divide(
 ) -> Result<Division, Memory>
     requires { (0 < parts) × (parts ≤ MOST_PARTS) }
 {
-    scenario.is_in_range();
+    scenario.recall_range();
     match split {
         Split::RoundRobin => Division::dealt(alloc, scenario.nodes(), parts),
         Split::Blocks => Division::blocks(alloc, scenario.nodes(), parts),

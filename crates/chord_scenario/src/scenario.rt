@@ -45,7 +45,7 @@ impl Model for Scenario {
 
 impl Scenario {
     /// What holds of every scenario.
-    pub fn is_in_range(&self)
+    pub fn recall_range(&self)
         ensures { IsInRange self.now }
     {
         let _ = &self.circle;
@@ -171,7 +171,7 @@ impl Scenario {
         ensures value { result ≡ ident_of self.now node }
         ensures on_circle { result < 2 ^ self.now.bits }
     {
-        self.is_in_range();
+        self.recall_range();
         self.place_of(node)
     }
 

@@ -54,7 +54,7 @@ impl Scenario {
         requires { period < 2 ^ 32 }
         ensures { result ≡ jittered self.now period }
     {
-        self.is_in_range();
+        self.recall_range();
         Span {
             least: period,
             greatest: period + self.jitter(),
@@ -75,7 +75,7 @@ impl Scenario {
         requires span { IsSpanUpTo 2000000000 span }
         ensures { OnOk result (events.new.items ≡ events.old.items ++ timer_event self.now node place (span, body) ∷ []) }
     {
-        self.is_in_range();
+        self.recall_range();
         let width = span.greatest - span.least + 1;
         let word = Stream::of(self.seed(), node).word_at(place);
         let time = span.least + u64::from(word) % width;
@@ -93,7 +93,7 @@ impl Scenario {
         requires { node < node_count self.now }
         ensures { OnOk result (events.new.items ≡ events.old.items ++ first_timers self.now node) }
     {
-        self.is_in_range();
+        self.recall_range();
         let stabilize = self.jittered(self.stabilize());
         self.push_timer(events, node, 0, stabilize, Body::StabilizeTick { epoch: 1 })?;
         let finger = self.jittered(self.finger());

@@ -35,7 +35,7 @@ impl Engine {
         ensures at { IfOk result (λ engine. (now : Option (List ℕ)) → IsAt scenario.now now now engine) }
         ensures only { IfErr result (λ e. e ≡ RunError.Memory) }
     {
-        scenario.is_in_range();
+        scenario.recall_range();
         let states = initial_ring(alloc, scenario)?;
         let mut pending = Pending::new(alloc);
         pending.insert_all(scenario.start_events(alloc)?)?;
@@ -58,8 +58,8 @@ impl Engine {
         ensures over { result ≡ Err RunError.TooManyEvents → (old now : Option (List ℕ)) → IsAt scenario.now old now self.old → HasTooManyEvents scenario.now }
         ensures only { IfErr result (λ e. e ≡ RunError.TooManyEvents) }
     {
-        scenario.is_in_range();
-        self.pending.is_ordered();
+        scenario.recall_range();
+        self.pending.recall_order();
         let Some(time) = self.pending.first_time() else {
             return Ok(None);
         };
@@ -90,7 +90,7 @@ impl Engine {
         ensures memory { result ≡ Err RunError.Memory → has_failed writer.new ≡ false }
         ensures only { IfErr result (λ e. (e ≡ RunError.Memory) ⊎ (e ≡ RunError.Write)) }
     {
-        scenario.is_in_range();
+        scenario.recall_range();
         put_audits(
             alloc,
             scenario,
@@ -127,7 +127,7 @@ impl Engine {
         ensures memory { result ≡ Err RunError.Memory → has_failed writer.new ≡ false }
         ensures only { IfErr result (λ e. (e ≡ RunError.Memory) ⊎ (e ≡ RunError.Write)) }
     {
-        scenario.is_in_range();
+        scenario.recall_range();
         put_audits(
             alloc,
             scenario,

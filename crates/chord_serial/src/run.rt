@@ -29,7 +29,7 @@ pub fn run_serial<W: Write>(
     ensures over { result ≡ Err RunError.TooManyEvents → (HasTooManyEvents scenario.now) × (has_failed writer.new ≡ false) }
     ensures only { IfErr result (λ e. (e ≡ RunError.Memory) ⊎ (e ≡ RunError.Write) ⊎ (e ≡ RunError.TooManyEvents)) }
 {
-    scenario.is_in_range();
+    scenario.recall_range();
     let mut engine = Engine::start(alloc, scenario)?;
     while let Some(event) = engine.take_next(scenario)? {
         engine.handle(alloc, scenario, &event, writer)?;

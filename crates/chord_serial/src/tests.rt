@@ -74,7 +74,7 @@ fn run_on_copies<W: Write>(
 ) -> Result<Report, RunError>
     requires sound { has_failed writer.old ≡ false }
 {
-    scenario.is_in_range();
+    scenario.recall_range();
     let mut engine = Engine::start(alloc, scenario)?;
     while let Some(event) = engine.take_next(scenario)? {
         let copy = event.try_clone()?;

@@ -90,7 +90,7 @@ impl Division {
     }
 
     /// What holds of each division.
-    pub fn is_whole(&self)
+    pub fn recall_division(&self)
         ensures few { (0 < self.now.parts) × (self.now.parts ≤ MOST_PARTS) }
         ensures below { All (λ p. p < self.now.parts) self.now.of_node }
     {

@@ -73,7 +73,7 @@ impl Engine {
         ensures bad { result ≡ Err RunError.BadDivision → length division.now.of_node ≢ node_count scenario.now }
         ensures only { IfErr result (λ e. (e ≡ RunError.Memory) ⊎ (e ≡ RunError.BadDivision)) }
     {
-        scenario.is_in_range();
+        scenario.recall_range();
         let world = World::start(alloc, scenario, division)?;
         let clock = AuditClock::start(alloc, scenario)?;
         let tallies = no_tallies(alloc, division.parts())?;
@@ -118,8 +118,8 @@ impl Engine {
         ensures memory { result ≡ Err RunError.Memory → has_failed writer.new ≡ false }
         ensures only { IfErr result (λ e. (e ≡ RunError.Memory) ⊎ (e ≡ RunError.Write)) }
     {
-        scenario.is_in_range();
-        self.world.division.is_whole();
+        scenario.recall_range();
+        self.world.division.recall_division();
         let Engine {
             world,
             mut clock,
@@ -164,8 +164,8 @@ impl Engine {
         ensures over { result ≡ Err RunError.TooManyEvents → HasTooManyEvents scenario.now × (has_failed writer.new ≡ false) }
         ensures only { IfErr result (λ e. (e ≡ RunError.Memory) ⊎ (e ≡ RunError.TooManyEvents) ⊎ (e ≡ RunError.Write)) }
     {
-        scenario.is_in_range();
-        self.world.division.is_whole();
+        scenario.recall_range();
+        self.world.division.recall_division();
         put_audits(
             alloc,
             scenario,

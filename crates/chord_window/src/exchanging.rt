@@ -127,7 +127,7 @@ pub(crate) fn exchange_in_order(
     ensures over { result ≡ Err RunError.TooManyEvents → HasTooManyEvents scenario.now }
     ensures only { IfErr result (λ e. (e ≡ RunError.Memory) ⊎ (e ≡ RunError.TooManyEvents)) }
 {
-    scenario.is_in_range();
+    scenario.recall_range();
     let room = scenario.max_events() - world.count;
     let Gathered {
         events,

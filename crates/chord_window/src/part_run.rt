@@ -59,7 +59,7 @@ impl PartRun {
         requires { (division : ADivision) × IsReady scenario.now division states.now self.old event.now }
         ensures { IfOk result (λ made. (division : ADivision) → IsReady scenario.now division states.now self.old event.now → HasHandled scenario.now division states.now event.now self.old self.new made.items) }
     {
-        scenario.is_in_range();
+        scenario.recall_range();
         let slot = self.copies.touch(states, event.target as usize, spares)?;
         let Effect { events, block } = act(alloc, scenario, &mut self.copies.states[slot], event)?;
         self.blocks.push(block)?;
@@ -79,7 +79,7 @@ impl PartRun {
         requires horizon { IsHorizon world.now horizon }
         ensures { HasBegun scenario.now world.now horizon part result }
     {
-        scenario.is_in_range();
+        scenario.recall_range();
         let due = world.parts[part as usize].due.len();
         let many = due.saturating_add(due / 4);
         PartRun {
@@ -141,8 +141,8 @@ impl PartRun {
         ensures over { result ≡ Err RunError.TooManyEvents → HasTooManyEvents scenario.now }
         ensures only { IfErr result (λ e. (e ≡ RunError.Memory) ⊎ (e ≡ RunError.TooManyEvents)) }
     {
-        scenario.is_in_range();
-        queue.is_ordered();
+        scenario.recall_range();
+        queue.recall_order();
         let full = world.count + self.blocks.len() as u64 >= scenario.max_events();
         if comes_first(due, self.taken, queue) {
             if full {
@@ -202,7 +202,7 @@ fn sort_out(
     ensures pushes { OnOk result (queue.new.pushes ≤ queue.old.pushes + length made.items) }
     ensures mail { OnOk result (mail.new.items ≡ mail.old.items ++ from_on event_key horizon made.items) }
 {
-    queue.is_ordered();
+    queue.recall_order();
     if are_from(made.as_slice(), horizon) {
         let mut later = made;
         mail.append(&mut later)?;
@@ -211,10 +211,10 @@ fn sort_out(
     for event in made {
         if event.key.time < horizon {
             if let Err(_refused) = queue.push(event) {
-                queue.is_ordered();
+                queue.recall_order();
                 return Err(Memory);
             }
-            queue.is_ordered();
+            queue.recall_order();
         } else {
             mail.push(event)?;
         }
@@ -267,7 +267,7 @@ fn run_events(
     ensures over { result ≡ Err RunError.TooManyEvents → HasTooManyEvents scenario.now }
     ensures only { IfErr result (λ e. (e ≡ RunError.Memory) ⊎ (e ≡ RunError.TooManyEvents)) }
 {
-    scenario.is_in_range();
+    scenario.recall_range();
     let events = &world.parts[part as usize];
     let due = events.due.as_slice();
     let mut spares = Spares::new(alloc);

@@ -49,7 +49,7 @@ pub fn run_picked<W: Write>(
     ensures bad { result ≡ Err RunError.BadDivision → (length division.now.of_node ≢ node_count scenario.now) × (writer.new ≡ writer.old) }
     ensures only { IfErr result (λ e. (e ≡ RunError.Memory) ⊎ (e ≡ RunError.TooManyEvents) ⊎ (e ≡ RunError.Write) ⊎ (e ≡ RunError.BadDivision)) }
 {
-    scenario.is_in_range();
+    scenario.recall_range();
     let mut engine = Engine::start(alloc, scenario, division)?;
     let mut picked = PickedWindow::new(alloc, workers)?;
     let mut next = 0;

@@ -120,7 +120,7 @@ impl PickedWindow {
         ensures over { result ≡ Err RunError.TooManyEvents → HasTooManyEvents scenario.now }
         ensures only { IfErr result (λ e. (e ≡ RunError.Memory) ⊎ (e ≡ RunError.TooManyEvents)) }
     {
-        world.division.is_whole();
+        world.division.recall_division();
         let spares = &mut self.spares;
         let progress = self.workers[worker].step(
             alloc, scenario, world, horizon, self.drawn, spares,
@@ -164,7 +164,7 @@ impl PickedWindow {
         ensures over { result ≡ Err RunError.TooManyEvents → HasTooManyEvents scenario.now }
         ensures only { IfErr result (λ e. (e ≡ RunError.Memory) ⊎ (e ≡ RunError.TooManyEvents)) }
     {
-        scenario.is_in_range();
+        scenario.recall_range();
         self.open(alloc, world.division.parts())?;
         self.take_turns(alloc, scenario, world, horizon, picks, next, taken)?;
         let slots = std::mem::replace(&mut self.dones, Vec::new(alloc));
@@ -193,7 +193,7 @@ impl PickedWindow {
         ensures over { result ≡ Err RunError.TooManyEvents → HasTooManyEvents scenario.now }
         ensures only { IfErr result (λ e. (e ≡ RunError.Memory) ⊎ (e ≡ RunError.TooManyEvents)) }
     {
-        world.division.is_whole();
+        world.division.recall_division();
         while let Some(lowest) = self.lowest() {
             let worker = self.turn(lowest, picks, next);
             let step = self.step(alloc, scenario, world, horizon, worker)?;

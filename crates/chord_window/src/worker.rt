@@ -56,7 +56,7 @@ impl Worker {
         ensures over { result ≡ Err RunError.TooManyEvents → HasTooManyEvents scenario.now }
         ensures only { IfErr result (λ e. (e ≡ RunError.Memory) ⊎ (e ≡ RunError.TooManyEvents)) }
     {
-        scenario.is_in_range();
+        scenario.recall_range();
         let Some(run) = &mut self.run else {
             self.run = Some(PartRun::start(alloc, scenario, world, drawn, horizon));
             return Ok(Progress::Drew);

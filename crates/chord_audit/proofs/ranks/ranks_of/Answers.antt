@@ -29,7 +29,7 @@ returns c =
     let copied : c.in_ok-sorted.sorted.items ≡ idents = c.in_ok-sorted.ensures.items ∙ c.as_slice.ensures.value ∙ sym c.deref-ident-items.ensures.value in
     let sorted : length c.sort_unstable.new.self.items ≡ length idents =
     length_permutation c.in_ok-sorted.sorted.items c.sort_unstable.new.self.items c.sort_unstable.ensures.permutation ∙ ap (λ (l : List ℕ). length l) copied in
-    ranks_from_places sc c.sort_unstable.new.self.items c.loop-ident.ranks.items c.is_in_range.ensures (record {
+    ranks_from_places sc c.sort_unstable.new.self.items c.loop-ident.ranks.items c.recall_range.ensures (record {
       each = omega (arith, c.loop-ident.invariant.each);
       many = sorted ∙ many;
       ascend = IsNonDecreasingBy-from_sort (λ x. x) c.sort_unstable.new.self.items c.sort_unstable.ensures.sorted;

@@ -17,6 +17,6 @@ ways-requires-clause-known c =
 pub returns : goal.returns
 returns c =
     let from : List Met → Type 0 = λ met. IsPermutation met c.sort_by_way.new.met.items in
-    sorted_tagged c.args.scenario.now c.args.node c.sort_by_way.new.met.items c.is_in_range.ensures c.requires.node
+    sorted_tagged c.args.scenario.now c.args.node c.sort_by_way.new.met.items c.recall_range.ensures c.requires.node
     (subst (λ xs. from (tagged c.args.scenario.now c.args.node xs)) c.requires.nodes (subst from c.in_ok-met.ensures c.in_ok-sort_by_way.ensures.moved))
     c.in_ok-sort_by_way.ensures.sorted

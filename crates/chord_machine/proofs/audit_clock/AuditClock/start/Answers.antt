@@ -9,4 +9,4 @@ invariant_of-result c =
     let count : c.loop-k.k ≡ (c.args.scenario.now.duration - 1) / c.args.scenario.now.audit = ends ∙ (λ i. (c.duration.ensures i - 1) / c.audit.ensures i) in
     let items : c.push-2.new.self.items ≡ audit_times c.args.scenario.now =
     c.in_ok-push-2.ensures.items ∙ (λ i. (c.loop-k.invariant ∙ ap (multiples c.args.scenario.now.audit) count) i ++ c.duration-2.ensures i ∷ []) in
-    (omega (arith), subst IsAscending (sym items) (audits-ascend c.args.scenario.now c.is_in_range.ensures))
+    (omega (arith), subst IsAscending (sym items) (audits-ascend c.args.scenario.now c.recall_range.ensures))

@@ -22,7 +22,7 @@ loop-event-preserved c =
     let whole : List (Event Body) → Type 0 = λ es. (x : Event Body) → Contains es x ↔ Contains (c.args.self.now ++ c.args.events.items) x in
     let before : whole (c.loop-event.self ++ (c.pop.new.self.items ++ c.in-Some.event ∷ [])) = subst (λ es. whole (c.loop-event.self ++ es)) c.in-Some.ensures.items c.loop-event.invariant.same in
     rw c.in_default-insert.ensures.ok (record {
-      apart = last_apart c.in-Some.event c.loop-event.self c.pop.new.self.items all c.is_ordered.ensures;
+      apart = last_apart c.in-Some.event c.loop-event.self c.pop.new.self.items all c.recall_order.ensures;
       same = λ x.
           let moved = last_put c.in-Some.event c.loop-event.self c.pop.new.self.items all x in
           (λ d. (before x).0 (moved.0 d), λ d. moved.1 ((before x).1 d));

@@ -5,7 +5,7 @@ use Rattle.chord_queue.proofs.pending.Pending.split_at.Goals as goal
 
 pub returns-then-time-horizon : goal.returns-then-time-horizon
 returns-then-time-horizon c =
-    sym (from_on_first event_key c.args.horizon c.in-Some.time c.loop-time.self c.is_ordered.ensures (sym c.in-Some.ensures) c.if-time-horizon.true) ∙ c.loop-time.invariant
+    sym (from_on_first event_key c.args.horizon c.in-Some.time c.loop-time.self c.recall_order.ensures (sym c.in-Some.ensures) c.if-time-horizon.true) ∙ c.loop-time.invariant
 
 pub returns-in_default : goal.returns-in_default
 returns-in_default c = sym (from_on_none event_key c.args.horizon c.loop-time.self (sym c.in_default.ensures)) ∙ c.loop-time.invariant

@@ -13,70 +13,70 @@ use Rattle.chord_serial.proofs.Course.{audits_room, begin_audits, begin_front, b
 use Rattle.chord_serial.proofs.engine.Engine.handle.Goals as goal
 
 pub put_audits-requires-clause-each : goal.put_audits-requires-clause-each
-put_audits-requires-clause-each g c = ap length c.as_slice.ensures.value ∙ taken_long c.args.scenario.now c.is_in_range.ensures c.requires.taken.0 _ c.args.self.now c.args.event.now c.requires.taken.1
+put_audits-requires-clause-each g c = ap length c.as_slice.ensures.value ∙ taken_long c.args.scenario.now c.recall_range.ensures c.requires.taken.0 _ c.args.self.now c.args.event.now c.requires.taken.1
 
 pub put_audits-requires-clause-succ : goal.put_audits-requires-clause-succ
 put_audits-requires-clause-succ g c =
-    subst (λ (ss : List NodeState). All (λ (s : NodeState). AllNodes c.args.scenario.now s.succ) ss) (sym c.as_slice.ensures.value) (taken_known c.args.scenario.now c.is_in_range.ensures c.requires.taken.0 _ c.args.self.now c.args.event.now c.requires.taken.1)
+    subst (λ (ss : List NodeState). All (λ (s : NodeState). AllNodes c.args.scenario.now s.succ) ss) (sym c.as_slice.ensures.value) (taken_known c.args.scenario.now c.recall_range.ensures c.requires.taken.0 _ c.args.self.now c.args.event.now c.requires.taken.1)
 
 pub put_audits-requires-clause-room : goal.put_audits-requires-clause-room
-put_audits-requires-clause-room g c = audits_room c.args.scenario.now c.is_in_range.ensures c.requires.taken.0 _ c.args.self.now c.args.event.now c.requires.taken.1
+put_audits-requires-clause-room g c = audits_room c.args.scenario.now c.recall_range.ensures c.requires.taken.0 _ c.args.self.now c.args.event.now c.requires.taken.1
 
 pub returns-in_err-put_audits-clause-front : goal.returns-in_err-put_audits-clause-front
 returns-in_err-put_audits-clause-front g c = λ old t.
-    let s = taken_read c.args.scenario.now c.is_in_range.ensures old _ c.args.self.now c.args.event.now t in
-    begin_audits c.args.scenario.now c.is_in_range.ensures old _ c.args.self.now c.args.event.now t s.0 s.1 _ (c.in_err-put_audits.ensures.front (state (chord c.args.scenario.now) (history (chord c.args.scenario.now) c.args.self.now.count)) (subst (λ (ss : List NodeState). AreStates c.args.scenario.now ss (state (chord c.args.scenario.now) (history (chord c.args.scenario.now) c.args.self.now.count))) (sym c.as_slice.ensures.value) (taken_states c.args.scenario.now c.is_in_range.ensures old _ c.args.self.now c.args.event.now t)))
+    let s = taken_read c.args.scenario.now c.recall_range.ensures old _ c.args.self.now c.args.event.now t in
+    begin_audits c.args.scenario.now c.recall_range.ensures old _ c.args.self.now c.args.event.now t s.0 s.1 _ (c.in_err-put_audits.ensures.front (state (chord c.args.scenario.now) (history (chord c.args.scenario.now) c.args.self.now.count)) (subst (λ (ss : List NodeState). AreStates c.args.scenario.now ss (state (chord c.args.scenario.now) (history (chord c.args.scenario.now) c.args.self.now.count))) (sym c.as_slice.ensures.value) (taken_states c.args.scenario.now c.recall_range.ensures old _ c.args.self.now c.args.event.now t)))
 
 pub index_mut-requires : goal.index_mut-requires
-index_mut-requires g c = omega (arith, target_is_node c.args.scenario.now c.is_in_range.ensures c.requires.taken.0 _ c.args.self.now c.args.event.now c.requires.taken.1, c.args.self.now.states.ok.0)
+index_mut-requires g c = omega (arith, target_is_node c.args.scenario.now c.recall_range.ensures c.requires.taken.0 _ c.args.self.now c.args.event.now c.requires.taken.1, c.args.self.now.states.ok.0)
 
 pub act-requires-clause-invariant : goal.act-requires-clause-invariant
-act-requires-clause-invariant g c = (state_is_sound c.args.scenario.now c.is_in_range.ensures c.requires.taken.0 _ c.args.self.now c.args.event.now c.requires.taken.1 c.index_mut.result.now c.index_mut.ensures.value).invariant
+act-requires-clause-invariant g c = (state_is_sound c.args.scenario.now c.recall_range.ensures c.requires.taken.0 _ c.args.self.now c.args.event.now c.requires.taken.1 c.index_mut.result.now c.index_mut.ensures.value).invariant
 
 pub act-requires-clause-target : goal.act-requires-clause-target
-act-requires-clause-target g c = sym (state_is_sound c.args.scenario.now c.is_in_range.ensures c.requires.taken.0 _ c.args.self.now c.args.event.now c.requires.taken.1 c.index_mut.result.now c.index_mut.ensures.value).me
+act-requires-clause-target g c = sym (state_is_sound c.args.scenario.now c.recall_range.ensures c.requires.taken.0 _ c.args.self.now c.args.event.now c.requires.taken.1 c.index_mut.result.now c.index_mut.ensures.value).me
 
 pub act-requires-clause-event : goal.act-requires-clause-event
-act-requires-clause-event g c = event_is_sound c.args.scenario.now c.is_in_range.ensures c.requires.taken.0 _ c.args.self.now c.args.event.now c.requires.taken.1
+act-requires-clause-event g c = event_is_sound c.args.scenario.now c.recall_range.ensures c.requires.taken.0 _ c.args.self.now c.args.event.now c.requires.taken.1
 
 pub act-requires-clause-time : goal.act-requires-clause-time
-act-requires-clause-time g c = event_is_in_time c.args.scenario.now c.is_in_range.ensures c.requires.taken.0 _ c.args.self.now c.args.event.now c.requires.taken.1
+act-requires-clause-time g c = event_is_in_time c.args.scenario.now c.recall_range.ensures c.requires.taken.0 _ c.args.self.now c.args.event.now c.requires.taken.1
 
 pub act-requires-clause-count : goal.act-requires-clause-count
-act-requires-clause-count g c = (state_has_room c.args.scenario.now c.is_in_range.ensures c.requires.taken.0 _ c.args.self.now c.args.event.now c.requires.taken.1 c.index_mut.result.now c.index_mut.ensures.value).count
+act-requires-clause-count g c = (state_has_room c.args.scenario.now c.recall_range.ensures c.requires.taken.0 _ c.args.self.now c.args.event.now c.requires.taken.1 c.index_mut.result.now c.index_mut.ensures.value).count
 
 pub act-requires-clause-place : goal.act-requires-clause-place
-act-requires-clause-place g c = (state_has_room c.args.scenario.now c.is_in_range.ensures c.requires.taken.0 _ c.args.self.now c.args.event.now c.requires.taken.1 c.index_mut.result.now c.index_mut.ensures.value).place
+act-requires-clause-place g c = (state_has_room c.args.scenario.now c.recall_range.ensures c.requires.taken.0 _ c.args.self.now c.args.event.now c.requires.taken.1 c.index_mut.result.now c.index_mut.ensures.value).place
 
 pub returns-in_err-events-clause-front : goal.returns-in_err-events-clause-front
 returns-in_err-events-clause-front g c = λ old t.
-    begin_middle c.args.scenario.now c.is_in_range.ensures old _ c.args.self.now c.args.event.now t c.index_mut.result.now c.index_mut.ensures.value _ _ (c.in_ok-put_audits.ensures.adds (state (chord c.args.scenario.now) (history (chord c.args.scenario.now) c.args.self.now.count)) (subst (λ (ss : List NodeState). AreStates c.args.scenario.now ss (state (chord c.args.scenario.now) (history (chord c.args.scenario.now) c.args.self.now.count))) (sym c.as_slice.ensures.value) (taken_states c.args.scenario.now c.is_in_range.ensures old _ c.args.self.now c.args.event.now t)))
+    begin_middle c.args.scenario.now c.recall_range.ensures old _ c.args.self.now c.args.event.now t c.index_mut.result.now c.index_mut.ensures.value _ _ (c.in_ok-put_audits.ensures.adds (state (chord c.args.scenario.now) (history (chord c.args.scenario.now) c.args.self.now.count)) (subst (λ (ss : List NodeState). AreStates c.args.scenario.now ss (state (chord c.args.scenario.now) (history (chord c.args.scenario.now) c.args.self.now.count))) (sym c.as_slice.ensures.value) (taken_states c.args.scenario.now c.recall_range.ensures old _ c.args.self.now c.args.event.now t)))
 
 pub insert_all-requires : goal.insert_all-requires
 insert_all-requires g c =
     subst (λ (es : List (Event Body)). AreApart (c.args.self.now.pending ++ es)) (sym c.into_vec.ensures)
-    (made_apart c.args.scenario.now c.is_in_range.ensures c.requires.taken.0 _ c.args.self.now c.args.event.now c.requires.taken.1 c.index_mut.result.now c.index_mut.ensures.value c.in_ok-events.field-0.events c.in_ok-events.ensures.events)
+    (made_apart c.args.scenario.now c.recall_range.ensures c.requires.taken.0 _ c.args.self.now c.args.event.now c.requires.taken.1 c.index_mut.result.now c.index_mut.ensures.value c.in_ok-events.field-0.events c.in_ok-events.ensures.events)
 
 pub returns-in_err-insert_all-clause-front : goal.returns-in_err-insert_all-clause-front
 returns-in_err-insert_all-clause-front g c = λ old t.
-    begin_middle c.args.scenario.now c.is_in_range.ensures old _ c.args.self.now c.args.event.now t c.index_mut.result.now c.index_mut.ensures.value _ _ (c.in_ok-put_audits.ensures.adds (state (chord c.args.scenario.now) (history (chord c.args.scenario.now) c.args.self.now.count)) (subst (λ (ss : List NodeState). AreStates c.args.scenario.now ss (state (chord c.args.scenario.now) (history (chord c.args.scenario.now) c.args.self.now.count))) (sym c.as_slice.ensures.value) (taken_states c.args.scenario.now c.is_in_range.ensures old _ c.args.self.now c.args.event.now t)))
+    begin_middle c.args.scenario.now c.recall_range.ensures old _ c.args.self.now c.args.event.now t c.index_mut.result.now c.index_mut.ensures.value _ _ (c.in_ok-put_audits.ensures.adds (state (chord c.args.scenario.now) (history (chord c.args.scenario.now) c.args.self.now.count)) (subst (λ (ss : List NodeState). AreStates c.args.scenario.now ss (state (chord c.args.scenario.now) (history (chord c.args.scenario.now) c.args.self.now.count))) (sym c.as_slice.ensures.value) (taken_states c.args.scenario.now c.recall_range.ensures old _ c.args.self.now c.args.event.now t)))
 
 pub put_block-requires-clause-room : goal.put_block-requires-clause-room
-put_block-requires-clause-room g c = omega (arith, c.requires.taken.1.at.room, c.requires.taken.1.allowed, c.in_ok-put_audits.ensures.size, c.is_in_range.ensures.numbers.max_events_greatest)
+put_block-requires-clause-room g c = omega (arith, c.requires.taken.1.at.room, c.requires.taken.1.allowed, c.in_ok-put_audits.ensures.size, c.recall_range.ensures.numbers.max_events_greatest)
 
 pub returns-in_err-put_block-clause-front : goal.returns-in_err-put_block-clause-front
 returns-in_err-put_block-clause-front g c = λ old t.
-    begin_front c.args.scenario.now c.is_in_range.ensures old _ c.args.self.now c.args.event.now t c.index_mut.result.now c.index_mut.ensures.value _ c.in_ok-events.field-0.block _ _ c.in_ok-events.ensures.block (c.in_ok-put_audits.ensures.adds (state (chord c.args.scenario.now) (history (chord c.args.scenario.now) c.args.self.now.count)) (subst (λ (ss : List NodeState). AreStates c.args.scenario.now ss (state (chord c.args.scenario.now) (history (chord c.args.scenario.now) c.args.self.now.count))) (sym c.as_slice.ensures.value) (taken_states c.args.scenario.now c.is_in_range.ensures old _ c.args.self.now c.args.event.now t))) c.in_err-put_block.ensures.front
+    begin_front c.args.scenario.now c.recall_range.ensures old _ c.args.self.now c.args.event.now t c.index_mut.result.now c.index_mut.ensures.value _ c.in_ok-events.field-0.block _ _ c.in_ok-events.ensures.block (c.in_ok-put_audits.ensures.adds (state (chord c.args.scenario.now) (history (chord c.args.scenario.now) c.args.self.now.count)) (subst (λ (ss : List NodeState). AreStates c.args.scenario.now ss (state (chord c.args.scenario.now) (history (chord c.args.scenario.now) c.args.self.now.count))) (sym c.as_slice.ensures.value) (taken_states c.args.scenario.now c.recall_range.ensures old _ c.args.self.now c.args.event.now t))) c.in_err-put_block.ensures.front
 
 pub returns-clause-at : goal.returns-clause-at
 returns-clause-at g c = λ old t.
-    next_at c.args.scenario.now c.is_in_range.ensures old _ c.args.self.now c.args.event.now t c.index_mut.result.now c.index_mut.ensures.value c.into_vec.result.items (c.into_vec.ensures ∙ c.in_ok-events.ensures.events) _ _ _ c.put_audits.new.tally c.in_ok-events.field-0.block c.in_ok-events.ensures.block
+    next_at c.args.scenario.now c.recall_range.ensures old _ c.args.self.now c.args.event.now t c.index_mut.result.now c.index_mut.ensures.value c.into_vec.result.items (c.into_vec.ensures ∙ c.in_ok-events.ensures.events) _ _ _ c.put_audits.new.tally c.in_ok-events.field-0.block c.in_ok-events.ensures.block
     (ap (λ z. set c.args.self.now.states.items c.args.event.now.target z) c.in_ok-events.ensures.state)
     c.in_ok-insert_all.ensures.same c.in_ok-insert_all.ensures.ordered
     c.in_ok-put_audits.ensures.left refl
-    (c.in_ok-put_audits.ensures.adds (state (chord c.args.scenario.now) (history (chord c.args.scenario.now) c.args.self.now.count)) (subst (λ (ss : List NodeState). AreStates c.args.scenario.now ss (state (chord c.args.scenario.now) (history (chord c.args.scenario.now) c.args.self.now.count))) (sym c.as_slice.ensures.value) (taken_states c.args.scenario.now c.is_in_range.ensures old _ c.args.self.now c.args.event.now t))) c.in_ok-put_block.ensures.adds
+    (c.in_ok-put_audits.ensures.adds (state (chord c.args.scenario.now) (history (chord c.args.scenario.now) c.args.self.now.count)) (subst (λ (ss : List NodeState). AreStates c.args.scenario.now ss (state (chord c.args.scenario.now) (history (chord c.args.scenario.now) c.args.self.now.count))) (sym c.as_slice.ensures.value) (taken_states c.args.scenario.now c.recall_range.ensures old _ c.args.self.now c.args.event.now t))) c.in_ok-put_block.ensures.adds
     c.in_ok-put_audits.ensures.size c.in_ok-put_block.ensures.size
 
 pub returns-clause-front : goal.returns-clause-front
 returns-clause-front g c = λ old t.
-    begin_front c.args.scenario.now c.is_in_range.ensures old _ c.args.self.now c.args.event.now t c.index_mut.result.now c.index_mut.ensures.value _ c.in_ok-events.field-0.block _ _ c.in_ok-events.ensures.block (c.in_ok-put_audits.ensures.adds (state (chord c.args.scenario.now) (history (chord c.args.scenario.now) c.args.self.now.count)) (subst (λ (ss : List NodeState). AreStates c.args.scenario.now ss (state (chord c.args.scenario.now) (history (chord c.args.scenario.now) c.args.self.now.count))) (sym c.as_slice.ensures.value) (taken_states c.args.scenario.now c.is_in_range.ensures old _ c.args.self.now c.args.event.now t))) c.in_ok-put_block.ensures.front
+    begin_front c.args.scenario.now c.recall_range.ensures old _ c.args.self.now c.args.event.now t c.index_mut.result.now c.index_mut.ensures.value _ c.in_ok-events.field-0.block _ _ c.in_ok-events.ensures.block (c.in_ok-put_audits.ensures.adds (state (chord c.args.scenario.now) (history (chord c.args.scenario.now) c.args.self.now.count)) (subst (λ (ss : List NodeState). AreStates c.args.scenario.now ss (state (chord c.args.scenario.now) (history (chord c.args.scenario.now) c.args.self.now.count))) (sym c.as_slice.ensures.value) (taken_states c.args.scenario.now c.recall_range.ensures old _ c.args.self.now c.args.event.now t))) c.in_ok-put_block.ensures.front

@@ -24,15 +24,15 @@ use Rattle.chord_window.proofs.engine.Engine.put_window.Goals as goal
 
 pub put_audits-requires-clause-succ : goal.put_audits-requires-clause-succ
 put_audits-requires-clause-succ g c = subst (λ (ss : List NodeState). All (λ (s : NodeState). AllNodes c.args.scenario.now s.succ) ss) (sym c.as_slice.ensures.value)
-    (states_known c.args.scenario.now c.is_in_range.ensures c.requires.at.0 _ c.args.self.now c.requires.at.1)
+    (states_known c.args.scenario.now c.recall_range.ensures c.requires.at.0 _ c.args.self.now c.requires.at.1)
 
 pub put_audits-requires-clause-room : goal.put_audits-requires-clause-room
-put_audits-requires-clause-room g c = audits_fit c.requires.at.1 c.is_whole.ensures.few.0 c.is_in_range.ensures.numbers.max_events_greatest c.index_mut.result.now c.index_mut.ensures.value
+put_audits-requires-clause-room g c = audits_fit c.requires.at.1 c.recall_division.ensures.few.0 c.recall_range.ensures.numbers.max_events_greatest c.index_mut.result.now c.index_mut.ensures.value
 
 pub returns-in_err-put_audits-clause-front : goal.returns-in_err-put_audits-clause-front
 returns-in_err-put_audits-clause-front g c = λ old t.
     let sc = c.args.scenario.now in
-    let ranges = c.is_in_range.ensures in
+    let ranges = c.recall_range.ensures in
     let e = c.args.self.now in
     let o = c.args.opening in
     let S = state (chord sc) (history (chord sc) e.world.count) in
@@ -41,7 +41,7 @@ returns-in_err-put_audits-clause-front g c = λ old t.
 pub returns-in-Err-clause-front : goal.returns-in-Err-clause-front
 returns-in-Err-clause-front g c = λ old t.
     let sc = c.args.scenario.now in
-    let ranges = c.is_in_range.ensures in
+    let ranges = c.recall_range.ensures in
     let e = c.args.self.now in
     let o = c.args.opening in
     let S = state (chord sc) (history (chord sc) e.world.count) in
@@ -50,7 +50,7 @@ returns-in-Err-clause-front g c = λ old t.
 pub returns-in_err-tally_parts-clause-front : goal.returns-in_err-tally_parts-clause-front
 returns-in_err-tally_parts-clause-front g c = λ old t.
     let sc = c.args.scenario.now in
-    let ranges = c.is_in_range.ensures in
+    let ranges = c.recall_range.ensures in
     let e = c.args.self.now in
     let o = c.args.opening in
     let S = state (chord sc) (history (chord sc) e.world.count) in
@@ -59,7 +59,7 @@ returns-in_err-tally_parts-clause-front g c = λ old t.
 pub returns-in_err-blocks-clause-front : goal.returns-in_err-blocks-clause-front
 returns-in_err-blocks-clause-front g c = λ old t.
     let sc = c.args.scenario.now in
-    let ranges = c.is_in_range.ensures in
+    let ranges = c.recall_range.ensures in
     let e = c.args.self.now in
     let o = c.args.opening in
     let S = state (chord sc) (history (chord sc) e.world.count) in
@@ -72,25 +72,25 @@ tally_parts-requires-clause-short g c = subst (λ (ls : List (Vec Block Global))
 pub tally_parts-requires-clause-room : goal.tally_parts-requires-clause-room
 tally_parts-requires-clause-room g c = λ part t l.
     let sc = c.args.scenario.now in
-    let ranges = c.is_in_range.ensures in
+    let ranges = c.recall_range.ensures in
     let e = c.args.self.now in
     let o = c.args.opening in
     let S = state (chord sc) (history (chord sc) e.world.count) in
     omega (
       arith,
       ap (λ (ls : List (Vec Block Global)). length (blocks_at ls part)) (c.as_slice-2.ensures.value ∙ c.in-Ok.ensures.blocks),
-      blocks_fit sc ranges c.requires.at.0 _ e c.requires.at.1 o c.requires.opening c.args.dones.items c.requires.done _ c.index_mut.result.now c.put_audits.new.tally c.is_whole.ensures.few.0 c.index_mut.ensures.value
+      blocks_fit sc ranges c.requires.at.0 _ e c.requires.at.1 o c.requires.opening c.args.dones.items c.requires.done _ c.index_mut.result.now c.put_audits.new.tally c.recall_division.ensures.few.0 c.index_mut.ensures.value
           (c.in_ok-put_audits.ensures.adds S (subst (λ (ss : List NodeState). AreStates sc ss S) (sym c.as_slice.ensures.value) (are_states sc ranges c.requires.at.0 _ e c.requires.at.1))) (length c.put_audits.new.clock) c.in_ok-put_audits.ensures.size (omega (arith, c.in-Ok.ensures.world.within, c.in-Ok.ensures.count)) part t l,
     )
 
 pub merge_blocks-requires : goal.merge_blocks-requires
 merge_blocks-requires g c = subst (λ (ls : List (Vec Block Global)). CanMerge ls) (sym c.in-Ok.ensures.blocks)
-    (can_merge c.args.scenario.now c.is_in_range.ensures c.args.self.now.world c.requires.at.1.world c.args.opening.horizon c.args.dones.items c.requires.done nowhere)
+    (can_merge c.args.scenario.now c.recall_range.ensures c.args.self.now.world c.requires.at.1.world c.args.opening.horizon c.args.dones.items c.requires.done nowhere)
 
 pub write_blocks-requires-clause-blocks : goal.write_blocks-requires-clause-blocks
 write_blocks-requires-clause-blocks g c =
     let sc = c.args.scenario.now in
-    let ranges = c.is_in_range.ensures in
+    let ranges = c.recall_range.ensures in
     let e = c.args.self.now in
     let o = c.args.opening in
     let S = state (chord sc) (history (chord sc) e.world.count) in
@@ -102,7 +102,7 @@ write_blocks-requires-clause-blocks g c =
 pub returns-in_err-write_blocks-clause-front : goal.returns-in_err-write_blocks-clause-front
 returns-in_err-write_blocks-clause-front g c = λ old t.
     let sc = c.args.scenario.now in
-    let ranges = c.is_in_range.ensures in
+    let ranges = c.recall_range.ensures in
     let e = c.args.self.now in
     let o = c.args.opening in
     let S = state (chord sc) (history (chord sc) e.world.count) in
@@ -115,7 +115,7 @@ returns-in_err-write_blocks-clause-front g c = λ old t.
 pub returns-clause-front : goal.returns-clause-front
 returns-clause-front g c = λ old t.
     let sc = c.args.scenario.now in
-    let ranges = c.is_in_range.ensures in
+    let ranges = c.recall_range.ensures in
     let e = c.args.self.now in
     let o = c.args.opening in
     let S = state (chord sc) (history (chord sc) e.world.count) in
@@ -128,14 +128,14 @@ returns-clause-front g c = λ old t.
 pub returns-clause-at : goal.returns-clause-at
 returns-clause-at g c = λ old t.
     let sc = c.args.scenario.now in
-    let ranges = c.is_in_range.ensures in
+    let ranges = c.recall_range.ensures in
     let e = c.args.self.now in
     let o = c.args.opening in
     let S = state (chord sc) (history (chord sc) e.world.count) in
     let time = same_opening o e.world.opening c.requires.done.time c.requires.done.opening c.requires.opening in
     let merged = subst (λ (ls : List (Vec Block Global)). IsMerged ls c.in_ok-blocks.blocks.items) c.in-Ok.ensures.blocks c.in_ok-blocks.ensures in
     let f : Engine = record { world = c.exchange_in_order.new.world; clock = c.put_audits.new.clock; tallies = c.tally_parts.new.tallies; spares = c.exchange_in_order.new.spares } in
-    next_at sc ranges old _ e t o c.requires.opening c.args.dones.items c.requires.done time c.in_ok-blocks.blocks.items merged _ c.index_mut.result.now c.put_audits.new.tally c.is_whole.ensures.few.0 c.index_mut.ensures.value
+    next_at sc ranges old _ e t o c.requires.opening c.args.dones.items c.requires.done time c.in_ok-blocks.blocks.items merged _ c.index_mut.result.now c.put_audits.new.tally c.recall_division.ensures.few.0 c.index_mut.ensures.value
     (c.in_ok-put_audits.ensures.adds S (subst (λ (ss : List NodeState). AreStates sc ss S) (sym c.as_slice.ensures.value) (are_states sc ranges old _ e t))) (length c.put_audits.new.clock) c.in_ok-put_audits.ensures.size f _ c.in-Ok.ensures.world c.in-Ok.ensures.count c.in-Ok.ensures.division c.in_ok-put_audits.ensures.left refl
     (subst (λ (bs : List Block). Appends (g.W.Write.contents c.put_audits.new.writer.inner) (g.W.Write.contents c.write_blocks.new.writer.inner) (flat_map (block_text sc) bs)) c.as_slice-3.ensures.value c.in_ok-write_blocks.ensures.whole)
     c.in_ok-tally_parts.ensures.each
@@ -144,5 +144,5 @@ returns-clause-at g c = λ old t.
 
 pub returns-clause-more : goal.returns-clause-more
 returns-clause-more g c =
-    let some = exchange_some c.args.scenario.now c.is_in_range.ensures c.args.self.now.world c.requires.at.1.world c.args.opening.horizon c.args.dones.items c.requires.done in
+    let some = exchange_some c.args.scenario.now c.recall_range.ensures c.args.self.now.world c.requires.at.1.world c.args.opening.horizon c.args.dones.items c.requires.done in
     omega (arith, some, c.in-Ok.ensures.count)

@@ -15,7 +15,7 @@ overflow_add-self c =
     let h = subst (HasProgressed c.args.scenario.now c.args.world.now c.args.horizon c.args.self.now.drawn c.index_mut.result.now c.step.new.self) c.in-Drew.is c.in_ok-progress.ensures.progress in
     let few = drew_few c.args.scenario.now c.args.world.now c.args.horizon c.args.self.now.drawn c.args.self.now.workers.items c.args.self.now.dones.items c.requires.picked.0 c.requires.picked.1 c.args.worker c.index_mut.result.now
     (get_here c.args.self.now.workers.items c.args.worker c.index_mut.result.now c.requires.worker c.index_mut.ensures.value) c.step.new.self h c.requires.can_go in
-    omega (arith, few, c.is_whole.ensures.few)
+    omega (arith, few, c.recall_division.ensures.few)
 
 pub returns-in-Drew-clause-turned : goal.returns-in-Drew-clause-turned
 returns-in-Drew-clause-turned c = λ w picked.

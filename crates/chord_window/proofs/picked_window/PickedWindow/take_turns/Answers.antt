@@ -14,7 +14,7 @@ loop-lowest-init c = record {
   same_workers = refl;
   steps = [];
   told = sym (append-nil c.args.taken.now.items);
-  leads = begins c.args.scenario.now c.args.world.now.division (length c.args.self.now.workers.items) (history (chord c.args.scenario.now) c.args.world.now.count) c.args.horizon (drop c.args.next.now c.args.picks.now) c.is_whole.ensures.few.0;
+  leads = begins c.args.scenario.now c.args.world.now.division (length c.args.self.now.workers.items) (history (chord c.args.scenario.now) c.args.world.now.count) c.args.horizon (drop c.args.next.now c.args.picks.now) c.recall_division.ensures.few.0;
   inside = c.requires.next;
 }
 

@@ -21,7 +21,7 @@ step-requires-clause-window c =
     let busy = busy_from c.args.scenario.now c.args.world.now c.args.horizon c.args.drawn c.args.self.now c.requires.may c.in-Some.run' c.in-Some.is in
     let o : Opening = record { time = c.requires.horizon.0; horizon = c.args.horizon } in
     subst (λ (l : List (Event Body)). IsWindow c.args.scenario.now c.args.world.now c.args.horizon l) (sym c.as_slice-due.ensures.value)
-    (window_is c.args.scenario.now c.is_in_range.ensures c.args.world.now c.requires.world o c.requires.horizon.1 c.in-Some.run'.part (omega (arith, busy.0.part, busy.1)) c.index.result.now c.index.ensures)
+    (window_is c.args.scenario.now c.recall_range.ensures c.args.world.now c.requires.world o c.requires.horizon.1 c.in-Some.run'.part (omega (arith, busy.0.part, busy.1)) c.index.result.now c.index.ensures)
 
 pub step-requires-clause-running : goal.step-requires-clause-running
 step-requires-clause-running c =
@@ -55,14 +55,14 @@ returns-in-None-clause-progress c =
     let busy = busy_from c.args.scenario.now c.args.world.now c.args.horizon c.args.drawn c.args.self.now c.requires.may c.in-Some.run' c.in-Some.is in
     let o : Opening = record { time = c.requires.horizon.0; horizon = c.args.horizon } in
     let win = subst (λ (l : List (Event Body)). IsWindow c.args.scenario.now c.args.world.now c.args.horizon l) (sym c.as_slice-due.ensures.value)
-    (window_is c.args.scenario.now c.is_in_range.ensures c.args.world.now c.requires.world o c.requires.horizon.1 c.in-Some.run'.part (omega (arith, busy.0.part, busy.1)) c.index.result.now c.index.ensures) in
+    (window_is c.args.scenario.now c.recall_range.ensures c.args.world.now c.requires.world o c.requires.horizon.1 c.in-Some.run'.part (omega (arith, busy.0.part, busy.1)) c.index.result.now c.index.ensures) in
     let left = c.seal.ensures.left c.step.new.self refl in
     let kept : c.step.new.self ≡ c.in-Some.run' = none_after c.in_ok-key.field-0 _ c.in-None.is c.in_ok-key.ensures.kept in (
       c.in-Some.run',
       busy.0,
       (
         subst (λ p. IsDone c.args.scenario.now c.args.world.now c.args.horizon p c.seal.result) c.in_ok-key.ensures.part
-            (run_left c.args.scenario.now c.is_in_range.ensures c.args.world.now c.requires.world c.args.horizon c.as_slice-due.result.now win c.step.new.self c.step.new.queue c.in_ok-key.ensures.running c.seal.result
+            (run_left c.args.scenario.now c.recall_range.ensures c.args.world.now c.requires.world c.args.horizon c.as_slice-due.result.now win c.step.new.self c.step.new.queue c.in_ok-key.ensures.running c.seal.result
             (none_after c.in_ok-key.field-0 _ c.in-None.is c.in_ok-key.ensures.ended) left),
         left.events_are ∙ ap (λ (r : PartRun). length r.blocks.items) kept,
         c.seal.ensures.idle,

@@ -4,7 +4,7 @@ use Rattle.slab.specs.Slab.{get}
 use Rattle.chord_event.specs.KeyOrder.{InKeyOrder}
 use Rattle.chord_queue.specs.EventKey.{event_key}
 use Rattle.chord_queue.proofs.Places.{held_by, ordered}
-use Rattle.chord_queue.proofs.pending.Pending.is_ordered.Goals as goal
+use Rattle.chord_queue.proofs.pending.Pending.recall_order.Goals as goal
 
 pub returns : goal.returns
 returns c =
