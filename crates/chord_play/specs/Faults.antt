@@ -1,4 +1,5 @@
 -- The faults of a simulation.
+use Rattle.std.specs.Prelude.{Bool, false, true}
 use Rattle.chord_event.specs.declared.error.RunError.TheVariants as run
 use Rattle.chord_play.specs.declared.fault.PlayFault.{PlayFault}
 use Rattle.chord_play.specs.declared.fault.PlayFault.TheVariants as play
@@ -18,3 +19,8 @@ fault_of_text t text.Memory = play.Run run.Memory
 abbrev pub fault_of_scenario : ScenarioFault → PlayFault
 fault_of_scenario scenario.Memory = play.Run run.Memory
 fault_of_scenario fault = play.Scenario fault
+
+-- the fault is an error of the run, and not one of its texts
+abbrev pub is_of_run : PlayFault → Bool
+is_of_run (play.Run error) = true
+is_of_run fault = false

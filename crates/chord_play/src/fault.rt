@@ -5,6 +5,7 @@ use crate::reading::TextFault;
 use crate::text::Text;
 use chord_event::RunError;
 use chord_scenario::ScenarioFault;
+use std::alloc::AllocError;
 
 /// Why a simulation did not come to its end. That memory was refused is always an error of the run,
 /// also where the scenario was still read.
@@ -28,6 +29,18 @@ impl From<RunError> for PlayFault {
 
     fn from(error: RunError) -> PlayFault {
         PlayFault::Run(error)
+    }
+}
+
+impl From<AllocError> for PlayFault {
+    ghost use Rattle.std.specs.Prelude.{◌≡◌};
+    ghost use Rattle.chord_event.specs.declared.error.RunError.TheVariants as run;
+    ghost use Rattle.chord_play.specs.declared.fault.PlayFault.TheVariants as play;
+
+    ghost from_gives = { λ _ fault. fault ≡ play.Run run.Memory };
+
+    fn from(_error: AllocError) -> PlayFault {
+        PlayFault::Run(RunError::Memory)
     }
 }
 

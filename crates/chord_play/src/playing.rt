@@ -1,7 +1,8 @@
-ghost use Rattle.std.specs.Prelude.{◌≡◌, ◌≢◌, ◌⊎◌, true, false, IfOk, OnOk, Err};
+ghost use Rattle.std.specs.Prelude.{◌≡◌, ◌≢◌, ◌⊎◌, true, false, IfErr, IfOk, OnOk, Err};
 ghost use Rattle.chord_event.specs.declared.error.RunError.{RunError};
+ghost use Rattle.chord_play.specs.Faults.{is_of_run};
 ghost use Rattle.chord_play.specs.Played.{HasBegun, IsOver, IsPlayed};
-ghost use Rattle.chord_play.specs.Texts.{Gives, IsShort, IsTooLong, Lacks};
+ghost use Rattle.chord_play.specs.Texts.{AreShort, Gives, IsCutOff, IsShort, Lacks};
 ghost use Rattle.chord_scenario.specs.declared.fault.ScenarioFault.{ScenarioFault};
 ghost use Rattle.chord_trace.specs.Watched.{wrapped, has_failed};
 
@@ -28,13 +29,15 @@ pub fn load<R: Read, Q: Read>(
     requires scenario_sound { has_failed scenario.old ≡ false }
     requires latency_sound { has_failed latency.old ≡ false }
     ensures accepted { IfOk result (Gives (R.remaining (wrapped scenario.old)) (Q.remaining (wrapped latency.old))) }
-    ensures short { OnOk result (IsShort (R.remaining (wrapped scenario.old)) × IsShort (Q.remaining (wrapped latency.old))) }
+    ensures short { OnOk result (AreShort (R.remaining (wrapped scenario.old)) (Q.remaining (wrapped latency.old))) }
     ensures refused { (e : ScenarioFault) → result ≡ Err (PlayFault.Scenario e) → (e ≢ ScenarioFault.Memory) × Lacks (R.remaining (wrapped scenario.old)) (Q.remaining (wrapped latency.old)) e }
+    ensures refused_short { (e : ScenarioFault) → result ≡ Err (PlayFault.Scenario e) → AreShort (R.remaining (wrapped scenario.old)) (Q.remaining (wrapped latency.old)) }
     ensures unread_scenario { result ≡ Err (PlayFault.Read Text.Scenario) → has_failed scenario.new ≡ true }
     ensures unread_latency { result ≡ Err (PlayFault.Read Text.Latency) → has_failed latency.new ≡ true }
-    ensures long_scenario { result ≡ Err (PlayFault.TooLong Text.Scenario) → IsTooLong (R.remaining (wrapped scenario.old)) }
-    ensures long_latency { result ≡ Err (PlayFault.TooLong Text.Latency) → IsTooLong (Q.remaining (wrapped latency.old)) }
+    ensures long_scenario { result ≡ Err (PlayFault.TooLong Text.Scenario) → IsCutOff (R.remaining (wrapped scenario.old)) (R.remaining (wrapped scenario.new)) }
+    ensures long_latency { result ≡ Err (PlayFault.TooLong Text.Latency) → IsCutOff (Q.remaining (wrapped latency.old)) (Q.remaining (wrapped latency.new)) }
     ensures scenario_first { (result ≡ Err (PlayFault.Read Text.Scenario)) ⊎ (result ≡ Err (PlayFault.TooLong Text.Scenario)) → latency.new ≡ latency.old }
+    ensures latency_second { (result ≡ Err (PlayFault.Read Text.Latency)) ⊎ (result ≡ Err (PlayFault.TooLong Text.Latency)) → (has_failed scenario.new ≡ false) × IsShort (R.remaining (wrapped scenario.old)) }
     ensures memory { (e : RunError) → result ≡ Err (PlayFault.Run e) → e ≡ RunError.Memory }
 {
     let toml = match read_text(alloc, scenario) {
@@ -64,13 +67,17 @@ pub fn play<T: Threads + Wait + Sync, R: Read, Q: Read, W: Write>(
     requires latency_sound { has_failed latency.old ≡ false }
     requires writer_sound { has_failed writer.old ≡ false }
     ensures played { IfOk result (IsPlayed (R.remaining (wrapped scenario.old)) (Q.remaining (wrapped latency.old)) (W.contents (wrapped writer.old)) (W.contents (wrapped writer.new))) }
+    ensures short { OnOk result (AreShort (R.remaining (wrapped scenario.old)) (Q.remaining (wrapped latency.old))) }
     ensures beginning { (writer.new ≡ writer.old) ⊎ HasBegun (R.remaining (wrapped scenario.old)) (Q.remaining (wrapped latency.old)) (W.contents (wrapped writer.old)) (W.contents (wrapped writer.new)) }
     ensures refused { (e : ScenarioFault) → result ≡ Err (PlayFault.Scenario e) → (e ≢ ScenarioFault.Memory) × Lacks (R.remaining (wrapped scenario.old)) (Q.remaining (wrapped latency.old)) e }
+    ensures refused_short { (e : ScenarioFault) → result ≡ Err (PlayFault.Scenario e) → AreShort (R.remaining (wrapped scenario.old)) (Q.remaining (wrapped latency.old)) }
     ensures unread_scenario { result ≡ Err (PlayFault.Read Text.Scenario) → has_failed scenario.new ≡ true }
     ensures unread_latency { result ≡ Err (PlayFault.Read Text.Latency) → has_failed latency.new ≡ true }
-    ensures long_scenario { result ≡ Err (PlayFault.TooLong Text.Scenario) → IsTooLong (R.remaining (wrapped scenario.old)) }
-    ensures long_latency { result ≡ Err (PlayFault.TooLong Text.Latency) → IsTooLong (Q.remaining (wrapped latency.old)) }
+    ensures long_scenario { result ≡ Err (PlayFault.TooLong Text.Scenario) → IsCutOff (R.remaining (wrapped scenario.old)) (R.remaining (wrapped scenario.new)) }
+    ensures long_latency { result ≡ Err (PlayFault.TooLong Text.Latency) → IsCutOff (Q.remaining (wrapped latency.old)) (Q.remaining (wrapped latency.new)) }
     ensures scenario_first { (result ≡ Err (PlayFault.Read Text.Scenario)) ⊎ (result ≡ Err (PlayFault.TooLong Text.Scenario)) → latency.new ≡ latency.old }
+    ensures latency_second { (result ≡ Err (PlayFault.Read Text.Latency)) ⊎ (result ≡ Err (PlayFault.TooLong Text.Latency)) → (has_failed scenario.new ≡ false) × IsShort (R.remaining (wrapped scenario.old)) }
+    ensures untouched { IfErr result (λ fault. is_of_run fault ≡ false → writer.new ≡ writer.old) }
     ensures over { result ≡ Err (PlayFault.Run RunError.TooManyEvents) → IsOver (R.remaining (wrapped scenario.old)) (Q.remaining (wrapped latency.old)) × (has_failed writer.new ≡ false) }
     ensures sound { OnOk result (has_failed writer.new ≡ false) }
     ensures failed { result ≡ Err (PlayFault.Run RunError.Write) → has_failed writer.new ≡ true }

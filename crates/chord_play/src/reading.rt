@@ -1,6 +1,6 @@
 ghost use Rattle.std.specs.Prelude.{◌≡◌, ◌≤◌, true, false, Err, IfOk, OnOk, vec_len};
 ghost use Rattle.std.specs.Io.KnownBytes.{Consumes, IsAtEnd};
-ghost use Rattle.chord_play.specs.Texts.{IsTooLong};
+ghost use Rattle.chord_play.specs.Texts.{IsCutOff};
 ghost use Rattle.chord_trace.specs.Watched.{wrapped, has_failed};
 
 use chord_trace::Watched;
@@ -39,7 +39,7 @@ pub(crate) fn read_text<R: Read>(
     ensures sound { OnOk result (has_failed reader.new ≡ false) }
     ensures short { IfOk result (λ text. vec_len text ≤ 16777216) }
     ensures failed { result ≡ Err TextFault.Read → has_failed reader.new ≡ true }
-    ensures long { result ≡ Err TextFault.TooLong → IsTooLong (R.remaining (wrapped reader.old)) }
+    ensures long { result ≡ Err TextFault.TooLong → IsCutOff (R.remaining (wrapped reader.old)) (R.remaining (wrapped reader.new)) }
 {
     let mut text = Vec::new(alloc);
     let mut chunk = [0u8; 8192];

@@ -19,6 +19,7 @@ pub use piece::Piece;
 pub use report::{Report, reports_are_unique, reports_need_no_order};
 pub use tally::Tally;
 pub use watched::Watched;
+pub use writing::write_text;
 
 #[cfg(test)]
 mod block_tests;

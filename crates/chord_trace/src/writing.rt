@@ -7,8 +7,9 @@ use crate::watched::Watched;
 use chord_event::RunError;
 use std::io::Write;
 
-/// Writes the text, and stops at the first call that answers an error or takes nothing.
-pub(crate) fn write_text<W: Write>(text: &[u8], writer: &mut Watched<W>) -> Result<(), RunError>
+/// Writes the text, and stops at the first call that answers an error or takes nothing. An interrupted
+/// call is such an error: nothing is tried again.
+pub fn write_text<W: Write>(text: &[u8], writer: &mut Watched<W>) -> Result<(), RunError>
     requires { has_failed writer.old ≡ false }
     ensures whole { OnOk result (Appends (W.contents (wrapped writer.old)) (W.contents (wrapped writer.new)) text.now) }
     ensures front { AppendsFront (W.contents (wrapped writer.old)) (W.contents (wrapped writer.new)) text.now }

@@ -1,2 +1,3 @@
 pub mod CommandFacts
 pub mod Options
+pub mod Idents

@@ -1,13 +1,53 @@
--- What the program answers where an order is not carried out.
-use Rattle.std.specs.Prelude.{ℕ, List, [], string_bytes}
+-- What the program answers.
+use Rattle.std.specs.Io.KnownBytes.{Appends}
+use Rattle.std.specs.Prelude.{ℕ, List, [], ◌++◌, codes, decimal, length, string_bytes, Option, Result, Ok, Err}
+use Rattle.std.specs.List.{flat_map, range_with_len}
 use Rattle.std.specs.Option.{option_map_or}
+use Rattle.chord_machine.specs.Run.{IsReport}
 use Rattle.chord_play.specs.declared.fault.PlayFault.{PlayFault}
 use Rattle.chord_play.specs.declared.fault.PlayFault.TheVariants as fault
 use Rattle.chord_play.specs.declared.text.Text.{Text}
 use Rattle.chord_play.specs.declared.text.Text.TheVariants as text
+use Rattle.chord_play.specs.Texts.{Gives}
+use Rattle.chord_scenario.specs.declared.scenario.Scenario.{Scenario}
+use Rattle.chord_scenario.specs.World.{ident_of, name_of as node_name, node_count}
+use Rattle.chord_trace.specs.ReportText.{report_text}
+use Rattle.chord_trace.specs.declared.report.Report.{Report}
 use Rattle.chordsim.specs.declared.order.Files.{Files}
 use Rattle.chordsim.specs.declared.order.Order.{Order}
 use Rattle.chordsim.specs.declared.order.Order.TheVariants as order
+use Rattle.chordsim.specs.declared.words.WordFault.{WordFault}
+use Rattle.chordsim.specs.declared.words.WordFault.TheVariants as word
+
+-- What is printed
+
+-- what `check` says of a scenario
+abbrev pub check_text : Scenario → List ℕ
+check_text sc = codes "ok nodes=" ++ decimal (node_count sc) ++ codes " commands=" ++ decimal (length sc.commands) ++ codes "\n"
+
+-- the line of a node: its name and its identifier
+abbrev pub ident_line : Scenario → (node : ℕ) → List ℕ
+ident_line sc node = node_name sc node ++ codes " " ++ decimal (ident_of sc node) ++ codes "\n"
+
+-- what `ids` says of a scenario
+abbrev pub ids_text : Scenario → List ℕ
+ids_text sc = flat_map (ident_line sc) (range_with_len 0 (node_count sc))
+
+-- the text of the scenario that the two files give went out
+pub record IsAnswered (text : Scenario → List ℕ) (scenario latency old new : Option (List ℕ)) : Type 0 where
+  pub setup : Scenario
+  pub given : Gives scenario latency setup
+  pub out : Appends old new (text setup)
+
+-- the report of the scenario that the two files give went out
+pub record IsReported (scenario latency old new : Option (List ℕ)) : Type 0 where
+  pub setup : Scenario
+  pub given : Gives scenario latency setup
+  pub report : Report
+  pub right : IsReport setup report
+  pub out : Appends old new (report_text report)
+
+-- What an order that is not carried out ends with
 
 -- the files that an order names
 abbrev pub files_of : Order → Files
@@ -26,3 +66,14 @@ status_of (fault.Run error) = 3
 status_of (fault.Scenario fault) = 1
 status_of (fault.Read text) = 1
 status_of (fault.TooLong text) = 1
+
+-- 0 where the order was carried out
+abbrev pub status_of_outcome : {A : Type 0} → Result A PlayFault → ℕ
+status_of_outcome (Ok done) = 0
+status_of_outcome (Err fault) = status_of fault
+
+-- the status for words that are no order
+abbrev pub status_of_words : WordFault → ℕ
+status_of_words (word.Refused text) = 2
+status_of_words word.NotText = 2
+status_of_words word.Memory = 3

@@ -1,22 +1,38 @@
 //! What `check` and `ids` print.
+ghost use Rattle.std.specs.Prelude.{◌≡◌, ◌++◌, ◌<◌, ℕ, IfOk, OnOk, string_bytes};
+ghost use Rattle.chord_scenario.specs.World.{node_count};
+ghost use Rattle.chordsim.specs.Answers.{check_text, ident_line, ids_text};
 
 use chord_scenario::Scenario;
 use std::alloc::{AllocError, Global};
 
 /// How many nodes and commands an accepted scenario has.
-pub fn check_answer(alloc: Global, scenario: &Scenario) -> Result<String, AllocError> {
+pub fn check_answer(alloc: Global, scenario: &Scenario) -> Result<String, AllocError>
+    ensures { IfOk result (λ answer. string_bytes answer ≡ check_text scenario.now) }
+{
     let nodes = scenario.nodes();
     let commands = scenario.commands();
-    format!(in alloc; "ok nodes={nodes} commands={commands}\n")
+    let mut answer = String::new(alloc);
+    writeln!(answer, "ok nodes={nodes} commands={commands}")?;
+    Ok(answer)
 }
 
 /// The name and the identifier of each node, in decimal, in the order of the file.
-pub fn ids_answer(alloc: Global, scenario: &Scenario) -> Result<String, AllocError> {
+pub fn ids_answer(alloc: Global, scenario: &Scenario) -> Result<String, AllocError>
+    ensures { IfOk result (λ answer. string_bytes answer ≡ ids_text scenario.now) }
+{
     let mut answer = String::new(alloc);
     for node in 0..scenario.nodes() {
-        let name = scenario.name(node);
-        let ident = scenario.ident(node).raw();
-        writeln!(answer, "{name} {ident}")?;
+        push_ident(&mut answer, scenario, node)?;
     }
     Ok(answer)
+}
+
+fn push_ident(answer: &mut String, scenario: &Scenario, node: u32) -> Result<(), AllocError>
+    requires { node < node_count scenario.now }
+    ensures { OnOk result (string_bytes answer.new ≡ string_bytes answer.old ++ ident_line scenario.now node) }
+{
+    let name = scenario.name(node);
+    let ident = scenario.ident(node).raw();
+    writeln!(answer, "{name} {ident}")
 }

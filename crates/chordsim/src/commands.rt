@@ -145,6 +145,8 @@ fn trace_argument<'a>(alloc: Global) -> Arg<'a>
     Arg::new(alloc, "trace")
         .long("trace")
         .value_name("FILE")
-        .help("File for the trace [default: standard output]")
+        .help(
+            "File for the trace, made anew before the scenario is read: what it held is lost, an input file too [default: standard output]",
+        )
         .action(ArgAction::Set)
 }

@@ -1,4 +1,4 @@
-use crate::execution::{carry_out, run};
+use crate::execution::{carry_out, perform};
 use crate::order::{Files, Order};
 use chord_event::RunError;
 use chord_play::{Plan, PlayFault, Split, Text};
@@ -10,7 +10,7 @@ use std::test::Fail;
 use std::thread::Threads;
 
 /// A ring of three, of which one looks up a key that another one owns.
-const RING: &str = r#"profile = 1
+pub const RING: &str = r#"profile = 1
 bits = 3
 list = 2
 seed = 1
@@ -40,16 +40,26 @@ node = "n3"
 key = 1
 "#;
 
-const AUDIT: &str = "200 audit members=3 dead=0 ring=3 ordered=yes principals=3 sufficient=yes\n";
+/// Its trace.
+pub const TRACE: &str = "100 n3 lookup 1\n120 n3 found 1 n1 hops=1 timeouts=0 us=20\n\
+    200 audit members=3 dead=0 ring=3 ordered=yes principals=3 sufficient=yes\n";
 
-const SERIAL: Plan = Plan {
+/// The trace where a message takes 15 between n0 and n3.
+const SLOW_TRACE: &str = "100 n3 lookup 1\n130 n3 found 1 n1 hops=1 timeouts=0 us=30\n\
+    200 audit members=3 dead=0 ring=3 ordered=yes principals=3 sufficient=yes\n";
+
+pub const SERIAL: Plan = Plan {
     serial: true,
     workers: 1,
     parts: 1,
     split: Split::RoundRobin,
 };
 
-fn files_of(rt: &impl AllocGlobal, scenario: &str, latency: Option<&str>) -> Result<Files, Fail> {
+pub fn files_of(
+    rt: &impl AllocGlobal,
+    scenario: &str,
+    latency: Option<&str>,
+) -> Result<Files, Fail> {
     let latency = match latency {
         Some(name) => Some(String::from_str(rt.alloc(), name)?),
         None => None,
@@ -61,7 +71,7 @@ fn files_of(rt: &impl AllocGlobal, scenario: &str, latency: Option<&str>) -> Res
 }
 
 /// Removes the files that a test made.
-fn remove(rt: &impl FileSystem, names: &[&str]) -> Result<(), Fail> {
+pub fn remove(rt: &impl FileSystem, names: &[&str]) -> Result<(), Fail> {
     for name in names {
         fs::remove_file(rt, *name)?;
     }
@@ -71,25 +81,24 @@ fn remove(rt: &impl FileSystem, names: &[&str]) -> Result<(), Fail> {
 /// Runs the scenario of these files with its trace to a file.
 fn run_to<T: FileSystem + Print + AllocGlobal + Threads + Wait + Sync>(
     rt: &T,
-    files: &Files,
-    plan: &Plan,
+    files: Files,
+    plan: Plan,
     trace: &str,
 ) -> Result<Result<(), PlayFault>, Fail> {
     let trace = Some(String::from_str(rt.alloc(), trace)?);
-    Ok(run(rt, files, plan, &trace))
+    Ok(perform(rt, &Order::Run { files, plan, trace }))
 }
 
+/// What the file held before is gone.
 #[test]
 fn a_trace_goes_to_its_file(rt: HostRuntime) -> Result<(), Fail> {
     fs::write(&rt, "plain.toml", RING)?;
+    fs::write(&rt, "plain.trace", RING)?;
     let files = files_of(&rt, "plain.toml", None)?;
-    let outcome = run_to(&rt, &files, &SERIAL, "plain.trace")?;
+    let outcome = run_to(&rt, files, SERIAL, "plain.trace")?;
     assert!(rt; outcome.is_ok());
     let trace = fs::read_to_string(&rt, "plain.trace")?;
-    let wanted = format!(in rt.alloc();
-        "100 n3 lookup 1\n120 n3 found 1 n1 hops=1 timeouts=0 us=20\n{AUDIT}"
-    )?;
-    assert!(rt; trace.as_str() == wanted.as_str(), "{trace}");
+    assert!(rt; trace.as_str() == TRACE, "{trace}");
     remove(&rt, &["plain.toml", "plain.trace"])
 }
 
@@ -97,10 +106,6 @@ fn a_trace_goes_to_its_file(rt: HostRuntime) -> Result<(), Fail> {
 #[test]
 fn a_trace_by_workers(rt: HostRuntime) -> Result<(), Fail> {
     fs::write(&rt, "crew.toml", RING)?;
-    let files = files_of(&rt, "crew.toml", None)?;
-    let wanted = format!(in rt.alloc();
-        "100 n3 lookup 1\n120 n3 found 1 n1 hops=1 timeouts=0 us=20\n{AUDIT}"
-    )?;
     for (workers, parts, split) in [(1, 1, Split::RoundRobin), (3, 2, Split::Blocks)] {
         assert!(rt; 1 <= workers && workers <= 64 && 1 <= parts && parts <= 512);
         let plan = Plan {
@@ -109,13 +114,10 @@ fn a_trace_by_workers(rt: HostRuntime) -> Result<(), Fail> {
             parts,
             split,
         };
-        let outcome = run_to(&rt, &files, &plan, "crew.trace")?;
+        let outcome = run_to(&rt, files_of(&rt, "crew.toml", None)?, plan, "crew.trace")?;
         assert!(rt; outcome.is_ok(), "{workers} workers");
         let trace = fs::read_to_string(&rt, "crew.trace")?;
-        assert!(rt;
-            trace.as_str() == wanted.as_str(),
-            "{workers} workers: {trace}"
-        );
+        assert!(rt; trace.as_str() == TRACE, "{workers} workers: {trace}");
     }
     remove(&rt, &["crew.toml", "crew.trace"])
 }
@@ -125,13 +127,10 @@ fn a_latency_file_is_read(rt: HostRuntime) -> Result<(), Fail> {
     fs::write(&rt, "slow.toml", RING)?;
     fs::write(&rt, "slow.csv", "n0,n3,15\n")?;
     let files = files_of(&rt, "slow.toml", Some("slow.csv"))?;
-    let outcome = run_to(&rt, &files, &SERIAL, "slow.trace")?;
+    let outcome = run_to(&rt, files, SERIAL, "slow.trace")?;
     assert!(rt; outcome.is_ok());
     let trace = fs::read_to_string(&rt, "slow.trace")?;
-    let wanted = format!(in rt.alloc();
-        "100 n3 lookup 1\n130 n3 found 1 n1 hops=1 timeouts=0 us=30\n{AUDIT}"
-    )?;
-    assert!(rt; trace.as_str() == wanted.as_str(), "{trace}");
+    assert!(rt; trace.as_str() == SLOW_TRACE, "{trace}");
     remove(&rt, &["slow.toml", "slow.csv", "slow.trace"])
 }
 
@@ -139,15 +138,15 @@ fn a_latency_file_is_read(rt: HostRuntime) -> Result<(), Fail> {
 #[test]
 fn files_are_opened_in_order(rt: HostRuntime) -> Result<(), Fail> {
     let neither = files_of(&rt, "none.toml", Some("none.csv"))?;
-    let outcome = run_to(&rt, &neither, &SERIAL, "none.trace")?;
+    let outcome = run_to(&rt, neither, SERIAL, "none.trace")?;
     assert!(rt; matches!(outcome, Err(PlayFault::Read(Text::Scenario))));
     fs::write(&rt, "alone.toml", RING)?;
     let alone = files_of(&rt, "alone.toml", Some("none.csv"))?;
-    let outcome = run_to(&rt, &alone, &SERIAL, "none.trace")?;
+    let outcome = run_to(&rt, alone, SERIAL, "none.trace")?;
     assert!(rt; matches!(outcome, Err(PlayFault::Read(Text::Latency))));
     assert!(rt; fs::open(&rt, "none.trace").is_err());
     let whole = files_of(&rt, "alone.toml", None)?;
-    let outcome = run_to(&rt, &whole, &SERIAL, "none/none.trace")?;
+    let outcome = run_to(&rt, whole, SERIAL, "none/none.trace")?;
     assert!(rt; matches!(outcome, Err(PlayFault::Run(RunError::Write))));
     remove(&rt, &["alone.toml"])
 }
@@ -157,7 +156,7 @@ fn files_are_opened_in_order(rt: HostRuntime) -> Result<(), Fail> {
 fn a_refused_scenario_leaves_an_empty_trace(rt: HostRuntime) -> Result<(), Fail> {
     fs::write(&rt, "refused.toml", "profile = 1\n")?;
     let files = files_of(&rt, "refused.toml", None)?;
-    let outcome = run_to(&rt, &files, &SERIAL, "refused.trace")?;
+    let outcome = run_to(&rt, files, SERIAL, "refused.trace")?;
     assert!(rt; matches!(outcome, Err(PlayFault::Scenario(_))));
     let trace = fs::read_to_string(&rt, "refused.trace")?;
     assert!(rt; trace.as_str() == "");

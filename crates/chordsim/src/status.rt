@@ -1,23 +1,49 @@
 //! What the program says on standard error, and the status that it ends with.
+ghost use Rattle.std.specs.Prelude.{◌≡◌};
+ghost use Rattle.std.specs.Process.{exit_status};
+ghost use Rattle.chordsim.specs.Answers.{status_of_outcome, status_of_words};
 
 use crate::failure::{FAILED, FailedRun, Failure};
-use std::fmt::Display;
+use crate::order::Files;
+use crate::words::WordFault;
+use chord_event::RunError;
+use chord_play::PlayFault;
 use std::process::ExitCode;
 
-/// Status 2: the words are refused. A wish for help is answered here too.
-pub fn refuse_words(rt: &impl Eprint, text: impl Display + Drop) -> ExitCode {
-    let _ = eprint!(rt; "{text}");
-    ExitCode::from(2)
+/// The status for an order, and the reason on standard error where it was not carried out.
+pub fn conclude(rt: &impl Eprint, files: &Files, outcome: Result<(), PlayFault>) -> ExitCode
+    ensures { exit_status result ≡ status_of_outcome outcome }
+{
+    match outcome {
+        Ok(()) => ExitCode::from(0),
+        Err(fault) => {
+            let failure = Failure { files, fault };
+            let _ = eprintln!(rt; "{failure}");
+            ExitCode::from(failure.status())
+        }
+    }
 }
 
-/// Status 3: the run failed.
-pub fn fail(rt: &impl Eprint, run: FailedRun) -> ExitCode {
-    let _ = eprintln!(rt; "{run}");
-    ExitCode::from(FAILED)
+/// The status for words that are no order, and the reason on standard error, which is where the answer
+/// to a wish for help goes too.
+pub fn refuse(rt: &impl Eprint, fault: WordFault) -> ExitCode
+    ensures { exit_status result ≡ status_of_words fault }
+{
+    match fault {
+        WordFault::Refused(error) => {
+            let _ = eprint!(rt; "{error}");
+            ExitCode::from(REFUSED_WORDS)
+        }
+        WordFault::NotText => {
+            let _ = eprintln!(rt; "a word is no UTF-8 text");
+            ExitCode::from(REFUSED_WORDS)
+        }
+        WordFault::Memory => {
+            let _ = eprintln!(rt; "{}", FailedRun(RunError::Memory));
+            ExitCode::from(FAILED)
+        }
+    }
 }
 
-/// Status 1 for refused files, and 3 for a failed run.
-pub fn explain(rt: &impl Eprint, failure: Failure<'_>) -> ExitCode {
-    let _ = eprintln!(rt; "{failure}");
-    ExitCode::from(failure.status())
-}
+/// The status of words that are refused.
+const REFUSED_WORDS: u8 = 2;

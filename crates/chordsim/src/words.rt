@@ -17,6 +17,8 @@ use std::alloc::{AllocError, Global};
 pub enum WordFault {
     /// They are refused, with this text; so is a wish for help, which is the text.
     Refused(Error),
+    /// One of them is no UTF-8 text.
+    NotText,
     /// A growth was refused.
     Memory,
 }
