@@ -7,9 +7,7 @@ use crate::words::{WordFault, read_words};
 use std::fs;
 use std::process::{Abort, ExitCode};
 use std::rt::Files as FileSystem;
-use std::sync::Wait;
 use std::test::Fail;
-use std::thread::Threads;
 
 /// The report of the ring of three: the command, the request, its reply and its timeout are its events.
 const REPORT: &str = r#"events 4
@@ -38,23 +36,22 @@ unordered 0
 insufficient 0
 "#;
 
-/// Asserts what an order prints on the two streams, and the status of the program.
-fn hears<R: FileSystem + AllocGlobal + Abort + Threads + Wait + Sync>(
-    rt: &R,
+/// Asserts what was printed on the two streams since the last call, and the status of the program.
+fn told<R: FileSystem + AllocGlobal>(
+    rt: &impl Abort,
     heard: &Heard<'_, R>,
-    order: Order,
+    status: ExitCode,
+    wanted: u8,
     output: &str,
     error: &str,
-    status: u8,
 ) -> Result<(), Fail> {
-    let answer = carry_out(heard, order);
     let (said, complained) = heard.take()?;
     assert!(rt; said.as_str() == output, "standard output: {said}");
     assert!(rt;
         complained.as_str() == error,
         "standard error: {complained}"
     );
-    assert!(rt; answer == ExitCode::from(status), "{error}");
+    assert!(rt; status == ExitCode::from(wanted), "{error}");
     Ok(())
 }
 
@@ -83,14 +80,16 @@ fn orders_that_are_carried_out(rt: HostRuntime) -> Result<(), Fail> {
     fs::write(&rt, "said.toml", RING)?;
     let heard = Heard::new(&rt, "said.out", "said.err", false)?;
     let checked = "ok nodes=3 commands=1\n";
-    hears(&rt, &heard, check(&rt, "said.toml")?, checked, "", 0)?;
+    let status = carry_out(&heard, check(&rt, "said.toml")?);
+    told(&rt, &heard, status, 0, checked, "")?;
     let listed = "n0 0\nn1 1\nn3 3\n";
-    hears(&rt, &heard, ids(&rt, "said.toml")?, listed, "", 0)?;
+    let status = carry_out(&heard, ids(&rt, "said.toml")?);
+    told(&rt, &heard, status, 0, listed, "")?;
     let both = format!(in rt.alloc(); "{TRACE}{REPORT}")?;
-    let printed = run(&rt, "said.toml", None)?;
-    hears(&rt, &heard, printed, both.as_str(), "", 0)?;
-    let filed = run(&rt, "said.toml", Some("said.trace"))?;
-    hears(&rt, &heard, filed, REPORT, "", 0)?;
+    let status = carry_out(&heard, run(&rt, "said.toml", None)?);
+    told(&rt, &heard, status, 0, both.as_str(), "")?;
+    let status = carry_out(&heard, run(&rt, "said.toml", Some("said.trace"))?);
+    told(&rt, &heard, status, 0, REPORT, "")?;
     let trace = fs::read_to_string(&rt, "said.trace")?;
     assert!(rt; trace.as_str() == TRACE, "{trace}");
     drop(heard);
@@ -105,7 +104,8 @@ fn orders_that_are_refused(rt: HostRuntime) -> Result<(), Fail> {
         ids(&rt, "no.toml")?,
         run(&rt, "no.toml", None)?,
     ] {
-        hears(&rt, &heard, order, "", "refused: cannot read no.toml\n", 1)?;
+        let status = carry_out(&heard, order);
+        told(&rt, &heard, status, 1, "", "refused: cannot read no.toml\n")?;
     }
     drop(heard);
     remove(&rt, &["refused.out", "refused.err"])
@@ -123,16 +123,19 @@ fn outputs_that_fail(rt: HostRuntime) -> Result<(), Fail> {
         run(&rt, "lost.toml", None)?,
         run(&rt, "lost.toml", Some("lost.trace"))?,
     ] {
-        hears(&rt, &closed, order, "", "failed: 4 Write\n", 3)?;
+        let status = carry_out(&closed, order);
+        told(&rt, &closed, status, 3, "", "failed: 4 Write\n")?;
     }
     drop(closed);
     let heard = Heard::new(&rt, "lost.out", "lost.err", false)?;
     let full = run(&rt, "lost.toml", Some("/dev/full"))?;
-    hears(&rt, &heard, full, "", "failed: 4 Write\n", 3)?;
+    let status = carry_out(&heard, full);
+    told(&rt, &heard, status, 3, "", "failed: 4 Write\n")?;
     let limited = format!(in rt.alloc(); "max_events = 1\n{RING}")?;
     fs::write(&rt, "lost.toml", limited.as_str())?;
     let over = run(&rt, "lost.toml", Some("/dev/full"))?;
-    hears(&rt, &heard, over, "", "failed: 3 TooManyEvents\n", 3)?;
+    let status = carry_out(&heard, over);
+    told(&rt, &heard, status, 3, "", "failed: 3 TooManyEvents\n")?;
     drop(heard);
     remove(&rt, &["lost.toml", "lost.trace", "lost.out", "lost.err"])
 }
