@@ -1,6 +1,7 @@
-use crate::playing::{Played, SERIAL, SETTINGS, THREE, play_text, text_of};
+use crate::playing::{Played, SERIAL, SETTINGS, THREE, play_text, play_texts, text_of};
 use chord_event::RunError;
-use chord_play::{PlayFault, Text, play};
+use chord_play::{PlayFault, Text, load, play};
+use chord_scenario::ScenarioFault;
 use chord_trace::Watched;
 use std::io;
 use std::io::{ErrorKind, Read, Write};
@@ -157,6 +158,63 @@ fn readers_of_single_bytes(rt: HostRuntime) -> Result<(), Fail> {
         single_bytes(csv, false),
     );
     assert!(rt; played.outcome.is_ok() && played.trace.as_slice() == TRACE.as_bytes());
+    Ok(())
+}
+
+/// A latency text as long as it may be is read, and one byte more is too long. No byte is read after that.
+#[test]
+fn latency_texts_that_are_too_long(rt: HostRuntime) -> Result<(), Fail> {
+    let alloc = rt.alloc();
+    let text = text_of(alloc, SETTINGS, THREE, TWO_LOOKUPS)?;
+    let toml = text.as_str().as_bytes();
+    let mut csv = Vec::new(alloc);
+    csv.resize(16_777_216, b'\n')?;
+    let longest = play_texts(&rt, toml, csv.as_slice(), &SERIAL);
+    assert!(rt; longest.outcome.is_ok() && longest.trace.as_slice() == TRACE.as_bytes());
+    csv.resize(16_777_217 + 9000, b'\n')?;
+    let mut scenario = Watched::new(toml);
+    let mut latency = Watched::new(csv.as_slice());
+    let outcome = load(alloc, &mut scenario, &mut latency);
+    assert!(rt; matches!(outcome, Err(PlayFault::TooLong(Text::Latency))));
+    assert!(rt; latency.into_inner().len() == 9000);
+    Ok(())
+}
+
+/// Where both texts have a fault, the scenario text's is told; a fault of the scenario is told only of two texts
+/// that were read.
+#[test]
+fn faults_of_both_texts(rt: HostRuntime) -> Result<(), Fail> {
+    let alloc = rt.alloc();
+    let mut long = Vec::new(alloc);
+    long.resize(16_777_217, b'\n')?;
+    let long = long.as_slice();
+    let no_toml = b"[".as_slice();
+    let failing = load(
+        alloc,
+        &mut Watched::new(single_bytes(no_toml, true)),
+        &mut Watched::new(long),
+    );
+    assert!(rt; matches!(failing, Err(PlayFault::Read(Text::Scenario))));
+    let longer = load(
+        alloc,
+        &mut Watched::new(long),
+        &mut Watched::new(single_bytes(b"", true)),
+    );
+    assert!(rt; matches!(longer, Err(PlayFault::TooLong(Text::Scenario))));
+    let unread = load(
+        alloc,
+        &mut Watched::new(no_toml),
+        &mut Watched::new(single_bytes(b"", true)),
+    );
+    assert!(rt; matches!(unread, Err(PlayFault::Read(Text::Latency))));
+    let unending = load(alloc, &mut Watched::new(no_toml), &mut Watched::new(long));
+    assert!(rt; matches!(unending, Err(PlayFault::TooLong(Text::Latency))));
+    let refused = load(
+        alloc,
+        &mut Watched::new(no_toml),
+        &mut Watched::new(b"".as_slice()),
+    );
+    assert!(rt; matches!(refused, Err(PlayFault::Scenario(ScenarioFault::NotToml))));
     Ok(())
 }
 

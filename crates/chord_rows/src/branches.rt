@@ -1,0 +1,309 @@
+//! Runs that take the branches which the other examples pass by. Each of these branches may refuse memory, and no
+//! clause could say that it refuses none without need: so each is taken once.
+use crate::playing::{Played, SERIAL, play_text, play_texts, shown};
+use chord_circle::{Circle, Ident};
+use chord_event::{Answer, Body, Listed, Memory};
+use chord_play::{Plan, Split};
+use chord_scenario::read_scenario;
+use std::alloc::{AllocError, Global};
+use std::fmt::Write as _;
+use std::process::Abort;
+use std::test::Fail;
+
+/// Where n6 joins, the nodes that n0 names have crashed. After that n0 knows no way on, five times more.
+const JOIN_STUCK: &str = r#"profile = 1
+bits = 3
+seed = 1
+latency_us = 10
+list = 2
+duration_us = 500
+window_us = 10
+timeout_us = 40
+audit_us = 500
+stabilize_us = 1000
+finger_us = 1000
+[[node]]
+name = "n0"
+id = 0
+initial = true
+[[node]]
+name = "n1"
+id = 1
+initial = true
+[[node]]
+name = "n3"
+id = 3
+initial = true
+[[node]]
+name = "n6"
+id = 6
+[[command]]
+at_us = 50
+do = "crash"
+node = "n1"
+[[command]]
+at_us = 50
+do = "crash"
+node = "n3"
+[[command]]
+at_us = 100
+do = "join"
+node = "n6"
+via = "n0"
+"#;
+
+/// Two timeouts and six answers of no use are eight failures: the answers of n0 come every 20 from 240 on.
+const JOIN_STUCK_TRACE: &str = "50 n1 crash\n\
+    50 n3 crash\n\
+    100 n6 join n0\n\
+    130 n3 drop step n6\n\
+    160 n6 timeout n3\n\
+    190 n1 drop step n6\n\
+    220 n6 timeout n1\n\
+    340 n6 join-failed\n\
+    500 audit members=1 dead=1 ring=0 ordered=yes principals=1 sufficient=no\n";
+
+/// Three commands, ten requests, eight replies and ten timeouts.
+const JOIN_STUCK_REPORT: &str = "events 31\n\
+    join-failed 1\n\
+    crashes 2\n\
+    drops 2\n\
+    timeouts 2\n\
+    audits 1\n\
+    ringless 1\n\
+    insufficient 1\n";
+
+/// The plans that these runs are carried out by.
+const PLANS: [Plan; 2] = [
+    SERIAL,
+    Plan {
+        serial: false,
+        workers: 2,
+        parts: 3,
+        split: Split::RoundRobin,
+    },
+];
+
+/// Asserts what a run leaves.
+fn leaves(
+    rt: &(impl AllocGlobal + Abort),
+    played: Played,
+    trace: &str,
+    report: &str,
+) -> Result<(), Fail> {
+    let text = String::from_utf8_lossy(rt.alloc(), played.trace.as_slice())?;
+    assert!(rt; text.as_str() == trace, "{text}");
+    let Ok(numbers) = played.outcome else {
+        assert!(rt; false, "the run failed");
+        return Ok(());
+    };
+    let lines = shown(rt.alloc(), &numbers)?;
+    assert!(rt; lines.as_str() == report, "{lines}");
+    Ok(())
+}
+
+#[test]
+fn a_join_that_finds_no_way_on(rt: HostRuntime) -> Result<(), Fail> {
+    for plan in &PLANS {
+        let played = play_texts(&rt, JOIN_STUCK.as_bytes(), b"", plan);
+        leaves(&rt, played, JOIN_STUCK_TRACE, JOIN_STUCK_REPORT)?;
+    }
+    Ok(())
+}
+
+/// Eighteen nodes, eight places apart, of which fourteen crash before n0 looks up what n15 owns.
+fn fourteen_crashes(alloc: Global) -> Result<String, AllocError> {
+    let mut text = String::new(alloc);
+    text.push_str(
+        "profile = 1\nbits = 8\nseed = 1\nlatency_us = 10\nlist = 16\nduration_us = 1000\nwindow_us = 10\n\
+        timeout_us = 40\naudit_us = 1000\nstabilize_us = 10000\nfinger_us = 10000\n",
+    )?;
+    for node in 0u32..18 {
+        let id = 8 * node;
+        writeln!(
+            text,
+            "[[node]]\nname = \"n{node}\"\nid = {id}\ninitial = true"
+        )?;
+    }
+    for node in 1u32..15 {
+        writeln!(
+            text,
+            "[[command]]\nat_us = 50\ndo = \"crash\"\nnode = \"n{node}\""
+        )?;
+    }
+    text.push_str("[[command]]\nat_us = 100\ndo = \"lookup\"\nnode = \"n0\"\nkey = 115\n")?;
+    Ok(text)
+}
+
+/// n0 has the fingers n1, n1, n1, n2, n4, n8 and n16. It asks the farthest ahead of the key, and then its first
+/// successor that is not to be avoided.
+const ASKED: [u32; 9] = [8, 4, 2, 1, 3, 5, 6, 7, 9];
+
+/// The ninth node that is silent ends the lookup.
+#[test]
+fn a_lookup_of_nine_timeouts(rt: HostRuntime) -> Result<(), Fail> {
+    let alloc = rt.alloc();
+    let scenario = fourteen_crashes(alloc)?;
+    let mut trace = String::new(alloc);
+    for node in 1u32..15 {
+        writeln!(trace, "50 n{node} crash")?;
+    }
+    trace.push_str("100 n0 lookup 115\n")?;
+    for (time, node) in (100u32..).step_by(40).zip(&ASKED) {
+        let dropped = time + 10;
+        let silent = time + 40;
+        writeln!(
+            trace,
+            "{dropped} n{node} drop step n0\n{silent} n0 timeout n{node}"
+        )?;
+    }
+    trace.push_str(
+        "460 n0 lost 115 hops=0 timeouts=9 us=360\n\
+        1000 audit members=4 dead=0 ring=4 ordered=yes principals=4 sufficient=no\n",
+    )?;
+    let report =
+        "events 33\ncrashes 14\ndrops 9\ntimeouts 9\nlookups 1\nlost 1\naudits 1\ninsufficient 1\n";
+    for plan in &PLANS {
+        let played = play_texts(&rt, scenario.as_str().as_bytes(), b"", plan);
+        leaves(&rt, played, trace.as_str(), report)?;
+    }
+    Ok(())
+}
+
+/// A ring of n0 and n131, into which n130 to n1 join one after another. Each of them knows nobody but the node
+/// after it, so that n1 has to ask all on the way to a key.
+fn chain(alloc: Global) -> Result<String, AllocError> {
+    let mut text = String::new(alloc);
+    text.push_str(
+        "profile = 1\nbits = 8\nseed = 1\nlatency_us = 10\nlist = 1\nduration_us = 60000\nwindow_us = 10\n\
+        timeout_us = 40\naudit_us = 60000\nstabilize_us = 100\nfinger_us = 1000000\n",
+    )?;
+    for node in 0u32..132 {
+        writeln!(text, "[[node]]\nname = \"n{node}\"\nid = {node}")?;
+        if node == 0 || node == 131 {
+            text.push_str("initial = true\n")?;
+        }
+    }
+    for turn in 1u32..131 {
+        let time = 400 * turn;
+        let node = 131 - turn;
+        writeln!(
+            text,
+            "[[command]]\nat_us = {time}\ndo = \"join\"\nnode = \"n{node}\"\nvia = \"n0\""
+        )?;
+    }
+    text.push_str("[[command]]\nat_us = 53000\ndo = \"lookup\"\nnode = \"n1\"\nkey = 131\n")?;
+    Ok(text)
+}
+
+/// n1 asks n2 to n129. The last of these 128 names n130, which is not asked any more.
+#[test]
+fn a_lookup_of_128_requests(rt: HostRuntime) -> Result<(), Fail> {
+    let alloc = rt.alloc();
+    let scenario = chain(alloc)?;
+    let played = play_text(&rt, scenario.as_str().as_bytes());
+    assert!(rt; played.outcome.is_ok());
+    let trace = String::from_utf8_lossy(alloc, played.trace.as_slice())?;
+    let lost = "\n55560 n1 lost 131 hops=128 timeouts=0 us=2560\n";
+    assert!(rt; trace.contains(lost), "{trace}");
+    Ok(())
+}
+
+/// A row for each pair of 512 nodes.
+#[test]
+fn a_latency_for_each_pair(rt: HostRuntime) -> Result<(), Fail> {
+    let alloc = rt.alloc();
+    let mut toml = String::new(alloc);
+    toml.push_str(
+        "profile = 1\nbits = 9\nseed = 1\nlatency_us = 9\nlist = 1\nduration_us = 10\nwindow_us = 9\n\
+        timeout_us = 3000\naudit_us = 10\nstabilize_us = 10\nfinger_us = 10\n",
+    )?;
+    let mut csv = String::new(alloc);
+    for node in 0u32..512 {
+        writeln!(
+            toml,
+            "[[node]]\nname = \"n{node}\"\nid = {node}\ninitial = true"
+        )?;
+        for other in 0..node {
+            let latency = 10 + node + other;
+            writeln!(csv, "n{node},n{other},{latency}")?;
+        }
+    }
+    let outcome = read_scenario(alloc, toml.as_str().as_bytes(), csv.as_str().as_bytes());
+    let Ok(scenario) = outcome else {
+        assert!(rt; false, "the scenario is refused");
+        return Ok(());
+    };
+    assert!(rt; scenario.nodes() == 512);
+    for (from, to, latency) in [
+        (0, 1, 11),
+        (511, 510, 1031),
+        (510, 511, 1031),
+        (256, 0, 266),
+        (7, 7, 1),
+    ] {
+        assert!(rt; scenario.latency(from, to) == latency, "{from} to {to}");
+    }
+    Ok(())
+}
+
+/// Every kind of body, with two nodes in each list.
+fn bodies(alloc: Global, key: Ident) -> Result<Vec<Body>, Memory> {
+    let mut list = Listed::new(alloc);
+    list.push(1)?;
+    list.push(2)?;
+    let all = [
+        Body::CmdJoin { via: 1 },
+        Body::CmdCrash,
+        Body::CmdLookup { key },
+        Body::StabilizeTick { epoch: 1 },
+        Body::FingerTick { epoch: 1 },
+        Body::TrafficTick { epoch: 1 },
+        Body::LifeEnd { epoch: 1 },
+        Body::Rise { epoch: 1 },
+        Body::Timeout { call: 1 },
+        Body::Step {
+            call: 1,
+            key,
+            avoid: list.try_clone()?,
+        },
+        Body::GetState { call: 1 },
+        Body::GetList { call: 1 },
+        Body::Ping { call: 1 },
+        Body::Notify,
+        Body::StepReply {
+            call: 1,
+            answer: Answer::Stuck,
+        },
+        Body::StateReply {
+            call: 1,
+            prdc: 1,
+            list: list.try_clone()?,
+        },
+        Body::ListReply { call: 1, list },
+        Body::Pong { call: 1 },
+    ];
+    let mut bodies = Vec::new(alloc);
+    for body in all {
+        bodies.push(body)?;
+    }
+    Ok(bodies)
+}
+
+#[test]
+fn a_copy_of_each_body(rt: HostRuntime) -> Result<(), Fail> {
+    let key = Circle::new(3).and_then(|circle| circle.ident(5));
+    let Some(key) = key else {
+        assert!(rt; false, "no key");
+        return Ok(());
+    };
+    let Ok(bodies) = bodies(rt.alloc(), key) else {
+        assert!(rt; false, "no memory");
+        return Ok(());
+    };
+    assert!(rt; bodies.len() == 18);
+    for body in bodies.as_slice() {
+        assert!(rt; body.try_clone().is_ok());
+    }
+    Ok(())
+}
