@@ -1,7 +1,7 @@
 use chord_event::Line;
 
 /// How many lines there are of each kind that a report counts.
-#[derive(Clone, Copy, Default, Drop)]
+#[derive(Clone, Copy, Debug, Default, PartialEq, Eq, Drop)]
 pub struct LineCounts {
     pub members: u64,
     pub join_failed: u64,
