@@ -14,7 +14,7 @@ impl AuditCounts {
     ghost use Rattle.chord_trace.specs.AuditCounts.{audit_counts_in, audits_plus, AreAmong};
 
     /// Counts the audit too.
-    pub fn add(&mut self, audit: &AuditLine)
+    pub(crate) fn add(&mut self, audit: &AuditLine)
         requires room { self.old.audits < 2 ^ 63 }
         requires among { AreAmong self.old }
         ensures { self.new ≡ audits_plus self.old (audit_counts_in (audit.now ∷ [])) }
@@ -26,7 +26,7 @@ impl AuditCounts {
     }
 
     /// What both have together.
-    pub fn join(self, other: AuditCounts) -> AuditCounts
+    pub(crate) fn join(self, other: AuditCounts) -> AuditCounts
         requires room { self.audits + other.audits ≤ 2 ^ 63 }
         requires mine { AreAmong self }
         requires others { AreAmong other }
