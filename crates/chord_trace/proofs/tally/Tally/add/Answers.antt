@@ -1,3 +1,4 @@
+-- The tally has the trace with the block at its end.
 use Rattle.std.proofs.Common.{◌∙◌, ap, refl}
 use Rattle.chord_trace.specs.Counts.{counts_in, plus}
 use Rattle.chord_trace.proofs.Tallies.{with_block}

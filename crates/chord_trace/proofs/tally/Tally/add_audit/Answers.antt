@@ -1,3 +1,4 @@
+-- The tally has the trace with the audit at its end.
 use Rattle.std.proofs.Common.{refl}
 use Rattle.chord_trace.proofs.Tallies.{with_audit}
 use Rattle.chord_trace.proofs.tally.Tally.add_audit.Goals as goal

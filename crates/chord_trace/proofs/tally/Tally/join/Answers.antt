@@ -1,3 +1,4 @@
+-- The tally has one trace and then the other.
 use Rattle.std.proofs.Common.{refl}
 use Rattle.chord_trace.proofs.Tallies.{joined}
 use Rattle.chord_trace.proofs.tally.Tally.join.Goals as goal
