@@ -21,5 +21,6 @@ numbers_of r =
 abbrev pub number_text : List (List ℕ × ℕ) → List ℕ
 number_text = flat_map (λ p. p.0 ++ codes " " ++ decimal p.1 ++ codes "\n")
 
+-- the text of a report, a line for each of its numbers
 abbrev pub report_text : Report → List ℕ
 report_text r = number_text (numbers_of r)
