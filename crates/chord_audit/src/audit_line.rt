@@ -4,14 +4,15 @@ pub struct AuditLine {
     pub time: u64,
     /// How many nodes are members.
     pub members: u32,
-    /// How many members know no other that is one.
+    /// How many members have no member in their successor list. A node that has itself there is not
+    /// one of them.
     pub dead: u32,
     /// How many members come back to themselves by best successors.
     pub ring: u32,
     /// Whether no member of a ring is passed over by another.
     pub ordered: bool,
-    /// How many members no other passes over.
+    /// How many members no successor list of a member passes over, its own included.
     pub principals: u32,
-    /// Whether there are more principals than a successor list has entries, and no dead member.
+    /// Whether there are more principals than a successor list has room for, and no dead member.
     pub sufficient: bool,
 }

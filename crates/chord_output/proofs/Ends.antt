@@ -13,7 +13,7 @@ use Rattle.chord_machine.proofs.Audits.{audits-within}
 use Rattle.chord_model.specs.Histories.{open_audits, output, state, trace}
 use Rattle.chord_model.specs.Laws.{IsWhole}
 use Rattle.chord_model.proofs.Audits.{trace_at_end}
-use Rattle.chord_output.specs.Output.{audits_at, due}
+use Rattle.chord_output.specs.Output.{audits_at, due, most_audits}
 use Rattle.chord_scenario.specs.declared.scenario.Scenario.{Scenario}
 use Rattle.chord_scenario.specs.Range.{IsInRange}
 
@@ -26,7 +26,7 @@ multiples-long period zero = refl
 multiples-long period (suc n) = length-append (multiples period n) ((n + 1) * period ∷ []) ∙ (let rest = multiples-long period n in omega (arith, rest))
 
 module _ (sc : Scenario) (ranges : IsInRange sc) where
-  pub audits-few : length (audit_times sc) ≤ 1000001
+  pub audits-few : length (audit_times sc) ≤ most_audits
   audits-few =
       let n : ℕ = (sc.duration - 1) / sc.audit in
       let low : n < 1000000 = (div-lt_iff_lt-mul ranges.numbers.audit.least).1 (omega (arith, ranges.numbers.audits, ranges.numbers.duration_least)) in

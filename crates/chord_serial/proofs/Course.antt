@@ -1,12 +1,10 @@
 -- How an engine goes on from event to event.
-use Rattle.std.proofs.Common.{◌≡◌, ◌∙◌, ◌↔◌, ⊎_elim, ℕ, zero, suc, ◌^◌, length-append, ◌+◌, ◌*◌, ◌-◌, ◌/◌, ◌<◌, ◌≤◌, Bool, true, false, cond, List, [], ◌∷◌, ◌++◌, None, Some, Option, length, get_or, set, ap, sym, refl, subst, arith}
-use Rattle.std.specs.Prelude.{nat_le, nat_lt, option_map, slice_get}
-use Rattle.std.proofs.lemmas.Bool.Decides.{nat_tests}
+use Rattle.std.proofs.Common.{◌≡◌, ◌∙◌, ◌↔◌, ⊎_elim, ℕ, ◌^◌, ◌+◌, ◌<◌, ◌≤◌, List, [], ◌∷◌, ◌++◌, None, Some, Option, length, get_or, set, ap, sym, refl, subst, arith}
+use Rattle.std.specs.Prelude.{nat_lt, option_map, slice_get}
 use Rattle.std.proofs.lemmas.Option.{none-some}
 use Rattle.std.specs.Io.KnownBytes.{Appends}
-use Rattle.std.specs.List.{All, AllByRecursion, Contains, filter}
+use Rattle.std.specs.List.{All, Contains, filter}
 use Rattle.std.proofs.KnownBytes.{Appends-nil, Appends-trans}
-use Rattle.std.proofs.Math.Nat.{div-lt_iff_lt-mul}
 use Rattle.std.proofs.lemmas.List.FromFn.{get_or-map-range_with_len, length-map-range_with_len}
 use Rattle.chord_audit.specs.Audit.{AreStates}
 use Rattle.chord_event.specs.declared.block.Block.{Block}
@@ -17,19 +15,18 @@ use Rattle.chord_event.specs.Keys.{IsAtMost, IsBefore}
 use Rattle.chord_event.proofs.KeyLists.{all_in}
 use Rattle.chord_event.proofs.Members.{All_from, contains_cons, contains_none}
 use Rattle.chord_event.proofs.Order.{at_most_from_before, at_most_self}
-use Rattle.chord_machine.specs.AuditTimes.{audit_times, multiples}
+use Rattle.chord_machine.specs.AuditTimes.{audit_times}
 use Rattle.chord_machine.specs.Chord.{chord}
 use Rattle.chord_machine.specs.Room.{HasRoom}
 use Rattle.chord_machine.specs.Run.{HasTooManyEvents, whole_trace}
 use Rattle.chord_machine.specs.Sound.{IsStateOf}
-use Rattle.chord_machine.proofs.Audits.{audits-within}
 use Rattle.chord_machine.proofs.Room.{room_is_left}
 use Rattle.chord_machine.proofs.WellFormed.{well_formed}
 use Rattle.chord_model.specs.Histories.{history, open_audits, output, state, trace}
 use Rattle.chord_model.specs.Laws.{IsWhole}
 use Rattle.chord_model.specs.WellFormed.{IsWellFormed}
 use Rattle.chord_model.specs.Worlds.{AreStatesAfter, IsFirstAt, IsWorld}
-use Rattle.chord_model.proofs.Audits.{open_after, output_next, trace_at_end}
+use Rattle.chord_model.proofs.Audits.{open_after, output_next}
 use Rattle.chord_model.proofs.Course.{history_goes_on, is_fit, is_in_time, is_sound, none_left, same_read, state_read, target_in_range, too_many, world_after, world_at_start}
 use Rattle.chord_model.proofs.Distinct.{meets}
 use Rattle.chord_model.proofs.Horizons.{whole_from}
@@ -185,13 +182,28 @@ module _ (sc : Scenario) (ranges : IsInRange sc) where
     goes_on : past (e.count + 1) ≡ event ∷ here
     goes_on = history_goes_on (chord sc) w states events e.count world 0 event t.next first
 
+    -- what holds of every account of some states
+    abbrev OfAccounts : List NodeState → ((ℕ → NodeState) → Type 0) → Type 0
+    OfAccounts slice P = (account : ℕ → NodeState) → AreStates sc slice account → P account
+
+    -- what holds of every account of a slice of the states holds of the run's own
+    of_slice : (P : (ℕ → NodeState) → Type 0) (slice : List NodeState) → slice ≡ states → OfAccounts slice P → P (state (chord sc) here)
+    of_slice P slice is each = each _ (subst (λ ss. AreStates sc ss (state (chord sc) here)) (sym is) taken_states)
+
     -- the state that is read for the event
     pub taken_read : (s : NodeState) × (s ≡ get_or states event.target s)
     taken_read = (get_or states event.target (initial_state sc 0), same_read states event.target (initial_state sc 0) (get_or states event.target (initial_state sc 0)) target_is_node)
 
+    -- the audits that the event lets become due, of nodes in these states
+    abbrev audits_due : (ℕ → NodeState) → List Piece
+    audits_due account = audits_at sc account (due event.key.time e.clock)
+
+    abbrev audits : List Piece
+    audits = audits_due (state (chord sc) here)
+
     -- what the event and the audits before it put out
     abbrev put : Block → List Piece
-    put block = audits_at sc (state (chord sc) here) (due event.key.time e.clock) ++ piece.OfEvent block ∷ []
+    put block = audits ++ piece.OfEvent block ∷ []
 
     module _ (s : NodeState) (read : s ≡ get_or states event.target s) where
       is_here : s ≡ state (chord sc) here event.target
@@ -216,18 +228,30 @@ module _ (sc : Scenario) (ranges : IsInRange sc) where
             (subst (λ ps. AppendsFront old x (pieces_text sc ps)) (sym outputs) (fronts_then sc old now x (output (chord sc) here) (put (block_of sc s event)) t.at.written front)),
       )
 
-      pub begin_audits : (x : Option (List ℕ)) → AppendsFront now x (pieces_text sc (audits_at sc (state (chord sc) here) (due event.key.time e.clock))) → IsBeginning sc old x
-      begin_audits x front = begin_more x (fronts_longer sc now x (audits_at sc (state (chord sc) here) (due event.key.time e.clock)) (piece.OfEvent (block_of sc s event) ∷ []) front)
+      -- the audits are put out with a slice of the states
+      module _ (slice : List NodeState) (sliced : slice ≡ states) where
+        pub begin_audits : (x : Option (List ℕ)) → OfAccounts slice (λ account. AppendsFront now x (pieces_text sc (audits_due account))) → IsBeginning sc old x
+        begin_audits x fronts =
+            let front = of_slice (λ account. AppendsFront now x (pieces_text sc (audits_due account))) slice sliced fronts in
+            begin_more x (fronts_longer sc now x audits (piece.OfEvent (block_of sc s event) ∷ []) front)
 
-      -- after whole audits, nothing or the front of a block has gone out
-      pub begin_middle : (x : Option (List ℕ)) (middle : Tally) → Adds sc now x e.tally middle (audits_at sc (state (chord sc) here) (due event.key.time e.clock)) → IsBeginning sc old x
-      begin_middle x middle audits = begin_audits x (front_of_whole now x (pieces_text sc (audits_at sc (state (chord sc) here) (due event.key.time e.clock))) audits.written)
+        pub audits_add : (x : Option (List ℕ)) (middle : Tally) → OfAccounts slice (λ account. Adds sc now x e.tally middle (audits_due account))
+            → Adds sc now x e.tally middle audits
+        audits_add x middle adds = of_slice (λ account. Adds sc now x e.tally middle (audits_due account)) slice sliced adds
 
-      pub begin_front : (middle : Tally) (block : Block) (mid x : Option (List ℕ)) → block ≡ block_of sc s event → Adds sc now mid e.tally middle (audits_at sc (state (chord sc) here) (due event.key.time e.clock))
-          → AppendsFront mid x (pieces_text sc (piece.OfEvent block ∷ [])) → IsBeginning sc old x
-      begin_front middle block mid x is audits front =
-          begin_more x (fronts_then sc now mid x (audits_at sc (state (chord sc) here) (due event.key.time e.clock)) (piece.OfEvent (block_of sc s event) ∷ []) audits.written
-          (subst (λ b. AppendsFront mid x (pieces_text sc (piece.OfEvent b ∷ []))) is front))
+        -- after whole audits, nothing or the front of a block has gone out
+        pub begin_middle : (x : Option (List ℕ)) (middle : Tally) → OfAccounts slice (λ account. Adds sc now x e.tally middle (audits_due account))
+            → IsBeginning sc old x
+        begin_middle x middle adds =
+            let front = front_of_whole now x (pieces_text sc audits) (audits_add x middle adds).written in
+            begin_more x (fronts_longer sc now x audits (piece.OfEvent (block_of sc s event) ∷ []) front)
+
+        pub begin_front : (middle : Tally) (block : Block) (mid x : Option (List ℕ)) → block ≡ block_of sc s event
+            → OfAccounts slice (λ account. Adds sc now mid e.tally middle (audits_due account))
+            → AppendsFront mid x (pieces_text sc (piece.OfEvent block ∷ [])) → IsBeginning sc old x
+        begin_front middle block mid x is adds front =
+            begin_more x (fronts_then sc now mid x audits (piece.OfEvent (block_of sc s event) ∷ []) (audits_add mid middle adds).written
+            (subst (λ b. AppendsFront mid x (pieces_text sc (piece.OfEvent b ∷ []))) is front))
 
       module _ (made : List (Event Body)) (made_is : made ≡ (effect sc s event).events) where
         next_world : IsWorld (chord sc) (set states event.target (effect sc s event).state) (e.pending ++ made) (e.count + 1)
@@ -241,11 +265,12 @@ module _ (sc : Scenario) (ranges : IsInRange sc) where
         pub next_at : (f : Engine) (mid new : Option (List ℕ)) (middle : Tally) (block : Block) → block ≡ block_of sc s event → f.states.items ≡ set states event.target (effect sc s event).state
             → ((x : Event Body) → Contains f.pending x ↔ Contains (e.pending ++ made) x) → InKeyOrder event_key f.pending
             → f.clock ≡ filter (λ u. nat_lt event.key.time u) e.clock → f.count ≡ e.count + 1
-            → Adds sc now mid e.tally middle (audits_at sc (state (chord sc) here) (due event.key.time e.clock)) → Adds sc mid new middle f.tally (piece.OfEvent block ∷ [])
+            → Adds sc now mid e.tally middle audits → Adds sc mid new middle f.tally (piece.OfEvent block ∷ [])
             → taken middle + length f.clock ≡ taken e.tally + length e.clock → taken f.tally ≡ taken middle + 1
             → IsAt sc old new f
-        next_at f mid new middle left_block block_is states_are same ordered clock_is count_is audits block first_size second_size =
-            let all : Adds sc now new e.tally f.tally (put (block_of sc s event)) = adds_then sc now mid new e.tally middle f.tally _ _ audits (subst (λ b. Adds sc mid new middle f.tally (piece.OfEvent b ∷ [])) block_is block) in
+        next_at f mid new middle left_block block_is states_are same ordered clock_is count_is before block first_size second_size =
+            let all : Adds sc now new e.tally f.tally (put (block_of sc s event))
+            = adds_then sc now mid new e.tally middle f.tally _ _ before (subst (λ b. Adds sc mid new middle f.tally (piece.OfEvent b ∷ [])) block_is block) in
             let long : past f.count ≡ past (e.count + 1) = ap past count_is in
             let pieces : output (chord sc) (past f.count) ≡ output (chord sc) here ++ put (block_of sc s event) = ap (output (chord sc)) long ∙ outputs in
             record {

@@ -98,6 +98,6 @@ fn copies_do_what_their_originals_do(rt: HostRuntime) -> Result<(), Fail> {
     };
     let trace = String::from_utf8_lossy(rt.alloc(), writer.into_inner().as_slice())?;
     assert!(rt; trace.as_str() == TRACE, "{trace}");
-    assert!(rt; report.events == 17 && report.late == 1);
+    assert!(rt; report.events == 17 && report.lines.late == 1);
     Ok(())
 }

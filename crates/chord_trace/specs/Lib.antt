@@ -1,3 +1,4 @@
+pub mod AuditCounts
 pub mod Counts
 pub mod FoundLookups
 pub mod Heads

@@ -6,20 +6,21 @@ use Rattle.chord_trace.specs.declared.report.Report.{Report}
 -- the words of a report, each with its number
 abbrev pub numbers_of : Report → List (List ℕ × ℕ)
 numbers_of r =
-    (codes "events", r.events) ∷ (codes "members", r.members) ∷ (codes "join-failed", r.join_failed)
-    ∷ (codes "crashes", r.crashes) ∷ (codes "stranded", r.stranded) ∷ (codes "drops", r.drops)
-    ∷ (codes "late", r.late) ∷ (codes "timeouts", r.timeouts) ∷ (codes "lookups", r.lookups)
-    ∷ (codes "found", r.found) ∷ (codes "lost", r.lost) ∷ (codes "busy", r.busy)
-    ∷ (codes "ignored", r.ignored) ∷ (codes "unfinished", r.unfinished)
+    (codes "events", r.events) ∷ (codes "members", r.lines.members) ∷ (codes "join-failed", r.lines.join_failed)
+    ∷ (codes "crashes", r.lines.crashes) ∷ (codes "stranded", r.lines.stranded) ∷ (codes "drops", r.lines.drops)
+    ∷ (codes "late", r.lines.late) ∷ (codes "timeouts", r.lines.timeouts) ∷ (codes "lookups", r.lines.lookups)
+    ∷ (codes "found", r.lines.found) ∷ (codes "lost", r.lines.lost) ∷ (codes "busy", r.lines.busy)
+    ∷ (codes "ignored", r.lines.ignored) ∷ (codes "unfinished", r.unfinished)
     ∷ (codes "hops-sum", r.hops_sum) ∷ (codes "hops-greatest", r.hops_greatest)
     ∷ (codes "us-sum", r.us_sum) ∷ (codes "us-least", r.us_least)
     ∷ (codes "us-median", r.us_median) ∷ (codes "us-greatest", r.us_greatest)
-    ∷ (codes "audits", r.audits) ∷ (codes "ringless", r.ringless)
-    ∷ (codes "unordered", r.unordered) ∷ (codes "insufficient", r.insufficient) ∷ []
+    ∷ (codes "audits", r.audits.audits) ∷ (codes "ringless", r.audits.ringless)
+    ∷ (codes "unordered", r.audits.unordered) ∷ (codes "insufficient", r.audits.insufficient) ∷ []
 
 -- a line for each word and its number
 abbrev pub number_text : List (List ℕ × ℕ) → List ℕ
 number_text = flat_map (λ p. p.0 ++ codes " " ++ decimal p.1 ++ codes "\n")
 
+-- the text of a report, a line for each of its numbers
 abbrev pub report_text : Report → List ℕ
 report_text r = number_text (numbers_of r)

@@ -1,5 +1,6 @@
 -- What a tally has of a trace.
-use Rattle.std.specs.Prelude.{◌≡◌, ℕ, ◌+◌, ◌==◌, not, List, count_by, length}
+use Rattle.std.specs.Prelude.{◌≡◌, ℕ, ◌+◌, List, length}
+use Rattle.chord_trace.specs.AuditCounts.{audit_counts_in}
 use Rattle.chord_trace.specs.Counts.{counts_in}
 use Rattle.chord_trace.specs.FoundLookups.{HasFound}
 use Rattle.chord_trace.specs.Pieces.{blocks_of, lines_of, audits_of}
@@ -9,7 +10,7 @@ use Rattle.chord_trace.specs.declared.tally.Tally.{Tally}
 
 -- how many blocks and audits the tally has
 abbrev pub taken : Tally → ℕ
-taken t = t.events + t.audits
+taken t = t.events + t.audits.audits
 
 -- the tally has what the trace of these pieces has
 pub record IsTallyOf (pieces : List Piece) (t : Tally) : Type 0 where
@@ -17,7 +18,4 @@ pub record IsTallyOf (pieces : List Piece) (t : Tally) : Type 0 where
   pub events : t.events ≡ length (blocks_of pieces)
   pub counts : t.counts ≡ counts_in (lines_of pieces)
   pub founds : HasFound (found_lookups pieces) t.founds
-  pub audits : t.audits ≡ length (audits_of pieces)
-  pub ringless : t.ringless ≡ count_by (λ audit. audit.ring == 0) (audits_of pieces)
-  pub unordered : t.unordered ≡ count_by (λ audit. not audit.ordered) (audits_of pieces)
-  pub insufficient : t.insufficient ≡ count_by (λ audit. not audit.sufficient) (audits_of pieces)
+  pub audits : t.audits ≡ audit_counts_in (audits_of pieces)

@@ -14,6 +14,7 @@ use Rattle.chord_scenario.specs.World.{name_of}
 use Rattle.chord_trace.specs.declared.piece.Piece.{Piece}
 use Rattle.chord_trace.specs.declared.piece.Piece.TheVariants as piece
 
+-- the word of a kind of message
 abbrev pub message_text : MessageKind → List ℕ
 message_text message.Step = codes "step"
 message_text message.GetState = codes "get-state"
@@ -25,6 +26,7 @@ message_text message.StateReply = codes "state-reply"
 message_text message.ListReply = codes "list-reply"
 message_text message.Pong = codes "pong"
 
+-- the word of a kind of command
 abbrev pub command_text : CommandKind → List ℕ
 command_text command.Join = codes "join"
 command_text command.Crash = codes "crash"
@@ -61,10 +63,12 @@ line_text sc time node line =
 abbrev pub block_text : Setup → Block → List ℕ
 block_text sc block = flat_map (line_text sc block.key.time block.target) block.lines
 
+-- the word of an answer
 abbrev pub yes_or_no : Bool → List ℕ
 yes_or_no true = codes "yes"
 yes_or_no false = codes "no"
 
+-- the line of an audit
 abbrev pub audit_text : AuditLine → List ℕ
 audit_text audit = concat (
     decimal audit.time ∷ codes " audit members=" ∷ decimal audit.members
@@ -72,10 +76,11 @@ audit_text audit = concat (
     ∷ codes " ordered=" ∷ yes_or_no audit.ordered ∷ codes " principals=" ∷ decimal audit.principals
     ∷ codes " sufficient=" ∷ yes_or_no audit.sufficient ∷ codes "\n" ∷ [])
 
+-- the text of one piece
 abbrev pub piece_text : Setup → Piece → List ℕ
 piece_text sc (piece.OfEvent block) = block_text sc block
 piece_text sc (piece.OfAudit audit) = audit_text audit
 
--- the text of a trace
+-- the text of a trace, the first piece first
 abbrev pub pieces_text : Setup → List Piece → List ℕ
 pieces_text sc = flat_map (piece_text sc)

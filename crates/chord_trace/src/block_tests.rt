@@ -45,6 +45,26 @@ fn ident(rt: &impl Abort, raw: u64) -> Ident {
     circle.ident(raw).expect(rt, "an identifier")
 }
 
+/// The kinds of messages, with their words.
+const MESSAGES: [(MessageKind, &str); 9] = [
+    (MessageKind::Step, "step"),
+    (MessageKind::GetState, "get-state"),
+    (MessageKind::GetList, "get-list"),
+    (MessageKind::Ping, "ping"),
+    (MessageKind::Notify, "notify"),
+    (MessageKind::StepReply, "step-reply"),
+    (MessageKind::StateReply, "state-reply"),
+    (MessageKind::ListReply, "list-reply"),
+    (MessageKind::Pong, "pong"),
+];
+
+/// The kinds of commands, with their words.
+const COMMANDS: [(CommandKind, &str); 3] = [
+    (CommandKind::Join, "join"),
+    (CommandKind::Crash, "crash"),
+    (CommandKind::Lookup, "lookup"),
+];
+
 #[test]
 fn writes_lines_that_name_nodes(rt: HostRuntime) -> Result<(), Fail> {
     let alloc = rt.alloc();
@@ -52,31 +72,6 @@ fn writes_lines_that_name_nodes(rt: HostRuntime) -> Result<(), Fail> {
         .ok()
         .expect(&rt, "a ring");
     assert!(rt; scenario.nodes() == 3);
-    assert!(rt; is_text(alloc, &scenario, Line::Join { via: 1 }, "100 n0 join n1\n")?);
-    assert!(rt;
-        is_text(
-            alloc,
-            &scenario,
-            Line::Member { predecessor: 2 },
-            "100 n0 member n3\n"
-        )?
-    );
-    assert!(rt;
-        is_text(
-            alloc,
-            &scenario,
-            Line::Stranded { via: 1 },
-            "100 n0 stranded n1\n"
-        )?
-    );
-    assert!(rt;
-        is_text(
-            alloc,
-            &scenario,
-            Line::Timeout { silent: 2 },
-            "100 n0 timeout n3\n"
-        )?
-    );
     let key = ident(&rt, 18446744073709551615);
     let found = Line::Found {
         key,
@@ -85,68 +80,38 @@ fn writes_lines_that_name_nodes(rt: HostRuntime) -> Result<(), Fail> {
         timeouts: 1,
         us: 40,
     };
-    assert!(rt;
-        is_text(
-            alloc,
-            &scenario,
+    for (line, text) in [
+        (Line::Join { via: 1 }, "100 n0 join n1\n"),
+        (Line::Member { predecessor: 2 }, "100 n0 member n3\n"),
+        (Line::Stranded { via: 1 }, "100 n0 stranded n1\n"),
+        (Line::Timeout { silent: 2 }, "100 n0 timeout n3\n"),
+        (
             found,
-            "100 n0 found 18446744073709551615 n3 hops=3 timeouts=1 us=40\n"
-        )?
-    );
-    for (kind, drop, late) in [
-        (
-            MessageKind::Step,
-            "100 n0 drop step n3\n",
-            "100 n0 late step n1\n",
-        ),
-        (
-            MessageKind::GetState,
-            "100 n0 drop get-state n3\n",
-            "100 n0 late get-state n1\n",
-        ),
-        (
-            MessageKind::GetList,
-            "100 n0 drop get-list n3\n",
-            "100 n0 late get-list n1\n",
-        ),
-        (
-            MessageKind::Ping,
-            "100 n0 drop ping n3\n",
-            "100 n0 late ping n1\n",
-        ),
-        (
-            MessageKind::Notify,
-            "100 n0 drop notify n3\n",
-            "100 n0 late notify n1\n",
-        ),
-        (
-            MessageKind::StepReply,
-            "100 n0 drop step-reply n3\n",
-            "100 n0 late step-reply n1\n",
-        ),
-        (
-            MessageKind::StateReply,
-            "100 n0 drop state-reply n3\n",
-            "100 n0 late state-reply n1\n",
-        ),
-        (
-            MessageKind::ListReply,
-            "100 n0 drop list-reply n3\n",
-            "100 n0 late list-reply n1\n",
-        ),
-        (
-            MessageKind::Pong,
-            "100 n0 drop pong n3\n",
-            "100 n0 late pong n1\n",
+            "100 n0 found 18446744073709551615 n3 hops=3 timeouts=1 us=40\n",
         ),
     ] {
+        assert!(rt; is_text(alloc, &scenario, line, text)?, "{text}");
+    }
+    for (kind, word) in MESSAGES {
+        let drop = format!(in alloc; "100 n0 drop {word} n3\n")?;
+        let late = format!(in alloc; "100 n0 late {word} n1\n")?;
         assert!(rt;
-            is_text(alloc, &scenario, Line::Drop { kind, sender: 2 }, drop)?,
-            "{drop}"
+            is_text(
+                alloc,
+                &scenario,
+                Line::Drop { kind, sender: 2 },
+                drop.as_str()
+            )?,
+            "{word}"
         );
         assert!(rt;
-            is_text(alloc, &scenario, Line::Late { kind, sender: 1 }, late)?,
-            "{late}"
+            is_text(
+                alloc,
+                &scenario,
+                Line::Late { kind, sender: 1 },
+                late.as_str()
+            )?,
+            "{word}"
         );
     }
     Ok(())
@@ -166,26 +131,20 @@ fn writes_lines_that_name_no_node(rt: HostRuntime) -> Result<(), Fail> {
         timeouts: 9,
         us: 360,
     };
-    assert!(rt; is_text(alloc, &scenario, Line::JoinFailed, "100 n0 join-failed\n")?);
-    assert!(rt; is_text(alloc, &scenario, Line::Crash, "100 n0 crash\n")?);
-    assert!(rt; is_text(alloc, &scenario, Line::Lookup { key }, "100 n0 lookup 7\n")?);
-    assert!(rt;
-        is_text(
-            alloc,
-            &scenario,
-            lost,
-            "100 n0 lost 7 hops=0 timeouts=9 us=360\n"
-        )?
-    );
-    assert!(rt; is_text(alloc, &scenario, Line::Busy { key }, "100 n0 busy 7\n")?);
-    for (command, text) in [
-        (CommandKind::Join, "100 n0 ignored join\n"),
-        (CommandKind::Crash, "100 n0 ignored crash\n"),
-        (CommandKind::Lookup, "100 n0 ignored lookup\n"),
+    for (line, text) in [
+        (Line::JoinFailed, "100 n0 join-failed\n"),
+        (Line::Crash, "100 n0 crash\n"),
+        (Line::Lookup { key }, "100 n0 lookup 7\n"),
+        (lost, "100 n0 lost 7 hops=0 timeouts=9 us=360\n"),
+        (Line::Busy { key }, "100 n0 busy 7\n"),
     ] {
+        assert!(rt; is_text(alloc, &scenario, line, text)?, "{text}");
+    }
+    for (command, word) in COMMANDS {
+        let text = format!(in alloc; "100 n0 ignored {word}\n")?;
         assert!(rt;
-            is_text(alloc, &scenario, Line::Ignored { command }, text)?,
-            "{text}"
+            is_text(alloc, &scenario, Line::Ignored { command }, text.as_str())?,
+            "{word}"
         );
     }
     Ok(())

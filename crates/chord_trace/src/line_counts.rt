@@ -1,7 +1,7 @@
 use chord_event::Line;
 
 /// How many lines there are of each kind that a report counts.
-#[derive(Clone, Copy, Default, Drop)]
+#[derive(Clone, Copy, Debug, Default, PartialEq, Eq, Drop)]
 pub struct LineCounts {
     pub members: u64,
     pub join_failed: u64,
@@ -22,7 +22,7 @@ impl LineCounts {
     ghost use Rattle.chord_trace.specs.Counts.{counts_in, plus, AreWithin};
 
     /// Counts the lines too.
-    pub fn add(&mut self, lines: &[Line])
+    pub(crate) fn add(&mut self, lines: &[Line])
         requires counts { AreWithin (2 ^ 63 - length lines.now) self.old }
         requires short { length lines.now ≤ 2 ^ 63 }
         ensures { self.new ≡ plus self.old (counts_in lines.now) }
@@ -33,7 +33,7 @@ impl LineCounts {
     }
 
     /// What both have together.
-    pub fn join(self, other: LineCounts) -> LineCounts
+    pub(crate) fn join(self, other: LineCounts) -> LineCounts
         requires mine { AreWithin (2 ^ 62) self }
         requires others { AreWithin (2 ^ 62) other }
         ensures { result ≡ plus self other }

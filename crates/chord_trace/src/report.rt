@@ -7,6 +7,8 @@ ghost use Rattle.chord_trace.specs.Watched.{wrapped, has_failed};
 ghost use Rattle.chord_trace.specs.Writing.{AppendsFront};
 ghost use Rattle.chord_trace.specs.declared.piece.Piece.{Piece};
 
+use crate::audit_counts::AuditCounts;
+use crate::line_counts::LineCounts;
 use crate::watched::Watched;
 use crate::writing::write_text;
 use chord_event::RunError;
@@ -18,18 +20,7 @@ use std::io::Write;
 #[derive(Clone, Copy, Debug, PartialEq, Eq, Drop)]
 pub struct Report {
     pub events: u64,
-    pub members: u64,
-    pub join_failed: u64,
-    pub crashes: u64,
-    pub stranded: u64,
-    pub drops: u64,
-    pub late: u64,
-    pub timeouts: u64,
-    pub lookups: u64,
-    pub found: u64,
-    pub lost: u64,
-    pub busy: u64,
-    pub ignored: u64,
+    pub lines: LineCounts,
     pub unfinished: u64,
     pub hops_sum: u128,
     pub hops_greatest: u64,
@@ -37,10 +28,7 @@ pub struct Report {
     pub us_least: u64,
     pub us_median: u64,
     pub us_greatest: u64,
-    pub audits: u64,
-    pub ringless: u64,
-    pub unordered: u64,
-    pub insufficient: u64,
+    pub audits: AuditCounts,
 }
 
 impl Report {
@@ -65,18 +53,18 @@ impl Report {
     {
         [
             ("events", u128::from(self.events)),
-            ("members", u128::from(self.members)),
-            ("join-failed", u128::from(self.join_failed)),
-            ("crashes", u128::from(self.crashes)),
-            ("stranded", u128::from(self.stranded)),
-            ("drops", u128::from(self.drops)),
-            ("late", u128::from(self.late)),
-            ("timeouts", u128::from(self.timeouts)),
-            ("lookups", u128::from(self.lookups)),
-            ("found", u128::from(self.found)),
-            ("lost", u128::from(self.lost)),
-            ("busy", u128::from(self.busy)),
-            ("ignored", u128::from(self.ignored)),
+            ("members", u128::from(self.lines.members)),
+            ("join-failed", u128::from(self.lines.join_failed)),
+            ("crashes", u128::from(self.lines.crashes)),
+            ("stranded", u128::from(self.lines.stranded)),
+            ("drops", u128::from(self.lines.drops)),
+            ("late", u128::from(self.lines.late)),
+            ("timeouts", u128::from(self.lines.timeouts)),
+            ("lookups", u128::from(self.lines.lookups)),
+            ("found", u128::from(self.lines.found)),
+            ("lost", u128::from(self.lines.lost)),
+            ("busy", u128::from(self.lines.busy)),
+            ("ignored", u128::from(self.lines.ignored)),
             ("unfinished", u128::from(self.unfinished)),
             ("hops-sum", self.hops_sum),
             ("hops-greatest", u128::from(self.hops_greatest)),
@@ -84,10 +72,10 @@ impl Report {
             ("us-least", u128::from(self.us_least)),
             ("us-median", u128::from(self.us_median)),
             ("us-greatest", u128::from(self.us_greatest)),
-            ("audits", u128::from(self.audits)),
-            ("ringless", u128::from(self.ringless)),
-            ("unordered", u128::from(self.unordered)),
-            ("insufficient", u128::from(self.insufficient)),
+            ("audits", u128::from(self.audits.audits)),
+            ("ringless", u128::from(self.audits.ringless)),
+            ("unordered", u128::from(self.audits.unordered)),
+            ("insufficient", u128::from(self.audits.insufficient)),
         ]
     }
 }

@@ -1,7 +1,9 @@
 ghost use Rattle.std.specs.Prelude.{◌+◌, ◌*◌, ◌≤◌, ◌^◌};
+ghost use Rattle.chord_trace.specs.AuditCounts.{AreAmong};
 ghost use Rattle.chord_trace.specs.Counts.{AreWithin};
 ghost use Rattle.chord_trace.specs.FoundLookups.{found_len};
 
+use crate::audit_counts::AuditCounts;
 use crate::found_lookups::FoundLookups;
 use crate::line_counts::LineCounts;
 use crate::report::Report;
@@ -15,15 +17,10 @@ pub struct Tally {
     events: u64,
     counts: LineCounts,
     founds: FoundLookups,
-    audits: u64,
-    ringless: u64,
-    unordered: u64,
-    insufficient: u64,
+    audits: AuditCounts,
     ghost counts_fit: { AreWithin (64 * events) counts },
     ghost founds_fit: { found_len founds ≤ 64 * events },
-    ghost ringless_fit: { ringless ≤ audits },
-    ghost unordered_fit: { unordered ≤ audits },
-    ghost insufficient_fit: { insufficient ≤ audits },
+    ghost audits_fit: { AreAmong audits },
 }
 
 impl Tally {
@@ -41,10 +38,7 @@ impl Tally {
             events: 0,
             counts: LineCounts::default(),
             founds: FoundLookups::new(alloc),
-            audits: 0,
-            ringless: 0,
-            unordered: 0,
-            insufficient: 0,
+            audits: AuditCounts::default(),
         }
     }
 
@@ -67,10 +61,7 @@ impl Tally {
         ensures piece { (pieces : List Piece) → IsTallyOf pieces self.old → IsTallyOf (pieces ++ piece.OfAudit audit.now ∷ []) self.new }
         ensures size { taken self.new ≡ taken self.old + 1 }
     {
-        self.audits += 1;
-        self.ringless += u64::from(audit.ring == 0);
-        self.unordered += u64::from(!audit.ordered);
-        self.insufficient += u64::from(!audit.sufficient);
+        self.audits.add(audit);
     }
 
     /// The tally of what both have. Both are given up where memory is refused.
@@ -83,10 +74,7 @@ impl Tally {
             events: self.events + other.events,
             counts: self.counts.join(other.counts),
             founds: self.founds.join(other.founds)?,
-            audits: self.audits + other.audits,
-            ringless: self.ringless + other.ringless,
-            unordered: self.unordered + other.unordered,
-            insufficient: self.insufficient + other.insufficient,
+            audits: self.audits.join(other.audits),
         })
     }
 
@@ -94,34 +82,16 @@ impl Tally {
     pub fn report(&self) -> Report
         ensures { (pieces : List Piece) → IsTallyOf pieces self.now → IsReportOf pieces result }
     {
+        let lines = self.counts;
         let LineCounts {
-            members,
-            join_failed,
-            crashes,
-            stranded,
-            drops,
-            late,
-            timeouts,
             lookups,
             found,
             lost,
-            busy,
-            ignored,
-        } = self.counts;
+            ..
+        } = lines;
         Report {
             events: self.events,
-            members,
-            join_failed,
-            crashes,
-            stranded,
-            drops,
-            late,
-            timeouts,
-            lookups,
-            found,
-            lost,
-            busy,
-            ignored,
+            lines,
             unfinished: lookups.saturating_sub(found).saturating_sub(lost),
             hops_sum: self.founds.hops_sum,
             hops_greatest: self.founds.hops_greatest,
@@ -130,9 +100,6 @@ impl Tally {
             us_median: self.founds.us_median(),
             us_greatest: self.founds.us_greatest,
             audits: self.audits,
-            ringless: self.ringless,
-            unordered: self.unordered,
-            insufficient: self.insufficient,
         }
     }
 }

@@ -165,18 +165,20 @@ const AUDIT: AuditLine = AuditLine {
 
 const REPORT: Report = Report {
     events: 1,
-    members: 2,
-    join_failed: 3,
-    crashes: 4,
-    stranded: 5,
-    drops: 6,
-    late: 7,
-    timeouts: 8,
-    lookups: 9,
-    found: 10,
-    lost: 11,
-    busy: 12,
-    ignored: 13,
+    lines: LineCounts {
+        members: 2,
+        join_failed: 3,
+        crashes: 4,
+        stranded: 5,
+        drops: 6,
+        late: 7,
+        timeouts: 8,
+        lookups: 9,
+        found: 10,
+        lost: 11,
+        busy: 12,
+        ignored: 13,
+    },
     unfinished: 14,
     hops_sum: 15,
     hops_greatest: 16,
@@ -184,10 +186,12 @@ const REPORT: Report = Report {
     us_least: 18,
     us_median: 19,
     us_greatest: 18446744073709551615,
-    audits: 21,
-    ringless: 22,
-    unordered: 23,
-    insufficient: 24,
+    audits: AuditCounts {
+        audits: 21,
+        ringless: 22,
+        unordered: 23,
+        insufficient: 24,
+    },
 };
 
 const TEXT: &str = "200 audit members=4 dead=1 ring=3 ordered=yes principals=2 sufficient=no\n\
@@ -280,9 +284,9 @@ fn reports_the_lower_time_in_the_middle(rt: HostRuntime) -> Result<(), Fail> {
         let report = tally_of(&rt, rt.alloc(), times)?.report();
         let count = times.len() as u64;
         assert_eq!(rt; report.events, 1);
-        assert_eq!(rt; report.crashes, 1);
-        assert_eq!(rt; report.lookups, 1);
-        assert_eq!(rt; report.found, count);
+        assert_eq!(rt; report.lines.crashes, 1);
+        assert_eq!(rt; report.lines.lookups, 1);
+        assert_eq!(rt; report.lines.found, count);
         assert_eq!(rt; report.unfinished, 1u64.saturating_sub(count));
         assert_eq!(rt; report.hops_sum, 3 * u128::from(count));
         assert_eq!(rt; report.us_sum, sum);
@@ -308,18 +312,12 @@ fn joins_two_tallies(rt: HostRuntime) -> Result<(), Fail> {
         let found = mine.len() as u64 + others.len() as u64;
         let expected = Report {
             events: 2,
-            members: 0,
-            join_failed: 0,
-            crashes: 2,
-            stranded: 0,
-            drops: 0,
-            late: 0,
-            timeouts: 0,
-            lookups: 2,
-            found,
-            lost: 0,
-            busy: 0,
-            ignored: 0,
+            lines: LineCounts {
+                crashes: 2,
+                lookups: 2,
+                found,
+                ..LineCounts::default()
+            },
             unfinished,
             hops_sum: 3 * u128::from(found),
             hops_greatest: 3,
@@ -327,10 +325,11 @@ fn joins_two_tallies(rt: HostRuntime) -> Result<(), Fail> {
             us_least: least,
             us_median: median,
             us_greatest: greatest,
-            audits: 2,
-            ringless: 0,
-            unordered: 0,
-            insufficient: 2,
+            audits: AuditCounts {
+                audits: 2,
+                insufficient: 2,
+                ..AuditCounts::default()
+            },
         };
         assert!(rt; tally.report() == expected, "{found}");
     }

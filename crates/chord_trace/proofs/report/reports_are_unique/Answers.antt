@@ -1,4 +1,5 @@
-use Rattle.std.proofs.Common.{◌≡◌, ◌∙◌, ℕ, ◌+◌, ◌-◌, ◌<◌, ◌≤◌, Bool, true, false, cond, nat_le, nat_lt, List, [], ◌∷◌, refl, sym, arith, length, count_by}
+-- A list has one median, and the pieces give all other numbers, so a trace has one report.
+use Rattle.std.proofs.Common.{◌≡◌, ◌∙◌, ℕ, ◌<◌, ◌≤◌, Bool, true, false, cond, nat_le, nat_lt, List, [], ◌∷◌, refl, ap, sym, arith, length, count_by}
 use Rattle.std.specs.declared.cmp.Ordering.{Ordering}
 use Rattle.std.specs.declared.cmp.Ordering.TheVariants.{Less, Equal, Greater}
 use Rattle.std.specs.Cmp.{ranks}
@@ -6,7 +7,7 @@ use Rattle.std.specs.Ordering.{nat_cmp, MatchOrdering}
 use Rattle.std.proofs.lemmas.Bool.Decides.{nat_tests}
 use Rattle.std.proofs.lemmas.List.Sums.{sum_by-le-sum_by}
 use Rattle.chord_trace.specs.Numbers.{IsMedian, times_of}
-use Rattle.chord_trace.specs.Report.{found_lookups}
+use Rattle.chord_trace.specs.Report.{found_lookups, report_with}
 use Rattle.chord_trace.proofs.report.reports_are_unique.Goals as goal
 
 -- what is at most a lies below a greater b
@@ -30,34 +31,7 @@ medians_are_unique (n ∷ ns) a b first second = by (nat_cmp a b) (ranks a b)
     by Equal is = is
     by Greater gt = absurd (not_below (n ∷ ns) b a (omega arith) second first gt)
 
-same : {m n k : ℕ} → m ≡ k → n ≡ k → m ≡ n
-same p q = p ∙ sym q
-
 pub returns : goal.returns
-returns c pieces a b first second = λ i.
-    record {
-      events = same first.events second.events i;
-      members = same first.members second.members i;
-      join_failed = same first.join_failed second.join_failed i;
-      crashes = same first.crashes second.crashes i;
-      stranded = same first.stranded second.stranded i;
-      drops = same first.drops second.drops i;
-      late = same first.late second.late i;
-      timeouts = same first.timeouts second.timeouts i;
-      lookups = same first.lookups second.lookups i;
-      found = same first.found second.found i;
-      lost = same first.lost second.lost i;
-      busy = same first.busy second.busy i;
-      ignored = same first.ignored second.ignored i;
-      unfinished = (first.unfinished ∙ (λ j. same first.lookups second.lookups j - (same first.found second.found j + same first.lost second.lost j)) ∙ sym second.unfinished) i;
-      hops_sum = same first.hops_sum second.hops_sum i;
-      hops_greatest = same first.hops_greatest second.hops_greatest i;
-      us_sum = same first.us_sum second.us_sum i;
-      us_least = same first.us_least second.us_least i;
-      us_median = medians_are_unique (times_of (found_lookups pieces)) a.us_median b.us_median first.us_median second.us_median i;
-      us_greatest = same first.us_greatest second.us_greatest i;
-      audits = same first.audits second.audits i;
-      ringless = same first.ringless second.ringless i;
-      unordered = same first.unordered second.unordered i;
-      insufficient = same first.insufficient second.insufficient i;
-    }
+returns c pieces a b first second =
+    let same = medians_are_unique (times_of (found_lookups pieces)) a.us_median b.us_median first.us_median second.us_median in
+    first.numbers ∙ ap (report_with pieces) same ∙ sym second.numbers

@@ -1,82 +1,125 @@
 -- What was taken is the next event of the run, so the engine goes on to where the run is.
 use Rattle.std.proofs.Common.{◌∙◌, ◌++◌, List, length, refl, sym, subst, arith, ap, set}
-use Rattle.chord_audit.specs.Audit.{AreStates}
 use Rattle.chord_event.specs.declared.body.Body.{Body}
 use Rattle.chord_event.specs.declared.event.Event.{Event}
-use Rattle.chord_machine.specs.Chord.{chord}
-use Rattle.chord_model.specs.Histories.{history, state}
 use Rattle.chord_node.specs.declared.state.NodeState.{NodeState}
 use Rattle.chord_node.specs.Invariant.{AllNodes}
 use Rattle.chord_queue.proofs.Inserting.{AreApart}
 use Rattle.std.specs.List.{All}
-use Rattle.chord_serial.proofs.Course.{audits_room, begin_audits, begin_front, begin_middle, event_is_in_time, event_is_sound, made_apart, next_at, state_has_room, state_is_sound, taken_known, taken_long, taken_read, taken_states, target_is_node}
+use Rattle.chord_serial.proofs.Course.{audits_add, audits_room, begin_audits, begin_front, begin_middle, event_is_in_time, event_is_sound, made_apart, next_at, state_has_room, state_is_sound, taken_known, taken_long, taken_read, target_is_node}
 use Rattle.chord_serial.proofs.engine.Engine.handle.Goals as goal
 
 pub put_audits-requires-clause-each : goal.put_audits-requires-clause-each
-put_audits-requires-clause-each g c = ap length c.as_slice.ensures.value ∙ taken_long c.args.scenario.now c.recall_range.ensures c.requires.taken.0 _ c.args.self.now c.args.event.now c.requires.taken.1
+put_audits-requires-clause-each g c =
+    let sc = c.args.scenario.now in
+    ap length c.as_slice.ensures.value ∙ taken_long sc c.recall_range.ensures c.requires.taken.0 _ c.args.self.now c.args.event.now c.requires.taken.1
 
 pub put_audits-requires-clause-succ : goal.put_audits-requires-clause-succ
 put_audits-requires-clause-succ g c =
-    subst (λ (ss : List NodeState). All (λ (s : NodeState). AllNodes c.args.scenario.now s.succ) ss) (sym c.as_slice.ensures.value) (taken_known c.args.scenario.now c.recall_range.ensures c.requires.taken.0 _ c.args.self.now c.args.event.now c.requires.taken.1)
+    let sc = c.args.scenario.now in
+    subst (λ (ss : List NodeState). All (λ (s : NodeState). AllNodes sc s.succ) ss) (sym c.as_slice.ensures.value)
+    (taken_known sc c.recall_range.ensures c.requires.taken.0 _ c.args.self.now c.args.event.now c.requires.taken.1)
 
 pub put_audits-requires-clause-room : goal.put_audits-requires-clause-room
-put_audits-requires-clause-room g c = audits_room c.args.scenario.now c.recall_range.ensures c.requires.taken.0 _ c.args.self.now c.args.event.now c.requires.taken.1
+put_audits-requires-clause-room g c =
+    audits_room c.args.scenario.now c.recall_range.ensures c.requires.taken.0 _ c.args.self.now c.args.event.now c.requires.taken.1
 
 pub returns-in_err-put_audits-clause-front : goal.returns-in_err-put_audits-clause-front
 returns-in_err-put_audits-clause-front g c = λ old t.
-    let s = taken_read c.args.scenario.now c.recall_range.ensures old _ c.args.self.now c.args.event.now t in
-    begin_audits c.args.scenario.now c.recall_range.ensures old _ c.args.self.now c.args.event.now t s.0 s.1 _ (c.in_err-put_audits.ensures.front (state (chord c.args.scenario.now) (history (chord c.args.scenario.now) c.args.self.now.count)) (subst (λ (ss : List NodeState). AreStates c.args.scenario.now ss (state (chord c.args.scenario.now) (history (chord c.args.scenario.now) c.args.self.now.count))) (sym c.as_slice.ensures.value) (taken_states c.args.scenario.now c.recall_range.ensures old _ c.args.self.now c.args.event.now t)))
+    let sc = c.args.scenario.now in
+    let s = taken_read sc c.recall_range.ensures old _ c.args.self.now c.args.event.now t in
+    begin_audits sc c.recall_range.ensures old _ c.args.self.now c.args.event.now t s.0 s.1 _ c.as_slice.ensures.value _ c.in_err-put_audits.ensures.front
 
 pub index_mut-requires : goal.index_mut-requires
-index_mut-requires g c = omega (arith, target_is_node c.args.scenario.now c.recall_range.ensures c.requires.taken.0 _ c.args.self.now c.args.event.now c.requires.taken.1, c.args.self.now.states.ok.0)
+index_mut-requires g c =
+    let target = target_is_node c.args.scenario.now c.recall_range.ensures c.requires.taken.0 _ c.args.self.now c.args.event.now c.requires.taken.1 in
+    omega (arith, target, c.args.self.now.states.ok.0)
 
 pub act-requires-clause-invariant : goal.act-requires-clause-invariant
-act-requires-clause-invariant g c = (state_is_sound c.args.scenario.now c.recall_range.ensures c.requires.taken.0 _ c.args.self.now c.args.event.now c.requires.taken.1 c.index_mut.result.now c.index_mut.ensures.value).invariant
+act-requires-clause-invariant g c =
+    let sc = c.args.scenario.now in
+    let read = c.index_mut.ensures.value in
+    (state_is_sound sc c.recall_range.ensures c.requires.taken.0 _ c.args.self.now c.args.event.now c.requires.taken.1 c.index_mut.result.now read).invariant
 
 pub act-requires-clause-target : goal.act-requires-clause-target
-act-requires-clause-target g c = sym (state_is_sound c.args.scenario.now c.recall_range.ensures c.requires.taken.0 _ c.args.self.now c.args.event.now c.requires.taken.1 c.index_mut.result.now c.index_mut.ensures.value).me
+act-requires-clause-target g c =
+    let sc = c.args.scenario.now in
+    let read = c.index_mut.ensures.value in
+    sym (state_is_sound sc c.recall_range.ensures c.requires.taken.0 _ c.args.self.now c.args.event.now c.requires.taken.1 c.index_mut.result.now read).me
 
 pub act-requires-clause-event : goal.act-requires-clause-event
-act-requires-clause-event g c = event_is_sound c.args.scenario.now c.recall_range.ensures c.requires.taken.0 _ c.args.self.now c.args.event.now c.requires.taken.1
+act-requires-clause-event g c =
+    event_is_sound c.args.scenario.now c.recall_range.ensures c.requires.taken.0 _ c.args.self.now c.args.event.now c.requires.taken.1
 
 pub act-requires-clause-time : goal.act-requires-clause-time
-act-requires-clause-time g c = event_is_in_time c.args.scenario.now c.recall_range.ensures c.requires.taken.0 _ c.args.self.now c.args.event.now c.requires.taken.1
+act-requires-clause-time g c =
+    event_is_in_time c.args.scenario.now c.recall_range.ensures c.requires.taken.0 _ c.args.self.now c.args.event.now c.requires.taken.1
 
 pub act-requires-clause-count : goal.act-requires-clause-count
-act-requires-clause-count g c = (state_has_room c.args.scenario.now c.recall_range.ensures c.requires.taken.0 _ c.args.self.now c.args.event.now c.requires.taken.1 c.index_mut.result.now c.index_mut.ensures.value).count
+act-requires-clause-count g c =
+    let sc = c.args.scenario.now in
+    let read = c.index_mut.ensures.value in
+    (state_has_room sc c.recall_range.ensures c.requires.taken.0 _ c.args.self.now c.args.event.now c.requires.taken.1 c.index_mut.result.now read).count
 
 pub act-requires-clause-place : goal.act-requires-clause-place
-act-requires-clause-place g c = (state_has_room c.args.scenario.now c.recall_range.ensures c.requires.taken.0 _ c.args.self.now c.args.event.now c.requires.taken.1 c.index_mut.result.now c.index_mut.ensures.value).place
+act-requires-clause-place g c =
+    let sc = c.args.scenario.now in
+    let read = c.index_mut.ensures.value in
+    (state_has_room sc c.recall_range.ensures c.requires.taken.0 _ c.args.self.now c.args.event.now c.requires.taken.1 c.index_mut.result.now read).place
 
 pub returns-in_err-events-clause-front : goal.returns-in_err-events-clause-front
 returns-in_err-events-clause-front g c = λ old t.
-    begin_middle c.args.scenario.now c.recall_range.ensures old _ c.args.self.now c.args.event.now t c.index_mut.result.now c.index_mut.ensures.value _ _ (c.in_ok-put_audits.ensures.adds (state (chord c.args.scenario.now) (history (chord c.args.scenario.now) c.args.self.now.count)) (subst (λ (ss : List NodeState). AreStates c.args.scenario.now ss (state (chord c.args.scenario.now) (history (chord c.args.scenario.now) c.args.self.now.count))) (sym c.as_slice.ensures.value) (taken_states c.args.scenario.now c.recall_range.ensures old _ c.args.self.now c.args.event.now t)))
+    let sc = c.args.scenario.now in
+    let read = c.index_mut.ensures.value in
+    begin_middle sc c.recall_range.ensures old _ c.args.self.now c.args.event.now t c.index_mut.result.now read _ c.as_slice.ensures.value
+    _ _ c.in_ok-put_audits.ensures.adds
 
 pub insert_all-requires : goal.insert_all-requires
 insert_all-requires g c =
-    subst (λ (es : List (Event Body)). AreApart (c.args.self.now.pending ++ es)) (sym c.into_vec.ensures)
-    (made_apart c.args.scenario.now c.recall_range.ensures c.requires.taken.0 _ c.args.self.now c.args.event.now c.requires.taken.1 c.index_mut.result.now c.index_mut.ensures.value c.in_ok-events.field-0.events c.in_ok-events.ensures.events)
+    let sc = c.args.scenario.now in
+    let e = c.args.self.now in
+    let read = c.index_mut.ensures.value in
+    let made = c.in_ok-events.ensures.events in
+    subst (λ (es : List (Event Body)). AreApart (e.pending ++ es)) (sym c.into_vec.ensures)
+    (made_apart sc c.recall_range.ensures c.requires.taken.0 _ e c.args.event.now c.requires.taken.1 c.index_mut.result.now read _ made)
 
 pub returns-in_err-insert_all-clause-front : goal.returns-in_err-insert_all-clause-front
 returns-in_err-insert_all-clause-front g c = λ old t.
-    begin_middle c.args.scenario.now c.recall_range.ensures old _ c.args.self.now c.args.event.now t c.index_mut.result.now c.index_mut.ensures.value _ _ (c.in_ok-put_audits.ensures.adds (state (chord c.args.scenario.now) (history (chord c.args.scenario.now) c.args.self.now.count)) (subst (λ (ss : List NodeState). AreStates c.args.scenario.now ss (state (chord c.args.scenario.now) (history (chord c.args.scenario.now) c.args.self.now.count))) (sym c.as_slice.ensures.value) (taken_states c.args.scenario.now c.recall_range.ensures old _ c.args.self.now c.args.event.now t)))
+    let sc = c.args.scenario.now in
+    let read = c.index_mut.ensures.value in
+    begin_middle sc c.recall_range.ensures old _ c.args.self.now c.args.event.now t c.index_mut.result.now read _ c.as_slice.ensures.value
+    _ _ c.in_ok-put_audits.ensures.adds
 
 pub put_block-requires-clause-room : goal.put_block-requires-clause-room
-put_block-requires-clause-room g c = omega (arith, c.requires.taken.1.at.room, c.requires.taken.1.allowed, c.in_ok-put_audits.ensures.size, c.recall_range.ensures.numbers.max_events_greatest)
+put_block-requires-clause-room g c =
+    let most = c.recall_range.ensures.numbers.max_events_greatest in
+    omega (arith, c.requires.taken.1.at.room, c.requires.taken.1.allowed, c.in_ok-put_audits.ensures.size, most)
 
 pub returns-in_err-put_block-clause-front : goal.returns-in_err-put_block-clause-front
 returns-in_err-put_block-clause-front g c = λ old t.
-    begin_front c.args.scenario.now c.recall_range.ensures old _ c.args.self.now c.args.event.now t c.index_mut.result.now c.index_mut.ensures.value _ c.in_ok-events.field-0.block _ _ c.in_ok-events.ensures.block (c.in_ok-put_audits.ensures.adds (state (chord c.args.scenario.now) (history (chord c.args.scenario.now) c.args.self.now.count)) (subst (λ (ss : List NodeState). AreStates c.args.scenario.now ss (state (chord c.args.scenario.now) (history (chord c.args.scenario.now) c.args.self.now.count))) (sym c.as_slice.ensures.value) (taken_states c.args.scenario.now c.recall_range.ensures old _ c.args.self.now c.args.event.now t))) c.in_err-put_block.ensures.front
+    let sc = c.args.scenario.now in
+    let read = c.index_mut.ensures.value in
+    begin_front sc c.recall_range.ensures old _ c.args.self.now c.args.event.now t c.index_mut.result.now read _ c.as_slice.ensures.value
+    _ c.in_ok-events.field-0.block _ _ c.in_ok-events.ensures.block c.in_ok-put_audits.ensures.adds c.in_err-put_block.ensures.front
 
 pub returns-clause-at : goal.returns-clause-at
 returns-clause-at g c = λ old t.
-    next_at c.args.scenario.now c.recall_range.ensures old _ c.args.self.now c.args.event.now t c.index_mut.result.now c.index_mut.ensures.value c.into_vec.result.items (c.into_vec.ensures ∙ c.in_ok-events.ensures.events) _ _ _ c.put_audits.new.tally c.in_ok-events.field-0.block c.in_ok-events.ensures.block
-    (ap (λ z. set c.args.self.now.states.items c.args.event.now.target z) c.in_ok-events.ensures.state)
-    c.in_ok-insert_all.ensures.same c.in_ok-insert_all.ensures.ordered
-    c.in_ok-put_audits.ensures.left refl
-    (c.in_ok-put_audits.ensures.adds (state (chord c.args.scenario.now) (history (chord c.args.scenario.now) c.args.self.now.count)) (subst (λ (ss : List NodeState). AreStates c.args.scenario.now ss (state (chord c.args.scenario.now) (history (chord c.args.scenario.now) c.args.self.now.count))) (sym c.as_slice.ensures.value) (taken_states c.args.scenario.now c.recall_range.ensures old _ c.args.self.now c.args.event.now t))) c.in_ok-put_block.ensures.adds
-    c.in_ok-put_audits.ensures.size c.in_ok-put_block.ensures.size
+    let sc = c.args.scenario.now in
+    let e = c.args.self.now in
+    let event = c.args.event.now in
+    let read = c.index_mut.ensures.value in
+    let set_state = ap (λ z. set e.states.items event.target z) c.in_ok-events.ensures.state in
+    let adds = c.in_ok-put_audits.ensures.adds in
+    let audits = audits_add sc c.recall_range.ensures old _ e event t c.index_mut.result.now read _ c.as_slice.ensures.value _ _ adds in
+    next_at sc c.recall_range.ensures old _ e event t c.index_mut.result.now read
+    c.into_vec.result.items (c.into_vec.ensures ∙ c.in_ok-events.ensures.events)
+    _ _ _ c.put_audits.new.tally c.in_ok-events.field-0.block c.in_ok-events.ensures.block set_state
+    c.in_ok-insert_all.ensures.same c.in_ok-insert_all.ensures.ordered c.in_ok-put_audits.ensures.left refl
+    audits c.in_ok-put_block.ensures.adds c.in_ok-put_audits.ensures.size c.in_ok-put_block.ensures.size
 
 pub returns-clause-front : goal.returns-clause-front
 returns-clause-front g c = λ old t.
-    begin_front c.args.scenario.now c.recall_range.ensures old _ c.args.self.now c.args.event.now t c.index_mut.result.now c.index_mut.ensures.value _ c.in_ok-events.field-0.block _ _ c.in_ok-events.ensures.block (c.in_ok-put_audits.ensures.adds (state (chord c.args.scenario.now) (history (chord c.args.scenario.now) c.args.self.now.count)) (subst (λ (ss : List NodeState). AreStates c.args.scenario.now ss (state (chord c.args.scenario.now) (history (chord c.args.scenario.now) c.args.self.now.count))) (sym c.as_slice.ensures.value) (taken_states c.args.scenario.now c.recall_range.ensures old _ c.args.self.now c.args.event.now t))) c.in_ok-put_block.ensures.front
+    let sc = c.args.scenario.now in
+    let read = c.index_mut.ensures.value in
+    begin_front sc c.recall_range.ensures old _ c.args.self.now c.args.event.now t c.index_mut.result.now read _ c.as_slice.ensures.value
+    _ c.in_ok-events.field-0.block _ _ c.in_ok-events.ensures.block c.in_ok-put_audits.ensures.adds c.in_ok-put_block.ensures.front

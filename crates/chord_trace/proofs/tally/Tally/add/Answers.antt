@@ -1,3 +1,4 @@
+-- The tally has the trace with the block at its end.
 use Rattle.std.proofs.Common.{◌∙◌, ap, refl}
 use Rattle.chord_trace.specs.Counts.{counts_in, plus}
 use Rattle.chord_trace.proofs.Tallies.{with_block}
@@ -7,4 +8,4 @@ pub returns-clause-piece : goal.returns-clause-piece
 returns-clause-piece c = λ pieces t. with_block pieces c.args.block.now c.args.self.now _ t refl
     (c.add.ensures ∙ ap (λ l. plus c.args.self.now.counts (counts_in l)) c.as_slice.ensures)
     (λ seen s. rw c.as_slice-2.ensures at (c.in_ok-add_lines.ensures.has seen s))
-    refl refl refl refl
+    refl
