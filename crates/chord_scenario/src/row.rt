@@ -39,14 +39,16 @@ fn records(
     for row in rdr.into_byte_records() {
         match row {
             Ok(row) => rows.push(kept_link(names, &row))?,
-            Err(e) => {
-                // A flexible reader takes records of all lengths, and one over memory has no other
-                // error but want of memory.
-                if let ErrorKind::UnequalLengths { .. } = e.kind() {
-                    unreachable!();
-                }
-                return Err(AllocError);
-            }
+            Err(e) => match e.kind() {
+                ErrorKind::OutOfMemory => return Err(AllocError),
+                // A reader over memory never fails, though no contract of the csv crate says so.
+                ErrorKind::Io(_) => return Err(AllocError),
+                // A flexible reader takes records of all lengths, and bytes need no decoding.
+                ErrorKind::UnequalLengths { .. }
+                | ErrorKind::Utf8 { .. }
+                | ErrorKind::Serialize(_)
+                | ErrorKind::Deserialize { .. } => unreachable!(),
+            },
         }
     }
     Ok(rows)
