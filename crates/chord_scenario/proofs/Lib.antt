@@ -14,6 +14,7 @@ pub mod NearnessLemmas
 pub mod Questions
 pub mod Scenarios
 pub mod SoundSections
+pub mod Entries
 pub mod TopFacts
 pub mod NodeFacts
 pub mod LatencyFacts
