@@ -27,6 +27,3 @@ pub use name::Name;
 pub use reader::read_scenario;
 pub use scenario::Scenario;
 pub use setting::{Action, Churn, Command, Node, Span};
-
-#[cfg(test)]
-mod tests;
