@@ -7,7 +7,7 @@ use Rattle.toml.specs.Data.{Data}
 use Rattle.chord_scenario.specs.declared.key.FileKey.{FileKey}
 use Rattle.chord_scenario.specs.declared.key.Entry.{Entry}
 use Rattle.chord_scenario.specs.declared.key.Form.TheVariants.{Whole}
-use Rattle.chord_scenario.specs.Keys.{name_of, required, optional, keys_at}
+use Rattle.chord_scenario.specs.FileKeys.{key_name, required, optional, keys_at}
 use Rattle.chord_scenario.specs.KeyFaults.{is_required, is_missing, has_wrong_type, is_out_of_range}
 use Rattle.chord_scenario.specs.Sections.{Section}
 use Rattle.chord_scenario.specs.Settings.{number_or}
@@ -16,7 +16,7 @@ use Rattle.chord_scenario.proofs.SoundSections.{IsSound, Fits, number_fits, defa
 
 -- the entry of a key among those of a table; at a table of the file format it computes
 abbrev pub entry_of : FileKey → List Entry → Option Entry
-entry_of k es = find (λ e. bytes_eq (name_of k) (name_of e.0)) es
+entry_of k es = find (λ e. bytes_eq (key_name k) (key_name e.0)) es
 
 -- what holds of every entry holds of one that is found
 of_found : (P : Entry → Type 0) (test : Entry → Bool) (es : List Entry) (e : Entry) → find test es ≡ Some e → AllByRecursion P es → P e
@@ -33,13 +33,13 @@ module _ {profile bits : ℕ} {churns : Bool} {s : Section} (sound : IsSound pro
   Lists e = entry_of e.0 (keys_at profile s.at) ≡ Some e
 
   not_missing : (e : Entry) → Lists e → is_missing churns s e ≡ false
-  not_missing e is = of_found (λ x. is_missing churns s x ≡ false) (λ x. bytes_eq (name_of e.0) (name_of x.0)) (keys_at profile s.at) e is sound.present
+  not_missing e is = of_found (λ x. is_missing churns s x ≡ false) (λ x. bytes_eq (key_name e.0) (key_name x.0)) (keys_at profile s.at) e is sound.present
 
   not_wrong : (e : Entry) → Lists e → has_wrong_type s e ≡ false
-  not_wrong e is = of_found (λ x. has_wrong_type s x ≡ false) (λ x. bytes_eq (name_of e.0) (name_of x.0)) (keys_at profile s.at) e is sound.typed
+  not_wrong e is = of_found (λ x. has_wrong_type s x ≡ false) (λ x. bytes_eq (key_name e.0) (key_name x.0)) (keys_at profile s.at) e is sound.typed
 
   pub not_out : (e : Entry) → Lists e → is_out_of_range bits s e ≡ false
-  not_out e is = of_found (λ x. is_out_of_range bits s x ≡ false) (λ x. bytes_eq (name_of e.0) (name_of x.0)) (keys_at profile s.at) e is sound.fitting
+  not_out e is = of_found (λ x. is_out_of_range bits s x ≡ false) (λ x. bytes_eq (key_name e.0) (key_name x.0)) (keys_at profile s.at) e is sound.fitting
 
   -- a number that has to be there is in range, and agrees with the others of the table
   pub required_fits : (k : FileKey) (least greatest : ℕ) → Lists (required k (Whole least greatest)) → Fits least greatest (number_at k s.members)

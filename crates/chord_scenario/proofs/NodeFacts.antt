@@ -13,7 +13,7 @@ use Rattle.chord_scenario.specs.declared.fault.ScenarioFault.TheVariants.{TimeAf
 use Rattle.toml.specs.Data.{Members}
 use Rattle.chord_scenario.specs.Values.{data_at, number_at, truth_at, holds_word, identifier_of}
 use Rattle.chord_scenario.specs.Sections.{Section}
-use Rattle.chord_scenario.specs.Search.{first_repeat}
+use Rattle.chord_scenario.specs.Search.{first_repeat, repeat_of}
 use Rattle.chord_scenario.specs.Settings.{on_circle, is_node, is_command, name_at, node_of, nodes_of, index_of, node_at, action_of, command_of, commands_of}
 use Rattle.chord_scenario.specs.KeyFaults.{is_churn_section}
 use Rattle.chord_scenario.specs.Faults.{too_few_initial, time_after_end}
@@ -39,10 +39,10 @@ module _ {A : Type 0} (alike : A → A → Bool) where
   unlike : (before xs : List A) (d : A) → first_repeat alike before xs ≡ None → (j : ℕ) → j < length xs → AllByRecursion (λ x. alike x (get_or xs j d) ≡ false) before
   unlike before [] d h j within = absurd (omega arith)
   unlike before (y ∷ ys) d h zero within =
-      let (none, rest) = or_none (option_map (λ x. (x, (length before + 1, y))) (find (λ x. alike x.1 y) (enumerate_from 1 before))) (first_repeat alike (before ++ y ∷ []) ys) h in
-      find-none-each y 1 before (mapped_none (λ x. (x, (length before + 1, y))) (find (λ x. alike x.1 y) (enumerate_from 1 before)) none)
+      let (none, rest) = or_none (option_map (repeat_of y (length before + 1)) (find (λ x. alike x.1 y) (enumerate_from 1 before))) (first_repeat alike (before ++ y ∷ []) ys) h in
+      find-none-each y 1 before (mapped_none (repeat_of y (length before + 1)) (find (λ x. alike x.1 y) (enumerate_from 1 before)) none)
   unlike before (y ∷ ys) d h (suc j) within =
-      let (none, rest) = or_none (option_map (λ x. (x, (length before + 1, y))) (find (λ x. alike x.1 y) (enumerate_from 1 before))) (first_repeat alike (before ++ y ∷ []) ys) h in
+      let (none, rest) = or_none (option_map (repeat_of y (length before + 1)) (find (λ x. alike x.1 y) (enumerate_from 1 before))) (first_repeat alike (before ++ y ∷ []) ys) h in
       front _ before (y ∷ []) (unlike (before ++ y ∷ []) ys d rest j (omega arith))
     where
       front : (P : A → Type 0) (xs zs : List A) → AllByRecursion P (xs ++ zs) → AllByRecursion P xs
@@ -58,14 +58,14 @@ module _ {A : Type 0} (alike : A → A → Bool) where
   no_repeat-from before [] d h i j less within = absurd (omega arith)
   no_repeat-from before (y ∷ ys) d h i zero less within = absurd (omega arith)
   no_repeat-from before (y ∷ ys) d h zero (suc j) less within =
-      let (none, rest) = or_none (option_map (λ x. (x, (length before + 1, y))) (find (λ x. alike x.1 y) (enumerate_from 1 before))) (first_repeat alike (before ++ y ∷ []) ys) h in
+      let (none, rest) = or_none (option_map (repeat_of y (length before + 1)) (find (λ x. alike x.1 y) (enumerate_from 1 before))) (first_repeat alike (before ++ y ∷ []) ys) h in
       last before y (λ x. alike x (get_or ys j d) ≡ false) (unlike (before ++ y ∷ []) ys d rest j (omega arith))
     where
       last : (xs : List A) (y : A) (P : A → Type 0) → AllByRecursion P (xs ++ y ∷ []) → P y
       last [] y P h = h.0
       last (x ∷ xs) y P h = last xs y P h.1
   no_repeat-from before (y ∷ ys) d h (suc i) (suc j) less within =
-      let (none, rest) = or_none (option_map (λ x. (x, (length before + 1, y))) (find (λ x. alike x.1 y) (enumerate_from 1 before))) (first_repeat alike (before ++ y ∷ []) ys) h in
+      let (none, rest) = or_none (option_map (repeat_of y (length before + 1)) (find (λ x. alike x.1 y) (enumerate_from 1 before))) (first_repeat alike (before ++ y ∷ []) ys) h in
       no_repeat-from (before ++ y ∷ []) ys d rest i j (omega arith) (omega arith)
 
   -- no two of a list without a repeat are alike

@@ -10,7 +10,7 @@ use Rattle.chord_scenario.specs.declared.key.Group.TheVariants.{Nodes, Commands}
 use Rattle.chord_scenario.specs.declared.key.Entry.{Entry}
 use Rattle.chord_scenario.specs.declared.key.Form.TheVariants.{Whole}
 use Rattle.chord_scenario.specs.declared.fault.ScenarioFault.TheVariants.{MissingKey, WrongType, OutOfRange}
-use Rattle.chord_scenario.specs.Keys.{keys_at}
+use Rattle.chord_scenario.specs.FileKeys.{keys_at}
 use Rattle.chord_scenario.specs.Values.{data_at, as_whole, is_between, is_in_range}
 use Rattle.chord_scenario.specs.Sections.{Section, table_at, tables_of, sections}
 use Rattle.chord_scenario.specs.Search.{first_some}

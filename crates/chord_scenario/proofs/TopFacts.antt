@@ -15,7 +15,7 @@ use Rattle.chord_scenario.specs.declared.key.Group.{Group}
 use Rattle.chord_scenario.specs.declared.key.Group.TheVariants.{Nodes, Commands}
 use Rattle.chord_scenario.specs.declared.setting.Command.{Command}
 use Rattle.chord_scenario.specs.declared.setting.Node.{Node}
-use Rattle.chord_scenario.specs.Keys.{required, optional}
+use Rattle.chord_scenario.specs.FileKeys.{required, optional}
 use Rattle.chord_scenario.specs.Values.{data_at, number_at, has_type, is_between, item_count, is_in_range}
 use Rattle.chord_scenario.specs.Sections.{Section, place_in, table_at, tables_among, tables_of, sections}
 use Rattle.chord_scenario.specs.Settings.{number_or, is_node, is_command, node_of, nodes_of, command_of, commands_of, churn_of, lookups_of}

@@ -30,10 +30,10 @@ bad_name ss = section_fault BadName (λ s. is_node s.at && not (is_name (name_at
 
 -- two nodes have one name, or one identifier
 unfoldable pub same_name : List Node → Option ScenarioFault
-same_name nodes = option_map (λ p. SameName p.0.0 p.1.0) (first_repeat (λ x y. bytes_eq x.name y.name) [] nodes)
+same_name nodes = option_map (λ r. SameName r.first_number r.second_number) (first_repeat (λ x y. bytes_eq x.name y.name) [] nodes)
 
 unfoldable pub same_id : List Node → Option ScenarioFault
-same_id nodes = option_map (λ p. SameId p.0.1.name p.1.1.name) (first_repeat (λ x y. x.ident == y.ident) [] nodes)
+same_id nodes = option_map (λ r. SameId r.first.name r.second.name) (first_repeat (λ x y. x.ident == y.ident) [] nodes)
 
 -- a command's `node` or `via`, or a name of a row, is no node's
 abbrev pub is_unknown : List Node → List ℕ → Bool
@@ -76,7 +76,7 @@ self_link ss rows = option_or (section_fault SelfLink joins_itself ss) (row_faul
 
 -- a row names the pair of an earlier one
 unfoldable pub same_link_twice : List Row → Option ScenarioFault
-same_link_twice rows = option_map (λ p. SameLinkTwice (place.Row p.1.0)) (first_repeat name_one_pair [] rows)
+same_link_twice rows = option_map (λ r. SameLinkTwice (place.Row r.second_number)) (first_repeat name_one_pair [] rows)
 
 -- two nodes are nearer than the window is long
 abbrev pub latency_by_rows : ℕ → List Row → Node → Node → ℕ

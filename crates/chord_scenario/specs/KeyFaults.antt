@@ -11,7 +11,7 @@ use Rattle.chord_scenario.specs.declared.key.Presence.TheVariants.{Required, Opt
 use Rattle.chord_scenario.specs.declared.key.Entry.{Entry}
 use Rattle.chord_scenario.specs.declared.fault.ScenarioFault.{ScenarioFault}
 use Rattle.chord_scenario.specs.declared.fault.ScenarioFault.TheVariants.{UnknownKey, MissingKey, WrongType, OutOfRange}
-use Rattle.chord_scenario.specs.Keys.{name_of, keys_at}
+use Rattle.chord_scenario.specs.FileKeys.{key_name, keys_at}
 use Rattle.chord_scenario.specs.Values.{data_at, truth_at, holds_word, as_whole, has_type, is_in_range, agrees}
 use Rattle.chord_scenario.specs.Sections.{Section}
 use Rattle.chord_scenario.specs.Search.{first_some, section_fault}
@@ -26,7 +26,7 @@ key_fault profile fault test ss = first_some (key_fault_in profile fault test) s
 
 -- a table has a key that is not listed for it
 abbrev pub is_listed : ℕ → Place → List ℕ → Bool
-is_listed profile p name = list_any (λ e. bytes_eq (name_of e.0) name) (keys_at profile p)
+is_listed profile p name = list_any (λ e. bytes_eq (key_name e.0) name) (keys_at profile p)
 
 abbrev pub has_unlisted : ℕ → Place → Members → Bool
 has_unlisted profile p no_members = false

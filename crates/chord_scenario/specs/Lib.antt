@@ -1,10 +1,10 @@
 pub mod Accepted
 pub mod Blocks
 pub mod Faults
+pub mod FileKeys
 pub mod Index
 pub mod Inside
 pub mod KeyFaults
-pub mod Keys
 pub mod Latencies
 pub mod Range
 pub mod Rows

@@ -8,11 +8,11 @@ use Rattle.chord_scenario.specs.declared.key.FileKey.{FileKey}
 use Rattle.chord_scenario.specs.declared.key.FileKey.TheVariants as key
 use Rattle.chord_scenario.specs.declared.key.Form.{Form}
 use Rattle.chord_scenario.specs.declared.key.Form.TheVariants.{Whole, Text, Operation, Boolean, Identifier, Table, Tables}
-use Rattle.chord_scenario.specs.Keys.{name_of}
+use Rattle.chord_scenario.specs.FileKeys.{key_name}
 
 -- what the members hold at a key
 unfoldable pub data_at : FileKey → Members → Option Data
-data_at k ms = get_member (name_of k) ms
+data_at k ms = get_member (key_name k) ms
 
 -- a whole number from 0
 abbrev pub as_whole : Data → Option ℕ

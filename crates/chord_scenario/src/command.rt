@@ -8,8 +8,8 @@ ghost use Rattle.toml.specs.View.{table_view};
 ghost use Rattle.chord_scenario.specs.Sections.{section_of};
 ghost use Rattle.chord_scenario.specs.Settings.{identifier_at, node_at, action_of, commands_of, number_or, span_of, churn_of, lookups_of};
 
-use crate::index::Names;
 use crate::key::{FileKey, Place};
+use crate::names::Names;
 use crate::node::{identifier_at, name_at};
 use crate::section::PlacedTable;
 use crate::setting::{Action, Churn, Command, Span};

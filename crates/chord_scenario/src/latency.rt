@@ -1,5 +1,3 @@
-//! The latencies between nodes that the rows of a latency file give.
-
 ghost use Rattle.std.specs.Prelude.{◌≡◌, ◌⊎◌, ◌+◌, ◌*◌, ◌^◌, false, Some, None, IfOk, IfErr, length, ◌<◌, ◌≤◌};
 ghost use Rattle.chord_scenario.specs.Rows.{rows_of};
 ghost use Rattle.chord_scenario.specs.Latencies.{HasLatencies, KeepsEnds, keeps_unknown, keeps_bad_row};

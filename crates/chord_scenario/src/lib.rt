@@ -4,12 +4,12 @@
 mod command;
 mod document;
 mod fault;
-mod index;
 mod key;
 mod keys_check;
 mod latency;
 mod link_check;
 mod name;
+mod names;
 mod nearness;
 mod node;
 mod node_check;

@@ -9,8 +9,8 @@ ghost use Rattle.chord_scenario.specs.Faults.{command_names_unknown, unknown_nod
 ghost use Rattle.chord_scenario.specs.Latencies.{keeps_unknown, keeps_bad_row, keeps_itself};
 
 use crate::fault::ScenarioFault;
-use crate::index::Names;
 use crate::key::{FileKey, Place};
+use crate::names::Names;
 use crate::node::name_at;
 use crate::row::{RowLink, Rows};
 use crate::section::PlacedTable;

@@ -1,5 +1,3 @@
-//! The reader of scenarios.
-
 ghost use Rattle.std.specs.Prelude.{◌≡◌, ◌⊎◌, Some, None, IfOk, IfErr, map, length, ◌≤◌};
 ghost use Rattle.chord_scenario.specs.declared.key.FileKey.TheVariants as key;
 ghost use Rattle.chord_scenario.specs.Values.{number_at};
@@ -15,11 +13,11 @@ ghost use Rattle.chord_scenario.specs.Accepted.{setup_with, IsSetupOf, Accepts};
 use crate::command::{churn_of, commands, lookups_of, number_or, small_number_at};
 use crate::document::document;
 use crate::fault::ScenarioFault;
-use crate::index::Names;
 use crate::key::FileKey;
 use crate::keys_check::{missing_key, out_of_range, unknown_key, wrong_type};
 use crate::latency::latencies;
 use crate::link_check::{bad_latency_row, self_link, time_after_end, unknown_node};
+use crate::names::Names;
 use crate::nearness::latency_below_window;
 use crate::node::nodes;
 use crate::node_check::{bad_name, same_id, same_name, too_few_initial};

@@ -1,5 +1,3 @@
-//! The rows of a latency file.
-
 ghost use Rattle.std.specs.Prelude.{◌≡◌, true, IfOk, Some, map, option_map};
 ghost use Rattle.csv.specs.Records.{fields_of};
 ghost use Rattle.std.specs.Char.{is_ascii_digit};
@@ -8,7 +6,7 @@ ghost use Rattle.std.specs.Str.Parse.{digits_value};
 ghost use Rattle.chord_scenario.specs.Rows.{rows_of, is_numeral, latency_number, link_of, link_seen};
 ghost use Rattle.chord_scenario.specs.Latencies.{AreKept, kept_link};
 
-use crate::index::Names;
+use crate::names::Names;
 use csv::{ByteRecord, ErrorKind, ReaderBuilder};
 use std::alloc::{AllocError, Global};
 
