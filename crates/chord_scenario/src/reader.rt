@@ -203,12 +203,6 @@ pub fn read_scenario(alloc: Global, toml: &[u8], csv: &[u8]) -> Result<Scenario,
     ensures accepted { IfOk result (Accepts toml.now csv.now) }
     ensures refused { IfErr result (λ e. (e ≡ ScenarioFault.Memory) ⊎ (scenario_fault toml.now csv.now ≡ Some e)) }
 {
-    let top = match document(alloc, toml) {
-        Ok(top) => top,
-        Err(fault) => return Err(fault),
-    };
-    match scenario_of(alloc, &top, csv) {
-        Ok(scenario) => Ok(scenario),
-        Err(fault) => Err(fault),
-    }
+    let top = document(alloc, toml)?;
+    scenario_of(alloc, &top, csv)
 }
