@@ -13,6 +13,7 @@ pub mod DistinctNames
 pub mod NearnessLemmas
 pub mod Questions
 pub mod Scenarios
+pub mod Squares
 pub mod SoundSections
 pub mod Entries
 pub mod TopFacts

@@ -1,4 +1,4 @@
-use Rattle.std.proofs.Common.{◌≡◌, ◌∙◌, ◌<◌, ◌^◌, List, sym, ap, subst, refl, ℕ, map, None}
+use Rattle.std.proofs.Common.{◌≡◌, ◌∙◌, ◌<◌, ◌^◌, List, sym, ap, subst, ℕ, map, None}
 use Rattle.std.specs.List.{All}
 use Rattle.chord_scenario.specs.Rows.{rows_of}
 use Rattle.toml.specs.Data.{Members}
@@ -15,6 +15,7 @@ use Rattle.chord_scenario.specs.Settings.{nodes_of, commands_of}
 use Rattle.chord_scenario.specs.Values.{number_at}
 use Rattle.chord_scenario.proofs.InRange.{keys_fit, in_range}
 use Rattle.chord_scenario.proofs.Scenarios.{node_questions-distinct, latency-between}
+use Rattle.chord_scenario.proofs.Squares.{square_is}
 use Rattle.chord_scenario.proofs.reader.scenario_of.Goals as goal
 
 -- the tables and nodes that a step was lent are those of the file
@@ -97,4 +98,7 @@ returns-clause-values c =
     let distinct = node_questions-distinct (sections top) (nodes_in top) asked in
     let sc = setup_with top (nodes_in top) (commands_in top) cells in
     let is : c.assembled.result ≡ sc = c.assembled.ensures ∙ rw (own, commands) in
-    rw is (record { values = refl; latencies = λ i j x y apart hx hy. latency-between rows sc i j x y square linked.good distinct apart hx hy })
+    rw is (record {
+      values = ap (setup_with top (nodes_in top) (commands_in top)) (square_is (nodes_in top) rows cells square distinct);
+      latencies = λ i j x y apart hx hy. latency-between rows sc i j x y square linked.good distinct apart hx hy;
+    })
