@@ -12,7 +12,8 @@ use Rattle.chord_scenario.specs.declared.fault.ScenarioFault.TheVariants.{SameId
 use Rattle.chord_scenario.specs.declared.key.FileKey.TheVariants as key
 use Rattle.chord_scenario.specs.declared.setting.Node.{Node}
 use Rattle.chord_scenario.specs.Accepted.{setup_with, nodes_in, commands_in}
-use Rattle.chord_scenario.specs.Faults.{key_questions, node_questions, late_questions, first_answer, same_id}
+use Rattle.chord_scenario.specs.Faults.{first_answer, same_id}
+use Rattle.chord_scenario.specs.Groups.{key_questions, node_questions, late_questions}
 use Rattle.chord_scenario.specs.KeyFaults.{is_churn_section}
 use Rattle.chord_scenario.specs.Latencies.{HasLatencies}
 use Rattle.chord_scenario.specs.Range.{IsCommandOf, IsInRange}

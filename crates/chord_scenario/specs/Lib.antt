@@ -2,6 +2,7 @@ pub mod Accepted
 pub mod Blocks
 pub mod Faults
 pub mod FileKeys
+pub mod Groups
 pub mod Index
 pub mod Inside
 pub mod KeyFaults

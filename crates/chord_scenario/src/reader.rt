@@ -6,7 +6,8 @@ ghost use Rattle.chord_scenario.specs.Rows.{rows_of};
 ghost use Rattle.chord_scenario.specs.Sections.{section_of};
 ghost use Rattle.chord_scenario.specs.Latencies.{HasLatencies};
 ghost use Rattle.chord_scenario.specs.Settings.{commands_of};
-ghost use Rattle.chord_scenario.specs.Faults.{key_questions, node_questions, link_questions, late_questions, first_answer, same_name, bad_latency_row, file_fault, scenario_fault};
+ghost use Rattle.chord_scenario.specs.Faults.{first_answer, same_name, bad_latency_row, file_fault, scenario_fault};
+ghost use Rattle.chord_scenario.specs.Groups.{key_questions, node_questions, link_questions, late_questions};
 ghost use Rattle.chord_scenario.specs.Range.{IsInRange};
 ghost use Rattle.chord_scenario.specs.Accepted.{setup_with, IsSetupOf, Accepts};
 

@@ -7,7 +7,8 @@ use Rattle.chord_scenario.specs.declared.key.FileKey.TheVariants as key
 use Rattle.chord_scenario.specs.declared.setting.Command.{Command}
 use Rattle.chord_scenario.specs.declared.setting.Node.{Node}
 use Rattle.chord_scenario.specs.Accepted.{setup_with, nodes_in, commands_in}
-use Rattle.chord_scenario.specs.Faults.{key_questions, node_questions, late_questions, first_answer}
+use Rattle.chord_scenario.specs.Faults.{first_answer}
+use Rattle.chord_scenario.specs.Groups.{key_questions, node_questions, late_questions}
 use Rattle.chord_scenario.specs.Latencies.{HasLatencies}
 use Rattle.chord_scenario.specs.Rows.{Row}
 use Rattle.chord_scenario.specs.Sections.{Section, section_of, sections}
