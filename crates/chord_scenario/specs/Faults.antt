@@ -11,9 +11,10 @@ use Rattle.chord_scenario.specs.declared.setting.Node.{Node}
 use Rattle.chord_scenario.specs.declared.fault.ScenarioFault.{ScenarioFault}
 use Rattle.chord_scenario.specs.declared.fault.ScenarioFault.TheVariants.{NotToml, BadName, SameName, SameId, UnknownNode, TooFewInitial, TimeAfterEnd, BadLatencyRow, SelfLink, SameLinkTwice, LatencyBelowWindow}
 use Rattle.chord_scenario.specs.declared.key.Place.TheVariants as place
-use Rattle.chord_scenario.specs.Values.{number_at, text_at, holds_word}
+use Rattle.chord_scenario.specs.Operations.{is_join}
+use Rattle.chord_scenario.specs.Values.{number_at, text_at}
 use Rattle.chord_scenario.specs.Sections.{Section, sections}
-use Rattle.chord_scenario.specs.Settings.{is_node, is_command, name_at, index_of, nodes_of}
+use Rattle.chord_scenario.specs.Settings.{is_node, is_command, operation_at, name_at, index_of, nodes_of}
 use Rattle.chord_scenario.specs.Rows.{Row, link_of, is_bad_row, name_one_pair, row_latency, rows_of}
 use Rattle.chord_scenario.specs.Search.{first_some, first_repeat, first_meeting, section_fault, row_fault}
 use Rattle.chord_scenario.specs.KeyFaults.{unknown_key, missing_key, wrong_type, out_of_range}
@@ -65,7 +66,7 @@ bad_latency_row rows = row_fault BadLatencyRow is_bad_row rows
 -- a join by way of the node itself, or a row that names one node twice
 abbrev pub joins_itself : Section → Bool
 joins_itself s =
-    is_command s.at && holds_word key.Do (codes "join") s.members
+    is_command s.at && is_join (operation_at s.members)
     && bytes_eq (name_at key.Node s.members) (name_at key.Via s.members)
 
 abbrev pub row_joins_itself : Row → Bool

@@ -7,6 +7,7 @@ pub mod Index
 pub mod Inside
 pub mod KeyFaults
 pub mod Latencies
+pub mod Operations
 pub mod Range
 pub mod Rows
 pub mod Search

@@ -13,6 +13,7 @@ mod names;
 mod nearness;
 mod node;
 mod node_check;
+mod operation;
 mod reader;
 mod row;
 mod scenario;
