@@ -53,9 +53,11 @@ module _ {profile bits : ℕ} {churns : Bool} {s : Section} (sound : IsSound pro
       number_agrees (is_in_range bits (Whole least greatest)) (agrees s.members k) (data_at k s.members) (not_missing e is) (not_out e is)
 
   -- one that may be there is in range where its default is
-  pub optional_fits : (k : FileKey) (least greatest default : ℕ) → Lists (optional k (Whole least greatest)) → Fits least greatest default → Fits least greatest (number_or default k s.members)
+  pub optional_fits : (k : FileKey) (least greatest default : ℕ) → Lists (optional k (Whole least greatest)) → Fits least greatest default
+      → Fits least greatest (number_or default k s.members)
   optional_fits k least greatest default is own =
-      default_fits bits least greatest default (λ d. agrees s.members k (unwrap_or (as_whole d) 0)) (data_at k s.members) own (not_out (optional k (Whole least greatest)) is)
+      default_fits bits least greatest default (λ d. agrees s.members k (unwrap_or (as_whole d) 0)) (data_at k s.members) own
+      (not_out (optional k (Whole least greatest)) is)
 
   -- a value that has to be there is there, and has its type
   pub has_typed : (e : Entry) → Lists e → is_required churns s e.2 ≡ true → (d : Data) × (data_at e.0 s.members ≡ Some d) × (has_type e.1 d ≡ true)

@@ -25,7 +25,8 @@ module _ (toml csv : List ℕ) where
     of_file e (inr fault) = inr (scenario_fault-file toml csv top is ∙ fault)
 
     -- and one without
-    accepted : {E : Type 0} (r : Result Setup E) → IfOk r (λ _. file_fault top (rows_of csv) ≡ None) → IfOk r (IsSetupOf top (rows_of csv)) → IfOk r (Accepts toml csv)
+    accepted : {E : Type 0} (r : Result Setup E) → IfOk r (λ _. file_fault top (rows_of csv) ≡ None) → IfOk r (IsSetupOf top (rows_of csv))
+        → IfOk r (Accepts toml csv)
     accepted (Ok sc) none values = record { top = top; is_document = is; no_fault = scenario_fault-file toml csv top is ∙ none; is_setup = values }
     accepted (Err e) none values = tt
 
@@ -36,8 +37,10 @@ returns-in_err-top-clause-refused c =
 
 pub returns-clause-accepted : goal.returns-clause-accepted
 returns-clause-accepted c =
-    accepted c.args.toml.now c.args.csv.now (table_view c.in_ok-top.top) c.in_ok-top.ensures.ok c.scenario_of.result c.scenario_of.ensures.sound c.scenario_of.ensures.values
+    accepted c.args.toml.now c.args.csv.now (table_view c.in_ok-top.top) c.in_ok-top.ensures.ok
+    c.scenario_of.result c.scenario_of.ensures.sound c.scenario_of.ensures.values
 
 pub returns-clause-refused : goal.returns-clause-refused
 returns-clause-refused c =
-    IfErr-weaker c.scenario_of.result _ _ (of_file c.args.toml.now c.args.csv.now (table_view c.in_ok-top.top) c.in_ok-top.ensures.ok) c.scenario_of.ensures.refused
+    IfErr-weaker c.scenario_of.result _ _ (of_file c.args.toml.now c.args.csv.now (table_view c.in_ok-top.top) c.in_ok-top.ensures.ok)
+    c.scenario_of.ensures.refused
