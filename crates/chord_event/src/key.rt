@@ -1,4 +1,5 @@
 ghost use Rattle.std.specs.Prelude.{◌≡◌, ◌+◌, ◌-◌, ◌^◌, ◌<◌};
+ghost use Rattle.chord_event.specs.Keys.{is_before};
 
 /// Where an event stands in the order of all events: by its time in microseconds, then by its
 /// origin, then by its number. Origin 0 is kept for audits, 1 is the scenario's commands, and
@@ -22,5 +23,13 @@ impl Key {
             origin: 2 + node,
             number: count + 1,
         }
+    }
+
+    /// Whether the event of this key comes before that of the other: by its time in microseconds,
+    /// then by its origin, then by its number. No event comes before itself.
+    pub fn is_before(&self, other: &Key) -> bool
+        ensures { result ≡ is_before self.now other.now }
+    {
+        self < other
     }
 }

@@ -1,7 +1,7 @@
 //! Worked examples: whole scenarios, with the traces and reports that they have by the rules. None of them was
 //! made by this program: most traces were given together with the rules, those with random streams by two simulators
 //! written apart from it, and the other numbers were counted by hand. And random scenarios, which leave the same one
-//! event at a time, by windows and by crews.
+//! event at a time, by windows and by crews; and texts of scenarios, each with the first fault that it has.
 #![tactic(auto)]
 
 #[cfg(test)]
@@ -15,6 +15,8 @@ mod examples;
 #[cfg(test)]
 mod failures;
 #[cfg(test)]
+mod faults;
+#[cfg(test)]
 mod gates;
 #[cfg(test)]
 mod plans;
@@ -22,6 +24,8 @@ mod plans;
 mod playing;
 #[cfg(test)]
 mod random;
+#[cfg(test)]
+mod reading;
 #[cfg(test)]
 mod rings;
 #[cfg(test)]

@@ -12,7 +12,8 @@ use Rattle.chord_scenario.specs.declared.fault.ScenarioFault.TheVariants.{SameId
 use Rattle.chord_scenario.specs.declared.key.FileKey.TheVariants as key
 use Rattle.chord_scenario.specs.declared.setting.Node.{Node}
 use Rattle.chord_scenario.specs.Accepted.{setup_with, nodes_in, commands_in}
-use Rattle.chord_scenario.specs.Faults.{key_questions, node_questions, late_questions, first_answer, same_id}
+use Rattle.chord_scenario.specs.Faults.{first_answer, same_name, same_id, too_few_initial, time_after_end, bad_latency_row, latency_below_window}
+use Rattle.chord_scenario.specs.Groups.{key_questions, node_questions, late_questions}
 use Rattle.chord_scenario.specs.KeyFaults.{is_churn_section}
 use Rattle.chord_scenario.specs.Latencies.{HasLatencies}
 use Rattle.chord_scenario.specs.Range.{IsCommandOf, IsInRange}
@@ -33,6 +34,24 @@ use Rattle.chord_scenario.proofs.TopFacts.{profile_fits, bits_fit, numbers_fit, 
 answers_none : (qs : List (Option ScenarioFault)) → first_answer qs ≡ None → AllByRecursion (λ q. q ≡ None) qs
 answers_none [] h = tt
 answers_none (q ∷ qs) h = let (here, rest) = or_none q (first_answer qs) h in (here, answers_none qs rest)
+
+-- what the other questions say
+record IsFaultless (top : Members) (rows : List Row) : Type 0 where
+  names : same_name (nodes_in top) ≡ None
+  idents : same_id (nodes_in top) ≡ None
+  initial : too_few_initial (number_at key.List top) (nodes_in top) ≡ None
+  in_time : time_after_end (number_at key.DurationUs top) (sections top) ≡ None
+  good_rows : bad_latency_row rows ≡ None
+  far : latency_below_window (number_at key.WindowUs top) (number_at key.LatencyUs top) (nodes_in top) rows ≡ None
+
+faultless : (top : Members) (rows : List Row) → first_answer (node_questions (sections top) (nodes_in top)) ≡ None
+    → first_answer (late_questions top (sections top) (nodes_in top) rows) ≡ None → IsFaultless top rows
+faultless top rows own late =
+    let of_nodes = answers_none (node_questions (sections top) (nodes_in top)) own in
+    let (names, (idents, end)) = of_nodes.1 in
+    let of_links = answers_none (late_questions top (sections top) (nodes_in top) rows) late in
+    let (initial, (in_time, (good_rows, (apart, (once, (far, last)))))) = of_links.1 in
+    record { names = names; idents = idents; initial = initial; in_time = in_time; good_rows = good_rows; far = far }
 
 -- what the questions of keys say
 pub record KeysFit (top : Members) : Type 0 where
@@ -57,7 +76,7 @@ met : (nodes : List Node) (i j : ℕ) → same_id nodes ≡ None → i < j → j
 unfolding same_id
 met nodes i j h less within same =
     let d = first_of nodes j within in
-    let apart = no_repeat (λ x y. x.ident == y.ident) nodes d (mapped_none (λ p. SameId p.0.1.name p.1.1.name) (first_repeat (λ x y. x.ident == y.ident) [] nodes) h) i j less within in
+    let apart = no_repeat (λ x y. x.ident == y.ident) nodes d (mapped_none (λ r. SameId r.first.name r.second.name) (first_repeat (λ x y. x.ident == y.ident) [] nodes) h) i j less within in
     let one = get_or-map (λ n. n.ident) nodes i d 0 (omega arith) in
     let two = get_or-map (λ n. n.ident) nodes j d 0 within in
     false≢true (sym apart ∙ eq-eqb (get_or nodes i d).ident (get_or nodes j d).ident (sym one ∙ same ∙ two))
@@ -94,10 +113,9 @@ module _ (profile : ℕ) (top : Members) (rows : List Row) (cells : List ℕ)
       let bits = number_at key.Bits top in
       let churns = list_any is_churn_section (sections top) in
       let sound = holds_in_file (IsSound profile bits churns) top (sound_sections profile bits (sections top) keys) in
-      let of_nodes = answers_none (node_questions (sections top) (nodes_in top)) own in
-      let rest = answers_none (late_questions top (sections top) (nodes_in top) rows) late in
+      let none = faultless top rows own late in
       let numbers = numbers_fit profile bits churns top sound.top (nodes_in top) (commands_in top) cells in
-      let initial = enough_initial sc.list sc.nodes rest.1.0 in
+      let initial = enough_initial sc.list sc.nodes none.initial in
       let enough : 2 ≤ node_count sc = omega (arith, initial, count_by-le-length (λ n. n.initial) sc.nodes, numbers.list_least) in
       record {
         numbers = numbers;
@@ -105,13 +123,13 @@ module _ (profile : ℕ) (top : Members) (rows : List Row) (cells : List ℕ)
           least = enough;
           greatest = few_nodes profile bits churns top sound.top bits;
           on_circle = idents_on_circle sc on_circle;
-          apart = idents_apart sc of_nodes.1.1.0;
+          apart = idents_apart sc none.idents;
           initial = initial;
         };
-        latencies = latencies_fit sc rows has rest.1.1.1.0 of_nodes.1.0 rest.1.1.1.1.1.1.0 numbers.latency.least numbers.latency.greatest;
+        latencies = latencies_fit sc rows has none.good_rows none.names none.far numbers.latency.least numbers.latency.greatest;
         churn = churn_in_range profile bits churns top sound;
         churn_is_set = λ i h. churn_there profile bits churns top sound.top (a_node_churns sc bits (sections top) i refl h);
         lookups = lookups_in_range profile bits churns top sound;
         few_commands = few_commands profile bits churns top sound.top bits (nodes_in top);
-        commands = All-from_recursion (IsCommandOf sc) sc.commands (commands_fit sc (omega arith) (sections top) rest.1.1.0);
+        commands = All-from_recursion (IsCommandOf sc) sc.commands (commands_fit sc (omega arith) (sections top) none.in_time);
       }

@@ -13,7 +13,9 @@ pub mod DistinctNames
 pub mod NearnessLemmas
 pub mod Questions
 pub mod Scenarios
+pub mod Squares
 pub mod SoundSections
+pub mod Entries
 pub mod TopFacts
 pub mod NodeFacts
 pub mod LatencyFacts

@@ -1,5 +1,5 @@
 -- What a file without faults says of its nodes and commands.
-use Rattle.std.proofs.Common.{◌≡◌, ◌∙◌, sym, ap, refl, ℕ, zero, suc, ◌+◌, ◌<◌, ◌≤◌, ◌^◌, Bool, true, false, ◌&&◌, ◌||◌, List, [], ◌∷◌, ◌++◌, codes, length, map, filter, find, get_or, slice_get, nat_le, nat_lt, Option, Some, None, option_map, unwrap_or, inl, inr, arith, count_by}
+use Rattle.std.proofs.Common.{◌≡◌, ◌∙◌, sym, ap, refl, ℕ, zero, suc, ◌+◌, ◌<◌, ◌≤◌, ◌^◌, Bool, true, false, ◌&&◌, ◌||◌, List, [], ◌∷◌, ◌++◌, length, map, filter, find, get_or, slice_get, nat_le, nat_lt, Option, Some, None, option_map, unwrap_or, inl, inr, arith, count_by}
 use Rattle.std.specs.Option.{option_and_then}
 use Rattle.std.specs.List.{AllByRecursion, list_any, enumerate_from}
 use Rattle.std.proofs.lemmas.Bool.{cases_Bool, false≢true, ltb-true}
@@ -9,12 +9,14 @@ use Rattle.std.proofs.lemmas.Option.{same_Some}
 use Rattle.chord_scenario.specs.declared.setting.Node.{Node}
 use Rattle.chord_scenario.specs.declared.key.FileKey.{FileKey}
 use Rattle.chord_scenario.specs.declared.key.FileKey.TheVariants as key
+use Rattle.chord_scenario.specs.declared.operation.Operation.{Operation}
+use Rattle.chord_scenario.specs.declared.operation.Operation.TheVariants as operation
 use Rattle.chord_scenario.specs.declared.fault.ScenarioFault.TheVariants.{TimeAfterEnd}
 use Rattle.toml.specs.Data.{Members}
-use Rattle.chord_scenario.specs.Values.{data_at, number_at, truth_at, holds_word, identifier_of}
+use Rattle.chord_scenario.specs.Values.{data_at, number_at, truth_at, identifier_of}
 use Rattle.chord_scenario.specs.Sections.{Section}
-use Rattle.chord_scenario.specs.Search.{first_repeat}
-use Rattle.chord_scenario.specs.Settings.{on_circle, is_node, is_command, name_at, node_of, nodes_of, index_of, node_at, action_of, command_of, commands_of}
+use Rattle.chord_scenario.specs.Search.{first_repeat, repeat_of}
+use Rattle.chord_scenario.specs.Settings.{on_circle, is_node, is_command, name_at, node_of, nodes_of, index_of, node_at, operation_at, action_by, action_of, command_of, commands_of}
 use Rattle.chord_scenario.specs.KeyFaults.{is_churn_section}
 use Rattle.chord_scenario.specs.Faults.{too_few_initial, time_after_end}
 use Rattle.chord_scenario.specs.Range.{IsActionOf, IsCommandOf}
@@ -39,10 +41,10 @@ module _ {A : Type 0} (alike : A → A → Bool) where
   unlike : (before xs : List A) (d : A) → first_repeat alike before xs ≡ None → (j : ℕ) → j < length xs → AllByRecursion (λ x. alike x (get_or xs j d) ≡ false) before
   unlike before [] d h j within = absurd (omega arith)
   unlike before (y ∷ ys) d h zero within =
-      let (none, rest) = or_none (option_map (λ x. (x, (length before + 1, y))) (find (λ x. alike x.1 y) (enumerate_from 1 before))) (first_repeat alike (before ++ y ∷ []) ys) h in
-      find-none-each y 1 before (mapped_none (λ x. (x, (length before + 1, y))) (find (λ x. alike x.1 y) (enumerate_from 1 before)) none)
+      let (none, rest) = or_none (option_map (repeat_of y (length before + 1)) (find (λ x. alike x.1 y) (enumerate_from 1 before))) (first_repeat alike (before ++ y ∷ []) ys) h in
+      find-none-each y 1 before (mapped_none (repeat_of y (length before + 1)) (find (λ x. alike x.1 y) (enumerate_from 1 before)) none)
   unlike before (y ∷ ys) d h (suc j) within =
-      let (none, rest) = or_none (option_map (λ x. (x, (length before + 1, y))) (find (λ x. alike x.1 y) (enumerate_from 1 before))) (first_repeat alike (before ++ y ∷ []) ys) h in
+      let (none, rest) = or_none (option_map (repeat_of y (length before + 1)) (find (λ x. alike x.1 y) (enumerate_from 1 before))) (first_repeat alike (before ++ y ∷ []) ys) h in
       front _ before (y ∷ []) (unlike (before ++ y ∷ []) ys d rest j (omega arith))
     where
       front : (P : A → Type 0) (xs zs : List A) → AllByRecursion P (xs ++ zs) → AllByRecursion P xs
@@ -58,14 +60,14 @@ module _ {A : Type 0} (alike : A → A → Bool) where
   no_repeat-from before [] d h i j less within = absurd (omega arith)
   no_repeat-from before (y ∷ ys) d h i zero less within = absurd (omega arith)
   no_repeat-from before (y ∷ ys) d h zero (suc j) less within =
-      let (none, rest) = or_none (option_map (λ x. (x, (length before + 1, y))) (find (λ x. alike x.1 y) (enumerate_from 1 before))) (first_repeat alike (before ++ y ∷ []) ys) h in
+      let (none, rest) = or_none (option_map (repeat_of y (length before + 1)) (find (λ x. alike x.1 y) (enumerate_from 1 before))) (first_repeat alike (before ++ y ∷ []) ys) h in
       last before y (λ x. alike x (get_or ys j d) ≡ false) (unlike (before ++ y ∷ []) ys d rest j (omega arith))
     where
       last : (xs : List A) (y : A) (P : A → Type 0) → AllByRecursion P (xs ++ y ∷ []) → P y
       last [] y P h = h.0
       last (x ∷ xs) y P h = last xs y P h.1
   no_repeat-from before (y ∷ ys) d h (suc i) (suc j) less within =
-      let (none, rest) = or_none (option_map (λ x. (x, (length before + 1, y))) (find (λ x. alike x.1 y) (enumerate_from 1 before))) (first_repeat alike (before ++ y ∷ []) ys) h in
+      let (none, rest) = or_none (option_map (repeat_of y (length before + 1)) (find (λ x. alike x.1 y) (enumerate_from 1 before))) (first_repeat alike (before ++ y ∷ []) ys) h in
       no_repeat-from (before ++ y ∷ []) ys d rest i j (omega arith) (omega arith)
 
   -- no two of a list without a repeat are alike
@@ -134,15 +136,13 @@ module _ (sc : Setup) (some : 0 < node_count sc) where
       by_case (Some i) e = index_of-below sc.nodes i (name_at k ms) e
 
   action_fits : (ms : Members) → IsActionOf sc (action_of sc.bits sc.nodes ms)
-  action_fits ms =
-      elim (cases_Bool (holds_word key.Do (codes "join") ms)) [
-        | inl joins ↦ rw joins (node_at-below key.Via ms)
-        | inr not_join ↦
-            elim (cases_Bool (holds_word key.Do (codes "crash") ms)) [
-              | inl crashes ↦ rw (not_join, crashes) tt
-              | inr not_crash ↦ rw (not_join, not_crash) (circle_fits sc.bits (option_and_then identifier_of (data_at key.Key ms)))
-            ]
-      ]
+  action_fits ms = by_operation (operation_at ms)
+    where
+      by_operation : (o : Option Operation) → IsActionOf sc (action_by sc.bits sc.nodes ms o)
+      by_operation (Some operation.Join) = node_at-below key.Via ms
+      by_operation (Some operation.Crash) = tt
+      by_operation (Some operation.Lookup) = circle_fits sc.bits (option_and_then identifier_of (data_at key.Key ms))
+      by_operation None = circle_fits sc.bits (option_and_then identifier_of (data_at key.Key ms))
 
   commands_fit-each : (ss : List Section) → find (λ s. is_command s.at && nat_le sc.duration (number_at key.AtUs s.members)) ss ≡ None
       → AllByRecursion (IsCommandOf sc) (map (λ s. command_of sc.bits sc.nodes s.members) (filter (λ s. is_command s.at) ss))

@@ -9,7 +9,8 @@ use Rattle.chord_scenario.specs.declared.fault.ScenarioFault.TheVariants.{NotTom
 use Rattle.chord_scenario.specs.Sections.{Section}
 use Rattle.chord_scenario.specs.Rows.{Row, rows_of}
 use Rattle.chord_scenario.specs.Latencies.{HasLatencies}
-use Rattle.chord_scenario.specs.Faults.{bad_name, same_name, same_id, bad_latency_row, node_questions, first_answer, latency_by_rows, document, file_fault, scenario_fault}
+use Rattle.chord_scenario.specs.Faults.{bad_name, same_name, same_id, bad_latency_row, first_answer, latency_by_rows, document, file_fault, scenario_fault}
+use Rattle.chord_scenario.specs.Groups.{node_questions}
 use Rattle.chord_scenario.specs.World.{latency}
 use Rattle.chord_scenario.proofs.DistinctNames.{or_none}
 use Rattle.chord_scenario.proofs.NearnessLemmas.{latency_in-between, at_place}

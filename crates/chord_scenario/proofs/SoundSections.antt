@@ -10,12 +10,13 @@ use Rattle.chord_scenario.specs.declared.key.Group.TheVariants.{Nodes, Commands}
 use Rattle.chord_scenario.specs.declared.key.Entry.{Entry}
 use Rattle.chord_scenario.specs.declared.key.Form.TheVariants.{Whole}
 use Rattle.chord_scenario.specs.declared.fault.ScenarioFault.TheVariants.{MissingKey, WrongType, OutOfRange}
-use Rattle.chord_scenario.specs.Keys.{keys_at}
+use Rattle.chord_scenario.specs.FileKeys.{keys_at}
 use Rattle.chord_scenario.specs.Values.{data_at, as_whole, is_between, is_in_range}
 use Rattle.chord_scenario.specs.Sections.{Section, table_at, tables_of, sections}
 use Rattle.chord_scenario.specs.Search.{first_some}
 use Rattle.chord_scenario.specs.KeyFaults.{key_fault_in, is_churn_section, is_missing, unknown_key, missing_key, has_wrong_type, wrong_type, is_out_of_range, out_of_range}
-use Rattle.chord_scenario.specs.Faults.{key_questions, first_answer}
+use Rattle.chord_scenario.specs.Faults.{first_answer}
+use Rattle.chord_scenario.specs.Groups.{key_questions}
 use Rattle.chord_scenario.proofs.FirstRepeat.{mapped_none}
 use Rattle.chord_scenario.proofs.DistinctNames.{or_none}
 

@@ -1,6 +1,6 @@
 -- What a file without faults of keys says of its numbers, spans and tables.
 use Rattle.std.proofs.Common.{◌≡◌, ◌∙◌, sym, ap, refl, ℕ, ◌+◌, ◌*◌, ◌≤◌, Bool, true, false, not, ◌&&◌, List, [], ◌∷◌, ◌++◌, length, filter, nat_le, Option, Some, None, IfSome, IsSome, option_map, inl, inr, arith, length-append}
-use Rattle.std.specs.Option.{option_map_or, option_and_then, is_none, is_some}
+use Rattle.std.specs.Option.{option_map_or, option_and_then, is_some}
 use Rattle.std.specs.List.{AllByRecursion}
 use Rattle.std.proofs.lemmas.Bool.{cases_Bool, and_parts, false≢true, leb-true}
 use Rattle.std.proofs.lemmas.List.{length-map}
@@ -10,16 +10,19 @@ use Rattle.chord_scenario.specs.declared.key.Place.{Place}
 use Rattle.chord_scenario.specs.declared.key.Place.TheVariants as place
 use Rattle.chord_scenario.specs.declared.key.FileKey.TheVariants as key
 use Rattle.chord_scenario.specs.declared.key.Form.TheVariants.{Table, Tables}
+use Rattle.chord_scenario.specs.declared.key.Presence.TheVariants.{ForChurn}
 use Rattle.chord_scenario.specs.declared.key.Group.{Group}
 use Rattle.chord_scenario.specs.declared.key.Group.TheVariants.{Nodes, Commands}
 use Rattle.chord_scenario.specs.declared.setting.Command.{Command}
 use Rattle.chord_scenario.specs.declared.setting.Node.{Node}
+use Rattle.chord_scenario.specs.FileKeys.{required, optional}
 use Rattle.chord_scenario.specs.Values.{data_at, number_at, has_type, is_between, item_count, is_in_range}
 use Rattle.chord_scenario.specs.Sections.{Section, place_in, table_at, tables_among, tables_of, sections}
 use Rattle.chord_scenario.specs.Settings.{number_or, is_node, is_command, node_of, nodes_of, command_of, commands_of, churn_of, lookups_of}
 use Rattle.chord_scenario.specs.Accepted.{setup_with}
 use Rattle.chord_scenario.specs.Range.{IsSpan, IsChurn, IsInterval, NumbersInRange}
-use Rattle.chord_scenario.proofs.SoundSections.{IsSound, Fits, HoldsInFile, number_fits, default_fits, number_agrees, there_typed}
+use Rattle.chord_scenario.proofs.SoundSections.{IsSound, Fits, HoldsInFile}
+use Rattle.chord_scenario.proofs.Entries.{required_fits, required_agrees, optional_fits, has_typed, not_out}
 
 -- a number of microseconds that is at least 1
 interval : {n : ℕ} → Fits 1 1000000000 n → IsInterval n
@@ -27,43 +30,25 @@ interval f = record { least = f.low; greatest = f.high }
 
 module _ (profile bits : ℕ) (churns : Bool) (top : Members) (s : IsSound profile bits churns (record { at = place.Top; members = top })) where
   pub profile_fits : Fits 1 1 (number_at key.Profile top)
-  profile_fits = number_fits bits 1 1 _ (data_at key.Profile top) s.present.0 s.fitting.0
+  profile_fits = required_fits s key.Profile 1 1 refl
 
   pub bits_fit : Fits 3 64 (number_at key.Bits top)
-  bits_fit = number_fits bits 3 64 _ (data_at key.Bits top) s.present.1.0 s.fitting.1.0
+  bits_fit = required_fits s key.Bits 3 64 refl
 
   list_fits : Fits 1 16 (number_at key.List top)
-  list_fits = number_fits bits 1 16 _ (data_at key.List top) s.present.1.1.0 s.fitting.1.1.0
+  list_fits = required_fits s key.List 1 16 refl
 
   duration_fits : Fits 1 1000000000000 (number_at key.DurationUs top)
-  duration_fits = number_fits bits 1 1000000000000 _ (data_at key.DurationUs top) s.present.1.1.1.1.0 s.fitting.1.1.1.1.0
-
-  window_fits : Fits 1 1000000000 (number_at key.WindowUs top)
-  window_fits = number_fits bits 1 1000000000 _ (data_at key.WindowUs top) s.present.1.1.1.1.1.0 s.fitting.1.1.1.1.1.0
-
-  latency_fits : Fits 1 1000000000 (number_at key.LatencyUs top)
-  latency_fits = number_fits bits 1 1000000000 _ (data_at key.LatencyUs top) s.present.1.1.1.1.1.1.0 s.fitting.1.1.1.1.1.1.0
-
-  timeout_fits : Fits 1 1000000000 (number_at key.TimeoutUs top)
-  timeout_fits = number_fits bits 1 1000000000 _ (data_at key.TimeoutUs top) s.present.1.1.1.1.1.1.1.0 s.fitting.1.1.1.1.1.1.1.0
-
-  audit_fits : Fits 1 1000000000 (number_at key.AuditUs top)
-  audit_fits = number_fits bits 1 1000000000 _ (data_at key.AuditUs top) s.present.1.1.1.1.1.1.1.1.0 s.fitting.1.1.1.1.1.1.1.1.0
+  duration_fits = required_fits s key.DurationUs 1 1000000000000 refl
 
   audits_fit : number_at key.DurationUs top ≤ 1000000 * number_at key.AuditUs top
-  audits_fit = leb-true _ _ (number_agrees _ (λ n. nat_le (number_at key.DurationUs top) (1000000 * n)) (data_at key.AuditUs top) s.present.1.1.1.1.1.1.1.1.0 s.fitting.1.1.1.1.1.1.1.1.0)
-
-  stabilize_fits : Fits 1 1000000000 (number_at key.StabilizeUs top)
-  stabilize_fits = number_fits bits 1 1000000000 _ (data_at key.StabilizeUs top) s.present.1.1.1.1.1.1.1.1.1.0 s.fitting.1.1.1.1.1.1.1.1.1.0
-
-  finger_fits : Fits 1 1000000000 (number_at key.FingerUs top)
-  finger_fits = number_fits bits 1 1000000000 _ (data_at key.FingerUs top) s.present.1.1.1.1.1.1.1.1.1.1.0 s.fitting.1.1.1.1.1.1.1.1.1.1.0
+  audits_fit = leb-true _ _ (required_agrees s key.AuditUs 1 1000000000 refl)
 
   jitter_fits : Fits 0 1000000000 (number_or 0 key.JitterUs top)
-  jitter_fits = default_fits bits 0 1000000000 0 _ (data_at key.JitterUs top) (record { low = omega arith; high = omega arith }) s.fitting.1.1.1.1.1.1.1.1.1.1.1.0
+  jitter_fits = optional_fits s key.JitterUs 0 1000000000 0 refl (record { low = omega arith; high = omega arith })
 
   max_events_fits : Fits 1 50000000 (number_or 50000000 key.MaxEvents top)
-  max_events_fits = default_fits bits 1 50000000 50000000 _ (data_at key.MaxEvents top) (record { low = omega arith; high = omega arith }) s.fitting.1.1.1.1.1.1.1.1.1.1.1.1.0
+  max_events_fits = optional_fits s key.MaxEvents 1 50000000 50000000 refl (record { low = omega arith; high = omega arith })
 
   pub numbers_fit : (nodes : List Node) (commands : List Command) (latencies : List ℕ) → NumbersInRange (setup_with top nodes commands latencies)
   numbers_fit nodes commands latencies = record {
@@ -73,13 +58,13 @@ module _ (profile bits : ℕ) (churns : Bool) (top : Members) (s : IsSound profi
     list_greatest = list_fits.high;
     duration_least = duration_fits.low;
     duration_greatest = duration_fits.high;
-    window = interval window_fits;
-    latency = interval latency_fits;
-    timeout = interval timeout_fits;
-    audit = interval audit_fits;
+    window = interval (required_fits s key.WindowUs 1 1000000000 refl);
+    latency = interval (required_fits s key.LatencyUs 1 1000000000 refl);
+    timeout = interval (required_fits s key.TimeoutUs 1 1000000000 refl);
+    audit = interval (required_fits s key.AuditUs 1 1000000000 refl);
     audits = audits_fit;
-    stabilize = interval stabilize_fits;
-    finger = interval finger_fits;
+    stabilize = interval (required_fits s key.StabilizeUs 1 1000000000 refl);
+    finger = interval (required_fits s key.FingerUs 1 1000000000 refl);
     jitter = jitter_fits.high;
     max_events_least = max_events_fits.low;
     max_events_greatest = max_events_fits.high;
@@ -89,8 +74,7 @@ module _ (profile bits : ℕ) (churns : Bool) (top : Members) (s : IsSound profi
   pub churn_there : churns ≡ true → IsSome (churn_of top)
   unfolding churn_of has_type
   churn_there some =
-      let there : is_none (data_at key.Churn top) ≡ false = rw some at s.present.1.1.1.1.1.1.1.1.1.1.1.1.1.0 in
-      let (d, is, typed) = there_typed (has_type Table) (data_at key.Churn top) there s.typed.1.1.1.1.1.1.1.1.1.1.1.1.1.0 in
+      let (d, is, typed) = has_typed s (record { 0 = key.Churn; 1 = Table; 2 = ForChurn }) refl some in
       rw is (mapped _ (as_table d) typed)
     where
       mapped : {A B : Type 0} (f : A → B) (o : Option A) → is_some o ≡ true → is_some (option_map f o) ≡ true
@@ -110,12 +94,12 @@ module _ (profile bits : ℕ) (churns : Bool) where
   churn_fits (Some (array ds)) h = tt
   churn_fits (Some (table ms)) h =
       let s = h.0 in
-      let life_least = number_fits bits 1 1000000000 _ (data_at key.LifeMinUs ms) s.present.0 s.fitting.0 in
-      let life_most = number_fits bits 1 1000000000 _ (data_at key.LifeMaxUs ms) s.present.1.0 s.fitting.1.0 in
-      let life = number_agrees _ (λ n. nat_le (number_at key.LifeMinUs ms) n) (data_at key.LifeMaxUs ms) s.present.1.0 s.fitting.1.0 in
-      let down_least = number_fits bits 1 1000000000 _ (data_at key.DownMinUs ms) s.present.1.1.0 s.fitting.1.1.0 in
-      let down_most = number_fits bits 1 1000000000 _ (data_at key.DownMaxUs ms) s.present.1.1.1.0 s.fitting.1.1.1.0 in
-      let down = number_agrees _ (λ n. nat_le (number_at key.DownMinUs ms) n) (data_at key.DownMaxUs ms) s.present.1.1.1.0 s.fitting.1.1.1.0 in
+      let life_least = required_fits s key.LifeMinUs 1 1000000000 refl in
+      let life_most = required_fits s key.LifeMaxUs 1 1000000000 refl in
+      let life = required_agrees s key.LifeMaxUs 1 1000000000 refl in
+      let down_least = required_fits s key.DownMinUs 1 1000000000 refl in
+      let down_most = required_fits s key.DownMaxUs 1 1000000000 refl in
+      let down = required_agrees s key.DownMaxUs 1 1000000000 refl in
       record {
         life = record { positive = life_least.low; ordered = leb-true _ _ life; bounded = life_most.high };
         down = record { positive = down_least.low; ordered = leb-true _ _ down; bounded = down_most.high };
@@ -132,9 +116,9 @@ module _ (profile bits : ℕ) (churns : Bool) where
   lookups_fit (Some (array ds)) h = tt
   lookups_fit (Some (table ms)) h =
       let s = h.0 in
-      let least = number_fits bits 1 1000000000 _ (data_at key.GapMinUs ms) s.present.0 s.fitting.0 in
-      let most = number_fits bits 1 1000000000 _ (data_at key.GapMaxUs ms) s.present.1.0 s.fitting.1.0 in
-      let gap = number_agrees _ (λ n. nat_le (number_at key.GapMinUs ms) n) (data_at key.GapMaxUs ms) s.present.1.0 s.fitting.1.0 in
+      let least = required_fits s key.GapMinUs 1 1000000000 refl in
+      let most = required_fits s key.GapMaxUs 1 1000000000 refl in
+      let gap = required_agrees s key.GapMaxUs 1 1000000000 refl in
       record { positive = least.low; ordered = leb-true _ _ gap; bounded = most.high }
 
   pub churn_in_range : (file : Members) → HoldsInFile (IsSound profile bits churns) file → IfSome (churn_of file) IsChurn
@@ -251,7 +235,7 @@ module _ (profile bits : ℕ) (churns : Bool) (top : Members) (s : IsSound profi
         arith,
         length-map ss (λ s. node_of circle s.members),
         chosen-sections is_node top refl refl refl,
-        chosen-most_of is_node Nodes bits 2 512 _ (data_at key.Node top) s.fitting.1.1.1.1.1.1.1.1.1.1.1.1.1.1.1.0,
+        chosen-most_of is_node Nodes bits 2 512 _ (data_at key.Node top) (not_out s (required key.Node (Tables 2 512)) refl),
         chosen-none_of is_node Commands (λ n. refl) (data_at key.Command top),
       )
 
@@ -264,5 +248,5 @@ module _ (profile bits : ℕ) (churns : Bool) (top : Members) (s : IsSound profi
         length-map ss (λ s. command_of circle nodes s.members),
         chosen-sections is_command top refl refl refl,
         chosen-none_of is_command Nodes (λ n. refl) (data_at key.Node top),
-        chosen-most_of is_command Commands bits 0 100000 _ (data_at key.Command top) s.fitting.1.1.1.1.1.1.1.1.1.1.1.1.1.1.1.1.0,
+        chosen-most_of is_command Commands bits 0 100000 _ (data_at key.Command top) (not_out s (optional key.Command (Tables 0 100000)) refl),
       )

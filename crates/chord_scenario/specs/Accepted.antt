@@ -1,5 +1,5 @@
 -- When a scenario is that of two texts.
-use Rattle.std.specs.Prelude.{◌≡◌, ◌≢◌, ℕ, List, slice_get, Some, None}
+use Rattle.std.specs.Prelude.{◌≡◌, ◌≢◌, ℕ, List, flat_map, map, slice_get, Some, None}
 use Rattle.toml.specs.Data.{Members}
 use Rattle.chord_scenario.specs.declared.key.FileKey.TheVariants as key
 use Rattle.chord_scenario.specs.declared.setting.Command.{Command}
@@ -42,10 +42,18 @@ nodes_in top = nodes_of (number_at key.Bits top) (sections top)
 abbrev pub commands_in : Members → List Command
 commands_in top = commands_of (number_at key.Bits top) (nodes_in top) (sections top)
 
--- each value of the scenario is that of the file, and the latency of two different nodes is that of the row that
--- names the pair, or the file's
+-- for each node in turn the latency that the rows give it to each node, and 0 where they give none
+abbrev pub square_by_rows : List Row → List Node → List ℕ
+square_by_rows rows nodes = flat_map (λ x. map (latency_by_rows 0 rows x) nodes) nodes
+
+-- all that a file and the rows of a latency file set
+abbrev pub setup_in : Members → List Row → Setup
+setup_in top rows = setup_with top (nodes_in top) (commands_in top) (square_by_rows rows (nodes_in top))
+
+-- the scenario is that of the file and the rows, and so the latency of two different nodes is that of the row that names
+-- the pair, or the file's
 pub record IsSetupOf (top : Members) (rows : List Row) (sc : Setup) : Type 0 where
-  pub values : sc ≡ setup_with top (nodes_in top) (commands_in top) sc.latencies
+  pub values : sc ≡ setup_in top rows
   pub latencies : (i j : ℕ) (x y : Node) → i ≢ j → slice_get sc.nodes i ≡ Some x → slice_get sc.nodes j ≡ Some y
       → latency sc i j ≡ latency_by_rows (number_at key.LatencyUs top) rows x y
 

@@ -7,19 +7,19 @@ use Rattle.chord_scenario.specs.Setup.{Setup}
 use Rattle.chord_scenario.specs.World.{node_count}
 
 -- the nodes that a line names, beside its own
-abbrev pub nodes_in : Line → List ℕ
-nodes_in (line.Join via) = via ∷ []
-nodes_in (line.Member predecessor) = predecessor ∷ []
-nodes_in (line.Stranded via) = via ∷ []
-nodes_in (line.Drop kind sender) = sender ∷ []
-nodes_in (line.Late kind sender) = sender ∷ []
-nodes_in (line.Timeout silent) = silent ∷ []
-nodes_in (line.Found key owner hops timeouts us) = owner ∷ []
-nodes_in _ = []
+abbrev pub nodes_named : Line → List ℕ
+nodes_named (line.Join via) = via ∷ []
+nodes_named (line.Member predecessor) = predecessor ∷ []
+nodes_named (line.Stranded via) = via ∷ []
+nodes_named (line.Drop kind sender) = sender ∷ []
+nodes_named (line.Late kind sender) = sender ∷ []
+nodes_named (line.Timeout silent) = silent ∷ []
+nodes_named (line.Found key owner hops timeouts us) = owner ∷ []
+nodes_named _ = []
 
 -- the line names nodes of the scenario alone
 abbrev pub IsLineOf : Setup → Line → Type 0
-IsLineOf sc line = All (λ node. node < node_count sc) (nodes_in line)
+IsLineOf sc line = All (λ node. node < node_count sc) (nodes_named line)
 
 -- the block is of one of the scenario's nodes, and its lines name no other nodes
 pub record IsBlockOf (sc : Setup) (block : Block) : Type 0 where

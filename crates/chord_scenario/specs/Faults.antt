@@ -1,5 +1,5 @@
 -- The fifteen faults of a scenario: each is one question of the whole of both texts, and the first answer counts.
-use Rattle.std.specs.Prelude.{ℕ, ◌+◌, Bool, false, ◌&&◌, ◌||◌, not, ◌==◌, List, [], ◌∷◌, ◌++◌, codes, length, bytes_eq, nat_le, nat_lt, count_by, Option, Some, None, is_none, option_map, unwrap_or, if◌then◌else◌}
+use Rattle.std.specs.Prelude.{ℕ, ◌+◌, Bool, false, ◌&&◌, ◌||◌, not, ◌==◌, List, [], ◌∷◌, codes, length, bytes_eq, nat_le, nat_lt, count_by, Option, Some, None, is_none, option_map, unwrap_or, if◌then◌else◌}
 use Rattle.std.specs.Option.{option_map_or, option_or}
 use Rattle.std.specs.List.{list_all}
 use Rattle.std.specs.Char.{is_ascii_alphanumeric}
@@ -11,9 +11,10 @@ use Rattle.chord_scenario.specs.declared.setting.Node.{Node}
 use Rattle.chord_scenario.specs.declared.fault.ScenarioFault.{ScenarioFault}
 use Rattle.chord_scenario.specs.declared.fault.ScenarioFault.TheVariants.{NotToml, BadName, SameName, SameId, UnknownNode, TooFewInitial, TimeAfterEnd, BadLatencyRow, SelfLink, SameLinkTwice, LatencyBelowWindow}
 use Rattle.chord_scenario.specs.declared.key.Place.TheVariants as place
-use Rattle.chord_scenario.specs.Values.{number_at, text_at, holds_word}
+use Rattle.chord_scenario.specs.Operations.{is_join}
+use Rattle.chord_scenario.specs.Values.{number_at, text_at}
 use Rattle.chord_scenario.specs.Sections.{Section, sections}
-use Rattle.chord_scenario.specs.Settings.{is_node, is_command, name_at, index_of, nodes_of}
+use Rattle.chord_scenario.specs.Settings.{is_node, is_command, operation_at, name_at, index_of, nodes_of}
 use Rattle.chord_scenario.specs.Rows.{Row, link_of, is_bad_row, name_one_pair, row_latency, rows_of}
 use Rattle.chord_scenario.specs.Search.{first_some, first_repeat, first_meeting, section_fault, row_fault}
 use Rattle.chord_scenario.specs.KeyFaults.{unknown_key, missing_key, wrong_type, out_of_range}
@@ -30,10 +31,10 @@ bad_name ss = section_fault BadName (λ s. is_node s.at && not (is_name (name_at
 
 -- two nodes have one name, or one identifier
 unfoldable pub same_name : List Node → Option ScenarioFault
-same_name nodes = option_map (λ p. SameName p.0.0 p.1.0) (first_repeat (λ x y. bytes_eq x.name y.name) [] nodes)
+same_name nodes = option_map (λ r. SameName r.first_number r.second_number) (first_repeat (λ x y. bytes_eq x.name y.name) [] nodes)
 
 unfoldable pub same_id : List Node → Option ScenarioFault
-same_id nodes = option_map (λ p. SameId p.0.1.name p.1.1.name) (first_repeat (λ x y. x.ident == y.ident) [] nodes)
+same_id nodes = option_map (λ r. SameId r.first.name r.second.name) (first_repeat (λ x y. x.ident == y.ident) [] nodes)
 
 -- a command's `node` or `via`, or a name of a row, is no node's
 abbrev pub is_unknown : List Node → List ℕ → Bool
@@ -65,7 +66,7 @@ bad_latency_row rows = row_fault BadLatencyRow is_bad_row rows
 -- a join by way of the node itself, or a row that names one node twice
 abbrev pub joins_itself : Section → Bool
 joins_itself s =
-    is_command s.at && holds_word key.Do (codes "join") s.members
+    is_command s.at && is_join (operation_at s.members)
     && bytes_eq (name_at key.Node s.members) (name_at key.Via s.members)
 
 abbrev pub row_joins_itself : Row → Bool
@@ -76,7 +77,7 @@ self_link ss rows = option_or (section_fault SelfLink joins_itself ss) (row_faul
 
 -- a row names the pair of an earlier one
 unfoldable pub same_link_twice : List Row → Option ScenarioFault
-same_link_twice rows = option_map (λ p. SameLinkTwice (place.Row p.1.0)) (first_repeat name_one_pair [] rows)
+same_link_twice rows = option_map (λ r. SameLinkTwice (place.Row r.second_number)) (first_repeat name_one_pair [] rows)
 
 -- two nodes are nearer than the window is long
 abbrev pub latency_by_rows : ℕ → List Row → Node → Node → ℕ
@@ -87,46 +88,41 @@ latency_below_window window default nodes rows =
     option_map (λ p. LatencyBelowWindow p.0.name p.1.name)
     (first_meeting (λ x y. nat_lt (latency_by_rows default rows x y) window) nodes)
 
--- the questions in their order: of the keys, of the nodes, of the commands and rows, of the pairs that rows link
-abbrev pub key_questions : ℕ → ℕ → List Section → List (Option ScenarioFault)
-key_questions profile bits ss = unknown_key profile ss ∷ missing_key profile ss ∷ wrong_type profile ss ∷ out_of_range profile bits ss ∷ []
-
-abbrev pub node_questions : List Section → List Node → List (Option ScenarioFault)
-node_questions ss nodes = bad_name ss ∷ same_name nodes ∷ same_id nodes ∷ []
-
-abbrev pub link_questions : ℕ → ℕ → List Section → List Node → List Row → List (Option ScenarioFault)
-link_questions list duration ss nodes rows =
-    unknown_node nodes ss rows
-    ∷ too_few_initial list nodes
-    ∷ time_after_end duration ss
+-- the questions of a file and of the rows of a latency file, in their order
+abbrev pub questions : Members → List Row → List (Option ScenarioFault)
+questions top rows =
+    let profile = number_at key.Profile top in
+    let bits = number_at key.Bits top in
+    let ss = sections top in
+    let nodes = nodes_of bits ss in
+    unknown_key profile ss
+    ∷ missing_key profile ss
+    ∷ wrong_type profile ss
+    ∷ out_of_range profile bits ss
+    ∷ bad_name ss
+    ∷ same_name nodes
+    ∷ same_id nodes
+    ∷ unknown_node nodes ss rows
+    ∷ too_few_initial (number_at key.List top) nodes
+    ∷ time_after_end (number_at key.DurationUs top) ss
     ∷ bad_latency_row rows
     ∷ self_link ss rows
+    ∷ same_link_twice rows
+    ∷ latency_below_window (number_at key.WindowUs top) (number_at key.LatencyUs top) nodes rows
     ∷ []
-
-abbrev pub pair_questions : ℕ → ℕ → List Node → List Row → List (Option ScenarioFault)
-pair_questions window default nodes rows = same_link_twice rows ∷ latency_below_window window default nodes rows ∷ []
-
-abbrev pub late_questions : Members → List Section → List Node → List Row → List (Option ScenarioFault)
-late_questions top ss nodes rows =
-    link_questions (number_at key.List top) (number_at key.DurationUs top) ss nodes rows
-    ++ pair_questions (number_at key.WindowUs top) (number_at key.LatencyUs top) nodes rows
 
 -- the first answer
 abbrev pub first_answer : List (Option ScenarioFault) → Option ScenarioFault
 first_answer = first_some (λ answer. answer)
 
--- the fault of a file, if it has one
+-- the fault of a file and rows, if they have one
 unfoldable pub file_fault : Members → List Row → Option ScenarioFault
-file_fault top rows =
-    let ss = sections top in
-    let nodes = nodes_of (number_at key.Bits top) ss in
-    first_answer
-    (key_questions (number_at key.Profile top) (number_at key.Bits top) ss ++ node_questions ss nodes ++ late_questions top ss nodes rows)
+file_fault top rows = first_answer (questions top rows)
 
 -- the table that a text is, where it is text and a TOML document
 unfoldable pub document : List ℕ → Option Members
 document text = if is_utf8 text then parse_document text else None
 
--- the fault of two texts, if they have one
+-- the fault of two texts, if they have one: that the first is no document comes before the other questions
 unfoldable pub scenario_fault : List ℕ → List ℕ → Option ScenarioFault
 scenario_fault toml csv = option_map_or (λ top. file_fault top (rows_of csv)) (document toml) (Some NotToml)

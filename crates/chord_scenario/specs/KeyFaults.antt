@@ -1,5 +1,5 @@
 -- The faults of keys: one that is not listed, one that is missing, a value of another type, a value out of range.
-use Rattle.std.specs.Prelude.{ℕ, Bool, true, false, ◌&&◌, ◌||◌, not, unwrap_or, List, codes, bytes_eq, find, Option, is_none, option_map}
+use Rattle.std.specs.Prelude.{ℕ, Bool, true, false, ◌&&◌, ◌||◌, not, unwrap_or, List, bytes_eq, find, Option, is_none, option_map}
 use Rattle.std.specs.Option.{option_map_or}
 use Rattle.std.specs.List.{list_any}
 use Rattle.toml.specs.Data.{Members, no_members, member}
@@ -11,11 +11,12 @@ use Rattle.chord_scenario.specs.declared.key.Presence.TheVariants.{Required, Opt
 use Rattle.chord_scenario.specs.declared.key.Entry.{Entry}
 use Rattle.chord_scenario.specs.declared.fault.ScenarioFault.{ScenarioFault}
 use Rattle.chord_scenario.specs.declared.fault.ScenarioFault.TheVariants.{UnknownKey, MissingKey, WrongType, OutOfRange}
-use Rattle.chord_scenario.specs.Keys.{name_of, keys_at}
-use Rattle.chord_scenario.specs.Values.{data_at, truth_at, holds_word, as_whole, has_type, is_in_range, agrees}
+use Rattle.chord_scenario.specs.FileKeys.{key_name, keys_at}
+use Rattle.chord_scenario.specs.Operations.{is_join, is_lookup}
+use Rattle.chord_scenario.specs.Values.{data_at, truth_at, as_whole, has_type, is_in_range, agrees}
 use Rattle.chord_scenario.specs.Sections.{Section}
 use Rattle.chord_scenario.specs.Search.{first_some, section_fault}
-use Rattle.chord_scenario.specs.Settings.{is_node}
+use Rattle.chord_scenario.specs.Settings.{is_node, operation_at}
 
 -- the first key of a section of which the test holds, and that of the first section with one
 abbrev pub key_fault_in : ℕ → (Place → FileKey → ScenarioFault) → (Section → Entry → Bool) → Section → Option ScenarioFault
@@ -26,7 +27,7 @@ key_fault profile fault test ss = first_some (key_fault_in profile fault test) s
 
 -- a table has a key that is not listed for it
 abbrev pub is_listed : ℕ → Place → List ℕ → Bool
-is_listed profile p name = list_any (λ e. bytes_eq (name_of e.0) name) (keys_at profile p)
+is_listed profile p name = list_any (λ e. bytes_eq (key_name e.0) name) (keys_at profile p)
 
 abbrev pub has_unlisted : ℕ → Place → Members → Bool
 has_unlisted profile p no_members = false
@@ -43,8 +44,8 @@ abbrev pub is_required : Bool → Section → Presence → Bool
 is_required churns s Required = true
 is_required churns s Optional = false
 is_required churns s ForChurn = churns
-is_required churns s ForJoin = holds_word key.Do (codes "join") s.members
-is_required churns s ForLookup = holds_word key.Do (codes "lookup") s.members
+is_required churns s ForJoin = is_join (operation_at s.members)
+is_required churns s ForLookup = is_lookup (operation_at s.members)
 
 abbrev pub is_missing : Bool → Section → Entry → Bool
 is_missing churns s e = is_required churns s e.2 && is_none (data_at e.0 s.members)

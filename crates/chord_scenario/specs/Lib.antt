@@ -1,11 +1,13 @@
 pub mod Accepted
 pub mod Blocks
 pub mod Faults
+pub mod FileKeys
+pub mod Groups
 pub mod Index
 pub mod Inside
 pub mod KeyFaults
-pub mod Keys
 pub mod Latencies
+pub mod Operations
 pub mod Range
 pub mod Rows
 pub mod Search

@@ -12,11 +12,22 @@ abbrev pub first_some : {A B : Type 0} → (A → Option B) → List A → Optio
 first_some ask [] = None
 first_some ask (x ∷ xs) = option_or (ask x) (first_some ask xs)
 
--- the first that is like one of those before it, with the first such one; each with its number, from 1
-abbrev pub first_repeat : {A : Type 0} → (A → A → Bool) → List A → List A → Option ((ℕ × A) × (ℕ × A))
+-- two items of a list that are alike, and their numbers, from 1
+pub record Repeat (A : Type 0) : Type 0 where
+  pub first : A
+  pub first_number : ℕ
+  pub second : A
+  pub second_number : ℕ
+
+-- the item of this number, and a numbered one before it
+abbrev pub repeat_of : {A : Type 0} → A → (number : ℕ) → ℕ × A → Repeat A
+repeat_of y number x = record { first = x.1; first_number = x.0; second = y; second_number = number }
+
+-- the first that is like one of those before it, with the first such one
+abbrev pub first_repeat : {A : Type 0} → (A → A → Bool) → List A → List A → Option (Repeat A)
 first_repeat alike before [] = None
 first_repeat alike before (y ∷ ys) =
-    option_or (option_map (λ x. (x, (length before + 1, y))) (find (λ x. alike x.1 y) (enumerate_from 1 before)))
+    option_or (option_map (repeat_of y (length before + 1)) (find (λ x. alike x.1 y) (enumerate_from 1 before)))
     (first_repeat alike (before ++ y ∷ []) ys)
 
 -- the first that meets one of those after it, with the first such one

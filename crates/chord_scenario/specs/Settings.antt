@@ -1,5 +1,5 @@
 -- What a scenario file sets: its nodes and commands, its numbers with their defaults.
-use Rattle.std.specs.Prelude.{ℕ, ◌+◌, ◌^◌, Bool, true, false, List, [], ◌∷◌, codes, map, filter, bytes_eq, nat_lt, Option, Some, None, option_map, option_and_then, unwrap_or, if◌then◌else◌}
+use Rattle.std.specs.Prelude.{ℕ, ◌+◌, ◌^◌, Bool, true, false, List, [], ◌∷◌, map, filter, bytes_eq, nat_lt, Option, Some, None, option_map, option_and_then, unwrap_or, if◌then◌else◌}
 use Rattle.chord_circle.specs.Names.{ident_of_name}
 use Rattle.toml.specs.Data.{Members, as_table}
 use Rattle.chord_scenario.specs.declared.key.Place.{Place}
@@ -12,7 +12,10 @@ use Rattle.chord_scenario.specs.declared.setting.Churn.{Churn}
 use Rattle.chord_scenario.specs.declared.setting.Command.{Command}
 use Rattle.chord_scenario.specs.declared.setting.Action.{Action}
 use Rattle.chord_scenario.specs.declared.setting.Action.TheVariants.{Join, Crash, Lookup}
-use Rattle.chord_scenario.specs.Values.{data_at, number_at, truth_at, text_at, holds_word, as_whole, identifier_of}
+use Rattle.chord_scenario.specs.declared.operation.Operation.{Operation}
+use Rattle.chord_scenario.specs.declared.operation.Operation.TheVariants as operation
+use Rattle.chord_scenario.specs.Operations.{operation_named}
+use Rattle.chord_scenario.specs.Values.{data_at, number_at, truth_at, text_at, as_whole, identifier_of}
 use Rattle.chord_scenario.specs.Sections.{Section}
 
 abbrev pub number_or : ℕ → FileKey → Members → ℕ
@@ -62,11 +65,18 @@ index_of name nodes = index_from 0 name nodes
 abbrev pub node_at : FileKey → List Node → Members → ℕ
 node_at k nodes ms = unwrap_or (index_of (name_at k ms) nodes) 0
 
+-- the operation of a command
+abbrev pub operation_at : Members → Option Operation
+operation_at ms = option_and_then operation_named (text_at key.Do ms)
+
+-- what a command asks by its operation; a command without one is refused, and here taken for a lookup
+abbrev pub action_by : (bits : ℕ) → List Node → Members → Option Operation → Action
+action_by bits nodes ms (Some operation.Join) = Join (node_at key.Via nodes ms)
+action_by bits nodes ms (Some operation.Crash) = Crash
+action_by bits nodes ms _ = Lookup (unwrap_or (identifier_at bits key.Key ms) 0)
+
 abbrev pub action_of : (bits : ℕ) → List Node → Members → Action
-action_of bits nodes ms =
-    if holds_word key.Do (codes "join") ms then Join (node_at key.Via nodes ms)
-    else if holds_word key.Do (codes "crash") ms then Crash
-    else Lookup (unwrap_or (identifier_at bits key.Key ms) 0)
+action_of bits nodes ms = action_by bits nodes ms (operation_at ms)
 
 unfoldable pub command_of : (bits : ℕ) → List Node → Members → Command
 command_of bits nodes ms = record { at = number_at key.AtUs ms; node = node_at key.Node nodes ms; action = action_of bits nodes ms }

@@ -1,5 +1,5 @@
 -- What a table of a scenario file holds at a key, and which values a key may hold.
-use Rattle.std.specs.Prelude.{ℕ, ◌+◌, ◌*◌, ◌^◌, pos, Bool, true, false, ◌&&◌, ◌||◌, List, codes, length, bytes_eq, nat_le, nat_lt, Option, Some, None, is_some, option_and_then, unwrap_or, if◌then◌else◌}
+use Rattle.std.specs.Prelude.{ℕ, ◌+◌, ◌*◌, ◌^◌, pos, Bool, true, false, ◌&&◌, ◌||◌, List, length, nat_le, nat_lt, Option, Some, None, is_some, option_and_then, unwrap_or, if◌then◌else◌}
 use Rattle.std.specs.Option.{option_map_or}
 use Rattle.std.specs.List.{list_all}
 use Rattle.std.specs.Str.Parse.{digits_value}
@@ -8,11 +8,12 @@ use Rattle.chord_scenario.specs.declared.key.FileKey.{FileKey}
 use Rattle.chord_scenario.specs.declared.key.FileKey.TheVariants as key
 use Rattle.chord_scenario.specs.declared.key.Form.{Form}
 use Rattle.chord_scenario.specs.declared.key.Form.TheVariants.{Whole, Text, Operation, Boolean, Identifier, Table, Tables}
-use Rattle.chord_scenario.specs.Keys.{name_of}
+use Rattle.chord_scenario.specs.FileKeys.{key_name}
+use Rattle.chord_scenario.specs.Operations.{operation_named}
 
 -- what the members hold at a key
 unfoldable pub data_at : FileKey → Members → Option Data
-data_at k ms = get_member (name_of k) ms
+data_at k ms = get_member (key_name k) ms
 
 -- a whole number from 0
 abbrev pub as_whole : Data → Option ℕ
@@ -30,10 +31,6 @@ truth_at k ms = unwrap_or (option_and_then as_bool (data_at k ms)) false
 -- the text at a key
 abbrev pub text_at : FileKey → Members → Option (List ℕ)
 text_at k ms = option_and_then as_str (data_at k ms)
-
--- the text at a key is this word
-abbrev pub holds_word : FileKey → List ℕ → Members → Bool
-holds_word k word ms = option_map_or (bytes_eq word) (text_at k ms) false
 
 abbrev pub is_table : Data → Bool
 is_table d = is_some (as_table d)
@@ -75,14 +72,11 @@ identifier_of _ = None
 abbrev pub is_between : ℕ → ℕ → ℕ → Bool
 is_between least greatest n = nat_le least n && nat_le n greatest
 
-abbrev pub is_operation : List ℕ → Bool
-is_operation word = bytes_eq (codes "join") word || bytes_eq (codes "crash") word || bytes_eq (codes "lookup") word
-
 -- the value is one of those that the form allows, on a circle of this many bits
 unfoldable pub is_in_range : ℕ → Form → Data → Bool
 is_in_range bits (Whole least greatest) d = option_map_or (is_between least greatest) (as_whole d) false
 is_in_range bits Text d = true
-is_in_range bits Operation d = option_map_or is_operation (as_str d) false
+is_in_range bits Operation d = option_map_or (λ word. is_some (operation_named word)) (as_str d) false
 is_in_range bits Boolean d = true
 is_in_range bits Identifier d = option_map_or (λ n. nat_lt n (2 ^ bits)) (identifier_of d) false
 is_in_range bits Table d = true

@@ -8,12 +8,13 @@ ghost use Rattle.toml.specs.View.{table_view};
 ghost use Rattle.chord_scenario.specs.Sections.{section_of};
 ghost use Rattle.chord_scenario.specs.Settings.{identifier_at, node_at, action_of, commands_of, number_or, span_of, churn_of, lookups_of};
 
-use crate::index::Names;
 use crate::key::{FileKey, Place};
+use crate::names::Names;
 use crate::node::{identifier_at, name_at};
+use crate::operation::{Operation, operation_at};
 use crate::section::PlacedTable;
 use crate::setting::{Action, Churn, Command, Span};
-use crate::value::{holds_word, number_at, value_at, whole};
+use crate::value::{number_at, value_at, whole};
 use chord_circle::{Circle, Ident};
 use std::alloc::{AllocError, Global};
 use toml::Table;
@@ -39,16 +40,14 @@ fn key_of(circle: Circle, table: &Table) -> Ident
 fn action_of(circle: Circle, names: &Names<'_>, table: &Table) -> Action
     ensures { result ≡ action_of circle names.now.nodes.now (table_view table.now) }
 {
-    if holds_word(table, FileKey::Do, "join") {
-        Action::Join {
+    match operation_at(table) {
+        Some(Operation::Join) => Action::Join {
             via: node_at(names, table, FileKey::Via),
-        }
-    } else if holds_word(table, FileKey::Do, "crash") {
-        Action::Crash
-    } else {
-        Action::Lookup {
+        },
+        Some(Operation::Crash) => Action::Crash,
+        Some(Operation::Lookup) | None => Action::Lookup {
             key: key_of(circle, table),
-        }
+        },
     }
 }
 

@@ -1,5 +1,3 @@
-//! Why a scenario is refused.
-
 ghost use Rattle.std.specs.Prelude.{◌≡◌};
 
 use crate::key::{FileKey, Place};

@@ -1,7 +1,7 @@
 //! The tables of a scenario file: where they stand, which keys they have, and what each key holds.
 
 ghost use Rattle.std.specs.Prelude.{◌≡◌};
-ghost use Rattle.chord_scenario.specs.Keys.{keys_at, name_of};
+ghost use Rattle.chord_scenario.specs.FileKeys.{keys_at, key_name};
 ghost use Rattle.chord_scenario.specs.Sections.{key_of, place_in};
 
 use std::fmt;
@@ -69,7 +69,7 @@ pub enum FileKey {
 impl FileKey {
     /// The key as the file writes it.
     pub fn name(self) -> &'static str
-        ensures { result.now ≡ name_of self }
+        ensures { result.now ≡ key_name self }
     {
         match self {
             FileKey::Profile => "profile",

@@ -10,8 +10,9 @@ ghost use Rattle.chord_scenario.specs.KeyFaults.{key_fault_in, is_listed, has_un
 
 use crate::fault::ScenarioFault;
 use crate::key::{Entry, FileKey, Place, Presence, keys_at};
+use crate::operation::{Operation, operation_at};
 use crate::section::PlacedTable;
-use crate::value::{agrees, has_type, holds_word, is_in_range, truth_at, value_at, whole};
+use crate::value::{agrees, has_type, is_in_range, truth_at, value_at, whole};
 use toml::Table;
 
 /// Whether the table at a place may have this key.
@@ -79,8 +80,8 @@ fn is_required(churns: bool, table: &PlacedTable<'_>, presence: Presence) -> boo
         Presence::Required => true,
         Presence::Optional => false,
         Presence::ForChurn => churns,
-        Presence::ForJoin => holds_word(table.table, FileKey::Do, "join"),
-        Presence::ForLookup => holds_word(table.table, FileKey::Do, "lookup"),
+        Presence::ForJoin => matches!(operation_at(table.table), Some(Operation::Join)),
+        Presence::ForLookup => matches!(operation_at(table.table), Some(Operation::Lookup)),
     }
 }
 

@@ -1,6 +1,4 @@
-//! The latencies between nodes that the rows of a latency file give.
-
-ghost use Rattle.std.specs.Prelude.{◌≡◌, ◌⊎◌, ◌+◌, ◌*◌, ◌^◌, false, Some, None, IfOk, IfErr, ◌<◌};
+ghost use Rattle.std.specs.Prelude.{◌≡◌, ◌⊎◌, ◌+◌, ◌*◌, ◌^◌, false, Some, None, IfOk, IfErr, length, ◌<◌, ◌≤◌};
 ghost use Rattle.chord_scenario.specs.Rows.{rows_of};
 ghost use Rattle.chord_scenario.specs.Latencies.{HasLatencies, KeepsEnds, keeps_unknown, keeps_bad_row};
 ghost use Rattle.chord_scenario.specs.declared.fault.ScenarioFault.TheVariants.{UnknownNode};
@@ -58,6 +56,7 @@ pub(crate) fn cell_of(n: usize, i: usize, j: usize) -> usize
 
 /// The square of latencies that rows give, or the first row that names the pair of an earlier one.
 pub(crate) fn latencies(alloc: Global, rows: &Rows<'_>) -> Result<Vec<u32>, ScenarioFault>
+    requires few { length rows.now.names.nodes.now ≤ 512 }
     requires known { row_fault UnknownNode (row_names_unknown rows.now.names.nodes.now) (rows_of rows.now.text.now) ≡ None }
     requires good { bad_latency_row (rows_of rows.now.text.now) ≡ None }
     ensures once { IfOk result (λ _. same_link_twice (rows_of rows.now.text.now) ≡ None) }
@@ -65,12 +64,7 @@ pub(crate) fn latencies(alloc: Global, rows: &Rows<'_>) -> Result<Vec<u32>, Scen
     ensures refused { IfErr result (λ e. (e ≡ ScenarioFault.Memory) ⊎ (same_link_twice (rows_of rows.now.text.now) ≡ Some e)) }
 {
     let n = rows.names.nodes.len();
-    let Some(size) = n.checked_mul(n) else {
-        return Err(ScenarioFault::Memory);
-    };
-    let Ok(mut cells) = vec![in alloc; 0u32; size] else {
-        return Err(ScenarioFault::Memory);
-    };
+    let mut cells = vec![in alloc; 0u32; n * n]?;
     for (i, row) in rows.links.iter().enumerate() {
         let ends = ends_of(row);
         let place = cell_of(n, ends.first as usize, ends.second as usize);

@@ -4,15 +4,16 @@
 mod command;
 mod document;
 mod fault;
-mod index;
 mod key;
 mod keys_check;
 mod latency;
 mod link_check;
 mod name;
+mod names;
 mod nearness;
 mod node;
 mod node_check;
+mod operation;
 mod reader;
 mod row;
 mod scenario;
@@ -27,6 +28,3 @@ pub use name::Name;
 pub use reader::read_scenario;
 pub use scenario::Scenario;
 pub use setting::{Action, Churn, Command, Node, Span};
-
-#[cfg(test)]
-mod tests;

@@ -9,12 +9,13 @@ ghost use Rattle.chord_scenario.specs.Faults.{command_names_unknown, unknown_nod
 ghost use Rattle.chord_scenario.specs.Latencies.{keeps_unknown, keeps_bad_row, keeps_itself};
 
 use crate::fault::ScenarioFault;
-use crate::index::Names;
 use crate::key::{FileKey, Place};
+use crate::names::Names;
 use crate::node::name_at;
+use crate::operation::{Operation, operation_at};
 use crate::row::{RowLink, Rows};
 use crate::section::PlacedTable;
-use crate::value::{holds_word, number_at, text_at};
+use crate::value::{number_at, text_at};
 
 /// Whether a table is a command that names a node which is none.
 fn command_names_unknown(names: &Names<'_>, table: &PlacedTable<'_>) -> bool
@@ -127,7 +128,7 @@ fn joins_itself(table: &PlacedTable<'_>) -> bool
     ensures { result ≡ joins_itself (section_of table.now) }
 {
     matches!(table.at, Place::Command(_))
-        && holds_word(table.table, FileKey::Do, "join")
+        && matches!(operation_at(table.table), Some(Operation::Join))
         && name_at(table.table, FileKey::Node) == name_at(table.table, FileKey::Via)
 }
 

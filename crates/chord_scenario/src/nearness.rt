@@ -1,5 +1,3 @@
-//! Whether two nodes are nearer than the window is long.
-
 ghost use Rattle.std.specs.Prelude.{◌≡◌, ◌+◌, ◌*◌, ◌<◌, length, drop, find, nat_lt, slice_get, Some, None, IfOk, option_copied};
 ghost use Rattle.chord_scenario.specs.Rows.{rows_of};
 ghost use Rattle.chord_scenario.specs.Latencies.{HasLatencies, latency_in};

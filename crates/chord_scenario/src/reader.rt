@@ -1,5 +1,3 @@
-//! The reader of scenarios.
-
 ghost use Rattle.std.specs.Prelude.{◌≡◌, ◌⊎◌, Some, None, IfOk, IfErr, map, length, ◌≤◌};
 ghost use Rattle.chord_scenario.specs.declared.key.FileKey.TheVariants as key;
 ghost use Rattle.chord_scenario.specs.Values.{number_at};
@@ -8,18 +6,19 @@ ghost use Rattle.chord_scenario.specs.Rows.{rows_of};
 ghost use Rattle.chord_scenario.specs.Sections.{section_of};
 ghost use Rattle.chord_scenario.specs.Latencies.{HasLatencies};
 ghost use Rattle.chord_scenario.specs.Settings.{commands_of};
-ghost use Rattle.chord_scenario.specs.Faults.{key_questions, node_questions, link_questions, late_questions, first_answer, same_name, bad_latency_row, file_fault, scenario_fault};
+ghost use Rattle.chord_scenario.specs.Faults.{first_answer, same_name, bad_latency_row, file_fault, scenario_fault};
+ghost use Rattle.chord_scenario.specs.Groups.{key_questions, node_questions, link_questions, late_questions};
 ghost use Rattle.chord_scenario.specs.Range.{IsInRange};
 ghost use Rattle.chord_scenario.specs.Accepted.{setup_with, IsSetupOf, Accepts};
 
 use crate::command::{churn_of, commands, lookups_of, number_or, small_number_at};
 use crate::document::document;
 use crate::fault::ScenarioFault;
-use crate::index::Names;
 use crate::key::FileKey;
 use crate::keys_check::{missing_key, out_of_range, unknown_key, wrong_type};
 use crate::latency::latencies;
 use crate::link_check::{bad_latency_row, self_link, time_after_end, unknown_node};
+use crate::names::Names;
 use crate::nearness::latency_below_window;
 use crate::node::nodes;
 use crate::node_check::{bad_name, same_id, same_name, too_few_initial};
@@ -205,12 +204,6 @@ pub fn read_scenario(alloc: Global, toml: &[u8], csv: &[u8]) -> Result<Scenario,
     ensures accepted { IfOk result (Accepts toml.now csv.now) }
     ensures refused { IfErr result (λ e. (e ≡ ScenarioFault.Memory) ⊎ (scenario_fault toml.now csv.now ≡ Some e)) }
 {
-    let top = match document(alloc, toml) {
-        Ok(top) => top,
-        Err(fault) => return Err(fault),
-    };
-    match scenario_of(alloc, &top, csv) {
-        Ok(scenario) => Ok(scenario),
-        Err(fault) => Err(fault),
-    }
+    let top = document(alloc, toml)?;
+    scenario_of(alloc, &top, csv)
 }

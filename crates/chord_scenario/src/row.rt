@@ -1,5 +1,3 @@
-//! The rows of a latency file.
-
 ghost use Rattle.std.specs.Prelude.{◌≡◌, true, IfOk, Some, map, option_map};
 ghost use Rattle.csv.specs.Records.{fields_of};
 ghost use Rattle.std.specs.Char.{is_ascii_digit};
@@ -8,7 +6,7 @@ ghost use Rattle.std.specs.Str.Parse.{digits_value};
 ghost use Rattle.chord_scenario.specs.Rows.{rows_of, is_numeral, latency_number, link_of, link_seen};
 ghost use Rattle.chord_scenario.specs.Latencies.{AreKept, kept_link};
 
-use crate::index::Names;
+use crate::names::Names;
 use csv::{ByteRecord, ErrorKind, ReaderBuilder};
 use std::alloc::{AllocError, Global};
 
@@ -39,14 +37,16 @@ fn records(
     for row in rdr.into_byte_records() {
         match row {
             Ok(row) => rows.push(kept_link(names, &row))?,
-            Err(e) => {
-                // A flexible reader takes records of all lengths, and one over memory has no other
-                // error but want of memory.
-                if let ErrorKind::UnequalLengths { .. } = e.kind() {
-                    unreachable!();
-                }
-                return Err(AllocError);
-            }
+            Err(e) => match e.kind() {
+                ErrorKind::OutOfMemory => return Err(AllocError),
+                // A reader over memory never fails, though no contract of the csv crate says so.
+                ErrorKind::Io(_) => return Err(AllocError),
+                // A flexible reader takes records of all lengths, and bytes need no decoding.
+                ErrorKind::UnequalLengths { .. }
+                | ErrorKind::Utf8 { .. }
+                | ErrorKind::Serialize(_)
+                | ErrorKind::Deserialize { .. } => unreachable!(),
+            },
         }
     }
     Ok(rows)

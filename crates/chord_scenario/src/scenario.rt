@@ -93,6 +93,13 @@ impl Scenario {
         self.window
     }
 
+    /// The latency between two nodes that no row names, in microseconds.
+    pub fn latency_us(&self) -> u64
+        ensures { result ≡ self.now.latency }
+    {
+        self.latency
+    }
+
     /// How long a node waits for the answer to a request.
     pub fn timeout(&self) -> u64
         ensures { result ≡ self.now.timeout }

@@ -1,5 +1,3 @@
-//! The tables of a scenario file with their places.
-
 ghost use Rattle.std.specs.Prelude.{◌≡◌, ◌++◌, IfOk, OnOk, map, option_map};
 ghost use Rattle.toml.specs.View.{table_view, view, items_view};
 ghost use Rattle.chord_scenario.specs.Sections.{section_of, table_at, tables_among, tables_of, sections};

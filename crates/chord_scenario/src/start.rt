@@ -1,5 +1,3 @@
-//! The events that a run starts with.
-
 ghost use Rattle.std.specs.Prelude.{◌≡◌, ◌+◌, ◌<◌, ◌^◌, ◌++◌, [], ◌∷◌, map, IfOk, OnOk};
 ghost use Rattle.std.specs.List.{enumerate_from};
 ghost use Rattle.chord_scenario.specs.Range.{IsSpanUpTo};

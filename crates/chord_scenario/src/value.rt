@@ -3,9 +3,10 @@
 ghost use Rattle.std.specs.Prelude.{◌≡◌, ◌^◌, nat_lt, option_map, option_copied};
 ghost use Rattle.std.specs.List.{list_all};
 ghost use Rattle.toml.specs.View.{table_view, view, items_view};
-ghost use Rattle.chord_scenario.specs.Values.{data_at, number_at, truth_at, text_at, holds_word, as_whole, are_tables, has_type, hexadecimal, is_hexadecimal_digit, is_between, identifier_of, is_in_range, is_operation, agrees};
+ghost use Rattle.chord_scenario.specs.Values.{data_at, number_at, truth_at, text_at, as_whole, are_tables, has_type, hexadecimal, is_hexadecimal_digit, is_between, identifier_of, is_in_range, agrees};
 
 use crate::key::{FileKey, Form};
+use crate::operation::operation_named;
 use toml::{Table, Value};
 
 /// What a table holds at a key.
@@ -52,16 +53,6 @@ pub(crate) fn text_at<'a>(table: &'a Table, key: FileKey) -> Option<&'a str>
     match value_at(table, key) {
         Some(value) => value.as_str(),
         None => None,
-    }
-}
-
-/// Whether the text at a key is this word.
-pub(crate) fn holds_word(table: &Table, key: FileKey, word: &str) -> bool
-    ensures { result ≡ holds_word key word.now (table_view table.now) }
-{
-    match value_at(table, key) {
-        Some(value) => value.as_str() == Some(word),
-        None => false,
     }
 }
 
@@ -133,13 +124,6 @@ pub(crate) fn identifier_of(value: &Value) -> Option<u64>
     }
 }
 
-/// Whether a word names an operation of a command.
-fn is_operation(word: &str) -> bool
-    ensures { result ≡ is_operation word.now }
-{
-    word == "join" || word == "crash" || word == "lookup"
-}
-
 /// Whether a number lies in a range.
 fn is_between(least: u64, greatest: u64, number: u64) -> bool
     ensures { result ≡ is_between least greatest number }
@@ -165,7 +149,7 @@ pub(crate) fn is_in_range(bits: u64, form: Form, value: &Value) -> bool
             None => false,
         },
         Form::Operation => match value.as_str() {
-            Some(word) => is_operation(word),
+            Some(word) => operation_named(word).is_some(),
             None => false,
         },
         Form::Identifier => match identifier_of(value) {

@@ -5,7 +5,7 @@ use Rattle.chord_scenario.specs.declared.row.RowLink.{RowLink}
 use Rattle.std.proofs.lemmas.List.{take_more, length-map, drop_all, get_or-map}
 use Rattle.csv.proofs.ReadFacts.{get-same}
 use Rattle.std.proofs.lemmas.Option.{same_Some, slice_get-get_or}
-use Rattle.chord_scenario.specs.Search.{first_repeat}
+use Rattle.chord_scenario.specs.Search.{Repeat, first_repeat}
 use Rattle.chord_scenario.specs.declared.key.Place.TheVariants as place
 use Rattle.chord_scenario.specs.declared.fault.ScenarioFault.TheVariants.{UnknownNode, BadLatencyRow, SameLinkTwice}
 use Rattle.chord_scenario.specs.Rows.{Row, rows_of, is_bad_row, name_one_pair, row_latency}
@@ -90,7 +90,7 @@ returns-then-index-ne0-clause-refused c =
     let read = held nodes (take c.loop-i.i rows) a.row c.ends_of-ends.result c.loop-i.cells.items c.cell_of-place.result c.index.result.now c.loop-i.invariant.has e c.cell_of-place.ensures.value c.cell_of-place.ensures.within c.index.ensures in
     let w = earlier-some rows c.loop-i.i a.row e.link e.is (λ none. c.if-index-ne0.true (sym read ∙ none)) in
     let first = first_repeat-found name_one_pair rows c.loop-i.i a.row c.loop-i.invariant.first a.within a.here w.0 w.1 in
-    inr (sym (ap (option_map (λ (p : (ℕ × Row) × (ℕ × Row)). SameLinkTwice (place.Row p.1.0))) first))
+    inr (sym (ap (option_map (λ (r : Repeat Row). SameLinkTwice (place.Row r.second_number))) first))
 
 pub loop-i-preserved : goal.loop-i-preserved
 loop-i-preserved c =
@@ -116,4 +116,4 @@ returns-clause-once c =
     let size : length c.deref-row-items.result.now ≡ length rows = ap length kept ∙ length-map rows (kept_link c.args.rows.now.names.nodes.now) in
     let over : length rows ≤ c.loop-i.i = omega arith in
     let none : drop c.loop-i.i rows ≡ [] = drop_all c.loop-i.i rows over in
-    ap (option_map (λ (p : (ℕ × Row) × (ℕ × Row)). SameLinkTwice (place.Row p.1.0))) (sym c.loop-i.invariant.first ∙ ap (first_repeat name_one_pair (take c.loop-i.i rows)) none)
+    ap (option_map (λ (r : Repeat Row). SameLinkTwice (place.Row r.second_number))) (sym c.loop-i.invariant.first ∙ ap (first_repeat name_one_pair (take c.loop-i.i rows)) none)

@@ -1,4 +1,4 @@
-use Rattle.std.proofs.Common.{◌≡◌, ◌∙◌, ◌<◌, ◌^◌, List, sym, ap, subst, refl, ℕ, map, None}
+use Rattle.std.proofs.Common.{◌≡◌, ◌∙◌, ◌<◌, ◌^◌, List, sym, ap, subst, ℕ, map, None}
 use Rattle.std.specs.List.{All}
 use Rattle.chord_scenario.specs.Rows.{rows_of}
 use Rattle.toml.specs.Data.{Members}
@@ -7,7 +7,8 @@ use Rattle.chord_scenario.specs.declared.key.FileKey.TheVariants as key
 use Rattle.chord_scenario.specs.declared.setting.Command.{Command}
 use Rattle.chord_scenario.specs.declared.setting.Node.{Node}
 use Rattle.chord_scenario.specs.Accepted.{setup_with, nodes_in, commands_in}
-use Rattle.chord_scenario.specs.Faults.{key_questions, node_questions, late_questions, first_answer}
+use Rattle.chord_scenario.specs.Faults.{first_answer}
+use Rattle.chord_scenario.specs.Groups.{key_questions, node_questions, late_questions}
 use Rattle.chord_scenario.specs.Latencies.{HasLatencies}
 use Rattle.chord_scenario.specs.Rows.{Row}
 use Rattle.chord_scenario.specs.Sections.{Section, section_of, sections}
@@ -15,6 +16,7 @@ use Rattle.chord_scenario.specs.Settings.{nodes_of, commands_of}
 use Rattle.chord_scenario.specs.Values.{number_at}
 use Rattle.chord_scenario.proofs.InRange.{keys_fit, in_range}
 use Rattle.chord_scenario.proofs.Scenarios.{node_questions-distinct, latency-between}
+use Rattle.chord_scenario.proofs.Squares.{square_is}
 use Rattle.chord_scenario.proofs.reader.scenario_of.Goals as goal
 
 -- the tables and nodes that a step was lent are those of the file
@@ -97,4 +99,7 @@ returns-clause-values c =
     let distinct = node_questions-distinct (sections top) (nodes_in top) asked in
     let sc = setup_with top (nodes_in top) (commands_in top) cells in
     let is : c.assembled.result ≡ sc = c.assembled.ensures ∙ rw (own, commands) in
-    rw is (record { values = refl; latencies = λ i j x y apart hx hy. latency-between rows sc i j x y square linked.good distinct apart hx hy })
+    rw is (record {
+      values = ap (setup_with top (nodes_in top) (commands_in top)) (square_is (nodes_in top) rows cells square distinct);
+      latencies = λ i j x y apart hx hy. latency-between rows sc i j x y square linked.good distinct apart hx hy;
+    })

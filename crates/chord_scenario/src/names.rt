@@ -1,5 +1,3 @@
-//! The numbers of nodes by their names.
-
 ghost use Rattle.std.specs.Prelude.{◌≡◌, ◌<◌, ◌^◌, length, IfOk};
 ghost use Rattle.chord_scenario.specs.Settings.{index_of};
 ghost use Rattle.chord_scenario.specs.Faults.{is_unknown};
@@ -49,7 +47,7 @@ impl<'a> Names<'a> {
         self.index.get(name).copied()
     }
 
-    /// Whether no node has a name.
+    /// Whether no node has this name.
     pub fn is_unknown(&self, name: &[u8]) -> bool
         ensures { result ≡ is_unknown self.now.nodes.now name.now }
     {

@@ -1,0 +1,64 @@
+-- What a sound table holds at its keys: each fact is found by its key, wherever that stands among the keys of the table.
+use Rattle.std.proofs.Common.{◌≡◌, subst, ℕ, Bool, true, false, List, [], ◌∷◌, bytes_eq, find, Option, Some, unwrap_or, inl, inr}
+use Rattle.std.specs.List.{AllByRecursion}
+use Rattle.std.proofs.lemmas.Bool.{cases_Bool}
+use Rattle.std.proofs.lemmas.Option.{same_Some}
+use Rattle.toml.specs.Data.{Data}
+use Rattle.chord_scenario.specs.declared.key.FileKey.{FileKey}
+use Rattle.chord_scenario.specs.declared.key.Entry.{Entry}
+use Rattle.chord_scenario.specs.declared.key.Form.TheVariants.{Whole}
+use Rattle.chord_scenario.specs.FileKeys.{key_name, required, optional, keys_at}
+use Rattle.chord_scenario.specs.KeyFaults.{is_required, is_missing, has_wrong_type, is_out_of_range}
+use Rattle.chord_scenario.specs.Sections.{Section}
+use Rattle.chord_scenario.specs.Settings.{number_or}
+use Rattle.chord_scenario.specs.Values.{data_at, number_at, as_whole, has_type, is_in_range, agrees}
+use Rattle.chord_scenario.proofs.SoundSections.{IsSound, Fits, number_fits, default_fits, number_agrees, there_typed}
+
+-- the entry of a key among those of a table; at a table of the file format it computes
+abbrev pub entry_of : FileKey → List Entry → Option Entry
+entry_of k es = find (λ e. bytes_eq (key_name k) (key_name e.0)) es
+
+-- what holds of every entry holds of one that is found
+of_found : (P : Entry → Type 0) (test : Entry → Bool) (es : List Entry) (e : Entry) → find test es ≡ Some e → AllByRecursion P es → P e
+of_found P test [] e is all = absurd cc
+of_found P test (x ∷ xs) e is all =
+    elim (cases_Bool (test x)) [
+      | inl here ↦ subst P (same_Some x e (rw here at is)) all.0
+      | inr other ↦ of_found P test xs e (rw other at is) all.1
+    ]
+
+module _ {profile bits : ℕ} {churns : Bool} {s : Section} (sound : IsSound profile bits churns s) where
+  -- the table has this entry
+  abbrev pub Lists : Entry → Type 0
+  Lists e = entry_of e.0 (keys_at profile s.at) ≡ Some e
+
+  not_missing : (e : Entry) → Lists e → is_missing churns s e ≡ false
+  not_missing e is = of_found (λ x. is_missing churns s x ≡ false) (λ x. bytes_eq (key_name e.0) (key_name x.0)) (keys_at profile s.at) e is sound.present
+
+  not_wrong : (e : Entry) → Lists e → has_wrong_type s e ≡ false
+  not_wrong e is = of_found (λ x. has_wrong_type s x ≡ false) (λ x. bytes_eq (key_name e.0) (key_name x.0)) (keys_at profile s.at) e is sound.typed
+
+  pub not_out : (e : Entry) → Lists e → is_out_of_range bits s e ≡ false
+  not_out e is = of_found (λ x. is_out_of_range bits s x ≡ false) (λ x. bytes_eq (key_name e.0) (key_name x.0)) (keys_at profile s.at) e is sound.fitting
+
+  -- a number that has to be there is in range, and agrees with the others of the table
+  pub required_fits : (k : FileKey) (least greatest : ℕ) → Lists (required k (Whole least greatest)) → Fits least greatest (number_at k s.members)
+  required_fits k least greatest is =
+      let e = required k (Whole least greatest) in
+      number_fits bits least greatest (λ d. agrees s.members k (unwrap_or (as_whole d) 0)) (data_at k s.members) (not_missing e is) (not_out e is)
+
+  pub required_agrees : (k : FileKey) (least greatest : ℕ) → Lists (required k (Whole least greatest)) → agrees s.members k (number_at k s.members) ≡ true
+  required_agrees k least greatest is =
+      let e = required k (Whole least greatest) in
+      number_agrees (is_in_range bits (Whole least greatest)) (agrees s.members k) (data_at k s.members) (not_missing e is) (not_out e is)
+
+  -- one that may be there is in range where its default is
+  pub optional_fits : (k : FileKey) (least greatest default : ℕ) → Lists (optional k (Whole least greatest)) → Fits least greatest default
+      → Fits least greatest (number_or default k s.members)
+  optional_fits k least greatest default is own =
+      default_fits bits least greatest default (λ d. agrees s.members k (unwrap_or (as_whole d) 0)) (data_at k s.members) own
+      (not_out (optional k (Whole least greatest)) is)
+
+  -- a value that has to be there is there, and has its type
+  pub has_typed : (e : Entry) → Lists e → is_required churns s e.2 ≡ true → (d : Data) × (data_at e.0 s.members ≡ Some d) × (has_type e.1 d ≡ true)
+  has_typed e is must = there_typed (has_type e.1) (data_at e.0 s.members) (rw must at (not_missing e is)) (not_wrong e is)

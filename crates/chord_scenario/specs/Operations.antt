@@ -1,0 +1,20 @@
+-- What a command may ask of its node, and the words for it.
+use Rattle.std.specs.Prelude.{ℕ, Bool, true, false, List, codes, bytes_eq, Option, Some, None, if◌then◌else◌}
+use Rattle.chord_scenario.specs.declared.operation.Operation.{Operation}
+use Rattle.chord_scenario.specs.declared.operation.Operation.TheVariants.{Join, Crash, Lookup}
+
+-- the operation that a word names
+abbrev pub operation_named : List ℕ → Option Operation
+operation_named word =
+    if bytes_eq (codes "join") word then Some Join
+    else if bytes_eq (codes "crash") word then Some Crash
+    else if bytes_eq (codes "lookup") word then Some Lookup
+    else None
+
+abbrev pub is_join : Option Operation → Bool
+is_join (Some Join) = true
+is_join _ = false
+
+abbrev pub is_lookup : Option Operation → Bool
+is_lookup (Some Lookup) = true
+is_lookup _ = false
