@@ -22,6 +22,7 @@ use Rattle.chord_node.specs.declared.state.Purpose.{Purpose}
 use Rattle.chord_node.specs.declared.state.Purpose.TheVariants as purpose
 use Rattle.chord_node.specs.Invariant.{AreLookups, IsCall, IsNodeState, is_user}
 use Rattle.chord_scenario.specs.Blocks.{IsBlockOf, IsLineOf, most_lines}
+use Rattle.chord_node.specs.Limits.{most_steps, most_timeouts}
 use Rattle.chord_scenario.specs.World.{ident_of, is_churn_node, node_count}
 use Rattle.chord_ops.specs.Asked.{IsBody}
 use Rattle.chord_ops.specs.declared.turn.Turn.{Turn}
@@ -120,7 +121,7 @@ noted_life_end sc n epoch turn h =
 noted_lookup_timed_out : (sc : Scenario) (n silent place : ℕ) (lookup : Lookup) (turn : Turn) → KnowsNodes sc turn.state → HasNoted sc n turn → HasNoted sc (n + 1) (lookup_timed_out sc silent place lookup turn)
 unfolding lookup_timed_out
 noted_lookup_timed_out sc n silent place lookup turn knows h =
-    noted_if sc (n + 1) (nat_lt lookup.timeouts 8) _ _
+    noted_if sc (n + 1) (nat_lt lookup.timeouts most_timeouts) _ _
     (noted_walked sc n place (past silent (once_more lookup)) turn knows h)
     (noted_failed sc n (once_more lookup) turn h)
 
@@ -227,7 +228,7 @@ call_answered sc k number s is = IfSome-answered_call (IsCall sc) k number s is.
 noted_join_asked : (sc : Scenario) (n next : ℕ) (attempt : Attempt) (turn : Turn) → HasNoted sc n turn → HasNoted sc (n + 1) (join_asked sc next attempt turn)
 unfolding join_asked called
 noted_join_asked sc n next attempt turn h =
-    noted_if sc (n + 1) (nat_lt attempt.steps 128) _ _ (one_more sc n h)
+    noted_if sc (n + 1) (nat_lt attempt.steps most_steps) _ _ (one_more sc n h)
     (noted_join_failed sc n attempt turn h)
 
 noted_join_followed : (sc : Scenario) (n to : ℕ) (a : Answer) (attempt : Attempt) (turn : Turn) → HasNoted sc n turn → HasNoted sc (n + 1) (join_followed sc to a attempt turn)
