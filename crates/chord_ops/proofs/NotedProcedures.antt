@@ -1,3 +1,4 @@
+-- Each procedure of the rule table leaves lines of the scenario's nodes, and few of them.
 use Rattle.std.proofs.Common.{◌==◌, ℕ, ◌+◌, ◌<◌, ◌∷◌, length, nat_lt, arith, length-append}
 use Rattle.std.proofs.lemmas.List.Elements.{All-append, All-cons}
 use Rattle.std.specs.List.{count_by, filter_map}
