@@ -16,7 +16,7 @@ use Rattle.chord_scenario.specs.Blocks.{IsLineOf}
 use Rattle.chord_node.specs.Limits.{most_failures, most_steps, most_user_lookups}
 use Rattle.chord_scenario.specs.World.{is_churn_node, node_count}
 use Rattle.chord_ops.specs.declared.turn.Turn.{Turn}
-use Rattle.chord_ops.specs.Procedures.{armed, asked, begun, down, failed, finger_armed, finished, finished_for, followed, for_attempt, fresh_lookup, join_failed, join_retried, life_armed, lost_line, rise_armed, stabilize_armed, stranded, traffic_armed, up, user_lookup, walked, with_lookup, without_attempt, without_lookup}
+use Rattle.chord_ops.specs.Procedures.{armed, asked, begun, gone_down, failed, finger_armed, finished, finished_for, followed, for_attempt, fresh_lookup, join_failed, join_retried, life_armed, lost_line, rise_armed, stabilize_armed, stranded, traffic_armed, came_up, user_lookup, walked, with_lookup, without_attempt, without_lookup}
 use Rattle.chord_ops.specs.Search.{NamesNode, step_answer}
 use Rattle.chord_ops.specs.Turns.{called, noted, timer_made}
 use Rattle.chord_ops.proofs.Growing.{known}
@@ -108,13 +108,13 @@ noted_with_lookup sc n number step turn noted h =
 
 -- Joins
 
-pub noted_up : (sc : Scenario) (n via : ℕ) (turn : Turn) → via < node_count sc → HasNoted sc n turn → HasNoted sc (n + 1) (up sc via turn)
-unfolding up called
-noted_up sc n via turn at h =
+pub noted_came_up : (sc : Scenario) (n via : ℕ) (turn : Turn) → via < node_count sc → HasNoted sc n turn → HasNoted sc (n + 1) (came_up sc via turn)
+unfolding came_up called
+noted_came_up sc n via turn at h =
     noted_armed sc (n + 1) _ (noted_line sc n (line.Join via) turn (one_node sc via at) h)
 
-pub noted_down : (sc : Scenario) (n : ℕ) (turn : Turn) → HasNoted sc n turn → HasNoted sc n (down turn)
-noted_down sc n turn h = notes_cleared sc n turn.lines turn.state.lookups h
+pub noted_gone_down : (sc : Scenario) (n : ℕ) (turn : Turn) → HasNoted sc n turn → HasNoted sc n (gone_down turn)
+noted_gone_down sc n turn h = notes_cleared sc n turn.lines turn.state.lookups h
 
 noted_join_retried : (sc : Scenario) (n : ℕ) (attempt : Attempt) (turn : Turn) → HasNoted sc n turn → HasNoted sc n (join_retried sc attempt turn)
 unfolding join_retried called
@@ -127,8 +127,8 @@ noted_join_failed sc n attempt turn h =
     noted_if sc (n + 1) (nat_lt attempt.failures most_failures) _ _
     (one_more sc n
     (noted_join_retried sc n (record attempt { failures = attempt.failures + 1 }) turn h))
-    (noted_rise_armed sc (n + 1) (down (noted line.JoinFailed turn))
-    (noted_down sc (n + 1) (noted line.JoinFailed turn) (noted_line sc n line.JoinFailed turn (no_node sc) h)))
+    (noted_rise_armed sc (n + 1) (gone_down (noted line.JoinFailed turn))
+    (noted_gone_down sc (n + 1) (noted line.JoinFailed turn) (noted_line sc n line.JoinFailed turn (no_node sc) h)))
 
 -- the step with the attempt to join, which was taken out
 pub noted_for_attempt : (sc : Scenario) (n : ℕ) (step : Attempt → Turn → Turn) (turn : Turn) → ((attempt : Attempt) → HasNoted sc (n + 1) (step attempt (without_attempt turn))) → HasNoted sc n turn → HasNoted sc (n + 1) (for_attempt step turn)
