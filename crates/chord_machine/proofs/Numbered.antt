@@ -16,7 +16,8 @@ pub record IsOneOf (sc : Scenario) (me time old new : ℕ) (e : Event Body) : Ty
   pub above : old < e.key.number
   pub at_most : e.key.number ≤ new
 
-pub one_of : (sc : Scenario) (me time old new : ℕ) (es : List (Event Body)) → AreMade sc me time old new es → (e : Event Body) → Contains es e → IsOneOf sc me time old new e
+pub one_of : (sc : Scenario) (me time old new : ℕ) (es : List (Event Body)) → AreMade sc me time old new es → (e : Event Body)
+    → Contains es e → IsOneOf sc me time old new e
 one_of sc me time old new [] made e c = absurd (contains_none e c)
 one_of sc me time old new (x ∷ es) made e c =
     ⊎_elim here (λ k. there (one_of sc me time x.key.number new es made.2 e k)) (contains_cons e x es c)
@@ -35,7 +36,8 @@ one_of sc me time old new (x ∷ es) made e c =
       at_most = q.at_most;
     }
 
-pub made_apart : (sc : Scenario) (me time old new : ℕ) (es : List (Event Body)) → AreMade sc me time old new es → AllPairs (λ (a b : Event Body). a.key ≢ b.key) es
+pub made_apart : (sc : Scenario) (me time old new : ℕ) (es : List (Event Body)) → AreMade sc me time old new es
+    → AllPairs (λ (a b : Event Body). a.key ≢ b.key) es
 made_apart sc me time old new [] made = AllPairs_none (λ (a b : Event Body). a.key ≢ b.key)
 made_apart sc me time old new (x ∷ es) made =
     AllPairs_cons (λ (a b : Event Body). a.key ≢ b.key) x es

@@ -12,6 +12,7 @@ use Rattle.chord_scenario.specs.Start.{delay, first_timers, jittered, life_timer
 use Rattle.chord_scenario.specs.World.{is_churn_node}
 use Rattle.chord_node.specs.declared.state.NodeState.{NodeState}
 use Rattle.chord_ops.specs.declared.turn.Turn.{Turn}
+use Rattle.chord_ops.specs.FirstTurns.{IsNew, first_turn}
 use Rattle.chord_ops.specs.Procedures.{armed, finger_armed, life_armed, stabilize_armed, traffic_armed}
 use Rattle.chord_ops.specs.Turns.{timer_made, when_some}
 
@@ -38,8 +39,7 @@ timers_set sc n lookups is_churn churn = map (timer_set 0 sc n) (enumerate_from 
 
 -- the turn at time 0 of a node in its first life, after its first two timers
 abbrev two_armed : Scenario → NodeState → Turn
-two_armed sc s =
-    finger_armed sc (stabilize_armed sc (record { time = 0; state = record s { epoch = 1; place = 0; count = 0 }; events = []; lines = [] }))
+two_armed sc s = finger_armed sc (stabilize_armed sc (first_turn (record s { epoch = 1; place = 0; count = 0 })))
 
 abbrev traffic_with : Scenario → Option Span → Turn → Turn
 traffic_with sc lookups turn = when_some lookups (λ gap. λ turn. timer_made sc gap (body.TrafficTick turn.state.epoch) turn) turn
@@ -50,7 +50,8 @@ life_with sc is_churn churn turn =
     then when_some churn (λ churn. λ turn. timer_made sc churn.life (body.LifeEnd turn.state.epoch) turn) turn
     else turn
 
-armed_with : (sc : Scenario) (s : NodeState) (lookups : Option Span) (is_churn : Bool) (churn : Option Churn) → timers_set sc s.me lookups is_churn churn ≡ (life_with sc is_churn churn (traffic_with sc lookups (two_armed sc s))).events
+armed_with : (sc : Scenario) (s : NodeState) (lookups : Option Span) (is_churn : Bool) (churn : Option Churn)
+    → timers_set sc s.me lookups is_churn churn ≡ (life_with sc is_churn churn (traffic_with sc lookups (two_armed sc s))).events
 unfolding stabilize_armed finger_armed timer_made
 armed_with sc s None false churn = refl
 armed_with sc s None true None = refl
@@ -59,13 +60,15 @@ armed_with sc s (Some gap) false churn = refl
 armed_with sc s (Some gap) true None = refl
 armed_with sc s (Some gap) true (Some times) = refl
 
-armed_at : (sc : Scenario) (s : NodeState) (lookups : Option Span) (churn : Option Churn) → timers_set sc s.me lookups (is_churn_node sc s.me) churn ≡ (life_with sc (is_churn_node sc (traffic_with sc lookups (two_armed sc s)).state.me) churn (traffic_with sc lookups (two_armed sc s))).events
+armed_at : (sc : Scenario) (s : NodeState) (lookups : Option Span) (churn : Option Churn)
+    → timers_set sc s.me lookups (is_churn_node sc s.me) churn ≡ (life_with sc (is_churn_node sc (traffic_with sc lookups (two_armed sc s)).state.me) churn (traffic_with sc lookups (two_armed sc s))).events
 unfolding stabilize_armed finger_armed timer_made
 armed_at sc s None churn = armed_with sc s None (is_churn_node sc s.me) churn
 armed_at sc s (Some gap) churn = armed_with sc s (Some gap) (is_churn_node sc s.me) churn
 
 -- a state that is given the figures that it has is as it was
-restored : (s : NodeState) (epoch place count : ℕ) → epoch ≡ s.epoch → place ≡ s.place → count ≡ s.count → record s { epoch = epoch; place = place; count = count } ≡ s
+restored : (s : NodeState) (epoch place count : ℕ) → epoch ≡ s.epoch → place ≡ s.place → count ≡ s.count
+    → record s { epoch = epoch; place = place; count = count } ≡ s
 restored s epoch place count e p c = rw (e, p, c) refl
 
 -- what is set at time 0 comes after its delay
@@ -80,9 +83,9 @@ all_set_at_0 sc n (p ∷ ps) =
     ap (λ (e : Event Body). e ∷ map (λ p. timer_event sc n p.0 p.1) ps) (set_at_0 sc n p)
     ∙ ap (λ (es : List (Event Body)). timer_set 0 sc n p ∷ es) (all_set_at_0 sc n ps)
 
-pub timers_armed : (sc : Scenario) (s : NodeState) → s.epoch ≡ 1 → s.place ≡ 0 → s.count ≡ 0 → first_timers sc s.me ≡ (armed sc (record { time = 0; state = s; events = []; lines = [] })).events
+pub timers_armed : (sc : Scenario) (s : NodeState) → IsNew s → first_timers sc s.me ≡ (armed sc (first_turn s)).events
 unfolding first_timers timers armed life_armed traffic_armed
-timers_armed sc s epoch place count =
-    subst (λ (z : NodeState). first_timers sc s.me ≡ (armed sc (record { time = 0; state = z; events = []; lines = [] })).events)
-    (restored s 1 0 0 (sym epoch) (sym place) (sym count))
+timers_armed sc s is =
+    subst (λ (z : NodeState). first_timers sc s.me ≡ (armed sc (first_turn z)).events)
+    (restored s 1 0 0 (sym is.epoch) (sym is.place) (sym is.count))
     (all_set_at_0 sc s.me (enumerate_from 0 (timers sc s.me)) ∙ armed_at sc s sc.lookups sc.churn)
