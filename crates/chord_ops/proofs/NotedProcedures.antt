@@ -1,3 +1,4 @@
+-- Each procedure of the rule table leaves lines of the scenario's nodes, and few of them.
 use Rattle.std.proofs.Common.{◌==◌, ℕ, ◌+◌, ◌<◌, ◌∷◌, length, nat_lt, arith, length-append}
 use Rattle.std.proofs.lemmas.List.Elements.{All-append, All-cons}
 use Rattle.std.specs.List.{count_by, filter_map}
@@ -12,9 +13,10 @@ use Rattle.chord_node.specs.declared.state.Attempt.{Attempt}
 use Rattle.chord_node.specs.declared.state.Lookup.{Lookup}
 use Rattle.chord_node.specs.Invariant.{is_user}
 use Rattle.chord_scenario.specs.Blocks.{IsLineOf}
+use Rattle.chord_node.specs.Limits.{most_failures, most_steps, most_user_lookups}
 use Rattle.chord_scenario.specs.World.{is_churn_node, node_count}
 use Rattle.chord_ops.specs.declared.turn.Turn.{Turn}
-use Rattle.chord_ops.specs.Procedures.{armed, asked, begun, down, failed, finger_armed, finished, finished_for, followed, for_attempt, fresh_lookup, join_failed, join_retried, life_armed, lost_line, rise_armed, stabilize_armed, stranded, traffic_armed, up, user_lookup, walked, with_lookup, without_attempt, without_lookup}
+use Rattle.chord_ops.specs.Procedures.{armed, asked, begun, gone_down, failed, finger_armed, finished, finished_for, followed, for_attempt, fresh_lookup, join_failed, join_retried, life_armed, lost_line, rise_armed, stabilize_armed, stranded, traffic_armed, came_up, user_lookup, walked, with_lookup, without_attempt, without_lookup}
 use Rattle.chord_ops.specs.Search.{NamesNode, step_answer}
 use Rattle.chord_ops.specs.Turns.{called, noted, timer_made}
 use Rattle.chord_ops.proofs.Growing.{known}
@@ -67,7 +69,7 @@ noted_finished sc n lookup owner turn at h = noted_finished_for sc n lookup.aim 
 noted_asked : (sc : Scenario) (n place : ℕ) (lookup : Lookup) (next : ℕ) (turn : Turn) → HasNoted sc n turn → HasNoted sc (n + 1) (asked sc place lookup next turn)
 unfolding asked called
 noted_asked sc n place lookup next turn h =
-    noted_if sc (n + 1) (nat_lt lookup.steps 128) _ (failed lookup turn)
+    noted_if sc (n + 1) (nat_lt lookup.steps most_steps) _ (failed lookup turn)
     (notes_inserted sc n turn.lines turn.state.lookups place _ h) (noted_failed sc n lookup turn h)
 
 pub noted_followed : (sc : Scenario) (n place : ℕ) (lookup : Lookup) (a : Answer) (turn : Turn) → NamesNode sc a → HasNoted sc n turn → HasNoted sc (n + 1) (followed sc place lookup a turn)
@@ -90,7 +92,7 @@ noted_begun sc n key wanted turn knows h =
 pub noted_user_lookup : (sc : Scenario) (n key : ℕ) (turn : Turn) → KnowsNodes sc turn.state → HasNoted sc n turn → HasNoted sc (n + 1 + 1) (user_lookup sc key turn)
 unfolding user_lookup
 noted_user_lookup sc n key turn knows h =
-    noted_if sc (n + 1 + 1) (nat_lt (count_by is_user turn.state.lookups) 60) _ _
+    noted_if sc (n + 1 + 1) (nat_lt (count_by is_user turn.state.lookups) most_user_lookups) _ _
     (noted_begun sc (n + 1) key aim.User (noted (line.Lookup key) turn) knows
     (noted_line sc n (line.Lookup key) turn (no_node sc) h))
     (one_more sc (n + 1) (noted_line sc n (line.Busy key) turn (no_node sc) h))
@@ -106,13 +108,13 @@ noted_with_lookup sc n number step turn noted h =
 
 -- Joins
 
-pub noted_up : (sc : Scenario) (n via : ℕ) (turn : Turn) → via < node_count sc → HasNoted sc n turn → HasNoted sc (n + 1) (up sc via turn)
-unfolding up called
-noted_up sc n via turn at h =
+pub noted_came_up : (sc : Scenario) (n via : ℕ) (turn : Turn) → via < node_count sc → HasNoted sc n turn → HasNoted sc (n + 1) (came_up sc via turn)
+unfolding came_up called
+noted_came_up sc n via turn at h =
     noted_armed sc (n + 1) _ (noted_line sc n (line.Join via) turn (one_node sc via at) h)
 
-pub noted_down : (sc : Scenario) (n : ℕ) (turn : Turn) → HasNoted sc n turn → HasNoted sc n (down turn)
-noted_down sc n turn h = notes_cleared sc n turn.lines turn.state.lookups h
+pub noted_gone_down : (sc : Scenario) (n : ℕ) (turn : Turn) → HasNoted sc n turn → HasNoted sc n (gone_down turn)
+noted_gone_down sc n turn h = notes_cleared sc n turn.lines turn.state.lookups h
 
 noted_join_retried : (sc : Scenario) (n : ℕ) (attempt : Attempt) (turn : Turn) → HasNoted sc n turn → HasNoted sc n (join_retried sc attempt turn)
 unfolding join_retried called
@@ -122,11 +124,11 @@ noted_join_retried sc n attempt turn h =
 pub noted_join_failed : (sc : Scenario) (n : ℕ) (attempt : Attempt) (turn : Turn) → HasNoted sc n turn → HasNoted sc (n + 1) (join_failed sc attempt turn)
 unfolding join_failed
 noted_join_failed sc n attempt turn h =
-    noted_if sc (n + 1) (nat_lt attempt.failures 7) _ _
+    noted_if sc (n + 1) (nat_lt attempt.failures most_failures) _ _
     (one_more sc n
     (noted_join_retried sc n (record attempt { failures = attempt.failures + 1 }) turn h))
-    (noted_rise_armed sc (n + 1) (down (noted line.JoinFailed turn))
-    (noted_down sc (n + 1) (noted line.JoinFailed turn) (noted_line sc n line.JoinFailed turn (no_node sc) h)))
+    (noted_rise_armed sc (n + 1) (gone_down (noted line.JoinFailed turn))
+    (noted_gone_down sc (n + 1) (noted line.JoinFailed turn) (noted_line sc n line.JoinFailed turn (no_node sc) h)))
 
 -- the step with the attempt to join, which was taken out
 pub noted_for_attempt : (sc : Scenario) (n : ℕ) (step : Attempt → Turn → Turn) (turn : Turn) → ((attempt : Attempt) → HasNoted sc (n + 1) (step attempt (without_attempt turn))) → HasNoted sc n turn → HasNoted sc (n + 1) (for_attempt step turn)

@@ -1,3 +1,4 @@
+-- Each row of the rule table leaves lines of the scenario's nodes, and no more than a block has room for.
 use Rattle.std.proofs.Common.{◌==◌, ℕ, ◌+◌, ◌-◌, ◌<◌, ◌≤◌, ◌&&◌, ◌||◌, not, List, [], ◌∷◌, length, nat_lt, Option, Some, None, refl, arith}
 use Rattle.std.proofs.lemmas.List.Filters.{length-filter_both}
 use Rattle.std.proofs.lemmas.List.Sums.{length-filter}
@@ -22,11 +23,12 @@ use Rattle.chord_node.specs.declared.state.Purpose.{Purpose}
 use Rattle.chord_node.specs.declared.state.Purpose.TheVariants as purpose
 use Rattle.chord_node.specs.Invariant.{AreLookups, IsCall, IsNodeState, is_user}
 use Rattle.chord_scenario.specs.Blocks.{IsBlockOf, IsLineOf, most_lines}
+use Rattle.chord_node.specs.Limits.{most_steps, most_timeouts}
 use Rattle.chord_scenario.specs.World.{ident_of, is_churn_node, node_count}
 use Rattle.chord_ops.specs.Asked.{IsBody}
 use Rattle.chord_ops.specs.declared.turn.Turn.{Turn}
-use Rattle.chord_ops.specs.Procedures.{call_of, down, finger_armed, stabilize_armed, stranded, traffic_armed, up, without_attempt, without_call, without_lookup}
-use Rattle.chord_ops.specs.Rules.{acted, answered_call, answered_for, avoiding, block_of, cmd_crash, cmd_join, cmd_lookup, effect, finger_after, finger_tick, finger_turned, has_finger_lookup, has_ping_call, has_repair_call, head, head_asked, head_notified, holds, is_down, is_joining, is_member, is_void, join_answered, join_asked, join_followed, join_list_answered, join_list_taken, join_timed_out, joined, key_words, life_end, list_answered, list_answered_for, list_asked, list_replied, lookup_answered, lookup_timed_out, notified, notified_over, once_more, opening, past, ping_timed_out, pinged, ponged, random_key, random_lookup, replied, rise, stabilize_tick, state_answered, state_asked, state_replied, state_timed_out, step_asked, step_replied, timed_out, timeout, traffic_tick, with_successors, without_head}
+use Rattle.chord_ops.specs.Procedures.{call_of, gone_down, finger_armed, stabilize_armed, stranded, traffic_armed, came_up, without_attempt, without_call, without_lookup}
+use Rattle.chord_ops.specs.Rules.{acted, answered_call, answered_for, avoiding, block_of, cmd_crash, cmd_join, cmd_lookup, effect, finger_after, finger_tick, finger_turned, has_finger_lookup, has_ping_call, has_repair_call, head, head_asked, head_notified, holds, is_down, is_joining, is_member, is_void, join_answered, join_asked, join_followed, join_list_answered, join_list_taken, join_timed_out, joined, key_words, life_end, list_answered, list_answered_for, list_asked, list_replied, lookup_answered, lookup_timed_out, notified, predecessor_weighed, once_more, opening, past, ping_timed_out, pinged, ponged, random_key, random_lookup, replied, rise, stabilize_tick, state_answered, state_asked, state_replied, state_timed_out, step_asked, step_replied, timed_out, timeout, traffic_tick, successors_taken, without_head}
 use Rattle.chord_ops.specs.Search.{NamesNode}
 use Rattle.chord_ops.specs.Sound.{IsSoundEvent}
 use Rattle.chord_ops.specs.Turns.{called, noted, timer_made}
@@ -35,7 +37,7 @@ use Rattle.chord_ops.proofs.Found.{IfSome-find}
 use Rattle.chord_ops.proofs.Growing.{known}
 use Rattle.chord_ops.proofs.KeptRules.{none_of}
 use Rattle.chord_ops.proofs.Noted.{HasNoted, KnowsNodes, no_node, noted_if, noted_line, noted_when_some, one_node, one_more, two_more}
-use Rattle.chord_ops.proofs.NotedProcedures.{knows_traffic_armed, noted_begun, noted_down, noted_failed, noted_followed, noted_for_attempt, noted_join_failed, noted_rise_armed, noted_stranded, noted_traffic_armed, noted_up, noted_user_lookup, noted_walked, noted_with_lookup}
+use Rattle.chord_ops.proofs.NotedProcedures.{knows_traffic_armed, noted_begun, noted_gone_down, noted_failed, noted_followed, noted_for_attempt, noted_join_failed, noted_rise_armed, noted_stranded, noted_traffic_armed, noted_came_up, noted_user_lookup, noted_walked, noted_with_lookup}
 
 -- Commands
 
@@ -44,14 +46,14 @@ unfolding cmd_join
 noted_cmd_join sc n via turn at h =
     noted_if sc (n + 1) (not (is_down turn.state)) _ _
     (noted_line sc n (line.Ignored command.Join) turn (no_node sc) h)
-    (noted_up sc n via turn at h)
+    (noted_came_up sc n via turn at h)
 
 noted_cmd_crash : (sc : Scenario) (n : ℕ) (turn : Turn) → HasNoted sc n turn → HasNoted sc (n + 1) (cmd_crash turn)
 unfolding cmd_crash
 noted_cmd_crash sc n turn h =
     noted_if sc (n + 1) (is_down turn.state) _ _
     (noted_line sc n (line.Ignored command.Crash) turn (no_node sc) h)
-    (noted_down sc (n + 1) (noted line.Crash turn) (noted_line sc n line.Crash turn (no_node sc) h))
+    (noted_gone_down sc (n + 1) (noted line.Crash turn) (noted_line sc n line.Crash turn (no_node sc) h))
 
 noted_cmd_lookup : (sc : Scenario) (n key : ℕ) (turn : Turn) → KnowsNodes sc turn.state → HasNoted sc n turn → HasNoted sc (n + 1 + 1) (cmd_lookup sc key turn)
 unfolding cmd_lookup
@@ -68,8 +70,8 @@ unfolding rise
 noted_rise sc n epoch turn at h =
     let still : HasNoted sc (n + 1) turn = one_more sc n h in
     noted_if sc (n + 1) (not (turn.state.epoch == epoch) || not (is_down turn.state)) turn _ still
-    (noted_when_some sc (n + 1) (λ via. via < node_count sc) turn.state.via (up sc) turn at still
-    (λ via known. noted_up sc n via turn known h))
+    (noted_when_some sc (n + 1) (λ via. via < node_count sc) turn.state.via (came_up sc) turn at still
+    (λ via known. noted_came_up sc n via turn known h))
 
 noted_stabilize_tick : (sc : Scenario) (n epoch : ℕ) (turn : Turn) → HasNoted sc n turn → HasNoted sc n (stabilize_tick sc epoch turn)
 unfolding stabilize_tick stabilize_armed timer_made called
@@ -112,15 +114,15 @@ unfolding life_end
 noted_life_end sc n epoch turn h =
     noted_if sc (n + 1) (is_void epoch turn.state || not (is_churn_node sc turn.state.me)) turn _
     (one_more sc n h)
-    (noted_rise_armed sc (n + 1) (down (noted line.Crash turn))
-    (noted_down sc (n + 1) (noted line.Crash turn) (noted_line sc n line.Crash turn (no_node sc) h)))
+    (noted_rise_armed sc (n + 1) (gone_down (noted line.Crash turn))
+    (noted_gone_down sc (n + 1) (noted line.Crash turn) (noted_line sc n line.Crash turn (no_node sc) h)))
 
 -- Timeouts
 
 noted_lookup_timed_out : (sc : Scenario) (n silent place : ℕ) (lookup : Lookup) (turn : Turn) → KnowsNodes sc turn.state → HasNoted sc n turn → HasNoted sc (n + 1) (lookup_timed_out sc silent place lookup turn)
 unfolding lookup_timed_out
 noted_lookup_timed_out sc n silent place lookup turn knows h =
-    noted_if sc (n + 1) (nat_lt lookup.timeouts 8) _ _
+    noted_if sc (n + 1) (nat_lt lookup.timeouts most_timeouts) _ _
     (noted_walked sc n place (past silent (once_more lookup)) turn knows h)
     (noted_failed sc n (once_more lookup) turn h)
 
@@ -198,9 +200,9 @@ noted_pinged : (sc : Scenario) (n sender number : ℕ) (turn : Turn) → sender 
 unfolding pinged
 noted_pinged sc n sender number turn at h = noted_at_member sc n kind.Ping sender turn _ at h h
 
-noted_notified_over : (sc : Scenario) (n sender prdc : ℕ) (turn : Turn) → HasNoted sc n turn → HasNoted sc n (notified_over sc sender prdc turn)
+noted_predecessor_weighed : (sc : Scenario) (n sender prdc : ℕ) (turn : Turn) → HasNoted sc n turn → HasNoted sc n (predecessor_weighed sc sender prdc turn)
 unfolding called
-noted_notified_over sc n sender prdc turn h =
+noted_predecessor_weighed sc n sender prdc turn h =
     noted_if sc n (between sc.bits (ident_of sc prdc) (ident_of sc sender) (ident_of sc turn.state.me)) _ _ h
     (noted_if sc n (not (sender == prdc) && not (has_ping_call turn.state)) _ turn h h)
 
@@ -209,7 +211,7 @@ unfolding notified
 noted_notified sc n sender turn at h =
     noted_at_member sc n kind.Notify sender turn _ at h
     (noted_when_some sc n (λ _. Unit {0}) turn.state.prdc _ turn (known turn.state.prdc) h
-    (λ prdc _. noted_notified_over sc n sender prdc turn h))
+    (λ prdc _. noted_predecessor_weighed sc n sender prdc turn h))
 
 -- Replies
 
@@ -227,7 +229,7 @@ call_answered sc k number s is = IfSome-answered_call (IsCall sc) k number s is.
 noted_join_asked : (sc : Scenario) (n next : ℕ) (attempt : Attempt) (turn : Turn) → HasNoted sc n turn → HasNoted sc (n + 1) (join_asked sc next attempt turn)
 unfolding join_asked called
 noted_join_asked sc n next attempt turn h =
-    noted_if sc (n + 1) (nat_lt attempt.steps 128) _ _ (one_more sc n h)
+    noted_if sc (n + 1) (nat_lt attempt.steps most_steps) _ _ (one_more sc n h)
     (noted_join_failed sc n attempt turn h)
 
 noted_join_followed : (sc : Scenario) (n to : ℕ) (a : Answer) (attempt : Attempt) (turn : Turn) → HasNoted sc n turn → HasNoted sc (n + 1) (join_followed sc to a attempt turn)
@@ -268,7 +270,7 @@ noted_state_answered : (sc : Scenario) (n prdc : ℕ) (list : List ℕ) (call : 
 unfolding state_answered called
 noted_state_answered sc n prdc list call turn h =
     noted_if sc n (between sc.bits (ident_of sc turn.state.me) (ident_of sc prdc) (ident_of sc call.to)) _ _ h
-    (noted_head_notified sc n (with_successors sc call.to list turn) h)
+    (noted_head_notified sc n (successors_taken sc call.to list turn) h)
 
 noted_state_replied : (sc : Scenario) (n sender number prdc : ℕ) (list : List ℕ) (turn : Turn) → sender < node_count sc → IsNodeState sc turn.state → HasNoted sc n turn → HasNoted sc (n + 1) (state_replied sc sender number prdc list turn)
 unfolding state_replied
@@ -280,7 +282,7 @@ noted_state_replied sc n sender number prdc list turn at is h =
 
 noted_list_answered : (sc : Scenario) (n to : ℕ) (list : List ℕ) (turn : Turn) → HasNoted sc n turn → HasNoted sc n (list_answered sc to list turn)
 unfolding list_answered
-noted_list_answered sc n to list turn h = noted_head_notified sc n (with_successors sc to list turn) h
+noted_list_answered sc n to list turn h = noted_head_notified sc n (successors_taken sc to list turn) h
 
 noted_join_list_taken : (sc : Scenario) (n to : ℕ) (list : List ℕ) (attempt : Attempt) (turn : Turn) → to < node_count sc → HasNoted sc n turn → HasNoted sc (n + 1) (join_list_taken sc to list attempt turn)
 unfolding join_list_taken

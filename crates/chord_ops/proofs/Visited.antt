@@ -1,3 +1,4 @@
+-- A node that is looked at twice in a row counts once, in the search for the closest preceding node.
 use Rattle.std.proofs.Common.{◌≡◌, ◌+◌, ◌<◌, ℕ, Bool, true, false, List, ◌++◌, length, take, get_or, refl, nat_lt}
 use Rattle.std.specs.List.{filter, fold}
 use Rattle.std.specs.Prelude.{if◌then◌else◌}

@@ -63,7 +63,6 @@ fn searches_of_the_first_ring(rt: HostRuntime) -> Result<(), Fail> {
         assert!(rt; false, "no memory");
         return Ok(());
     };
-    scenario.recall_range();
     for (node, key, avoid, closest, answer) in &SEARCHES {
         let Some(state) = states.as_slice().get(*node) else {
             assert!(rt; false, "no node {node}");

@@ -1,0 +1,59 @@
+//! The calls that are out, and the head of the successor list.
+ghost use Rattle.std.specs.Prelude.{◌≡◌, ◌==◌, ℕ, not, filter, OnOk};
+ghost use Rattle.chord_node.specs.Invariant.{AllNodes};
+ghost use Rattle.chord_ops.specs.Procedures.{call_of, without_call};
+ghost use Rattle.chord_ops.specs.Rules.{head, head_notified};
+ghost use Rattle.chord_ops.specs.Turns.{CanAct};
+
+use crate::turn::Turn;
+use chord_event::{Body, Listed, Memory};
+use chord_node::{Call, NodeState};
+use chord_scenario::Scenario;
+
+/// The call of this number that is out.
+pub fn find_call(state: &NodeState, number: u64) -> Option<Call>
+    ensures { result ≡ call_of number state.now }
+{
+    state
+        .calls
+        .as_slice()
+        .iter()
+        .copied()
+        .find(|call| call.number == number)
+}
+
+/// Keeps the calls of other numbers.
+fn remove_call(calls: &mut Listed<Call>, number: u64)
+    ensures { calls.new ≡ filter (λ call. not (call.number == number)) calls.old }
+{
+    calls.retain(|call| call.number != number);
+}
+
+/// The first successor.
+pub fn head_of(state: &NodeState) -> Option<u32>
+    ensures { result ≡ head state.now }
+{
+    state.succ.as_slice().first().copied()
+}
+
+impl Turn {
+    /// The call is no longer out.
+    pub fn drop_call(&mut self, number: u64)
+        ensures { self.new ≡ without_call number self.old }
+    {
+        remove_call(&mut self.state.calls, number);
+    }
+
+    /// Tells the head that this node stands before it.
+    #[tactic(auto, unfolding(crate::specs::Rules::head_notified))]
+    pub fn notify_head(&mut self, scenario: &Scenario) -> Result<(), Memory>
+        requires can_act { CanAct scenario.now 1 0 self.old }
+        requires successors { AllNodes scenario.now self.old.state.succ }
+        ensures value { OnOk result (self.new ≡ head_notified scenario.now self.old) }
+    {
+        match head_of(&self.state) {
+            Some(head) => self.send(scenario, head, Body::Notify),
+            None => Ok(()),
+        }
+    }
+}
