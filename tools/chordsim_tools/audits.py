@@ -1,0 +1,66 @@
+"""The audits (docs/rules.md, section 10)."""
+
+from chordsim_tools.procedures import World
+from chordsim_tools.state import Node, Status
+
+
+def members_of(nodes: list[Node]) -> set[int]:
+    """The nodes with status Member."""
+    return {node.me for node in nodes if node.status == Status.MEMBER}
+
+
+def best_successor(node: Node, members: set[int]) -> int | None:
+    """The first entry of the node's successor list that is a member."""
+    return next((entry for entry in node.succ if entry in members), None)
+
+
+def comes_back(start: int, best: dict[int, int | None]) -> bool:
+    """Whether a member comes back to itself from best successor to best successor."""
+    here: int | None = start
+    for _ in range(len(best)):
+        here = best[here]
+        if here is None:
+            return False
+        if here == start:
+            return True
+    return False
+
+
+def is_passed_over(world: World, x: int, nodes: list[Node], members: set[int]) -> bool:
+    """Whether x lies between two neighbours of a member and its list."""
+    for n in members:
+        sequence = [n, *nodes[n].succ]
+        for a, b in zip(sequence, sequence[1:]):
+            if world.between(a, x, b):
+                return True
+    return False
+
+
+def is_ordered(world: World, ring: list[int], best: dict[int, int | None]) -> bool:
+    """Whether no ring member lies between a ring member and its best successor."""
+    return not any(world.between(n, x, best[n]) for n in ring for x in ring)
+
+
+def audit_line(world: World, nodes: list[Node], time: int) -> str:
+    """The line of the audit at this time."""
+    members = members_of(nodes)
+    best = {n: best_successor(nodes[n], members) for n in members}
+    dead = len([n for n in members if best[n] is None])
+    ring = [n for n in members if comes_back(n, best)]
+    ordered = is_ordered(world, ring, best)
+    principals = len([x for x in members if not is_passed_over(world, x, nodes, members)])
+    sufficient = principals >= world.scenario.list + 1 and dead == 0
+    return (
+        f"{time} audit members={len(members)} dead={dead} ring={len(ring)} ordered={yes_or_no(ordered)} "
+        f"principals={principals} sufficient={yes_or_no(sufficient)}"
+    )
+
+
+def yes_or_no(fact: bool) -> str:
+    """The word for a fact."""
+    return "yes" if fact else "no"
+
+
+def audit_times(audit_us: int, duration_us: int) -> list[int]:
+    """Each positive multiple of audit_us below duration_us, and duration_us."""
+    return [*range(audit_us, duration_us, audit_us), duration_us]

@@ -1,0 +1,34 @@
+"""The circle of identifiers (docs/rules.md, section 2)."""
+
+import hashlib
+from dataclasses import dataclass
+
+
+@dataclass(frozen=True)
+class Circle:
+    """The whole numbers below 2^bits, clockwise on a circle."""
+
+    bits: int
+
+    def distance(self, a: int, b: int) -> int:
+        """How far one goes clockwise from a to b."""
+        return (b - a) % 2**self.bits
+
+    def between(self, a: int, x: int, b: int) -> bool:
+        """Whether x lies on the way clockwise from a to b and is neither of them."""
+        if a == b:
+            return x != a
+        return 0 < self.distance(a, x) < self.distance(a, b)
+
+    def in_half_open(self, a: int, x: int, b: int) -> bool:
+        """Whether x is b or lies between a and b."""
+        return x == b or self.between(a, x, b)
+
+    def finger_start(self, n: int, i: int) -> int:
+        """The start of finger i, from 1 to m, of a node at n."""
+        return (n + 2 ** (i - 1)) % 2**self.bits
+
+    def identifier_of_name(self, name: str) -> int:
+        """The m leading bits of the SHA-1 digest of the name."""
+        digest = int.from_bytes(hashlib.sha1(name.encode()).digest(), "big")
+        return digest >> (160 - self.bits)

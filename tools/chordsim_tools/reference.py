@@ -1,0 +1,109 @@
+"""The command tools/reference."""
+
+import argparse
+import sys
+from collections.abc import Iterable
+from itertools import zip_longest
+from typing import TextIO
+
+from chordsim_tools.report import Report
+from chordsim_tools.scenario import GREATEST_SIZE, Refused, Scenario, read_scenario
+from chordsim_tools.simulation import Simulation, TooManyEvents
+from chordsim_tools.state import KINDS
+
+HELP = """\
+Runs a scenario by the rules of docs/rules.md, one event at a time, and prints the trace and then the report: the
+bytes that `chordsim run --scenario SCENARIO --serial` prints. It is slow: about 40,000 events each second."""
+EXAMPLES = """\
+examples:
+  tools/reference examples/ring.toml                       trace and report
+  tools/reference examples/churn64.toml --report           the report alone
+  tools/reference world.toml links.csv --trace t           the trace to the file t, the report to standard output
+  chordsim run --scenario world.toml --serial --trace t && tools/reference world.toml --compare t
+                                                           says where the two traces first part
+  tools/reference examples/churn64.toml --report --messages
+                                                           the report, and how many messages of each kind were sent
+
+status: 0 all was done; 1 a file is refused, or the traces part; 2 the words are wrong; 3 more events than max_events"""
+
+
+def words(arguments: list[str]) -> argparse.Namespace:
+    """The words of the command line."""
+    parser = argparse.ArgumentParser(
+        prog="tools/reference", description=HELP, epilog=EXAMPLES, formatter_class=argparse.RawDescriptionHelpFormatter
+    )
+    parser.add_argument("scenario", metavar="SCENARIO", help="the scenario file (TOML)")
+    parser.add_argument("latency", metavar="LATENCY", nargs="?", help="the latency file (CSV)")
+    where = parser.add_mutually_exclusive_group()
+    where.add_argument("--trace", metavar="FILE", help="put the trace to this file, not to standard output")
+    where.add_argument("--report", action="store_true", help="print no trace")
+    where.add_argument("--compare", metavar="TRACE", help="print neither; compare the trace with that of this file")
+    parser.add_argument("--messages", action="store_true", help="after the report, count the messages sent by kind")
+    return parser.parse_args(arguments)
+
+
+def read_file(name: str) -> bytes:
+    """The bytes of an input file."""
+    try:
+        with open(name, "rb") as file:
+            content = file.read(GREATEST_SIZE + 1)
+    except OSError:
+        raise Refused(f"cannot read {name}") from None
+    if len(content) > GREATEST_SIZE:
+        raise Refused(f"too long {name}")
+    return content
+
+
+def run(scenario: Scenario, trace: TextIO | None, messages: bool) -> None:
+    """Runs the scenario: the trace to a file, if there is one, and the report to standard output."""
+    simulation = Simulation(scenario)
+    report = Report()
+    for line in simulation.lines():
+        report.read(line)
+        if trace is not None:
+            trace.write(line + "\n")
+    print(report.text(simulation.events), end="")
+    if messages:
+        for kind in KINDS.values():
+            print(f"sent {kind} {simulation.messages[kind]}")
+
+
+def compare(ours: Iterable[str], theirs: Iterable[str]) -> int:
+    """Says where two traces first part, or that they are equal."""
+    count = 0
+    for count, (our_line, their_line) in enumerate(zip_longest(ours, theirs), start=1):
+        if our_line != their_line:
+            print(f"line {count} differs")
+            print(f"reference: {'(the trace has ended)' if our_line is None else our_line}")
+            print(f"the file:  {'(the trace has ended)' if their_line is None else their_line}")
+            return 1
+    print(f"equal: {count} lines")
+    return 0
+
+
+def obey(args: argparse.Namespace) -> int:
+    """Does what the words say; gives the status."""
+    latency = read_file(args.latency) if args.latency is not None else b""
+    scenario = read_scenario(read_file(args.scenario), latency)
+    if args.compare is not None:
+        with open(args.compare, encoding="utf-8", newline="\n") as file:
+            return compare(Simulation(scenario).lines(), (line.removesuffix("\n") for line in file))
+    if args.trace is not None:
+        with open(args.trace, "w", encoding="utf-8") as file:
+            run(scenario, file, args.messages)
+    else:
+        run(scenario, None if args.report else sys.stdout, args.messages)
+    return 0
+
+
+def main(arguments: list[str]) -> int:
+    """The command."""
+    args = words(arguments)
+    try:
+        return obey(args)
+    except Refused as fault:
+        print(f"refused: {fault}", file=sys.stderr)
+        return 1
+    except TooManyEvents:
+        print("failed: 3 TooManyEvents", file=sys.stderr)
+        return 3

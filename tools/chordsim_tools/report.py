@@ -1,0 +1,63 @@
+"""The report (docs/rules.md, section 11): 24 numbers, counted from the lines of the trace."""
+
+from collections import Counter
+
+LINES = (
+    ("members", "member"), ("join-failed", "join-failed"), ("crashes", "crash"), ("stranded", "stranded"),
+    ("drops", "drop"), ("late", "late"), ("timeouts", "timeout"), ("lookups", "lookup"), ("found", "found"),
+    ("lost", "lost"), ("busy", "busy"), ("ignored", "ignored"),
+)
+"""The numbers that count lines of one kind, and the word of these lines."""
+
+
+class Report:
+    """Reads the lines of a trace and counts."""
+
+    def __init__(self) -> None:
+        """A report of no lines."""
+        self.lines: Counter[str] = Counter()
+        self.audits: Counter[str] = Counter()
+        self.hops: list[int] = []
+        self.times: list[int] = []
+
+    def read(self, line: str) -> None:
+        """Counts one line."""
+        words = line.split(" ")
+        if words[1] == "audit":
+            self.audits["audits"] += 1
+            self.audits["ringless"] += "ring=0" in words
+            self.audits["unordered"] += "ordered=no" in words
+            self.audits["insufficient"] += "sufficient=no" in words
+            return
+        self.lines[words[2]] += 1
+        if words[2] == "found":
+            self.hops.append(int(words[5].removeprefix("hops=")))
+            self.times.append(int(words[7].removeprefix("us=")))
+
+    def numbers(self, events: int) -> dict[str, int]:
+        """The 24 numbers, in their order."""
+        numbers = {"events": events}
+        for word, kind in LINES:
+            numbers[word] = self.lines[kind]
+        numbers["unfinished"] = max(0, numbers["lookups"] - numbers["found"] - numbers["lost"])
+        numbers["hops-sum"] = sum(self.hops)
+        numbers["hops-greatest"] = max(self.hops, default=0)
+        numbers["us-sum"] = sum(self.times)
+        numbers["us-least"] = min(self.times, default=0)
+        numbers["us-median"] = median(self.times)
+        numbers["us-greatest"] = max(self.times, default=0)
+        for word in ("audits", "ringless", "unordered", "insufficient"):
+            numbers[word] = self.audits[word]
+        return numbers
+
+    def text(self, events: int) -> str:
+        """The report as it is printed."""
+        return "".join(f"{word} {number}\n" for word, number in self.numbers(events).items())
+
+
+def median(times: list[int]) -> int:
+    """Of k times in ascending order the one at place k/2, rounded up, counted from 1; 0 where there are none."""
+    if not times:
+        return 0
+    place = (len(times) + 1) // 2
+    return sorted(times)[place - 1]

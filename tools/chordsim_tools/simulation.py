@@ -1,0 +1,95 @@
+"""The run (docs/rules.md, sections 4, 7, 10 and 12)."""
+
+import heapq
+from collections import Counter
+from collections.abc import Iterator
+
+from chordsim_tools.audits import audit_line, audit_times
+from chordsim_tools.procedures import Procedures, World
+from chordsim_tools.rules import act
+from chordsim_tools.scenario import Command, Scenario
+from chordsim_tools.state import KINDS, Body, CmdCrash, CmdJoin, CmdLookup, Event, Node, Status
+
+
+class TooManyEvents(Exception):
+    """The run has more than max_events events."""
+
+
+class Simulation:
+    """A run of a scenario. `lines` runs it; `events` and `messages` are whole when `lines` has come to its end."""
+
+    def __init__(self, scenario: Scenario) -> None:
+        """The start (section 7)."""
+        self.scenario = scenario
+        self.world = World(scenario)
+        self.nodes = initial_states(self.world)
+        self.pending: list[Event] = []
+        self.events = 0
+        self.messages: Counter[str] = Counter()
+        for place, command in enumerate(scenario.commands, start=1):
+            heapq.heappush(self.pending, Event(command.at_us, 1, place, command.node, body_of(command)))
+        for node in self.nodes:
+            if node.status == Status.MEMBER:
+                procedures = Procedures(self.world, node, 0)
+                procedures.arm()
+                self.add(procedures.events)
+
+    def add(self, events: list[Event]) -> None:
+        """Makes events pending."""
+        for event in events:
+            heapq.heappush(self.pending, event)
+            if type(event.body) in KINDS:
+                self.messages[KINDS[type(event.body)]] += 1
+
+    def lines(self) -> Iterator[str]:
+        """Runs to the end, and gives the lines of the trace. An audit's line stands ahead of all lines of its time."""
+        for time in audit_times(self.scenario.audit_us, self.scenario.duration_us):
+            while self.pending and self.pending[0].time < time:
+                yield from self.take(heapq.heappop(self.pending))
+            yield audit_line(self.world, self.nodes, time)
+
+    def take(self, event: Event) -> list[str]:
+        """Takes an event: its target acts on it. Gives its lines."""
+        if self.events == self.scenario.max_events:
+            raise TooManyEvents
+        self.events += 1
+        events, lines = act(self.world, self.nodes[event.target], event)
+        self.add(events)
+        return lines
+
+
+def body_of(command: Command) -> Body:
+    """The body of a command's event."""
+    match command.do:
+        case "join":
+            return CmdJoin(command.via)
+        case "crash":
+            return CmdCrash()
+        case _:
+            return CmdLookup(command.key)
+
+
+def initial_states(world: World) -> list[Node]:
+    """The states of all nodes at the start: initial nodes know the whole ring, all others are Down."""
+    nodes = [Node(i) for i in range(len(world.names))]
+    initial = [i for i, node in enumerate(world.scenario.nodes) if node.initial]
+    for i in initial:
+        make_initial(world, nodes[i], initial)
+    return nodes
+
+
+def make_initial(world: World, node: Node, initial: list[int]) -> None:
+    """Makes the node a Member with epoch 1 that knows the whole ring."""
+    circle, idents = world.circle, world.idents
+    me = idents[node.me]
+    others = [i for i in initial if i != node.me]
+    clockwise = sorted(others, key=lambda i: circle.distance(me, idents[i]))
+    node.status = Status.MEMBER
+    node.epoch = 1
+    node.prdc = clockwise[-1]
+    node.succ = clockwise[: world.scenario.list]
+    for i in range(2, circle.bits + 1):
+        start = circle.finger_start(me, i)
+        node.fingers[i] = min(initial, key=lambda x: circle.distance(start, idents[x]))
+    node.next_finger = 2
+    node.via = others[0]
