@@ -1,5 +1,31 @@
 -- How records are found, placed and dropped in packed chunks.
-use Rattle.std.proofs.Common.{◌≡◌, ℕ, zero, suc, ◌+◌, ◌-◌, ◌*◌, ◌<◌, ◌≤◌, List, [], ◌∷◌, ◌++◌, length, set, get_or, slice_get, refl, sym, ap, ◌∙◌, subst, arith, length-append, append_assoc}
+use Rattle.std.proofs.Common.{
+  ◌≡◌,
+  ℕ,
+  zero,
+  suc,
+  ◌+◌,
+  ◌-◌,
+  ◌*◌,
+  ◌<◌,
+  ◌≤◌,
+  List,
+  [],
+  ◌∷◌,
+  ◌++◌,
+  length,
+  set,
+  get_or,
+  slice_get,
+  refl,
+  sym,
+  ap,
+  ◌∙◌,
+  subst,
+  arith,
+  length-append,
+  append_assoc,
+}
 use Rattle.std.specs.List.{All}
 use Rattle.std.proofs.lemmas.List.Elements.{All-head, All-tail}
 use Rattle.chord_arena.specs.Packed.{IsPacked, joined}
@@ -45,7 +71,11 @@ module _ {X : Type 0} where
       record { chunk = omega arith; place = here; item = ap (slice_get (c ++ joined cs)) at ∙ slice_get-left c (joined cs) r here }
   packed_get (c ∷ cs) n (suc i) r p lt h =
       let on = packed_get cs (n - 256) i r p.1 lt (omega arith) in
-      record { chunk = omega (arith, on.chunk); place = on.place; item = slice_get-right c (joined cs) (256 * suc i + r) (256 * i + r) (omega (arith, p.0)) ∙ on.item }
+      record {
+        chunk = omega (arith, on.chunk);
+        place = on.place;
+        item = slice_get-right c (joined cs) (256 * suc i + r) (256 * i + r) (omega (arith, p.0)) ∙ on.item;
+      }
 
   empty_after : (cs : List (List X)) (n : ℕ) → n ≡ 0 → IsPacked cs n → joined cs ≡ []
   empty_after cs n e p = no_items (joined cs) (length-joined cs n p ∙ e)

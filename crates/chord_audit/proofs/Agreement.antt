@@ -1,5 +1,44 @@
 -- What the tables of an audit say of the states of the nodes.
-use Rattle.std.proofs.Common.{◌≡◌, ℕ, zero, suc, ◌+◌, ◌<◌, ◌≤◌, Bool, true, false, cond, ◌&&◌, ◌||◌, List, [], ◌∷◌, map, filter, length, get_or, slice_index, Option, Some, None, IfSome, find, count_by, is_none, not, nat_lt, ◌==◌, refl, sym, ap, ◌∙◌, subst, arith, option_and_then}
+use Rattle.std.proofs.Common.{
+  ◌≡◌,
+  ℕ,
+  zero,
+  suc,
+  ◌+◌,
+  ◌<◌,
+  ◌≤◌,
+  Bool,
+  true,
+  false,
+  cond,
+  ◌&&◌,
+  ◌||◌,
+  List,
+  [],
+  ◌∷◌,
+  map,
+  filter,
+  length,
+  get_or,
+  slice_index,
+  Option,
+  Some,
+  None,
+  IfSome,
+  find,
+  count_by,
+  is_none,
+  not,
+  nat_lt,
+  ◌==◌,
+  refl,
+  sym,
+  ap,
+  ◌∙◌,
+  subst,
+  arith,
+  option_and_then,
+}
 use Rattle.std.specs.List.{All, list_any, range_with_len}
 use Rattle.std.proofs.Math.Dec.{eqb}
 use Rattle.std.proofs.lemmas.Bool.{eq-eqb}
@@ -8,8 +47,41 @@ use Rattle.std.proofs.lemmas.List.Sums.{length-filter}
 use Rattle.chord_scenario.specs.Setup.{Setup}
 use Rattle.chord_scenario.specs.World.{node_count}
 use Rattle.chord_node.specs.declared.state.NodeState.{NodeState}
-use Rattle.chord_audit.specs.Audit.{AreStates, nodes, is_dead, is_member, is_ordered, is_principal, dead_count, principal_count, audit_facts, best_successor, after, comes_back, is_at, member_count, is_on_ring, lies_between, lies_before, is_skipped, is_passed, is_passed_over}
-use Rattle.chord_audit.specs.Tables.{AreRanks, AreTables, LeadBelow, is_marked, node_at, list_of, is_marked_rank, is_inside_before, is_inside_list, is_skipping, is_passing}
+use Rattle.chord_audit.specs.Audit.{
+  AreStates,
+  nodes,
+  is_dead,
+  is_member,
+  is_ordered,
+  is_principal,
+  dead_count,
+  principal_count,
+  audit_facts,
+  best_successor,
+  after,
+  comes_back,
+  is_at,
+  member_count,
+  is_on_ring,
+  lies_between,
+  lies_before,
+  is_skipped,
+  is_passed,
+  is_passed_over,
+}
+use Rattle.chord_audit.specs.Tables.{
+  AreRanks,
+  AreTables,
+  LeadBelow,
+  is_marked,
+  node_at,
+  list_of,
+  is_marked_rank,
+  is_inside_before,
+  is_inside_list,
+  is_skipping,
+  is_passing,
+}
 use Rattle.chord_audit.proofs.Lists.{any_same, count_same, any_found, any_at, same_test, both_true, second_true}
 use Rattle.chord_audit.proofs.Places.{lies_inside}
 use Rattle.chord_audit.proofs.Powers.{is_at-true, at-is_at}
@@ -39,7 +111,8 @@ find_passes p (x ∷ xs) m h = first (p x) refl h (λ r. find_passes p xs m r)
     first true e s rest = let same : x ≡ m = cc in sym (ap p same) ∙ e
     first false e s rest = rest s
 
-pub best_leads : (most : ℕ) (p : ℕ → Bool) (states : List NodeState) → All (λ s. All (λ m. m < most) s.succ) states → LeadBelow most (map (λ s. find p s.succ) states)
+pub best_leads : (most : ℕ) (p : ℕ → Bool) (states : List NodeState) → All (λ s. All (λ m. m < most) s.succ) states
+    → LeadBelow most (map (λ s. find p s.succ) states)
 best_leads most p [] all k d lt = absurd (omega arith)
 best_leads most p (s ∷ ss) all zero d lt = find_below most p s.succ (all 0 s (omega arith))
 best_leads most p (s ∷ ss) all (suc k) d lt = best_leads most p ss (λ i e l. all (suc i) e (omega arith)) k d (omega arith)
@@ -56,7 +129,9 @@ any_filter : (test p : ℕ → Bool) (n q : ℕ) → q < n → test q ≡ true �
 any_filter test p n q lt found passes =
     any_filtered test p (range_with_len 0 n) ∙ any_at (λ x. p x && test x) 0 n q (omega arith) (omega arith) (both_true (p q) (test q) passes found)
 
-module _ (sc : Setup) (states : List NodeState) (members : List Bool) (best : List (Option ℕ)) (ring : List Bool) (ranks : List ℕ) (skipped passed : List Bool) (t : AreTables sc states members best ring ranks skipped passed) (state : ℕ → NodeState) (agree : AreStates sc states state) where
+module _ (sc : Setup) (states : List NodeState) (members : List Bool) (best : List (Option ℕ)) (ring : List Bool) (ranks : List ℕ)
+    (skipped passed : List Bool) (t : AreTables sc states members best ring ranks skipped passed) (state : ℕ → NodeState)
+    (agree : AreStates sc states state) where
   here : (n : ℕ) → n < node_count sc → n < length states
   here n lt = omega (arith, t.each)
 
@@ -106,12 +181,14 @@ module _ (sc : Setup) (states : List NodeState) (members : List Bool) (best : Li
           let round : after (best_successor state) back.0 n ≡ Some n = same back.0 ∙ back.2 in
           let later = comes_later (best_successor state) back.0 n back.1 round (suc (member_count sc state)) in
           let many : length (filter (λ m. is_member (state m)) (nodes sc)) ≡ member_count sc state = length-filter (λ m. is_member (state m)) (nodes sc) in
-          let short = comes_back_within (best_successor state) (filter (λ m. is_member (state m)) (nodes sc)) later.0 n n member_in (omega (arith, many, later.1)) later.2 in
+          let short = comes_back_within (best_successor state) (filter (λ m. is_member (state m)) (nodes sc)) later.0 n n member_in
+          (omega (arith, many, later.1)) later.2 in
           let some : 1 ≤ short.0 = short.1 in
           let few : short.0 ≤ length (filter (λ m. is_member (state m)) (nodes sc)) = short.2 in
           both_true (is_member (state n)) (comes_back (best_successor state) (member_count sc state) n)
           (came short.0 some short.3)
-          (any_at (λ k. is_at (after (best_successor state) k n) n) 1 (member_count sc state) short.0 some (omega (arith, many)) (at-is_at (after (best_successor state) short.0 n) n short.3))
+          (any_at (λ k. is_at (after (best_successor state) k n) n) 1 (member_count sc state) short.0 some (omega (arith, many))
+          (at-is_at (after (best_successor state) short.0 n) n short.3))
         where
           came : (d : ℕ) → 1 ≤ d → after (best_successor state) d n ≡ Some n → is_member (state n) ≡ true
           came zero some e = absurd (omega arith)
@@ -124,11 +201,13 @@ module _ (sc : Setup) (states : List NodeState) (members : List Bool) (best : Li
           let round : after (node_at best) steps.0 n ≡ Some n = sym (same steps.0) ∙ is_at-true (after (best_successor state) steps.0 n) n steps.3 in
           (t.ring_are n (omega (arith, many_best))).1 (steps.0, steps.1, round)
 
-  before_is : (n x : ℕ) → n < node_count sc → x < node_count sc → (o : Option ℕ) → IfSome o (λ m. m < node_count sc) → is_inside_before ranks (slice_index ranks x) n o ≡ lies_before sc n x o
+  before_is : (n x : ℕ) → n < node_count sc → x < node_count sc → (o : Option ℕ) → IfSome o (λ m. m < node_count sc)
+      → is_inside_before ranks (slice_index ranks x) n o ≡ lies_before sc n x o
   before_is n x ln lx None low = refl
   before_is n x ln lx (Some b) low = sym (lies_inside sc ranks t.range t.ranks_are n x b ln lx low)
 
-  list_inside : (a x : ℕ) (xs : List ℕ) → a < node_count sc → x < node_count sc → All (λ m. m < node_count sc) xs → is_inside_list ranks (slice_index ranks x) a xs ≡ is_passed sc x a xs
+  list_inside : (a x : ℕ) (xs : List ℕ) → a < node_count sc → x < node_count sc → All (λ m. m < node_count sc) xs
+      → is_inside_list ranks (slice_index ranks x) a xs ≡ is_passed sc x a xs
   list_inside a x [] la lx all = refl
   list_inside a x (b ∷ rest) la lx all =
       let lb : b < node_count sc = all 0 0 (omega arith) in
@@ -140,14 +219,17 @@ module _ (sc : Setup) (states : List NodeState) (members : List Bool) (best : Li
       let each : length ranks ≡ node_count sc = t.ranks_are.each in
       t.skipped_are (slice_index ranks x) (omega (arith, each, t.ranks_are.within x lx))
       ∙ ap (λ n. list_any (is_skipping ranks ring best (slice_index ranks x)) (range_with_len 0 n)) each
-      ∙ any_same (is_skipping ranks ring best (slice_index ranks x)) (λ n. is_on_ring sc state n && lies_before sc n x (best_successor state n)) 0 (node_count sc) one
+      ∙ any_same (is_skipping ranks ring best (slice_index ranks x)) (λ n. is_on_ring sc state n && lies_before sc n x (best_successor state n)) 0
+      (node_count sc) one
     where
-      one : (n : ℕ) → 0 ≤ n → n < 0 + node_count sc → is_skipping ranks ring best (slice_index ranks x) n ≡ (is_on_ring sc state n && lies_before sc n x (best_successor state n))
+      one : (n : ℕ) → 0 ≤ n → n < 0 + node_count sc → is_skipping ranks ring best (slice_index ranks x) n
+          ≡ (is_on_ring sc state n && lies_before sc n x (best_successor state n))
       one n low lt =
           let ln : n < node_count sc = omega arith in
           ap (λ b. b && is_inside_before ranks (slice_index ranks x) n (node_at best n)) (ring_is n ln)
           ∙ ap (λ o. is_on_ring sc state n && is_inside_before ranks (slice_index ranks x) n o) (best_is n ln)
-          ∙ ap (λ b. is_on_ring sc state n && b) (before_is n x ln lx (best_successor state n) (find_below (node_count sc) (λ m. is_member (state m)) (state n).succ (succ_below n ln)))
+          ∙ ap (λ b. is_on_ring sc state n && b) (before_is n x ln lx (best_successor state n)
+          (find_below (node_count sc) (λ m. is_member (state m)) (state n).succ (succ_below n ln)))
 
   pub passed_is : (x : ℕ) → x < node_count sc → is_marked_rank ranks passed x ≡ is_passed_over sc state x
   passed_is x lx =
@@ -156,7 +238,8 @@ module _ (sc : Setup) (states : List NodeState) (members : List Bool) (best : Li
       ∙ ap (λ n. list_any (is_passing ranks members states (slice_index ranks x)) (range_with_len 0 n)) each
       ∙ any_same (is_passing ranks members states (slice_index ranks x)) (λ n. is_member (state n) && is_passed sc x n (state n).succ) 0 (node_count sc) one
     where
-      one : (n : ℕ) → 0 ≤ n → n < 0 + node_count sc → is_passing ranks members states (slice_index ranks x) n ≡ (is_member (state n) && is_passed sc x n (state n).succ)
+      one : (n : ℕ) → 0 ≤ n → n < 0 + node_count sc → is_passing ranks members states (slice_index ranks x) n
+          ≡ (is_member (state n) && is_passed sc x n (state n).succ)
       one n low lt =
           let ln : n < node_count sc = omega arith in
           ap (λ b. b && is_inside_list ranks (slice_index ranks x) n (list_of states n)) (member_is n ln)
@@ -187,7 +270,8 @@ module _ (sc : Setup) (states : List NodeState) (members : List Bool) (best : Li
       ap (λ n. count_by (is_marked ring) (range_with_len 0 n)) many_ring
       ∙ count_same (is_marked ring) (is_on_ring sc state) 0 (node_count sc) (λ n low lt. ring_is n (omega arith))
 
-  pub any_is : list_any (λ n. is_marked ring n && is_marked_rank ranks skipped n) (range_with_len 0 (length ring)) ≡ list_any (λ x. is_on_ring sc state x && is_skipped sc state x) (nodes sc)
+  pub any_is : list_any (λ n. is_marked ring n && is_marked_rank ranks skipped n) (range_with_len 0 (length ring))
+      ≡ list_any (λ x. is_on_ring sc state x && is_skipped sc state x) (nodes sc)
   any_is =
       ap (λ n. list_any (λ n. is_marked ring n && is_marked_rank ranks skipped n) (range_with_len 0 n)) many_ring
       ∙ any_same (λ n. is_marked ring n && is_marked_rank ranks skipped n) (λ x. is_on_ring sc state x && is_skipped sc state x) 0 (node_count sc) (λ n low lt.
@@ -201,8 +285,17 @@ module _ (sc : Setup) (states : List NodeState) (members : List Bool) (best : Li
 
 -- a line is that of the facts where its fields are
 pub line_is : (sc : Setup) (state : ℕ → NodeState) (time m d r : ℕ) (o : Bool) (p : ℕ) (s : Bool)
-    → m ≡ member_count sc state → d ≡ dead_count sc state → r ≡ count_by (is_on_ring sc state) (nodes sc) → o ≡ is_ordered sc state → p ≡ principal_count sc state
-    → s ≡ (nat_lt sc.list p && (d == 0)) → record { time = time; members = m; dead = d; ring = r; ordered = o; principals = p; sufficient = s } ≡ audit_facts sc state time
+    → m ≡ member_count sc state → d ≡ dead_count sc state → r ≡ count_by (is_on_ring sc state) (nodes sc) → o ≡ is_ordered sc state
+    → p ≡ principal_count sc state
+    → s ≡ (nat_lt sc.list p && (d == 0)) → record {
+      time = time;
+      members = m;
+      dead = d;
+      ring = r;
+      ordered = o;
+      principals = p;
+      sufficient = s;
+    } ≡ audit_facts sc state time
 unfolding audit_facts
 line_is sc state time m d r o p s em ed er eo ep es =
     let both : s ≡ (nat_lt sc.list (principal_count sc state) && (dead_count sc state == 0)) =

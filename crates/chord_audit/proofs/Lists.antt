@@ -1,5 +1,37 @@
 -- Tests and counts over the numbers of the nodes.
-use Rattle.std.proofs.Common.{◌≡◌, ℕ, zero, suc, ◌+◌, ◌-◌, ◌<◌, ◌≤◌, Bool, true, false, cond, ◌&&◌, ◌||◌, [], ◌∷◌, ◌++◌, get_or, refl, sym, ap, ◌∙◌, arith, add-one, zero-add, add-zero, count_by, Result, Ok, Err, IfOk}
+use Rattle.std.proofs.Common.{
+  ◌≡◌,
+  ℕ,
+  zero,
+  suc,
+  ◌+◌,
+  ◌-◌,
+  ◌<◌,
+  ◌≤◌,
+  Bool,
+  true,
+  false,
+  cond,
+  ◌&&◌,
+  ◌||◌,
+  [],
+  ◌∷◌,
+  ◌++◌,
+  get_or,
+  refl,
+  sym,
+  ap,
+  ◌∙◌,
+  arith,
+  add-one,
+  zero-add,
+  add-zero,
+  count_by,
+  Result,
+  Ok,
+  Err,
+  IfOk,
+}
 use Rattle.std.specs.List.{list_any, range_with_len}
 use Rattle.std.proofs.lemmas.List.Folds.{list_any-append, list_any_at}
 use Rattle.std.proofs.lemmas.List.FromFn.{length-range_with_len, get_or-range_with_len}
@@ -9,14 +41,16 @@ pub any_same : (p q : ℕ → Bool) (a n : ℕ) → ((x : ℕ) → a ≤ x → x
 any_same p q a zero h = refl
 any_same p q a (suc n) h =
     let first : p a ≡ q a = h a (omega arith) (omega arith) in
-    let rest : list_any p (range_with_len (a + 1) n) ≡ list_any q (range_with_len (a + 1) n) = any_same p q (a + 1) n (λ x le lt. h x (omega arith) (omega arith)) in
+    let rest : list_any p (range_with_len (a + 1) n) ≡ list_any q (range_with_len (a + 1) n) = any_same p q (a + 1) n
+    (λ x le lt. h x (omega arith) (omega arith)) in
     ap (λ b. b || list_any p (range_with_len (a + 1) n)) first ∙ ap (λ b. q a || b) rest
 
 pub count_same : (p q : ℕ → Bool) (a n : ℕ) → ((x : ℕ) → a ≤ x → x < a + n → p x ≡ q x) → count_by p (range_with_len a n) ≡ count_by q (range_with_len a n)
 count_same p q a zero h = refl
 count_same p q a (suc n) h =
     let first : p a ≡ q a = h a (omega arith) (omega arith) in
-    let rest : count_by p (range_with_len (a + 1) n) ≡ count_by q (range_with_len (a + 1) n) = count_same p q (a + 1) n (λ x le lt. h x (omega arith) (omega arith)) in
+    let rest : count_by p (range_with_len (a + 1) n) ≡ count_by q (range_with_len (a + 1) n) = count_same p q (a + 1) n
+    (λ x le lt. h x (omega arith) (omega arith)) in
     sum_by-cons (λ x. cond (p x) 1 0) a (range_with_len (a + 1) n)
     ∙ ap (λ b. cond b 1 0 + count_by p (range_with_len (a + 1) n)) first
     ∙ ap (λ k. cond (q a) 1 0 + k) rest
@@ -43,7 +77,8 @@ pub any_found : (p : ℕ → Bool) (a n : ℕ) → list_any p (range_with_len a 
 any_found p a zero h = absurd cc
 any_found p a (suc n) h = found (λ r. any_found p (a + 1) n r) (p a) refl
   where
-    found : (list_any p (range_with_len (a + 1) n) ≡ true → (x : ℕ) × (a + 1 ≤ x) × (x < a + 1 + n) × (p x ≡ true)) → (b : Bool) → p a ≡ b → (x : ℕ) × (a ≤ x) × (x < a + suc n) × (p x ≡ true)
+    found : (list_any p (range_with_len (a + 1) n) ≡ true → (x : ℕ) × (a + 1 ≤ x) × (x < a + 1 + n) × (p x ≡ true)) → (b : Bool) → p a ≡ b
+        → (x : ℕ) × (a ≤ x) × (x < a + suc n) × (p x ≡ true)
     found more true e = (a, omega arith, omega arith, e)
     found more false e =
         let rest = more (sym (ap (λ b. b || list_any p (range_with_len (a + 1) n)) e) ∙ h) in
@@ -68,7 +103,8 @@ ok_then (Ok x) P Q p f = f x p
 ok_then (Err e) P Q p f = tt
 
 -- a test of each number up to one more, by that of the number
-pub one_more : (p : ℕ → Bool) (n : ℕ) (so_far now : Bool) → so_far ≡ list_any p (range_with_len 0 n) → now ≡ (so_far || p n) → now ≡ list_any p (range_with_len 0 (n + 1))
+pub one_more : (p : ℕ → Bool) (n : ℕ) (so_far now : Bool) → so_far ≡ list_any p (range_with_len 0 n) → now ≡ (so_far || p n)
+    → now ≡ list_any p (range_with_len 0 (n + 1))
 one_more p n so_far now is more = more ∙ ap (λ b. b || p n) is ∙ sym (any_more p n)
 
 pub or_none : (a b : Bool) → b ≡ false → a ≡ (a || b)

@@ -29,14 +29,18 @@ ranks_from_places sc sorted ranks range places = record {
     order : (n m : ℕ) → n < node_count sc → m < node_count sc → nat_lt (slice_index ranks n) (slice_index ranks m) ≡ nat_lt (ident_of sc n) (ident_of sc m)
     order n m ln lm = by_rank (cases_lt (slice_index ranks n) (slice_index ranks m))
       where
-        by_rank : (slice_index ranks n < slice_index ranks m) ⊎ (slice_index ranks m ≤ slice_index ranks n) → nat_lt (slice_index ranks n) (slice_index ranks m) ≡ nat_lt (ident_of sc n) (ident_of sc m)
+        by_rank : (slice_index ranks n < slice_index ranks m) ⊎ (slice_index ranks m ≤ slice_index ranks n)
+            → nat_lt (slice_index ranks n) (slice_index ranks m) ≡ nat_lt (ident_of sc n) (ident_of sc m)
         by_rank (inl less) =
-            let up : slice_index sorted (slice_index ranks n) ≤ slice_index sorted (slice_index ranks m) = places.ascend (slice_index ranks n) (slice_index ranks m) 0 (omega arith) (places.within m lm) in
-            let apart : ident_of sc n ≡ ident_of sc m → ⊥ = λ e. let same : n ≡ m = range.nodes.apart n m ln lm e in let tie : slice_index ranks n ≡ slice_index ranks m = ap (slice_index ranks) same in omega arith in
+            let up : slice_index sorted (slice_index ranks n) ≤ slice_index sorted (slice_index ranks m) = places.ascend (slice_index ranks n)
+            (slice_index ranks m) 0 (omega arith) (places.within m lm) in
+            let apart : ident_of sc n ≡ ident_of sc m → ⊥ = λ e. let same : n ≡ m = range.nodes.apart n m ln lm e
+            in let tie : slice_index ranks n ≡ slice_index ranks m = ap (slice_index ranks) same in omega arith in
             let below : ident_of sc n < ident_of sc m = omega (arith, up, apart, places.found n ln, places.found m lm) in
             lt-ltb (slice_index ranks n) (slice_index ranks m) less ∙ sym (lt-ltb (ident_of sc n) (ident_of sc m) below)
         by_rank (inr more) =
-            let down : slice_index sorted (slice_index ranks m) ≤ slice_index sorted (slice_index ranks n) = places.ascend (slice_index ranks m) (slice_index ranks n) 0 more (places.within n ln) in
+            let down : slice_index sorted (slice_index ranks m) ≤ slice_index sorted (slice_index ranks n) = places.ascend (slice_index ranks m)
+            (slice_index ranks n) 0 more (places.within n ln) in
             let above : ident_of sc m ≤ ident_of sc n = omega (arith, down, places.found n ln, places.found m lm) in
             le-ltb (slice_index ranks n) (slice_index ranks m) more ∙ sym (le-ltb (ident_of sc n) (ident_of sc m) above)
 

@@ -1,5 +1,34 @@
 -- Tables that say where so many steps lead.
-use Rattle.std.proofs.Common.{◌≡◌, ◌↔◌, ℕ, suc, ◌+◌, ◌*◌, ◌<◌, ◌≤◌, true, List, [], ◌∷◌, map, length, get_or, Option, Some, None, IfSome, refl, sym, ap, ◌∙◌, subst, arith, option_and_then, ◌||◌, Bool}
+use Rattle.std.proofs.Common.{
+  ◌≡◌,
+  ◌↔◌,
+  ℕ,
+  suc,
+  ◌+◌,
+  ◌*◌,
+  ◌<◌,
+  ◌≤◌,
+  true,
+  List,
+  [],
+  ◌∷◌,
+  map,
+  length,
+  get_or,
+  Option,
+  Some,
+  None,
+  IfSome,
+  refl,
+  sym,
+  ap,
+  ◌∙◌,
+  subst,
+  arith,
+  option_and_then,
+  ◌||◌,
+  Bool,
+}
 use Rattle.std.specs.List.{list_any, range_with_len}
 use Rattle.std.proofs.Math.Dec.{eqb}
 use Rattle.std.proofs.lemmas.Bool.{eqb-true, eq-eqb}
@@ -17,13 +46,16 @@ pub power_leads : (steps : ℕ) (best table : List (Option ℕ)) → LeadBelow (
 power_leads steps best table lead is k d lt =
     let n : ℕ = length best in
     let within : k < n = omega (arith, is.each) in
-    subst (λ (o : Option ℕ). IfSome o (λ m. m < length table)) (sym (get_or_default table k d None lt ∙ is.leads k within)) (way (after (node_at best) steps k) refl within)
+    subst (λ (o : Option ℕ). IfSome o (λ m. m < length table)) (sym (get_or_default table k d None lt ∙ is.leads k within))
+    (way (after (node_at best) steps k) refl within)
   where
     way : (o : Option ℕ) → after (node_at best) steps k ≡ o → k < length best → IfSome o (λ m. m < length table)
     way None e within = tt
-    way (Some m) e within = let low : m < length best = after_below (length best) (node_at best) (leads_from (length best) best refl lead) steps k m within e in omega (arith, is.each)
+    way (Some m) e within = let low : m < length best = after_below (length best) (node_at best) (leads_from (length best) best refl lead) steps k m
+        within e in omega (arith, is.each)
 
-pub power_twice : (steps : ℕ) (best table more : List (Option ℕ)) → LeadBelow (length best) best → IsPower steps best table → more ≡ map (option_and_then (node_at table)) table → IsPower (steps * 2) best more
+pub power_twice : (steps : ℕ) (best table more : List (Option ℕ)) → LeadBelow (length best) best → IsPower steps best table
+    → more ≡ map (option_and_then (node_at table)) table → IsPower (steps * 2) best more
 power_twice steps best table more lead is made = record {
   each = ap length made ∙ length-map table (option_and_then (node_at table)) ∙ is.each;
   leads = λ n lt.
@@ -37,7 +69,8 @@ power_twice steps best table more lead is made = record {
       ∙ ap (λ k. after (node_at best) k n) double;
 }
   where
-    on : (n : ℕ) → n < length best → (o : Option ℕ) → after (node_at best) steps n ≡ o → option_and_then (node_at table) o ≡ option_and_then (after (node_at best) steps) o
+    on : (n : ℕ) → n < length best → (o : Option ℕ) → after (node_at best) steps n ≡ o
+        → option_and_then (node_at table) o ≡ option_and_then (after (node_at best) steps) o
     on n lt None e = refl
     on n lt (Some m) e = is.leads m (after_below (length best) (node_at best) (leads_from (length best) best refl lead) steps n m lt e)
 
@@ -56,7 +89,8 @@ pub in_range : (n q : ℕ) → q < n → list_any (eqb q) (range_with_len 0 n) �
 in_range n q lt = any_at (eqb q) 0 n q (omega arith) (omega arith) (eq-eqb q q refl)
 
 -- many steps lead just to the nodes that come back
-pub lands_back : (steps : ℕ) (best table : List (Option ℕ)) → LeadBelow (length best) best → IsPower steps best table → length best < steps → (n : ℕ) → n < length best
+pub lands_back : (steps : ℕ) (best table : List (Option ℕ)) → LeadBelow (length best) best → IsPower steps best table → length best < steps → (n : ℕ)
+    → n < length best
     → (list_any (λ way. is_at way n) table ≡ true) ↔ ((d : ℕ) × (1 ≤ d) × (after (node_at best) d n ≡ Some n))
 lands_back steps best table lead is many n lt = (back, lands)
   where
@@ -84,4 +118,5 @@ lands_back steps best table lead is many n lt = (back, lands)
     lands (d, some, round) =
         let from = led_to (node_at best) d n steps some round in
         let low : from.0 < length best = after_below (length best) (node_at best) leads from.1 n from.0 lt from.2 in
-        ways ∙ any_at (λ y. is_at (after (node_at best) steps y) n) 0 (length best) from.0 (omega arith) (omega arith) (at-is_at (after (node_at best) steps from.0) n from.3)
+        ways ∙ any_at (λ y. is_at (after (node_at best) steps y) n) 0 (length best) from.0 (omega arith) (omega arith)
+        (at-is_at (after (node_at best) steps from.0) n from.3)

@@ -1,5 +1,36 @@
 -- Which ranks ways cover, as each is added.
-use Rattle.std.proofs.Common.{◌≡◌, ℕ, zero, suc, ◌+◌, ◌<◌, Bool, true, false, nat_lt, max, ◌&&◌, ◌||◌, List, [], ◌∷◌, length, replicate, take, get_or, set, refl, sym, ap, ◌∙◌, arith, zero-add, map, le-ltb, lt-ltb}
+use Rattle.std.proofs.Common.{
+  ◌≡◌,
+  ℕ,
+  zero,
+  suc,
+  ◌+◌,
+  ◌<◌,
+  Bool,
+  true,
+  false,
+  nat_lt,
+  max,
+  ◌&&◌,
+  ◌||◌,
+  List,
+  [],
+  ◌∷◌,
+  length,
+  replicate,
+  take,
+  get_or,
+  set,
+  refl,
+  sym,
+  ap,
+  ◌∙◌,
+  arith,
+  zero-add,
+  map,
+  le-ltb,
+  lt-ltb,
+}
 use Rattle.std.proofs.lemmas.Grind.{get_or_default_zero}
 use Rattle.std.proofs.lemmas.List.Folds.{list_any_more}
 use Rattle.std.specs.List.{list_any, range_with_len}
@@ -28,7 +59,8 @@ shifted a m = grind (arith, nat_tests)
 abbrev pub reached : (k m : ℕ) → List ℕ → Bool
 reached k m far = list_any (λ end. nat_lt k end) (take m far)
 
-pub reached_max : (k m : ℕ) (far : List ℕ) (a end : ℕ) → a < length far → reached k m (set far a (max (get_or far a 0) end)) ≡ (reached k m far || (nat_lt a m && nat_lt k end))
+pub reached_max : (k m : ℕ) (far : List ℕ) (a end : ℕ) → a < length far
+    → reached k m (set far a (max (get_or far a 0) end)) ≡ (reached k m far || (nat_lt a m && nat_lt k end))
 reached_max k m [] a end h = absurd (omega arith)
 reached_max k zero (x ∷ xs) zero end h = refl
 reached_max k zero (x ∷ xs) (suc a) end h = sym (ap (λ b. b && nat_lt k end) (le-ltb (suc a) 0 (omega arith)))
@@ -40,14 +72,17 @@ reached_max k (suc m) (x ∷ xs) (suc a) end h =
     ∙ ap (λ b. reached k (suc m) (x ∷ xs) || (b && nat_lt k end)) (shifted a m)
 
 -- the same after a read of the number, at any rank
-pub reaches_more : (k first : ℕ) (far : List ℕ) (a end x v : ℕ) → a < length far → x ≡ get_or far a x → v ≡ max x end → reaches first (set far a v) k ≡ (reaches first far k || (nat_lt a k && nat_lt k end))
+pub reaches_more : (k first : ℕ) (far : List ℕ) (a end x v : ℕ) → a < length far → x ≡ get_or far a x → v ≡ max x end
+    → reaches first (set far a v) k ≡ (reaches first far k || (nat_lt a k && nat_lt k end))
 reaches_more k first far a end x v h read is =
     let seen : x ≡ get_or far a 0 = read ∙ get_or_default_zero far a x h in
     let value : v ≡ max (get_or far a 0) end = is ∙ ap (λ y. max y end) seen in
-    ap (λ b. nat_lt k first || b) (ap (λ y. reached k k (set far a y)) value ∙ reached_max k k far a end h) ∙ or_assoc (nat_lt k first) (reached k k far) (nat_lt a k && nat_lt k end)
+    ap (λ b. nat_lt k first || b) (ap (λ y. reached k k (set far a y)) value ∙ reached_max k k far a end h)
+    ∙ or_assoc (nat_lt k first) (reached k k far) (nat_lt a k && nat_lt k end)
 
 -- the greatest end of the first m numbers and of one more
-pub reached_more : (k m : ℕ) (far items : List ℕ) (first top v : ℕ) → items ≡ far → m < length far → nat_lt k top ≡ (nat_lt k first || reached k m far) → v ≡ max top (get_or items m 0) → nat_lt k v ≡ (nat_lt k first || reached k (m + 1) far)
+pub reached_more : (k m : ℕ) (far items : List ℕ) (first top v : ℕ) → items ≡ far → m < length far
+    → nat_lt k top ≡ (nat_lt k first || reached k m far) → v ≡ max top (get_or items m 0) → nat_lt k v ≡ (nat_lt k first || reached k (m + 1) far)
 reached_more k m far items first top v same h so_far is =
     ap (nat_lt k) (is ∙ ap (λ l. max top (get_or l m 0)) same) ∙ below_max k top (get_or far m 0) ∙ ap (λ b. b || nat_lt k (get_or far m 0)) so_far
     ∙ sym (or_assoc (nat_lt k first) (reached k m far) (nat_lt k (get_or far m 0)))
@@ -62,9 +97,11 @@ pub none_reached : (k n : ℕ) (far : List ℕ) → far ≡ replicate n 0 → re
 none_reached k n far is = ap (λ l. nat_lt k 0 || reached k k l) is ∙ ap (λ b. b || reached k k (replicate n 0)) (le-ltb k 0 (omega arith)) ∙ zero_reached k k n
 
 -- the marks of the covered ranks
-pub marked_covered : (first k n : ℕ) (far : List ℕ) (marks : List Bool) → length far ≡ n → marks ≡ map (reaches first far) (range_with_len 0 (length far)) → k < n → is_marked marks k ≡ reaches first far k
+pub marked_covered : (first k n : ℕ) (far : List ℕ) (marks : List Bool) → length far ≡ n
+    → marks ≡ map (reaches first far) (range_with_len 0 (length far)) → k < n → is_marked marks k ≡ reaches first far k
 marked_covered first k n far marks each is lt =
     ap (λ l. is_marked l k) is ∙ get_or-map-range_with_len (reaches first far) 0 (length far) k k false (omega arith) (zero-add k)
 
-pub length-covered : (first n : ℕ) (far : List ℕ) (marks : List Bool) → length far ≡ n → marks ≡ map (reaches first far) (range_with_len 0 (length far)) → length marks ≡ n
+pub length-covered : (first n : ℕ) (far : List ℕ) (marks : List Bool) → length far ≡ n
+    → marks ≡ map (reaches first far) (range_with_len 0 (length far)) → length marks ≡ n
 length-covered first n far marks each is = ap length is ∙ length-map-range_with_len (reaches first far) 0 (length far) ∙ each

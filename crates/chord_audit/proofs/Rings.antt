@@ -1,5 +1,38 @@
 -- Steps from node to node, and the nodes that they lead back to.
-use Rattle.std.proofs.Common.{◌≡◌, ℕ, zero, suc, ◌+◌, ◌-◌, ◌<◌, ◌≤◌, ◌⊎◌, inl, inr, Bool, true, false, ◌||◌, List, [], ◌∷◌, length, Option, Some, None, refl, sym, ap, ◌∙◌, subst, arith, add-suc, add-zero, option_and_then, unwrap_or}
+use Rattle.std.proofs.Common.{
+  ◌≡◌,
+  ℕ,
+  zero,
+  suc,
+  ◌+◌,
+  ◌-◌,
+  ◌<◌,
+  ◌≤◌,
+  ◌⊎◌,
+  inl,
+  inr,
+  Bool,
+  true,
+  false,
+  ◌||◌,
+  List,
+  [],
+  ◌∷◌,
+  length,
+  Option,
+  Some,
+  None,
+  refl,
+  sym,
+  ap,
+  ◌∙◌,
+  subst,
+  arith,
+  add-suc,
+  add-zero,
+  option_and_then,
+  unwrap_or,
+}
 use Rattle.std.specs.List.{list_any, AllByRecursion, IsDistinct}
 use Rattle.std.specs.Cmp.{IsEquivalence}
 use Rattle.std.proofs.lemmas.Bool.Decides.{nat_tests}
@@ -97,7 +130,8 @@ unfolding IsDistinct
 repeats_or p zero = inr tt
 repeats_or p (suc k) = one_more (repeats_or p k) (list_any (eqb (p k)) (first_of p k)) refl
   where
-    one_more : Repeats p k ⊎ IsDistinct eqb (first_of p k) → (b : Bool) → list_any (eqb (p k)) (first_of p k) ≡ b → Repeats p (suc k) ⊎ IsDistinct eqb (first_of p (suc k))
+    one_more : Repeats p k ⊎ IsDistinct eqb (first_of p k) → (b : Bool) → list_any (eqb (p k)) (first_of p k) ≡ b
+        → Repeats p (suc k) ⊎ IsDistinct eqb (first_of p (suc k))
     one_more (inl r) b e = inl (more_repeats p k r)
     one_more (inr d) true e = let at = found_in p (p k) k e in inl (at.0, k, at.1, omega arith, at.2)
     one_more (inr d) false e = inr (IsDistinct-cons eqb (p k) (first_of p k) (none_equal (p k) (first_of p k) e) d)
@@ -119,7 +153,8 @@ known : (o : Option ℕ) (q : ℕ) → o ≡ Some q → o ≡ Some (unwrap_or o 
 known o q h = h ∙ ap (λ (w : Option ℕ). Some (unwrap_or w 0)) (sym h)
 
 -- a way of more steps than there are nodes on it ends where it comes back
-pub comes_back_within : (next : ℕ → Option ℕ) (ys : List ℕ) (k y n : ℕ) → ((i q : ℕ) → after next (suc i) y ≡ Some q → IsIn ys q) → length ys < k → after next k y ≡ Some n → (d : ℕ) × (1 ≤ d) × (d ≤ length ys) × (after next d n ≡ Some n)
+pub comes_back_within : (next : ℕ → Option ℕ) (ys : List ℕ) (k y n : ℕ) → ((i q : ℕ) → after next (suc i) y ≡ Some q → IsIn ys q) → length ys < k
+    → after next k y ≡ Some n → (d : ℕ) × (1 ≤ d) × (d ≤ length ys) × (after next d n ≡ Some n)
 comes_back_within next ys k y n all more h = back (two_equal place ys (suc (length ys)) (λ i lt. all i (place i) (there i (omega arith))) (omega arith))
   where
     place : ℕ → ℕ
@@ -158,7 +193,8 @@ after_below most next leads (suc k) n m lt h = last (after next k n) refl h (λ 
     last None e g below = absurd cc
     last (Some q) e g below = leads q m (below q e) g
 
-pub after_same : (most : ℕ) (next other : ℕ → Option ℕ) → Leads most next → ((n : ℕ) → n < most → next n ≡ other n) → (k n : ℕ) → n < most → after next k n ≡ after other k n
+pub after_same : (most : ℕ) (next other : ℕ → Option ℕ) → Leads most next → ((n : ℕ) → n < most → next n ≡ other n) → (k n : ℕ) → n < most
+    → after next k n ≡ after other k n
 after_same most next other leads same zero n lt = refl
 after_same most next other leads same (suc k) n lt =
     last (after next k n) refl ∙ ap (option_and_then other) (after_same most next other leads same k n lt)

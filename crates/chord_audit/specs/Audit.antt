@@ -1,5 +1,30 @@
 -- The facts of a ring at one time, from what each node knows.
-use Rattle.std.specs.Prelude.{◌≡◌, ◌<◌, slice_index_or, ℕ, ◌==◌, Bool, false, true, not, nat_lt, ◌&&◌, ◌||◌, List, [], ◌∷◌, Option, Some, None, count_by, find, is_none, option_and_then, zero, suc}
+use Rattle.std.specs.Prelude.{
+  ◌≡◌,
+  ◌<◌,
+  slice_index_or,
+  ℕ,
+  ◌==◌,
+  Bool,
+  false,
+  true,
+  not,
+  nat_lt,
+  ◌&&◌,
+  ◌||◌,
+  List,
+  [],
+  ◌∷◌,
+  Option,
+  Some,
+  None,
+  count_by,
+  find,
+  is_none,
+  option_and_then,
+  zero,
+  suc,
+}
 use Rattle.std.specs.List.{list_any, range_with_len}
 use Rattle.chord_circle.specs.Circle.{between}
 use Rattle.chord_scenario.specs.Setup.{Setup}

@@ -1,5 +1,31 @@
 -- Tables that hold a fact of each node, and ranks of nodes.
-use Rattle.std.specs.Prelude.{◌≡◌, ◌↔◌, ℕ, ◌<◌, ◌≤◌, Bool, false, true, find, nat_lt, ◌&&◌, ◌||◌, List, [], ◌∷◌, Option, None, Some, IfSome, map, take, length, slice_index, slice_index_or, if◌then◌else◌}
+use Rattle.std.specs.Prelude.{
+  ◌≡◌,
+  ◌↔◌,
+  ℕ,
+  ◌<◌,
+  ◌≤◌,
+  Bool,
+  false,
+  true,
+  find,
+  nat_lt,
+  ◌&&◌,
+  ◌||◌,
+  List,
+  [],
+  ◌∷◌,
+  Option,
+  None,
+  Some,
+  IfSome,
+  map,
+  take,
+  length,
+  slice_index,
+  slice_index_or,
+  if◌then◌else◌,
+}
 use Rattle.std.specs.List.{All, list_any, range_with_len}
 use Rattle.chord_scenario.specs.Setup.{Setup}
 use Rattle.chord_scenario.specs.World.{node_count, ident_of}
@@ -75,7 +101,8 @@ abbrev pub covers : Arcs → (k : ℕ) → Bool
 covers arcs k = reaches arcs.first arcs.far.items k
 
 -- what the tables of an audit hold of each node and of each rank
-pub record AreTables (sc : Setup) (states : List NodeState) (members : List Bool) (best : List (Option ℕ)) (ring : List Bool) (ranks : List ℕ) (skipped passed : List Bool) : Type 0 where
+pub record AreTables (sc : Setup) (states : List NodeState) (members : List Bool) (best : List (Option ℕ)) (ring : List Bool) (ranks : List ℕ)
+    (skipped passed : List Bool) : Type 0 where
   pub range : IsInRange sc
   pub each : length states ≡ node_count sc
   pub succ : All (λ s. All (λ m. m < node_count sc) s.succ) states

@@ -1,5 +1,31 @@
 -- What one worker and the others hand on, put together.
-use Rattle.std.proofs.Common.{◌≡◌, ℕ, List, ◌+◌, ◌⊎◌, ◌&&◌, ◌++◌, sym, ap, ap₂, ◌∙◌, subst, inl, inr, true, Option, None, Some, Result, Ok, Err, IfOk, IfErr, IfNone, IsOk}
+use Rattle.std.proofs.Common.{
+  ◌≡◌,
+  ℕ,
+  List,
+  ◌+◌,
+  ◌⊎◌,
+  ◌&&◌,
+  ◌++◌,
+  sym,
+  ap,
+  ap₂,
+  ◌∙◌,
+  subst,
+  inl,
+  inr,
+  true,
+  Option,
+  None,
+  Some,
+  Result,
+  Ok,
+  Err,
+  IfOk,
+  IfErr,
+  IfNone,
+  IsOk,
+}
 use Rattle.std.specs.List.{All}
 use Rattle.std.proofs.lemmas.List.{map-append}
 use Rattle.std.proofs.lemmas.Option.{none-some}
@@ -23,7 +49,8 @@ from_none None P is fact = fact
 from_none (Some x) P is fact = absurd (none-some x (sym is))
 
 -- three facts of the value of an `Ok`, taken together
-from_ok : {X Y : Type 0} (r : Result X Y) (P Q S : X → Type 0) (Whole : Type 0) → IsOk r → IfOk r P → IfOk r Q → IfOk r S → ((x : X) → P x → Q x → S x → Whole) → Whole
+from_ok : {X Y : Type 0} (r : Result X Y) (P Q S : X → Type 0) (Whole : Type 0) → IsOk r → IfOk r P → IfOk r Q → IfOk r S
+    → ((x : X) → P x → Q x → S x → Whole) → Whole
 from_ok (Ok x) P Q S Whole is p q s made = made x p q s
 from_ok (Err e) P Q S Whole is p q s made = cc is
 
@@ -32,7 +59,8 @@ results_joined : (sc : Scenario) (w : World) (horizon : ℕ) (first mine seat : 
     → seat ≡ joined_seats first mine → all ≡ list ++ more → AreResults sc w horizon first.numbers list → AreResults sc w horizon mine.numbers more
     → AreResults sc w horizon seat.numbers all
 results_joined sc w horizon first mine seat list more all seat_is all_is a b = record {
-  parts_are = ap parts_of all_is ∙ (map-append (λ (done : Done). done.part) list more ∙ (ap₂ ◌++◌ a.parts_are b.parts_are ∙ sym (ap (λ (s : SeatState). s.numbers) seat_is)));
+  parts_are = ap parts_of all_is ∙ (map-append (λ (done : Done). done.part) list more
+      ∙ (ap₂ ◌++◌ a.parts_are b.parts_are ∙ sym (ap (λ (s : SeatState). s.numbers) seat_is)));
   each = subst (All (IsResult sc w horizon)) (sym all_is) (All-append (IsResult sc w horizon) list more a.each b.each);
 }
 
@@ -45,7 +73,9 @@ pub gathered_joined : (sc : Scenario) (w : World) (horizon : ℕ) (first mine : 
 gathered_joined sc w horizon first mine others shift whole g s j =
     let exhausted = from_none shift.fault (shift.seat.is_exhausted ≡ true) j.no_fault s.exhausted in
     let finished = from_none shift.fault (AreResults sc w horizon shift.seat.numbers shift.done.items) j.no_fault s.finished in
-    from_ok others (IsGathered sc w horizon first) (λ o. whole.seat ≡ joined_seats o.seat shift.seat) (λ o. whole.done.items ≡ o.done.items ++ shift.done.items) (IsGathered sc w horizon (joined_seats first mine) whole) j.others_are g j.seat j.done (λ o gathered seat done. record {
+    from_ok others (IsGathered sc w horizon first) (λ o. whole.seat ≡ joined_seats o.seat shift.seat)
+    (λ o. whole.done.items ≡ o.done.items ++ shift.done.items) (IsGathered sc w horizon (joined_seats first mine) whole) j.others_are g j.seat
+    j.done (λ o gathered seat done. record {
       same_seat = record {
         table = ap (λ (v : SeatState). v.table) seat ∙ gathered.same_seat.table;
         allowance = ap (λ (v : SeatState). v.allowance) seat ∙ ap₂ ◌+◌ gathered.same_seat.allowance s.same_seat.allowance;
@@ -65,7 +95,8 @@ fault_of_either sc w horizon mine others shift fault g s (inr (inl theirs)) = rw
 fault_of_either sc w horizon mine others shift fault g s (inr (inr mine_is)) = inr (rw mine_is at s.fault)
 
 -- where the joined seat has each part once, there is one result of each part
-pub all_gathered : (sc : Scenario) (w : World) (horizon : ℕ) (seat : SeatState) (gathered : Gathered) → IsHorizon w horizon → IsGathered sc w horizon seat gathered → HasEachOnce w.division.parts gathered.seat.numbers → ArePartsDone sc w horizon gathered.done.items
+pub all_gathered : (sc : Scenario) (w : World) (horizon : ℕ) (seat : SeatState) (gathered : Gathered) → IsHorizon w horizon
+    → IsGathered sc w horizon seat gathered → HasEachOnce w.division.parts gathered.seat.numbers → ArePartsDone sc w horizon gathered.done.items
 all_gathered sc w horizon seat gathered next is once = record {
   time = next.0;
   opening = next.1;

@@ -33,16 +33,27 @@ module _ (counter : Counter) (seat : SeatState) (word : ℕ) (views : List View)
           let is : u ≡ view_of seat = some-injective u (view_of seat) (sym there ∙ ap (λ (j : ℕ). get_elem? views j) same ∙ at) in
           let count : count_of x u.numbers ≡ count_of x seat.numbers = ap (λ (y : View). count_of x y.numbers) is in
           rw (eq-eqb k seat.place same) (omega (arith, sum_by-at (λ y. count_of x y.numbers) views k u there, at_most_once x))
-      by_place (no apart) = rw (ne_eqb k seat.place apart) (omega (arith, sum_by-two (λ y. count_of x y.numbers) views seat.place k (view_of seat) u at there apart, at_most_once x))
+      by_place (no apart) = rw (ne_eqb k seat.place apart) (omega (
+        arith,
+        sum_by-two (λ y. count_of x y.numbers) views seat.place k (view_of seat) u
+            at there apart,
+        at_most_once x,
+      ))
 
   -- where it has met the end, each number was drawn
   pub all_drawn : seat.met_end ≡ true → AllAreDrawn counter.parts views
-  all_drawn ended x below = moment.kept.each_once x (omega (arith, All-at (λ u. u.met_end ≡ true → counter.parts ≤ word) views seat.place (view_of seat) at moment.kept.end_is_met ended))
+  all_drawn ended x below = moment.kept.each_once x (omega (
+    arith,
+    All-at (λ u. u.met_end ≡ true → counter.parts ≤ word) views seat.place
+        (view_of seat) at moment.kept.end_is_met ended,
+  ))
 
   -- where it has the whole allowance too, each number is in its list
   pub whole_has_each : seat.met_end ≡ true → seat.allowance ≡ counter.seats → HasEachOnce counter.parts seat.numbers
   whole_has_each ended whole =
-      let count : (x : ℕ) → draws_of x views ≡ count_of x seat.numbers = λ x. sum_by-whole (λ u. count_of x u.numbers) (λ u. u.allowance) views seat.place (view_of seat) at (moment.kept.whole_allowance ∙ sym whole) (λ k u e none. rw (All-at (λ y. y.allowance ≡ 0 → y.numbers ≡ []) views k u e moment.kept.spent_is_empty none)) in
+      let count : (x : ℕ) → draws_of x views ≡ count_of x seat.numbers = λ x. sum_by-whole (λ u. count_of x u.numbers) (λ u. u.allowance) views
+      seat.place (view_of seat) at (moment.kept.whole_allowance ∙ sym whole)
+      (λ k u e none. rw (All-at (λ y. y.allowance ≡ 0 → y.numbers ≡ []) views k u e moment.kept.spent_is_empty none)) in
       record {
         each_once = λ x below. sym (count x) ∙ all_drawn ended x below;
         no_other = λ k d in_range. below_parts (get_or seat.numbers k d) (counted_at seat.numbers k d in_range) (count (get_or seat.numbers k d));

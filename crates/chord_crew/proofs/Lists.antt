@@ -17,7 +17,8 @@ module _ {A : Type 0} where
 
   -- the sum after one element was replaced
   pub sum_by-replaced : (f : A → ℕ) (xs : List A) (k : ℕ) (v w : A) → get_elem? xs k ≡ some v → sum_by f (set xs k w) + f v ≡ sum_by f xs + f w
-  sum_by-replaced f xs k v w e = let h = get_or-at xs k v v e in subst (λ (u : A). sum_by f (set xs k w) + f u ≡ sum_by f xs + f w) h.1 (sum_by-set f xs k w v h.0)
+  sum_by-replaced f xs k v w e = let h = get_or-at xs k v v e in subst (λ (u : A). sum_by f (set xs k w) + f u ≡ sum_by f xs + f w) h.1
+      (sum_by-set f xs k w v h.0)
 
   -- one element is within the sum
   pub sum_by-at : (f : A → ℕ) (xs : List A) (k : ℕ) (v : A) → get_elem? xs k ≡ some v → f v ≤ sum_by f xs
@@ -27,8 +28,10 @@ module _ {A : Type 0} where
   pub sum_by-two : (f : A → ℕ) (xs : List A) (j k : ℕ) (v w : A) → get_elem? xs j ≡ some v → get_elem? xs k ≡ some w → k ≢ j → f v + f w ≤ sum_by f xs
   sum_by-two f [] j k v w e h apart = absurd (some-ne-none v (sym e))
   sum_by-two f (x ∷ xs) zero zero v w e h apart = absurd (apart (λ i. 0))
-  sum_by-two f (x ∷ xs) zero (suc k) v w e h apart = subst (λ (u : A). f u + f w ≤ sum_by f (x ∷ xs)) (some-injective x v e) (omega (arith, sum_by-cons f x xs, sum_by-at f xs k w h))
-  sum_by-two f (x ∷ xs) (suc j) zero v w e h apart = subst (λ (u : A). f v + f u ≤ sum_by f (x ∷ xs)) (some-injective x w h) (omega (arith, sum_by-cons f x xs, sum_by-at f xs j v e))
+  sum_by-two f (x ∷ xs) zero (suc k) v w e h apart = subst (λ (u : A). f u + f w ≤ sum_by f (x ∷ xs)) (some-injective x v e)
+      (omega (arith, sum_by-cons f x xs, sum_by-at f xs k w h))
+  sum_by-two f (x ∷ xs) (suc j) zero v w e h apart = subst (λ (u : A). f v + f u ≤ sum_by f (x ∷ xs)) (some-injective x w h)
+      (omega (arith, sum_by-cons f x xs, sum_by-at f xs j v e))
   sum_by-two f (x ∷ xs) (suc j) (suc k) v w e h apart = omega (arith, sum_by-cons f x xs, sum_by-two f xs j k v w e h (λ s. apart (λ i. suc (s i))))
 
   -- where one element has the whole sum of `g`, and `f` is 0 where `g` is, it has the whole sum of `f`
@@ -39,7 +42,8 @@ module _ {A : Type 0} where
       let there : sum_by f xs ≡ 0 = sum_by-none f g xs (omega (arith, sum_by-cons g x xs)) (λ k u e. zero_too (suc k) u e) in
       omega (arith, sum_by-cons f x xs)
 
-  pub sum_by-whole : (f g : A → ℕ) (xs : List A) (k : ℕ) (v : A) → get_elem? xs k ≡ some v → sum_by g xs ≡ g v → ((k : ℕ) (u : A) → get_elem? xs k ≡ some u → g u ≡ 0 → f u ≡ 0) → sum_by f xs ≡ f v
+  pub sum_by-whole : (f g : A → ℕ) (xs : List A) (k : ℕ) (v : A) → get_elem? xs k ≡ some v → sum_by g xs ≡ g v
+      → ((k : ℕ) (u : A) → get_elem? xs k ≡ some u → g u ≡ 0 → f u ≡ 0) → sum_by f xs ≡ f v
   sum_by-whole f g [] k v e whole zero_too = absurd (some-ne-none v (sym e))
   sum_by-whole f g (x ∷ xs) zero v e whole zero_too =
       let is : x ≡ v = some-injective x v e in

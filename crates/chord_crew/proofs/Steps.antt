@@ -1,5 +1,40 @@
 -- Each step keeps the rule.
-use Rattle.std.proofs.Common.{◌≡◌, ◌≢◌, ℕ, ◌+◌, ◌-◌, ◌%◌, ◌^◌, ◌<◌, ◌≤◌, min, Bool, true, false, ◌||◌, cond, eqb, List, [], ◌∷◌, ◌++◌, length, set, refl, sym, ap, ◌∙◌, true≢false, lt-ltb, le-ltb, eq-eqb, ne_eqb, mod-eq_of_lt, ap₂, arith}
+use Rattle.std.proofs.Common.{
+  ◌≡◌,
+  ◌≢◌,
+  ℕ,
+  ◌+◌,
+  ◌-◌,
+  ◌%◌,
+  ◌^◌,
+  ◌<◌,
+  ◌≤◌,
+  min,
+  Bool,
+  true,
+  false,
+  ◌||◌,
+  cond,
+  eqb,
+  List,
+  [],
+  ◌∷◌,
+  ◌++◌,
+  length,
+  set,
+  refl,
+  sym,
+  ap,
+  ◌∙◌,
+  true≢false,
+  lt-ltb,
+  le-ltb,
+  eq-eqb,
+  ne_eqb,
+  mod-eq_of_lt,
+  ap₂,
+  arith,
+}
 use Rattle.std.specs.Prelude.{sum_by, slice_index}
 use Rattle.std.proofs.lemmas.List.Sums.{sum_by-append, sum_by_push, sum_by-le-sum_by}
 use Rattle.std.proofs.lemmas.List.Elements.{All-set, All-push}
@@ -30,22 +65,27 @@ sum_past_end-le views = sum_by-le-sum_by draws_past_end (λ v. v.allowance) view
 draws_past_end-open : (v : View) → v.met_end ≡ false → draws_past_end v ≡ v.allowance
 draws_past_end-open v open_end = ap (λ (b : Bool). cond b 0 v.allowance) open_end
 
-module _ (parts seats word : ℕ) (views : List View) (kept : IsKept parts seats word views) (id : ℕ) (v : View) (at : get_elem? views id ≡ some v) (open_end : v.met_end ≡ false) (some_left : 0 < v.allowance) where
+module _ (parts seats word : ℕ) (views : List View) (kept : IsKept parts seats word views) (id : ℕ) (v : View) (at : get_elem? views id ≡ some v)
+    (open_end : v.met_end ≡ false) (some_left : 0 < v.allowance) where
   -- the word grows by 1, and stays far below where it would wrap
   pub word_below : word < parts + seats
   word_below = omega (arith, kept.never_wraps, sum_by-at draws_past_end views id v at, draws_past_end-open v open_end)
 
-  draws_number : word < parts → IsKept parts seats (word + 1) (set views id (record { numbers = v.numbers ++ word ∷ []; allowance = v.allowance; met_end = v.met_end }))
+  draws_number : word < parts → IsKept parts seats (word + 1) (set views id
+      (record { numbers = v.numbers ++ word ∷ []; allowance = v.allowance; met_end = v.met_end }))
   draws_number below =
       let w : View = record { numbers = v.numbers ++ word ∷ []; allowance = v.allowance; met_end = v.met_end } in
-      let count : (x : ℕ) → draws_of x (set views id w) ≡ draws_of x views + cond (eqb word x) 1 0 = λ x. omega (arith, sum_by-replaced (λ u. count_of x u.numbers) views id v w at, count_of-push x word v.numbers) in
-      let allowance : sum_by (λ u. u.allowance) (set views id w) ≡ seats = omega (arith, sum_by-replaced (λ u. u.allowance) views id v w at, kept.whole_allowance) in
+      let count : (x : ℕ) → draws_of x (set views id w) ≡ draws_of x views + cond (eqb word x) 1 0 = λ x. omega
+      (arith, sum_by-replaced (λ u. count_of x u.numbers) views id v w at, count_of-push x word v.numbers) in
+      let allowance : sum_by (λ u. u.allowance) (set views id w) ≡ seats = omega
+      (arith, sum_by-replaced (λ u. u.allowance) views id v w at, kept.whole_allowance) in
       record {
         each_once = λ x h. rw (count x) (once x h (ℕ_discrete word x));
         no_other = λ x h. rw (count x) (other x h);
         whole_allowance = allowance;
         spent_is_empty = All-set (λ u. u.allowance ≡ 0 → u.numbers ≡ []) views id w (λ none. absurd (omega arith)) kept.spent_is_empty;
-        end_is_met = All-set (λ u. u.met_end ≡ true → parts ≤ word + 1) views id w (λ e. absurd (true≢false (sym e ∙ open_end))) (λ k d in_range e. absurd (omega (arith, kept.end_is_met k d in_range e)));
+        end_is_met = All-set (λ u. u.met_end ≡ true → parts ≤ word + 1) views id w (λ e. absurd (true≢false (sym e ∙ open_end)))
+            (λ k d in_range e. absurd (omega (arith, kept.end_is_met k d in_range e)));
         never_wraps = omega (arith, sum_past_end-le (set views id w));
       }
     where
@@ -77,7 +117,8 @@ module _ (parts seats word : ℕ) (views : List View) (kept : IsKept parts seats
       at_word (no past) = rw (le-ltb word parts (omega arith)) (meets_end (omega arith))
 
 -- no seat has more numbers than there are
-pub numbers_fit : (parts seats word : ℕ) (views : List View) → IsKept parts seats word views → (id : ℕ) (v : View) → get_elem? views id ≡ some v → length v.numbers ≤ parts
+pub numbers_fit : (parts seats word : ℕ) (views : List View) → IsKept parts seats word views → (id : ℕ) (v : View) → get_elem? views id ≡ some v
+    → length v.numbers ≤ parts
 numbers_fit parts seats word views kept id v at = length-le parts v.numbers once past
   where
     in_all : (x : ℕ) → count_of x v.numbers ≤ draws_of x views
@@ -94,7 +135,9 @@ numbers_fit parts seats word views kept id v at = length-le parts v.numbers once
     past x h = omega (arith, in_all x, kept.no_other x (omega arith))
 
 -- what a draw asks of the table
-pub draw_allowed : {S : Type 0} (plan : Plan) (slots id : ℕ) (me : View × List (ℕ × S)) → me.0.met_end ≡ false → 0 < me.0.allowance → plan.parts + plan.seats < 2 ^ 64 → Allows (IsCounting plan) slots id me 0 (λ n. (n + 1) % 2 ^ 64) (λ found after. (after ≡ (after_draw plan.parts me.0 found, me.1)) × (length after.0.numbers ≤ plan.parts))
+pub draw_allowed : {S : Type 0} (plan : Plan) (slots id : ℕ) (me : View × List (ℕ × S)) → me.0.met_end ≡ false → 0 < me.0.allowance
+    → plan.parts + plan.seats < 2 ^ 64 → Allows (IsCounting plan) slots id me 0 (λ n. (n + 1) % 2 ^ 64)
+    (λ found after. (after ≡ (after_draw plan.parts me.0 found, me.1)) × (length after.0.numbers ≤ plan.parts))
 draw_allowed {S} plan slots id me open_end some_left fits s holds homes at range =
     let word = holds.0 in
     let is : slice_index s.words 0 ≡ word = ap (λ (l : List ℕ). slice_index l 0) holds.1 in
@@ -103,22 +146,37 @@ draw_allowed {S} plan slots id me open_end some_left fits s holds homes at range
     let new : View = after_draw plan.parts me.0 word in
     let after = draw_keeps plan.parts plan.seats word s.views holds.2 id me.0 at open_end some_left in
     let here : get_elem? (set s.views id new) id ≡ some new = set_here s.views id new (get_or-at s.views id me.0 me.0 at).0 in
-    rw is (new, keeps, tt, (word + 1, ap₂ (λ (l : List ℕ) (n : ℕ). set l 0 n) holds.1 next, after), (refl, numbers_fit plan.parts plan.seats (word + 1) (set s.views id new) after id new here))
+    rw is (
+      new,
+      keeps,
+      tt,
+      (word + 1, ap₂ (λ (l : List ℕ) (n : ℕ). set l 0 n) holds.1 next, after),
+      (refl, numbers_fit plan.parts plan.seats (word + 1) (set s.views id new) after id new here),
+    )
 
 -- a split leaves the same sums
-pub split_keeps : (parts seats word : ℕ) (views : List View) → IsKept parts seats word views → (id : ℕ) (v : View) → get_elem? views id ≡ some v → 2 ≤ v.allowance → IsKept parts seats word (set views id (after_split v) ++ split_off v ∷ [])
+pub split_keeps : (parts seats word : ℕ) (views : List View) → IsKept parts seats word views → (id : ℕ) (v : View) → get_elem? views id ≡ some v
+    → 2 ≤ v.allowance → IsKept parts seats word (set views id (after_split v) ++ split_off v ∷ [])
 split_keeps parts seats word views kept id v at enough =
     let old : View = after_split v in
     let new : View = split_off v in
-    let count : (x : ℕ) → draws_of x (set views id old ++ new ∷ []) ≡ draws_of x views = λ x. omega (arith, sum_by-replaced (λ u. count_of x u.numbers) views id v old at, sum_by_push (λ u. count_of x u.numbers) (set views id old) new) in
+    let count : (x : ℕ) → draws_of x (set views id old ++ new ∷ []) ≡ draws_of x views = λ x. omega
+    (arith, sum_by-replaced (λ u. count_of x u.numbers) views id v old at, sum_by_push (λ u. count_of x u.numbers) (set views id old) new) in
     let known : v.met_end ≡ true → parts ≤ word = All-at (λ u. u.met_end ≡ true → parts ≤ word) views id v at kept.end_is_met in
     let left : draws_past_end old + draws_past_end new ≡ draws_past_end v = parted v.met_end v.allowance (omega arith) in
     record {
       each_once = λ x h. count x ∙ kept.each_once x h;
       no_other = λ x h. count x ∙ kept.no_other x h;
-      whole_allowance = omega (arith, sum_by-replaced (λ u. u.allowance) views id v old at, sum_by_push (λ u. u.allowance) (set views id old) new, kept.whole_allowance);
-      spent_is_empty = All-push (λ u. u.allowance ≡ 0 → u.numbers ≡ []) (set views id old) new (All-set (λ u. u.allowance ≡ 0 → u.numbers ≡ []) views id old (λ none. absurd (omega arith)) kept.spent_is_empty) (λ _. refl);
-      end_is_met = All-push (λ u. u.met_end ≡ true → parts ≤ word) (set views id old) new (All-set (λ u. u.met_end ≡ true → parts ≤ word) views id old known kept.end_is_met) known;
+      whole_allowance = omega (
+        arith,
+        sum_by-replaced (λ u. u.allowance) views id v old at,
+        sum_by_push (λ u. u.allowance) (set views id old) new,
+        kept.whole_allowance,
+      );
+      spent_is_empty = All-push (λ u. u.allowance ≡ 0 → u.numbers ≡ []) (set views id old) new
+          (All-set (λ u. u.allowance ≡ 0 → u.numbers ≡ []) views id old (λ none. absurd (omega arith)) kept.spent_is_empty) (λ _. refl);
+      end_is_met = All-push (λ u. u.met_end ≡ true → parts ≤ word) (set views id old) new
+          (All-set (λ u. u.met_end ≡ true → parts ≤ word) views id old known kept.end_is_met) known;
       never_wraps = omega (arith, sum_by-replaced draws_past_end views id v old at, sum_by_push draws_past_end (set views id old) new, kept.never_wraps);
     }
   where
@@ -127,20 +185,48 @@ split_keeps parts seats word views kept id v at enough =
     parted false n h = omega arith
 
 -- a join leaves the same sums, or fewer draws past the end
-pub join_keeps : (parts seats word : ℕ) (views : List View) → IsKept parts seats word views → (id : ℕ) (v : View) (other : ℕ) (w : View) → get_elem? views id ≡ some v → get_elem? views other ≡ some w → other ≢ id → get_elem? (set views id (joined v w)) other ≡ some w → IsKept parts seats word (set (set views id (joined v w)) other spent)
+pub join_keeps : (parts seats word : ℕ) (views : List View) → IsKept parts seats word views → (id : ℕ) (v : View) (other : ℕ) (w : View)
+    → get_elem? views id ≡ some v → get_elem? views other ≡ some w → other ≢ id → get_elem? (set views id (joined v w)) other ≡ some w
+    → IsKept parts seats word (set (set views id (joined v w)) other spent)
 join_keeps parts seats word views kept id v other w at there apart there' =
     let both : View = joined v w in
     let middle : List View = set views id both in
-    let count : (x : ℕ) → draws_of x (set middle other spent) ≡ draws_of x views = λ x. omega (arith, sum_by-replaced (λ u. count_of x u.numbers) views id v both at, sum_by-replaced (λ u. count_of x u.numbers) middle other w spent there', sum_by-append (λ y. cond (eqb y x) 1 0) v.numbers w.numbers) in
-    let known_by : (u : View) (k : ℕ) → get_elem? views k ≡ some u → u.met_end ≡ true → parts ≤ word = λ u k e. All-at (λ y. y.met_end ≡ true → parts ≤ word) views k u e kept.end_is_met in
+    let count : (x : ℕ) → draws_of x (set middle other spent) ≡ draws_of x views = λ x. omega (
+      arith,
+      sum_by-replaced (λ u. count_of x u.numbers) views id v both at,
+      sum_by-replaced (λ u. count_of x u.numbers) middle other w spent
+          there',
+      sum_by-append (λ y. cond (eqb y x) 1 0) v.numbers w.numbers,
+    ) in
+    let known_by : (u : View) (k : ℕ) → get_elem? views k ≡ some u → u.met_end ≡ true
+    → parts ≤ word = λ u k e. All-at (λ y. y.met_end ≡ true → parts ≤ word) views k u e kept.end_is_met in
     let left : draws_past_end both ≤ draws_past_end v + draws_past_end w = fewer v.met_end w.met_end v.allowance w.allowance in
     record {
       each_once = λ x h. count x ∙ kept.each_once x h;
       no_other = λ x h. count x ∙ kept.no_other x h;
-      whole_allowance = omega (arith, sum_by-replaced (λ u. u.allowance) views id v both at, sum_by-replaced (λ u. u.allowance) middle other w spent there', kept.whole_allowance);
-      spent_is_empty = All-set (λ u. u.allowance ≡ 0 → u.numbers ≡ []) middle other spent (λ _. refl) (All-set (λ u. u.allowance ≡ 0 → u.numbers ≡ []) views id both (λ none. rw (All-at (λ u. u.allowance ≡ 0 → u.numbers ≡ []) views id v at kept.spent_is_empty (omega arith), All-at (λ u. u.allowance ≡ 0 → u.numbers ≡ []) views other w there kept.spent_is_empty (omega arith))) kept.spent_is_empty);
-      end_is_met = All-set (λ u. u.met_end ≡ true → parts ≤ word) middle other spent (λ e. absurd (true≢false (sym e))) (All-set (λ u. u.met_end ≡ true → parts ≤ word) views id both (either_knows v.met_end w.met_end (known_by v id at) (known_by w other there)) kept.end_is_met);
-      never_wraps = omega (arith, sum_by-replaced draws_past_end views id v both at, sum_by-replaced draws_past_end middle other w spent there', kept.never_wraps);
+      whole_allowance = omega (
+        arith,
+        sum_by-replaced (λ u. u.allowance) views id v both at,
+        sum_by-replaced (λ u. u.allowance) middle other w spent
+            there',
+        kept.whole_allowance,
+      );
+      spent_is_empty = All-set (λ u. u.allowance ≡ 0 → u.numbers ≡ []) middle other spent (λ _. refl)
+          (All-set (λ u. u.allowance ≡ 0 → u.numbers ≡ []) views id both
+          (λ none. rw (
+            All-at (λ u. u.allowance ≡ 0 → u.numbers ≡ []) views id v at kept.spent_is_empty (omega arith),
+            All-at
+                (λ u. u.allowance ≡ 0 → u.numbers ≡ []) views other w there kept.spent_is_empty (omega arith),
+          )) kept.spent_is_empty);
+      end_is_met = All-set (λ u. u.met_end ≡ true → parts ≤ word) middle other spent (λ e. absurd (true≢false (sym e)))
+          (All-set (λ u. u.met_end ≡ true → parts ≤ word) views id both (either_knows v.met_end w.met_end (known_by v id at) (known_by w other there))
+          kept.end_is_met);
+      never_wraps = omega (
+        arith,
+        sum_by-replaced draws_past_end views id v both at,
+        sum_by-replaced draws_past_end middle other w spent there',
+        kept.never_wraps,
+      );
     }
   where
     fewer : (a b : Bool) (m n : ℕ) → cond (a || b) 0 (m + n) ≤ cond a 0 m + cond b 0 n

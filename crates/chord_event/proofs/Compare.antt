@@ -14,7 +14,8 @@ Says a b Less = IsBefore a b
 Says a b Equal = a ≡ b
 Says a b Greater = IsBefore b a
 
-says : (a b : Key) (r s t : Ordering) → r ≡ nat_cmp a.time b.time → s ≡ nat_cmp a.origin b.origin → t ≡ nat_cmp a.number b.number → Says a b (ordering_then r (ordering_then s t))
+says : (a b : Key) (r s t : Ordering) → r ≡ nat_cmp a.time b.time → s ≡ nat_cmp a.origin b.origin → t ≡ nat_cmp a.number b.number
+    → Says a b (ordering_then r (ordering_then s t))
 says a b Less s t p q o = omega (arith, ranked a.time b.time Less p)
 says a b Greater s t p q o = omega (arith, ranked a.time b.time Greater p)
 says a b Equal Less t p q o = omega (arith, ranked a.time b.time Equal p, ranked a.origin b.origin Less q)

@@ -1,5 +1,38 @@
 -- Lists in the order of their keys.
-use Rattle.std.proofs.Common.{◌≡◌, ◌≢◌, ◌⊎◌, inl, inr, ℕ, ◌<◌, ◌≤◌, Bool, true, false, not, cond, nat_lt, List, [], ◌∷◌, ◌++◌, length, refl, sym, ap, ◌∙◌, subst, arith, lt-ltb, le-ltb, append-nil, Some, None, option_map, slice_get}
+use Rattle.std.proofs.Common.{
+  ◌≡◌,
+  ◌≢◌,
+  ◌⊎◌,
+  inl,
+  inr,
+  ℕ,
+  ◌<◌,
+  ◌≤◌,
+  Bool,
+  true,
+  false,
+  not,
+  cond,
+  nat_lt,
+  List,
+  [],
+  ◌∷◌,
+  ◌++◌,
+  length,
+  refl,
+  sym,
+  ap,
+  ◌∙◌,
+  subst,
+  arith,
+  lt-ltb,
+  le-ltb,
+  append-nil,
+  Some,
+  None,
+  option_map,
+  slice_get,
+}
 use Rattle.std.specs.List.{AllByRecursion}
 use Rattle.std.proofs.lemmas.List.Elements.{filter-append}
 use Rattle.chord_event.specs.declared.key.Key.{Key}
@@ -22,7 +55,8 @@ all_from P [] f = tt
 all_from P (x ∷ xs) f = (f x (inl refl), all_from P xs (λ z h. f z (inr h)))
 
 module _ {A : Type 0} (key_of : A → Key) where
-  put_at_in : (x y : A) (ys rest : List A) (z : A) → (IsIn z rest → (z ≡ x) ⊎ IsIn z ys) → (b : Bool) → IsIn z (cond b (x ∷ (y ∷ ys)) (y ∷ rest)) → (z ≡ x) ⊎ IsIn z (y ∷ ys)
+  put_at_in : (x y : A) (ys rest : List A) (z : A) → (IsIn z rest → (z ≡ x) ⊎ IsIn z ys) → (b : Bool) → IsIn z (cond b (x ∷ (y ∷ ys)) (y ∷ rest))
+      → (z ≡ x) ⊎ IsIn z (y ∷ ys)
   put_at_in x y ys rest z on true h = h
   put_at_in x y ys rest z on false (inl s) = inr (inl s)
   put_at_in x y ys rest z on false (inr h) = elim (on h) [ inl s ↦ inl s | inr k ↦ inr (inr k) ]
@@ -32,7 +66,8 @@ module _ {A : Type 0} (key_of : A → Key) where
   in_put x [] z h = h
   in_put x (y ∷ ys) z h = put_at_in x y ys (put_in_order key_of x ys) z (in_put x ys z) (is_before (key_of x) (key_of y)) h
 
-  in_put_at : (x y : A) (ys rest : List A) (z : A) → ((z ≡ x) ⊎ IsIn z ys → IsIn z rest) → (b : Bool) → (z ≡ x) ⊎ IsIn z (y ∷ ys) → IsIn z (cond b (x ∷ (y ∷ ys)) (y ∷ rest))
+  in_put_at : (x y : A) (ys rest : List A) (z : A) → ((z ≡ x) ⊎ IsIn z ys → IsIn z rest) → (b : Bool) → (z ≡ x) ⊎ IsIn z (y ∷ ys)
+      → IsIn z (cond b (x ∷ (y ∷ ys)) (y ∷ rest))
   in_put_at x y ys rest z on true h = h
   in_put_at x y ys rest z on false (inl s) = inr (on (inl s))
   in_put_at x y ys rest z on false (inr (inl s)) = inl s
@@ -50,25 +85,39 @@ module _ {A : Type 0} (key_of : A → Key) where
   pub new_put : (k : Key) (x : A) (xs : List A) → key_of x ≢ k → IsNewKey key_of k xs → IsNewKey key_of k (put_in_order key_of x xs)
   new_put k x xs here all = all_put (λ y. key_of y ≢ k) x xs here all
 
-  ordered_at : (x y : A) (ys rest : List A) → ((z : A) → IsIn z rest → (z ≡ x) ⊎ IsIn z ys) → InKeyOrder key_of rest → InKeyOrder key_of (y ∷ ys) → key_of y ≢ key_of x → (b : Bool) → is_before (key_of x) (key_of y) ≡ b → InKeyOrder key_of (cond b (x ∷ (y ∷ ys)) (y ∷ rest))
+  ordered_at : (x y : A) (ys rest : List A) → ((z : A) → IsIn z rest → (z ≡ x) ⊎ IsIn z ys) → InKeyOrder key_of rest → InKeyOrder key_of (y ∷ ys)
+      → key_of y ≢ key_of x → (b : Bool) → is_before (key_of x) (key_of y) ≡ b → InKeyOrder key_of (cond b (x ∷ (y ∷ ys)) (y ∷ rest))
   ordered_at x y ys rest on ordered o new true h =
-      let first : IsBefore (key_of x) (key_of y) = is_before-true (key_of x) (key_of y) h in
-      ((first, all_from (λ z. IsBefore (key_of x) (key_of z)) ys (λ z k. before_trans (key_of x) (key_of y) (key_of z) first (all_in (λ z. IsBefore (key_of y) (key_of z)) ys o.0 z k))), o)
+      let first : IsBefore (key_of x) (key_of y) = is_before-true (key_of x) (key_of y) h in (
+        (
+          first,
+          all_from (λ z. IsBefore (key_of x) (key_of z)) ys (λ z k. before_trans (key_of x) (key_of y) (key_of z) first
+              (all_in (λ z. IsBefore (key_of y) (key_of z)) ys o.0 z k)),
+        ),
+        o,
+      )
   ordered_at x y ys rest on ordered o new false h =
-      let later : IsBefore (key_of y) (key_of x) = before_from_at_most (key_of y) (key_of x) (is_before-false (key_of x) (key_of y) h) new in
-      (all_from (λ z. IsBefore (key_of y) (key_of z)) rest (λ z k. elim (on z k) [ inl s ↦ subst (λ (w : A). IsBefore (key_of y) (key_of w)) (sym s) later | inr j ↦ all_in (λ z. IsBefore (key_of y) (key_of z)) ys o.0 z j ]), ordered)
+      let later : IsBefore (key_of y) (key_of x) = before_from_at_most (key_of y) (key_of x) (is_before-false (key_of x) (key_of y) h) new in (
+        all_from (λ z. IsBefore (key_of y) (key_of z)) rest (λ z k. elim (on z k) [
+          | inl s ↦ subst (λ (w : A). IsBefore (key_of y) (key_of w)) (sym s) later
+          | inr j ↦ all_in (λ z. IsBefore (key_of y) (key_of z)) ys o.0 z j
+        ]),
+        ordered,
+      )
 
   -- an item of a new key may be put in
   pub ordered_put : (x : A) (xs : List A) → InKeyOrder key_of xs → IsNewKey key_of (key_of x) xs → InKeyOrder key_of (put_in_order key_of x xs)
   ordered_put x [] o new = (tt, tt)
-  ordered_put x (y ∷ ys) o new = ordered_at x y ys (put_in_order key_of x ys) (in_put x ys) (ordered_put x ys o.1 new.1) o new.0 (is_before (key_of x) (key_of y)) refl
+  ordered_put x (y ∷ ys) o new = ordered_at x y ys (put_in_order key_of x ys) (in_put x ys) (ordered_put x ys o.1 new.1) o new.0
+      (is_before (key_of x) (key_of y)) refl
 
   not_in_rest : (x : A) (xs : List A) → AllByRecursion (λ y. IsBefore (key_of x) (key_of y)) xs → (z : A) → IsIn z xs → z ≡ x → ⊥
   not_in_rest x xs all z k s =
       before_not_same (key_of x) (key_of z) (all_in (λ y. IsBefore (key_of x) (key_of y)) xs all z k) (ap key_of (sym s))
 
   -- two lists in key order with the same items are equal
-  pub same_list : (xs ys : List A) → InKeyOrder key_of xs → InKeyOrder key_of ys → ((z : A) → IsIn z xs → IsIn z ys) → ((z : A) → IsIn z ys → IsIn z xs) → xs ≡ ys
+  pub same_list : (xs ys : List A) → InKeyOrder key_of xs → InKeyOrder key_of ys → ((z : A) → IsIn z xs → IsIn z ys)
+      → ((z : A) → IsIn z ys → IsIn z xs) → xs ≡ ys
   same_list [] [] o p f g = refl
   same_list [] (y ∷ ys) o p f g = absurd (g y (inl refl))
   same_list (x ∷ xs) [] o p f g = absurd (f x (inl refl))
@@ -108,7 +157,8 @@ module _ {A : Type 0} (key_of : A → Key) where
 
   pub before_all : (h : ℕ) (xs : List A) → AllBefore h xs → before key_of h xs ≡ xs
   before_all h [] all = refl
-  before_all h (x ∷ xs) all = ap (λ b. cond b (x ∷ before key_of h xs) (before key_of h xs)) (lt-ltb (key_of x).time h all.0) ∙ ap (λ l. x ∷ l) (before_all h xs all.1)
+  before_all h (x ∷ xs) all = ap (λ b. cond b (x ∷ before key_of h xs) (before key_of h xs)) (lt-ltb (key_of x).time h all.0)
+      ∙ ap (λ l. x ∷ l) (before_all h xs all.1)
 
   pub before_none : (h : ℕ) (xs : List A) → AllFrom h xs → before key_of h xs ≡ []
   before_none h [] all = refl
@@ -116,7 +166,8 @@ module _ {A : Type 0} (key_of : A → Key) where
 
   pub from_on_all : (h : ℕ) (xs : List A) → AllFrom h xs → from_on key_of h xs ≡ xs
   from_on_all h [] all = refl
-  from_on_all h (x ∷ xs) all = ap (λ b. cond (not b) (x ∷ from_on key_of h xs) (from_on key_of h xs)) (le-ltb (key_of x).time h all.0) ∙ ap (λ l. x ∷ l) (from_on_all h xs all.1)
+  from_on_all h (x ∷ xs) all = ap (λ b. cond (not b) (x ∷ from_on key_of h xs) (from_on key_of h xs)) (le-ltb (key_of x).time h all.0)
+      ∙ ap (λ l. x ∷ l) (from_on_all h xs all.1)
 
   pub from_on_rest : (h : ℕ) (x : A) (xs : List A) → (key_of x).time < h → from_on key_of h (x ∷ xs) ≡ from_on key_of h xs
   from_on_rest h x xs lt = ap (λ b. cond (not b) (x ∷ from_on key_of h xs) (from_on key_of h xs)) (lt-ltb (key_of x).time h lt)
@@ -142,9 +193,11 @@ module _ {A : Type 0} (key_of : A → Key) where
   before_push h (y ∷ ys) z all lt = (all.0, before_push h ys z all.1 lt)
 
   -- nothing lies before a horizon that the first item does not lie before
-  pub from_on_first : (h t : ℕ) (xs : List A) → InKeyOrder key_of xs → option_map (λ x. (key_of x).time) (slice_get xs 0) ≡ Some t → h ≤ t → from_on key_of h xs ≡ xs
+  pub from_on_first : (h t : ℕ) (xs : List A) → InKeyOrder key_of xs → option_map (λ x. (key_of x).time) (slice_get xs 0) ≡ Some t → h ≤ t
+      → from_on key_of h xs ≡ xs
   from_on_first h t [] o e le = refl
-  from_on_first h t (x ∷ xs) o e le = let same : (key_of x).time ≡ t = cc in from_on_all h (x ∷ xs) (omega (arith, same, le), from_first h x xs o.0 (omega (arith, same, le)))
+  from_on_first h t (x ∷ xs) o e le = let same : (key_of x).time ≡ t = cc
+      in from_on_all h (x ∷ xs) (omega (arith, same, le), from_first h x xs o.0 (omega (arith, same, le)))
 
   pub from_on_none : (h : ℕ) (xs : List A) → option_map (λ x. (key_of x).time) (slice_get xs 0) ≡ None → from_on key_of h xs ≡ xs
   from_on_none h [] e = refl

@@ -44,7 +44,8 @@ audits-ascend sc ranges =
     let some = ranges.numbers.duration_least in
     let fits : n * sc.audit ≤ sc.duration - 1 = div-mul-le_self (sc.duration - 1) sc.audit in
     ascending-push (multiples sc.audit n) sc.duration (multiples-ascend sc.audit n ranges.numbers.audit.least)
-    (each-weaker (λ t. t ≤ sc.duration - 1) (λ t. t < sc.duration) (multiples sc.audit n) (λ t h. omega (arith, h, some)) (multiples-most sc.audit n (sc.duration - 1) fits))
+    (each-weaker (λ t. t ≤ sc.duration - 1) (λ t. t < sc.duration) (multiples sc.audit n) (λ t h. omega (arith, h, some))
+    (multiples-most sc.audit n (sc.duration - 1) fits))
 
 -- no audit comes after the end
 pub audits-within : (sc : Scenario) → IsInRange sc → AllByRecursion (λ t. t ≤ sc.duration) (audit_times sc)

@@ -1,12 +1,51 @@
 -- The events that a run starts with are sound, and have keys of their own.
-use Rattle.std.proofs.Common.{◌≡◌, ◌≢◌, ◌⊎◌, ⊎_elim, inl, inr, ℕ, ◌+◌, ◌<◌, ◌≤◌, Bool, true, false, cond, List, [], ◌∷◌, ◌++◌, map, length, refl, sym, ap, ◌∙◌, subst, arith}
+use Rattle.std.proofs.Common.{
+  ◌≡◌,
+  ◌≢◌,
+  ◌⊎◌,
+  ⊎_elim,
+  inl,
+  inr,
+  ℕ,
+  ◌+◌,
+  ◌<◌,
+  ◌≤◌,
+  Bool,
+  true,
+  false,
+  cond,
+  List,
+  [],
+  ◌∷◌,
+  ◌++◌,
+  map,
+  length,
+  refl,
+  sym,
+  ap,
+  ◌∙◌,
+  subst,
+  arith,
+}
 use Rattle.std.specs.Prelude.{Option, Some, None, flat_map, if◌then◌else◌}
 use Rattle.std.specs.List.{All, AllPairs, Contains, enumerate_from, range_with_len}
 use Rattle.chord_event.specs.declared.body.Body.{Body}
 use Rattle.chord_event.specs.declared.body.Body.TheVariants as body
 use Rattle.chord_event.specs.declared.event.Event.{Event}
 use Rattle.chord_event.specs.declared.key.Key.{Key}
-use Rattle.chord_event.proofs.Members.{AllPairs_append, AllPairs_cons, AllPairs_none, All_at, All_from, contains_append, contains_cons, contains_here, contains_none, contains_there, filter_contains}
+use Rattle.chord_event.proofs.Members.{
+  AllPairs_append,
+  AllPairs_cons,
+  AllPairs_none,
+  All_at,
+  All_from,
+  contains_append,
+  contains_cons,
+  contains_here,
+  contains_none,
+  contains_there,
+  filter_contains,
+}
 use Rattle.chord_node.specs.Ring.{initial_state}
 use Rattle.chord_node.proofs.Rings.{initial-known, range-apart, filter-apart}
 use Rattle.chord_node.proofs.Sorting.{AreApart}
@@ -19,7 +58,19 @@ use Rattle.chord_scenario.specs.declared.setting.Churn.{Churn}
 use Rattle.chord_scenario.specs.declared.setting.Command.{Command}
 use Rattle.chord_scenario.specs.declared.setting.Span.{Span}
 use Rattle.chord_scenario.specs.Range.{IsActionOf, IsCommandOf, IsInRange}
-use Rattle.chord_scenario.specs.Start.{command_body, command_event, command_events, first_timers, initial_nodes, jittered, life_timers, start_events, timer_event, timers, traffic_timers}
+use Rattle.chord_scenario.specs.Start.{
+  command_body,
+  command_event,
+  command_events,
+  first_timers,
+  initial_nodes,
+  jittered,
+  life_timers,
+  start_events,
+  timer_event,
+  timers,
+  traffic_timers,
+}
 use Rattle.chord_scenario.specs.World.{is_churn_node, is_initial, node_count}
 use Rattle.chord_machine.proofs.Starts.{starts_count}
 
@@ -46,7 +97,11 @@ numbered : {A : Type 0} (first : ℕ) (xs : List A) (p : ℕ × A) → Contains 
 numbered first [] p c = absurd (contains_none p c)
 numbered {A} first (x ∷ xs) p c = ⊎_elim
     (λ e. subst (λ (q : ℕ × A). Numbered first (x ∷ xs) q) e (record { among = contains_here x xs; least = omega arith; most = omega arith }))
-    (λ r. let rest = numbered (first + 1) xs p r in record { among = contains_there p.1 x xs rest.among; least = omega (arith, rest.least); most = omega (arith, rest.most) })
+    (λ r. let rest = numbered (first + 1) xs p r in record {
+      among = contains_there p.1 x xs rest.among;
+      least = omega (arith, rest.least);
+      most = omega (arith, rest.most);
+    })
     (contains_cons p (first, x) (enumerate_from (first + 1) xs) c)
 
 pub record Within {A B : Type 0} (f : A → List B) (xs : List A) (y : B) : Type 0 where
@@ -83,7 +138,8 @@ commands-are sc ranges e c =
     })
 
 -- numbered events have keys of their own
-numbers-apart : {A : Type 0} (f : ℕ × A → Event Body) (shift first : ℕ) (xs : List A) → ((p : ℕ × A) → (f p).key.number ≡ p.0 + shift) → AllPairs (λ (a b : Event Body). a.key ≢ b.key) (map f (enumerate_from first xs))
+numbers-apart : {A : Type 0} (f : ℕ × A → Event Body) (shift first : ℕ) (xs : List A) → ((p : ℕ × A) → (f p).key.number ≡ p.0 + shift)
+    → AllPairs (λ (a b : Event Body). a.key ≢ b.key) (map f (enumerate_from first xs))
 numbers-apart f shift first [] h = AllPairs_none (λ (a b : Event Body). a.key ≢ b.key)
 numbers-apart f shift first (x ∷ xs) h =
     AllPairs_cons (λ (a b : Event Body). a.key ≢ b.key) (f (first, x)) (map f (enumerate_from (first + 1) xs))
@@ -118,7 +174,8 @@ ticks sc n timer c =
     (λ e. subst Ticks {x = first} e tt)
     (λ r. ⊎_elim
     (λ e. subst Ticks {x = second} e tt)
-    (λ q. ⊎_elim (traffic sc.lookups) (life (is_churn_node sc n) sc.churn) (contains_append (traffic_timers sc.lookups) (if is_churn_node sc n then life_timers sc.churn else []) timer q))
+    (λ q. ⊎_elim (traffic sc.lookups) (life (is_churn_node sc n) sc.churn)
+    (contains_append (traffic_timers sc.lookups) (if is_churn_node sc n then life_timers sc.churn else []) timer q))
     (contains_cons timer second more r))
     (contains_cons timer first (second ∷ more) c)
   where
@@ -127,11 +184,13 @@ ticks sc n timer c =
 
     traffic : (lookups : Option Span) → Contains (traffic_timers lookups) timer → IsBody sc timer.1
     traffic None d = absurd (contains_none timer d)
-    traffic (Some gap) d = ⊎_elim (λ e. subst (λ (z : Span × Body). IsBody sc z.1) e tt) (λ q. absurd (contains_none timer q)) (contains_cons timer (gap, body.TrafficTick 1) [] d)
+    traffic (Some gap) d = ⊎_elim (λ e. subst (λ (z : Span × Body). IsBody sc z.1) e tt) (λ q. absurd (contains_none timer q))
+        (contains_cons timer (gap, body.TrafficTick 1) [] d)
 
     life : (b : Bool) (churn : Option Churn) → Contains (cond b (life_timers churn) []) timer → IsBody sc timer.1
     life true None d = absurd (contains_none timer d)
-    life true (Some times) d = ⊎_elim (λ e. subst (λ (z : Span × Body). IsBody sc z.1) e tt) (λ q. absurd (contains_none timer q)) (contains_cons timer (times.life, body.LifeEnd 1) [] d)
+    life true (Some times) d = ⊎_elim (λ e. subst (λ (z : Span × Body). IsBody sc z.1) e tt) (λ q. absurd (contains_none timer q))
+        (contains_cons timer (times.life, body.LifeEnd 1) [] d)
     life false churn d = absurd (contains_none timer d)
 
 timers-are : (sc : Scenario) (n : ℕ) (e : Event Body) → Contains (first_timers sc n) e → IsFirstTimer sc n e
@@ -150,7 +209,8 @@ timers-apart : (sc : Scenario) (n : ℕ) → AllPairs (λ (a b : Event Body). a.
 unfolding first_timers
 timers-apart sc n = numbers-apart (λ (p : ℕ × (Span × Body)). timer_event sc n p.0 p.1) 1 0 (timers sc n) (λ p. refl)
 
-all-timers-apart : (sc : Scenario) (nodes : List ℕ) → AreApart (λ x. x) nodes → AllPairs (λ (a b : Event Body). a.key ≢ b.key) (flat_map (first_timers sc) nodes)
+all-timers-apart : (sc : Scenario) (nodes : List ℕ) → AreApart (λ x. x) nodes
+    → AllPairs (λ (a b : Event Body). a.key ≢ b.key) (flat_map (first_timers sc) nodes)
 all-timers-apart sc [] apart = AllPairs_none (λ (a b : Event Body). a.key ≢ b.key)
 all-timers-apart sc (n ∷ nodes) apart =
     AllPairs_append (λ (a b : Event Body). a.key ≢ b.key) (first_timers sc n) (flat_map (first_timers sc) nodes)
@@ -200,7 +260,8 @@ is-initial : (sc : Scenario) (n : ℕ) → Contains (initial_nodes sc) n → is_
 unfolding initial_nodes
 is-initial sc n c = (filter_contains (is_initial sc) (range_with_len 0 (node_count sc)) n c).1
 
-pub starts_counted : (sc : Scenario) → IsInRange sc → (n : ℕ) → All (λ (e : Event Body). e.key.origin ≡ 2 + n → e.key.number ≤ (initial_state sc n).count) (start_events sc)
+pub starts_counted : (sc : Scenario) → IsInRange sc → (n : ℕ) → All (λ (e : Event Body). e.key.origin ≡ 2 + n
+    → e.key.number ≤ (initial_state sc n).count) (start_events sc)
 starts_counted sc ranges n = All_from (λ (e : Event Body). e.key.origin ≡ 2 + n → e.key.number ≤ (initial_state sc n).count) (start_events sc)
     (λ e c own. ⊎_elim
     (λ h. omega (arith, h.origin, own))

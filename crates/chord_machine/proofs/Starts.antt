@@ -1,5 +1,30 @@
 -- The states that a run starts with meet the invariant.
-use Rattle.std.proofs.Common.{◌≡◌, ⊎_elim, ℕ, zero, suc, ◌+◌, ◌-◌, ◌<◌, ◌≤◌, Bool, true, false, cond, List, [], ◌∷◌, map, length, refl, sym, ap, ◌∙◌, subst, arith}
+use Rattle.std.proofs.Common.{
+  ◌≡◌,
+  ⊎_elim,
+  ℕ,
+  zero,
+  suc,
+  ◌+◌,
+  ◌-◌,
+  ◌<◌,
+  ◌≤◌,
+  Bool,
+  true,
+  false,
+  cond,
+  List,
+  [],
+  ◌∷◌,
+  map,
+  length,
+  refl,
+  sym,
+  ap,
+  ◌∙◌,
+  subst,
+  arith,
+}
 use Rattle.std.specs.Prelude.{◌==◌, ◌^◌, Option, Some, None, IfSome, IsSome, count_by, filter, find, nat_le, nat_lt, not, option_map, slice_get, unwrap_or}
 use Rattle.std.specs.List.{All, Contains, range_with_len}
 use Rattle.std.proofs.lemmas.Bool.{ne_eqb}
@@ -26,7 +51,8 @@ use Rattle.chord_machine.specs.Sound.{IsStateOf}
 
 -- How many nodes there are at the start
 
-count_passing : (xs : List Node) (test : ℕ → Bool) (k : ℕ) → ((i : ℕ) → i < length xs → test (k + i) ≡ unwrap_or (option_map (λ (n : Node). n.initial) (slice_get xs i)) false)
+count_passing : (xs : List Node) (test : ℕ → Bool) (k : ℕ) → ((i : ℕ) → i < length xs
+    → test (k + i) ≡ unwrap_or (option_map (λ (n : Node). n.initial) (slice_get xs i)) false)
     → length (filter (λ (n : Node). n.initial) xs) ≡ length (filter test (range_with_len k (length xs)))
 count_passing [] test k h = refl
 count_passing (x ∷ xs) test k h =
@@ -47,7 +73,8 @@ count_passing (x ∷ xs) test k h =
 
 pub initial-many : (sc : Scenario) → count_by (λ (n : Node). n.initial) sc.nodes ≡ length (initial_nodes sc)
 unfolding initial_nodes is_initial
-initial-many sc = sym (length-filter (λ (n : Node). n.initial) sc.nodes) ∙ count_passing sc.nodes (is_initial sc) 0 (λ i l. let first : 0 + i ≡ i = omega arith in ap (is_initial sc) first)
+initial-many sc = sym (length-filter (λ (n : Node). n.initial) sc.nodes)
+    ∙ count_passing sc.nodes (is_initial sc) 0 (λ i l. let first : 0 + i ≡ i = omega arith in ap (is_initial sc) first)
 
 -- without one element, at most one is missing
 kept_all : (p : ℕ → Bool) (xs : List ℕ) → ((x : ℕ) → Contains xs x → p x ≡ true) → length (filter p xs) ≡ length xs
@@ -58,10 +85,12 @@ all_but_one : (n : ℕ) (xs : List ℕ) → AreApart (λ x. x) xs → length xs 
 all_but_one n [] apart = omega arith
 all_but_one n (x ∷ xs) apart = go (x == n) refl (all_but_one n xs apart.1)
   where
-    go : (b : Bool) → (x == n) ≡ b → length xs ≤ length (filter (λ y. not (y == n)) xs) + 1 → length (x ∷ xs) ≤ length (cond (not b) (x ∷ filter (λ y. not (y == n)) xs) (filter (λ y. not (y == n)) xs)) + 1
+    go : (b : Bool) → (x == n) ≡ b → length xs ≤ length (filter (λ y. not (y == n)) xs) + 1
+        → length (x ∷ xs) ≤ length (cond (not b) (x ∷ filter (λ y. not (y == n)) xs) (filter (λ y. not (y == n)) xs)) + 1
     go true e rest =
         let same : x ≡ n = grind (arith, nat_tests) in
-        let whole : length (filter (λ y. not (y == n)) xs) ≡ length xs = kept_all (λ y. not (y == n)) xs (λ y c. ap not (ne_eqb y n (λ q. apart.0 y c (same ∙ sym q)))) in
+        let whole : length (filter (λ y. not (y == n)) xs) ≡ length xs = kept_all (λ y. not (y == n)) xs
+        (λ y c. ap not (ne_eqb y n (λ q. apart.0 y c (same ∙ sym q)))) in
         omega (arith, whole)
     go false e rest = omega (arith, rest)
 
@@ -69,7 +98,13 @@ others-many : (sc : Scenario) (n : ℕ) → IsInRange sc → sc.list ≤ length 
 unfolding others initial_nodes
 others-many sc n ranges =
     let all = initial-many sc in
-    omega (arith, all_but_one n (initial_nodes sc) (filter-apart (λ x. x) (is_initial sc) (range_with_len 0 (node_count sc)) (range-apart 0 (node_count sc))), all, ranges.nodes.initial)
+    omega (
+      arith,
+      all_but_one n (initial_nodes sc) (filter-apart (λ x. x) (is_initial sc) (range_with_len 0 (node_count sc))
+          (range-apart 0 (node_count sc))),
+      all,
+      ranges.nodes.initial,
+    )
 
 length-put_by : (measure : ℕ → ℕ) (x : ℕ) (ys : List ℕ) → length (put_by measure x ys) ≡ suc (length ys)
 length-put_by measure x [] = refl
@@ -146,7 +181,8 @@ member-sound sc n ranges known =
         via_known = got Known (others sc n) 0 (other-known sc n);
         prdc_known = got Known (clockwise sc n) (length (clockwise sc n) - 1) (clockwise-known sc n);
         succ_known = All-take Known sc.list (clockwise sc n) (All_from Known (clockwise sc n) (clockwise-known sc n));
-        fingers_known = mapped Known (finger sc n) (range_with_len 2 (sc.bits - 1)) (λ i. found_or Known (λ x. nat_le (2 ^ (i - 1)) (way sc n x)) (clockwise sc n) n known (clockwise-known sc n));
+        fingers_known = mapped Known (finger sc n) (range_with_len 2 (sc.bits - 1))
+            (λ i. found_or Known (λ x. nat_le (2 ^ (i - 1)) (way sc n x)) (clockwise sc n) n known (clockwise-known sc n));
         list = omega (arith, taken);
       };
       status = (

@@ -1,5 +1,33 @@
 -- The events of the run below a time.
-use Rattle.std.proofs.Common.{◌≡◌, ◌≢◌, ℕ, zero, suc, ◌<◌, ◌≤◌, Option, None, Some, List, [], ◌∷◌, ◌++◌, length, refl, ap, sym, ◌∙◌, subst, arith, inl, inr, ◌⊎◌, ⊎_elim, lt-ltb, ltb-true}
+use Rattle.std.proofs.Common.{
+  ◌≡◌,
+  ◌≢◌,
+  ℕ,
+  zero,
+  suc,
+  ◌<◌,
+  ◌≤◌,
+  Option,
+  None,
+  Some,
+  List,
+  [],
+  ◌∷◌,
+  ◌++◌,
+  length,
+  refl,
+  ap,
+  sym,
+  ◌∙◌,
+  subst,
+  arith,
+  inl,
+  inr,
+  ◌⊎◌,
+  ⊎_elim,
+  lt-ltb,
+  ltb-true,
+}
 use Rattle.std.proofs.lemmas.Bool.{cases_lt, cases_eq, cond-true, cond-false, le-ltb}
 use Rattle.std.specs.Prelude.{nat_lt}
 use Rattle.std.specs.List.{Contains, cons_option}
@@ -28,7 +56,8 @@ module _ {Body : Type 0} (t : ℕ) where
 
   pub length_below : (h : List (Event Body)) → length (below t h) ≤ length h
   length_below [] = omega arith
-  length_below (e ∷ h) = ⊎_elim (λ l. omega (arith, length_below h, ap length (below_in e h l))) (λ l. omega (arith, length_below h, ap length (below_out e h l))) (cases_lt e.key.time t)
+  length_below (e ∷ h) = ⊎_elim (λ l. omega (arith, length_below h, ap length (below_in e h l)))
+      (λ l. omega (arith, length_below h, ap length (below_out e h l))) (cases_lt e.key.time t)
 
 module _ {State Body Piece : Type 0} (m : Machine State Body Piece) where
   pub length_history : (k : ℕ) → length (history m k) ≤ k
@@ -57,14 +86,16 @@ module _ {State Body Piece : Type 0} (m : Machine State Body Piece) where
             none h s = omega arith
     goes_on h (e ∷ t) l k s = go (cases_eq (length h) (length (e ∷ t))) (goes_on h t l k.0)
       where
-        go : (length h ≡ length (e ∷ t)) ⊎ (length h ≡ length (e ∷ t) → ⊥) → (length h ≤ length t → (g : List (Event Body)) × (t ≡ g ++ h)) → (g : List (Event Body)) × (e ∷ t ≡ g ++ h)
+        go : (length h ≡ length (e ∷ t)) ⊎ (length h ≡ length (e ∷ t) → ⊥) → (length h ≤ length t → (g : List (Event Body)) × (t ≡ g ++ h))
+            → (g : List (Event Body)) × (e ∷ t ≡ g ++ h)
         go (inl same) ih = ([], legal_is_history m w (e ∷ t) k ∙ (ap (λ n. history m n) (sym same) ∙ sym (legal_is_history m w h l)))
         go (inr other) ih =
             let differ : length h ≢ length (e ∷ t) = other in
             let r = ih (omega arith) in (e ∷ r.0, ap (λ z. e ∷ z) r.1)
 
     -- the events below t stand first, and the others follow
-    pub below_splits : (t : ℕ) (h : List (Event Body)) → IsLegal m h → (v : List (Event Body)) × (h ≡ v ++ below t h) × ((x : Event Body) → Contains v x → t ≤ x.key.time)
+    pub below_splits : (t : ℕ) (h : List (Event Body)) → IsLegal m h → (v : List (Event Body)) × (h ≡ v ++ below t h)
+        × ((x : Event Body) → Contains v x → t ≤ x.key.time)
     below_splits t [] l = ([], refl, λ x c. absurd (contains_none x c))
     below_splits t (e ∷ h) l = go (cases_lt e.key.time t) (below_splits t h l.0)
       where
@@ -87,7 +118,8 @@ module _ {State Body Piece : Type 0} (m : Machine State Body Piece) where
         let s = below_splits t (history m k) (history_is_legal m k) in
         legal_rest m (below t (history m k)) s.0 (subst (λ z. IsLegal m z) s.1 (history_is_legal m k))
 
-    pub below_is_done : (t k : ℕ) → t ≤ m.duration → length (below t (history m k)) < k → (x : Event Body) → Waits m (below t (history m k)) x → x.key.time < t → ⊥
+    pub below_is_done : (t k : ℕ) → t ≤ m.duration → length (below t (history m k)) < k → (x : Event Body) → Waits m (below t (history m k)) x
+        → x.key.time < t → ⊥
     below_is_done t k in_time few x v early = go s.0 s.1 s.2
       where
         s : (v : List (Event Body)) × (history m k ≡ v ++ below t (history m k)) × ((x : Event Body) → Contains v x → t ≤ x.key.time)
@@ -96,7 +128,8 @@ module _ {State Body Piece : Type 0} (m : Machine State Body Piece) where
         go : (v : List (Event Body)) → history m k ≡ v ++ below t (history m k) → ((x : Event Body) → Contains v x → t ≤ x.key.time) → ⊥
         go [] e late =
             ⊎_elim (λ l. omega (arith, ap length e, l))
-            (λ stuck. let c : Contains (pending m (history m k)) x = subst (λ z. Contains (pending m z) x) (sym e) (pending_from m (below t (history m k)) x v) in omega (arith, none_next m (history m k) stuck x c))
+            (λ stuck. let c : Contains (pending m (history m k)) x = subst (λ z. Contains (pending m z) x) (sym e)
+            (pending_from m (below t (history m k)) x v) in omega (arith, none_next m (history m k) stuck x c))
             (history_is_whole m k)
         go (y ∷ u) e late =
             let r = next_of_rest (y ∷ u) (below t (history m k)) (subst (λ z. IsLegal m z) e (history_is_legal m k)) (omega arith) in

@@ -1,5 +1,37 @@
 -- The least event at hand is the next of the run, and what it leaves is the world one event later.
-use Rattle.std.proofs.Common.{◌≡◌, ◌≢◌, ℕ, zero, suc, ◌+◌, ◌<◌, ◌≤◌, Some, None, List, [], ◌∷◌, ◌++◌, length, get_or, set, refl, ap, sym, ◌∙◌, subst, arith, inl, inr, ◌⊎◌, ⊎_elim, ◌↔◌, add-one, get_or-set_same, get_or-set_other}
+use Rattle.std.proofs.Common.{
+  ◌≡◌,
+  ◌≢◌,
+  ℕ,
+  zero,
+  suc,
+  ◌+◌,
+  ◌<◌,
+  ◌≤◌,
+  Some,
+  None,
+  List,
+  [],
+  ◌∷◌,
+  ◌++◌,
+  length,
+  get_or,
+  set,
+  refl,
+  ap,
+  sym,
+  ◌∙◌,
+  subst,
+  arith,
+  inl,
+  inr,
+  ◌⊎◌,
+  ⊎_elim,
+  ◌↔◌,
+  add-one,
+  get_or-set_same,
+  get_or-set_other,
+}
 use Rattle.std.proofs.lemmas.Bool.{cases_eq}
 use Rattle.std.proofs.Math.ListN.{length-set}
 use Rattle.std.specs.List.{Contains, All, remove, cons_option}
@@ -24,7 +56,8 @@ same_read [] i d d' l = absurd (omega arith)
 same_read (x ∷ xs) zero d d' l = refl
 same_read (x ∷ xs) (suc i) d d' l = same_read xs i d d' (omega arith)
 
-module _ {State Body Piece : Type 0} (m : Machine State Body Piece) {Sound : ℕ → State → Type 0} {Fit : Event Body → Type 0} (w : IsWellFormed m Sound Fit) where
+module _ {State Body Piece : Type 0} (m : Machine State Body Piece) {Sound : ℕ → State → Type 0} {Fit : Event Body → Type 0}
+    (w : IsWellFormed m Sound Fit) where
   possible : (k : ℕ) → IsPossible m (history m k)
   possible k = possible_from_legal m (history m k) (history_is_legal m k)
 
@@ -52,7 +85,8 @@ module _ {State Body Piece : Type 0} (m : Machine State Body Piece) {Sound : ℕ
       is_next : IsNext m (history m count) e
       is_next = record {
         waits = (a.waits e).0 (subst (λ z. Contains events z) (sym at) (contains_at events i e l.inside));
-        first = λ x c. subst (λ (z : Event Body). IsAtMost z.key x.key) (sym at) (All_at (λ (x : Event Body). IsAtMost (get_or events i e).key x.key) events x (l.first e) ((a.waits x).1 c));
+        first = λ x c. subst (λ (z : Event Body). IsAtMost z.key x.key) (sym at)
+            (All_at (λ (x : Event Body). IsAtMost (get_or events i e).key x.key) events x (l.first e) ((a.waits x).1 c));
         in_time = subst (λ (z : Event Body). z.key.time < m.duration) (sym at) (l.in_time e);
       }
 
@@ -83,18 +117,25 @@ module _ {State Body Piece : Type 0} (m : Machine State Body Piece) {Sound : ℕ
       pub is_sound : (d : State) → Sound e.target (get_or states e.target d)
       is_sound d = subst (λ z. Sound e.target z) (sym (state_read d)) (sound_state m w (history m count) (possible count) e known)
 
-      pub piece_after : (d : State) → event_pieces m (history m (count + 1)) ≡ event_pieces m (history m count) ++ (m.effect (get_or states e.target d) e).piece ∷ []
+      pub piece_after : (d : State) → event_pieces m (history m (count + 1)) ≡ event_pieces m (history m count)
+          ++ (m.effect (get_or states e.target d) e).piece ∷ []
       piece_after d = ap (event_pieces m) history_goes_on ∙ ap (λ z. event_pieces m (history m count) ++ (m.effect z e).piece ∷ []) (sym (state_read d))
 
-      pub world_after : (d : State) → IsWorld m (set states e.target (m.effect (get_or states e.target d) e).state) (remove events i ++ (m.effect (get_or states e.target d) e).events) (count + 1)
+      pub world_after : (d : State) → IsWorld m (set states e.target (m.effect (get_or states e.target d) e).state)
+          (remove events i ++ (m.effect (get_or states e.target d) e).events) (count + 1)
       world_after d = rw (state_read d) (record {
         long = omega (arith, ap length history_goes_on, a.long);
         states_are = record {
           nodes_are = omega (arith, length-set states e.target s', (a.states_are).nodes_are);
           state_at = λ n d r. subst (λ z. get_or (set states e.target s') n d ≡ state m z n) (sym history_goes_on) (state_after n d r);
         };
-        waits = λ x. (λ c. subst (λ z. Contains (pending m z) x) (sym history_goes_on) ((moves x).1 (there x c)), λ c. back x ((moves x).0 (subst (λ z. Contains (pending m z) x) history_goes_on c)));
-        apart = AllPairs_append (λ (a b : Event Body). a.key ≢ b.key) (remove events i) made (remove_apart ev_key events i e l.inside a.apart) (made_apart m w (history m count) (possible count) e known) cross;
+        waits = λ x. (
+          λ c. subst (λ z. Contains (pending m z) x) (sym history_goes_on) ((moves x).1 (there x c)),
+          λ c. back x
+              ((moves x).0 (subst (λ z. Contains (pending m z) x) history_goes_on c)),
+        );
+        apart = AllPairs_append (λ (a b : Event Body). a.key ≢ b.key) (remove events i) made (remove_apart ev_key events i e l.inside a.apart)
+            (made_apart m w (history m count) (possible count) e known) cross;
       })
         where
           s' : State
@@ -107,22 +148,27 @@ module _ {State Body Piece : Type 0} (m : Machine State Body Piece) {Sound : ℕ
           state_after n d r = ⊎_elim
               (λ s. subst (λ k. get_or (set states e.target s') k d ≡ state m (e ∷ history m count) k) s
               (get_or-set_same states e.target s' d target_in_range ∙ sym (state_here m e (history m count) e.target refl)))
-              (λ s. get_or-set_other states e.target n s' d (λ k. s (sym k)) ∙ ((a.states_are).state_at n d r ∙ sym (state_other m e (history m count) n s))) (cases_eq e.target n)
+              (λ s. get_or-set_other states e.target n s' d (λ k. s (sym k))
+              ∙ ((a.states_are).state_at n d r ∙ sym (state_other m e (history m count) n s))) (cases_eq e.target n)
 
-          moves : (x : Event Body) → Contains (pending m (e ∷ history m count)) x ↔ ((Contains (pending m (history m count)) x × (x ≢ e)) ⊎ Contains (effect_after m (history m count) e).events x)
+          moves : (x : Event Body) → Contains (pending m (e ∷ history m count)) x
+              ↔ ((Contains (pending m (history m count)) x × (x ≢ e)) ⊎ Contains (effect_after m (history m count) e).events x)
           moves x = pending_moves m w (history m count) e (possible count, is_next.waits) x
 
-          there : (x : Event Body) → Contains (remove events i ++ made) x → (Contains (pending m (history m count)) x × (x ≢ e)) ⊎ Contains (effect_after m (history m count) e).events x
+          there : (x : Event Body) → Contains (remove events i ++ made) x
+              → (Contains (pending m (history m count)) x × (x ≢ e)) ⊎ Contains (effect_after m (history m count) e).events x
           there x c =
               ⊎_elim (λ k. let q = remove_gone ev_key events i e x l.inside a.apart k in inl ((a.waits x).0 q.0, subst (λ z. x ≢ z) (sym at) q.1))
               (λ k. inr k) (contains_append (remove events i) made x c)
 
-          back : (x : Event Body) → (Contains (pending m (history m count)) x × (x ≢ e)) ⊎ Contains (effect_after m (history m count) e).events x → Contains (remove events i ++ made) x
+          back : (x : Event Body) → (Contains (pending m (history m count)) x × (x ≢ e)) ⊎ Contains (effect_after m (history m count) e).events x
+              → Contains (remove events i ++ made) x
           back x c =
               ⊎_elim (λ k. contains_left (remove events i) made x (remove_kept ev_key events i e x l.inside ((a.waits x).1 k.0) (subst (λ z. x ≢ z) at k.1)))
               (λ k. contains_right (remove events i) made x k) c
 
           cross : (x y : Event Body) → Contains (remove events i) x → Contains made y → x.key ≡ y.key → ⊥
           cross x y c k s =
-              let old : Contains (all_events m (history m count)) x = (waits_from m (history m count) x ((a.waits x).0 (remove_gone ev_key events i e x l.inside a.apart c).0)).known in
+              let old : Contains (all_events m (history m count)) x = (waits_from m (history m count) x
+              ((a.waits x).0 (remove_gone ev_key events i e x l.inside a.apart c).0)).known in
               made_fresh m w (history m count) (possible count) e known y x k old (sym s)

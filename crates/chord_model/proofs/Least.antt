@@ -13,7 +13,8 @@ module _ {Body : Type 0} where
     pub among : Contains xs e
     pub first : (x : Event Body) → Contains xs x → IsAtMost e.key x.key
 
-  least_cons : (e : Event Body) (es : List (Event Body)) (o : Option (Event Body)) → least es ≡ o → ((x : Event Body) → o ≡ Some x → IsLeast es x) → (o ≡ None → (x : Event Body) → Contains es x → ⊥)
+  least_cons : (e : Event Body) (es : List (Event Body)) (o : Option (Event Body)) → least es ≡ o → ((x : Event Body) → o ≡ Some x → IsLeast es x)
+      → (o ≡ None → (x : Event Body) → Contains es x → ⊥)
       → IsLeast (e ∷ es) (earlier e o)
   least_cons e es None s k none = record {
     among = contains_here e es;
@@ -24,7 +25,8 @@ module _ {Body : Type 0} where
       go : (b : Bool) → is_before y.key e.key ≡ b → IsLeast es y → IsLeast (e ∷ es) (cond b y e)
       go true t l = record {
         among = contains_there y e es l.among;
-        first = λ x c. ⊎_elim (λ u. subst (λ (z : Event Body). IsAtMost y.key z.key) u (at_most_from_before y.key e.key (is_before-true y.key e.key t))) (λ r. l.first x r) (contains_cons x e es c);
+        first = λ x c. ⊎_elim (λ u. subst (λ (z : Event Body). IsAtMost y.key z.key) u
+            (at_most_from_before y.key e.key (is_before-true y.key e.key t))) (λ r. l.first x r) (contains_cons x e es c);
       }
       go false t l = record {
         among = contains_here e es;
@@ -44,7 +46,8 @@ module _ {Body : Type 0} where
       subst (λ (z : Event Body). IsLeast (y ∷ ys) z) same found
 
   -- where one key is one event, the least is found
-  pub least_is : (xs : List (Event Body)) (e : Event Body) → ((x y : Event Body) → Contains xs x → Contains xs y → x.key ≡ y.key → x ≡ y) → IsLeast xs e → least xs ≡ Some e
+  pub least_is : (xs : List (Event Body)) (e : Event Body) → ((x y : Event Body) → Contains xs x → Contains xs y → x.key ≡ y.key → x ≡ y)
+      → IsLeast xs e → least xs ≡ Some e
   least_is xs e one l = go (least xs) refl
     where
       go : (o : Option (Event Body)) → least xs ≡ o → o ≡ Some e

@@ -1,5 +1,30 @@
 -- The lists of the parts, put together in key order.
-use Rattle.std.proofs.Common.{Bool, true, false, cond, ◌≡◌, ℕ, zero, suc, ◌+◌, ◌<◌, ◌≤◌, List, [], ◌∷◌, length, refl, ap, sym, ◌∙◌, arith, inl, inr, ◌⊎◌, lt-ltb}
+use Rattle.std.proofs.Common.{
+  Bool,
+  true,
+  false,
+  cond,
+  ◌≡◌,
+  ℕ,
+  zero,
+  suc,
+  ◌+◌,
+  ◌<◌,
+  ◌≤◌,
+  List,
+  [],
+  ◌∷◌,
+  length,
+  refl,
+  ap,
+  sym,
+  ◌∙◌,
+  arith,
+  inl,
+  inr,
+  ◌⊎◌,
+  lt-ltb,
+}
 use Rattle.std.proofs.lemmas.Bool.{cases_order, cond-true, cond-false, le-ltb, false_from_ne_true}
 use Rattle.std.proofs.lemmas.Bool.Decides.{nat_tests}
 use Rattle.std.specs.Prelude.{nat_lt, ◌==◌}
@@ -29,7 +54,8 @@ module _ {Body : Type 0} where
   insert_newest e [] a = refl
   insert_newest e (y ∷ ys) a = cond-false _ _ _ (not_before_from e.key y.key (a y (contains_here y ys)))
 
-  merge_newest : (xs : List (Event Body)) (e : Event Body) (ys : List (Event Body)) → ((x : Event Body) → Contains xs x → IsBefore x.key e.key) → merge xs (e ∷ ys) ≡ e ∷ merge xs ys
+  merge_newest : (xs : List (Event Body)) (e : Event Body) (ys : List (Event Body)) → ((x : Event Body) → Contains xs x → IsBefore x.key e.key)
+      → merge xs (e ∷ ys) ≡ e ∷ merge xs ys
   merge_newest [] e ys a = refl
   merge_newest (x ∷ xs) e ys a =
       ap (λ z. insert_event x z) (merge_newest xs e ys (λ y c. a y (contains_there y x xs c)))
@@ -79,22 +105,47 @@ module _ {Body : Type 0} where
     length_among n [] = refl
     length_among n (e ∷ g) = go (cases_order (part_of d e.target) n) (length_among n g)
       where
-        go : (part_of d e.target ≡ n) ⊎ ((part_of d e.target < n) ⊎ (n < part_of d e.target)) → length (among (suc n) g) ≡ length (restrict d n g) + length (among n g)
+        go : (part_of d e.target ≡ n) ⊎ ((part_of d e.target < n) ⊎ (n < part_of d e.target))
+            → length (among (suc n) g) ≡ length (restrict d n g) + length (among n g)
             → length (among (suc n) (e ∷ g)) ≡ length (restrict d n (e ∷ g)) + length (among n (e ∷ g))
-        go (inl here) ih = omega (arith, ih, ap length (among_in (suc n) e g (omega arith)), ap length (restrict_in d n e g here), ap length (among_out n e g (omega arith)))
-        go (inr (inl less)) ih = omega (arith, ih, ap length (among_in (suc n) e g (omega arith)), ap length (restrict_out d n e g (λ s. omega arith)), ap length (among_in n e g less))
-        go (inr (inr more)) ih = omega (arith, ih, ap length (among_out (suc n) e g (omega arith)), ap length (restrict_out d n e g (λ s. omega arith)), ap length (among_out n e g (omega arith)))
+        go (inl here) ih = omega (
+          arith,
+          ih,
+          ap length (among_in (suc n) e g (omega arith)),
+          ap length (restrict_in d n e g here),
+          ap length
+              (among_out n e g (omega arith)),
+        )
+        go (inr (inl less)) ih = omega (
+          arith,
+          ih,
+          ap length (among_in (suc n) e g (omega arith)),
+          ap length
+              (restrict_out d n e g (λ s. omega arith)),
+          ap length (among_in n e g less),
+        )
+        go (inr (inr more)) ih = omega (
+          arith,
+          ih,
+          ap length (among_out (suc n) e g (omega arith)),
+          ap length
+              (restrict_out d n e g (λ s. omega arith)),
+          ap length (among_out n e g (omega arith)),
+        )
 
     -- the events of part n joined to those of the parts before it
-    merge-restrict : (n : ℕ) (g : List (Event Body)) → AllPairs (λ (a b : Event Body). IsBefore b.key a.key) g → merge (restrict d n g) (among n g) ≡ among (suc n) g
+    merge-restrict : (n : ℕ) (g : List (Event Body)) → AllPairs (λ (a b : Event Body). IsBefore b.key a.key) g
+        → merge (restrict d n g) (among n g) ≡ among (suc n) g
     unfolding among
     merge-restrict n [] up = refl
-    merge-restrict n (e ∷ g) up = go (cases_order (part_of d e.target) n) (merge-restrict n g (AllPairs_rest (λ (a b : Event Body). IsBefore b.key a.key) e g up))
+    merge-restrict n (e ∷ g) up = go (cases_order (part_of d e.target) n)
+        (merge-restrict n g (AllPairs_rest (λ (a b : Event Body). IsBefore b.key a.key) e g up))
       where
         older : (x : Event Body) → Contains g x → IsBefore x.key e.key
         older x c = AllPairs_at (λ (a b : Event Body). IsBefore b.key a.key) e g up x c
 
-        go : (part_of d e.target ≡ n) ⊎ ((part_of d e.target < n) ⊎ (n < part_of d e.target)) → merge (restrict d n g) (among n g) ≡ among (suc n) g → merge (restrict d n (e ∷ g)) (among n (e ∷ g)) ≡ among (suc n) (e ∷ g)
+        go : (part_of d e.target ≡ n) ⊎ ((part_of d e.target < n) ⊎ (n < part_of d e.target)) → merge (restrict d n g) (among n g) ≡ among (suc n) g
+            → merge (restrict d n (e ∷ g)) (among n (e ∷ g)) ≡ among (suc n) (e ∷ g)
         go (inl here) ih =
             ap (λ z. merge z (among n (e ∷ g))) (restrict_in d n e g here)
             ∙ (ap (λ z. insert_event e (merge (restrict d n g) z)) (among_out n e g (omega arith))
@@ -119,6 +170,7 @@ module _ {Body : Type 0} where
         ∙ (ap (λ z. merge z (among n g)) (each n (omega arith)) ∙ merge-restrict n g up)
 
     -- where each part ran its events of g, together they ran g
-    pub merged_is : (ran : ℕ → List (Event Body)) (g : List (Event Body)) → AllPairs (λ (a b : Event Body). IsBefore b.key a.key) g → ((x : Event Body) → Contains g x → part_of d x.target < d.parts)
+    pub merged_is : (ran : ℕ → List (Event Body)) (g : List (Event Body)) → AllPairs (λ (a b : Event Body). IsBefore b.key a.key) g
+        → ((x : Event Body) → Contains g x → part_of d x.target < d.parts)
         → ((p : ℕ) → p < d.parts → ran p ≡ restrict d p g) → merged ran d.parts ≡ g
     merged_is ran g up all each = merged_first ran g up d.parts each ∙ among_all g all

@@ -1,5 +1,39 @@
 -- How a part goes on from event to event.
-use Rattle.std.proofs.Common.{◌≡◌, ◌≢◌, ℕ, zero, suc, ◌+◌, ◌<◌, ◌≤◌, Some, List, [], ◌∷◌, ◌++◌, length, map, reverse, Bool, true, false, not, nat_lt, refl, ap, sym, ◌∙◌, subst, arith, inl, inr, ◌⊎◌, ⊎_elim, ◌↔◌, cond}
+use Rattle.std.proofs.Common.{
+  ◌≡◌,
+  ◌≢◌,
+  ℕ,
+  zero,
+  suc,
+  ◌+◌,
+  ◌<◌,
+  ◌≤◌,
+  Some,
+  List,
+  [],
+  ◌∷◌,
+  ◌++◌,
+  length,
+  map,
+  reverse,
+  Bool,
+  true,
+  false,
+  not,
+  nat_lt,
+  refl,
+  ap,
+  sym,
+  ◌∙◌,
+  subst,
+  arith,
+  inl,
+  inr,
+  ◌⊎◌,
+  ⊎_elim,
+  ◌↔◌,
+  cond,
+}
 use Rattle.std.proofs.lemmas.Bool.{cases_eq, not-true, not_from_false, le-ltb, ltb-false}
 use mathlib.Core.List.{reverse-cons}
 use Rattle.std.specs.List.{Contains, AllPairs, cons_option, filter}
@@ -11,7 +45,20 @@ use Rattle.chord_model.specs.WellFormed.{IsWellFormed}
 use Rattle.chord_model.specs.Windows.{Division, part_of, Divides, put, waiting, IsPartRun, IsSealedRun, made_since, pieces_since, events_run}
 use Rattle.chord_model.specs.Laws.{MayOpen}
 use Rattle.chord_model.specs.PartRuns.{part_run, IsPartAt}
-use Rattle.chord_event.proofs.Members.{contains_none, contains_here, contains_left, contains_right, contains_append, contains_filter, filter_contains, AllPairs_none, AllPairs_cons, AllPairs_at, AllPairs_rest, AllPairs_append}
+use Rattle.chord_event.proofs.Members.{
+  contains_none,
+  contains_here,
+  contains_left,
+  contains_right,
+  contains_append,
+  contains_filter,
+  filter_contains,
+  AllPairs_none,
+  AllPairs_cons,
+  AllPairs_at,
+  AllPairs_rest,
+  AllPairs_append,
+}
 use Rattle.chord_model.proofs.Least.{least_is}
 use Rattle.chord_model.proofs.Distinct.{one_event, made_fresh, made_ahead, state_here, state_other, sound_state, fit_event, made_apart}
 use Rattle.chord_model.proofs.Pending.{Waits}
@@ -36,7 +83,8 @@ empty_from (x ∷ xs) h = absurd (h x (contains_here x xs))
 
 events_run_at : {Body : Type 0} (ran : ℕ → List (Event Body)) (n p : ℕ) → p < n → length (ran p) ≤ events_run ran n
 events_run_at ran zero p l = absurd (omega arith)
-events_run_at ran (suc n) p l = ⊎_elim (λ e. omega (arith, ap (λ z. length (ran z)) e)) (λ ne. let differ : p ≢ n = ne in omega (arith, events_run_at ran n p (omega arith))) (cases_eq p n)
+events_run_at ran (suc n) p l = ⊎_elim (λ e. omega (arith, ap (λ z. length (ran z)) e))
+    (λ ne. let differ : p ≢ n = ne in omega (arith, events_run_at ran n p (omega arith))) (cases_eq p n)
 
 module _ {State Body Piece : Type 0} (m : Machine State Body Piece) {Sound : ℕ → State → Type 0} {Fit : Event Body → Type 0} (w : IsWellFormed m Sound Fit)
     (d : Division) (whole : Divides d m.nodes) (h : List (Event Body)) (time horizon : ℕ) (o : MayOpen m h time horizon) (p : ℕ) where
@@ -80,7 +128,8 @@ module _ {State Body Piece : Type 0} (m : Machine State Body Piece) {Sound : ℕ
 
       least_found : least (waiting m d h horizon p (part_run m d h horizon p n)) ≡ Some e
       least_found = least_is (waiting m d h horizon p (part_run m d h horizon p n)) e
-          (λ x y c k. one_event m w (part_run m d h horizon p n ++ h) here x y (waiting_parts m d h horizon p (part_run m d h horizon p n) x c).0.known (waiting_parts m d h horizon p (part_run m d h horizon p n) y k).0.known)
+          (λ x y c k. one_event m w (part_run m d h horizon p n ++ h) here x y
+          (waiting_parts m d h horizon p (part_run m d h horizon p n) x c).0.known (waiting_parts m d h horizon p (part_run m d h horizon p n) y k).0.known)
           (record { among = waits_now; first = λ x c. first x ((r.waits x).1 c) })
 
       pub part_goes_on : part_run m d h horizon p (suc n) ≡ e ∷ part_run m d h horizon p n
@@ -133,10 +182,12 @@ module _ {State Body Piece : Type 0} (m : Machine State Body Piece) {Sound : ℕ
 
       -- it has a key of its own
       pub made_new : (x y : Event Body) → Contains (m.effect (seen e.target) e).events x → Contains wait y → x.key ≢ y.key
-      made_new x y c k = made_fresh m w (part_run m d h horizon p n ++ h) here e (facts.0).known x y (made_is x c) (waiting_parts m d h horizon p (part_run m d h horizon p n) y ((r.waits y).0 k)).0.known
+      made_new x y c k = made_fresh m w (part_run m d h horizon p n ++ h) here e (facts.0).known x y (made_is x c)
+          (waiting_parts m d h horizon p (part_run m d h horizon p n) y ((r.waits y).0 k)).0.known
 
       pub made_all_apart : AllPairs (λ (a b : Event Body). a.key ≢ b.key) (m.effect (seen e.target) e).events
-      made_all_apart = subst (λ z. AllPairs (λ (a b : Event Body). a.key ≢ b.key) z.events) (sym same_effect) (made_apart m w (part_run m d h horizon p n ++ h) here e (facts.0).known)
+      made_all_apart = subst (λ z. AllPairs (λ (a b : Event Body). a.key ≢ b.key) z.events) (sym same_effect)
+          (made_apart m w (part_run m d h horizon p n ++ h) here e (facts.0).known)
 
       longer : IsPartRun m d h horizon p (e ∷ part_run m d h horizon p n)
       longer = (r.runs, least_found)
@@ -150,7 +201,8 @@ module _ {State Body Piece : Type 0} (m : Machine State Body Piece) {Sound : ℕ
           lists = put (λ q. []) p (e ∷ part_run m d h horizon p n)
 
           runs : (q : ℕ) → q < d.parts → IsPartRun m d h horizon q (lists q)
-          runs q l2 = ⊎_elim (λ s. subst (λ z. IsPartRun m d h horizon q z) (sym (put_same (λ q. []) p (e ∷ part_run m d h horizon p n) q s)) (subst (λ z. IsPartRun m d h horizon z (e ∷ part_run m d h horizon p n)) (sym s) longer))
+          runs q l2 = ⊎_elim (λ s. subst (λ z. IsPartRun m d h horizon q z) (sym (put_same (λ q. []) p (e ∷ part_run m d h horizon p n) q s))
+              (subst (λ z. IsPartRun m d h horizon z (e ∷ part_run m d h horizon p n)) (sym s) longer))
               (λ s. subst (λ z. IsPartRun m d h horizon q z) (sym (put_other (λ q. []) p (e ∷ part_run m d h horizon p n) q s)) tt) (cases_eq q p)
 
       pub part_more : (seen' : ℕ → State) (wait' mail' : List (Event Body)) (pieces' : List Piece)
@@ -176,7 +228,8 @@ module _ {State Body Piece : Type 0} (m : Machine State Body Piece) {Sound : ℕ
         mail_apart = subst (λ z. AllPairs (λ (a b : Event Body). a.key ≢ b.key) z) (sym mail_at)
             (AllPairs_append (λ (a b : Event Body). a.key ≢ b.key) mail (filter is_later (m.effect (seen e.target) e).events) r.mail_apart
             (AllPairs_filter (λ (a b : Event Body). a.key ≢ b.key) is_later (m.effect (seen e.target) e).events made_all_apart)
-            (λ x y c z s. made_fresh m w (part_run m d h horizon p n ++ h) here e (facts.0).known y x (made_is y (filter_contains is_later (m.effect (seen e.target) e).events y z).0)
+            (λ x y c z s. made_fresh m w (part_run m d h horizon p n ++ h) here e (facts.0).known y x
+            (made_is y (filter_contains is_later (m.effect (seen e.target) e).events y z).0)
             (known_from_since m h (part_run m d h horizon p n) x ((r.mail_is x).0 c).0) (sym s)));
         pieces_are = pieces_at ∙ (ap (λ z. z ++ (m.effect (seen e.target) e).piece ∷ []) r.pieces_are
             ∙ (ap (λ z. reverse (map (λ b. b.1) (pieces_since m h (part_run m d h horizon p n))) ++ z ∷ []) (ap (λ z. z.piece) same_effect)
@@ -191,31 +244,41 @@ module _ {State Body Piece : Type 0} (m : Machine State Body Piece) {Sound : ℕ
               (λ t. kept i l (λ z. t (sym z)) ∙ (r.seen_are i l s ∙ sym (state_other m e (part_run m d h horizon p n ++ h) i t))) (cases_eq e.target i)
 
           moves : (x : Event Body) → Contains (waiting m d h horizon p (e ∷ part_run m d h horizon p n)) x
-              ↔ ((Contains (waiting m d h horizon p (part_run m d h horizon p n)) x × (x ≢ e)) ⊎ (Contains (effect_after m (part_run m d h horizon p n ++ h) e).events x × (part_of d x.target ≡ p) × (x.key.time < horizon)))
+              ↔ ((Contains (waiting m d h horizon p (part_run m d h horizon p n)) x × (x ≢ e))
+              ⊎ (Contains (effect_after m (part_run m d h horizon p n ++ h) e).events x × (part_of d x.target ≡ p) × (x.key.time < horizon)))
           moves x = waiting_moves m w d h horizon p (part_run m d h horizon p n) e (possible_from_legal m h o.legal) longer x
 
           there : (x : Event Body) → (Contains wait x × (x ≢ e)) ⊎ (Contains (m.effect (seen e.target) e).events x × (x.key.time < horizon))
-              → (Contains (waiting m d h horizon p (part_run m d h horizon p n)) x × (x ≢ e)) ⊎ (Contains (effect_after m (part_run m d h horizon p n ++ h) e).events x × (part_of d x.target ≡ p) × (x.key.time < horizon))
+              → (Contains (waiting m d h horizon p (part_run m d h horizon p n)) x × (x ≢ e))
+              ⊎ (Contains (effect_after m (part_run m d h horizon p n ++ h) e).events x × (part_of d x.target ≡ p) × (x.key.time < horizon))
           there x (inl k) = inl ((r.waits x).0 k.0, k.1)
           there x (inr k) = inr (made_is x k.0, made_here x (made_is x k.0) k.1, k.1)
 
-          back : (x : Event Body) → (Contains (waiting m d h horizon p (part_run m d h horizon p n)) x × (x ≢ e)) ⊎ (Contains (effect_after m (part_run m d h horizon p n ++ h) e).events x × (part_of d x.target ≡ p) × (x.key.time < horizon))
+          back : (x : Event Body) → (Contains (waiting m d h horizon p (part_run m d h horizon p n)) x × (x ≢ e))
+              ⊎ (Contains (effect_after m (part_run m d h horizon p n ++ h) e).events x × (part_of d x.target ≡ p) × (x.key.time < horizon))
               → (Contains wait x × (x ≢ e)) ⊎ (Contains (m.effect (seen e.target) e).events x × (x.key.time < horizon))
           back x (inl k) = inl ((r.waits x).1 k.0, k.1)
           back x (inr k) = inr (made_from x k.0, k.2)
 
-          sent : (x : Event Body) → Contains (mail ++ filter is_later (m.effect (seen e.target) e).events) x → Contains (made_since m h (e ∷ part_run m d h horizon p n)) x × (horizon ≤ x.key.time)
+          sent : (x : Event Body) → Contains (mail ++ filter is_later (m.effect (seen e.target) e).events) x
+              → Contains (made_since m h (e ∷ part_run m d h horizon p n)) x × (horizon ≤ x.key.time)
           sent x c = ⊎_elim
-              (λ z. let g = (r.mail_is x).0 z in (contains_right (effect_after m (part_run m d h horizon p n ++ h) e).events (made_since m h (part_run m d h horizon p n)) x g.0, g.1))
+              (λ z. let g = (r.mail_is x).0 z in (
+                contains_right (effect_after m (part_run m d h horizon p n ++ h) e).events
+                    (made_since m h (part_run m d h horizon p n)) x g.0,
+                g.1,
+              ))
               (λ z. let g = filter_contains is_later (m.effect (seen e.target) e).events x z in (
                 contains_left (effect_after m (part_run m d h horizon p n ++ h) e).events (made_since m h (part_run m d h horizon p n)) x (made_is x g.0),
                 ltb-false x.key.time horizon (not-true (nat_lt x.key.time horizon) g.1),
               ))
               (contains_append mail (filter is_later (m.effect (seen e.target) e).events) x c)
 
-          post : (x : Event Body) → Contains (made_since m h (e ∷ part_run m d h horizon p n)) x × (horizon ≤ x.key.time) → Contains (mail ++ filter is_later (m.effect (seen e.target) e).events) x
+          post : (x : Event Body) → Contains (made_since m h (e ∷ part_run m d h horizon p n)) x × (horizon ≤ x.key.time)
+              → Contains (mail ++ filter is_later (m.effect (seen e.target) e).events) x
           post x c = ⊎_elim
               (λ z. contains_right mail (filter is_later (m.effect (seen e.target) e).events) x
-              (contains_filter is_later (m.effect (seen e.target) e).events x (made_from x z) (not_from_false (nat_lt x.key.time horizon) (le-ltb x.key.time horizon c.1))))
+              (contains_filter is_later (m.effect (seen e.target) e).events x (made_from x z)
+              (not_from_false (nat_lt x.key.time horizon) (le-ltb x.key.time horizon c.1))))
               (λ z. contains_left mail (filter is_later (m.effect (seen e.target) e).events) x ((r.mail_is x).1 (z, c.1)))
               (contains_append (effect_after m (part_run m d h horizon p n ++ h) e).events (made_since m h (part_run m d h horizon p n)) x c.0)

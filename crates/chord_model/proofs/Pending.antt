@@ -7,7 +7,16 @@ use Rattle.chord_event.specs.Keys.{is_same_key}
 use Rattle.chord_event.specs.declared.event.Event.{Event}
 use Rattle.chord_model.specs.Machine.{Machine}
 use Rattle.chord_model.specs.Histories.{has_key, all_events, pending, effect_after}
-use Rattle.chord_event.proofs.Members.{contains_none, contains_here, contains_there, contains_cons, contains_filter, filter_contains, contains_append, contains_right}
+use Rattle.chord_event.proofs.Members.{
+  contains_none,
+  contains_here,
+  contains_there,
+  contains_cons,
+  contains_filter,
+  filter_contains,
+  contains_append,
+  contains_right,
+}
 use Rattle.chord_event.proofs.Order.{is_same_key-true, same_key-self}
 
 module _ {Body : Type 0} where
@@ -15,14 +24,16 @@ module _ {Body : Type 0} where
   has_key-true k [] t = absurd cc
   has_key-true k (y ∷ h) t = go (or_cases (is_same_key y.key k) (has_key k h) t) (has_key-true k h)
     where
-      go : (is_same_key y.key k ≡ true) ⊎ (has_key k h ≡ true) → (has_key k h ≡ true → (e : Event Body) × Contains h e × (e.key ≡ k)) → (e : Event Body) × Contains (y ∷ h) e × (e.key ≡ k)
+      go : (is_same_key y.key k ≡ true) ⊎ (has_key k h ≡ true) → (has_key k h ≡ true → (e : Event Body) × Contains h e × (e.key ≡ k))
+          → (e : Event Body) × Contains (y ∷ h) e × (e.key ≡ k)
       go (inl s) f = (y, contains_here y h, is_same_key-true y.key k s)
       go (inr s) f = let r = f s in (r.0, contains_there r.0 y h r.1, r.2)
 
   pub has_key_from : (e : Event Body) (h : List (Event Body)) → Contains h e → has_key e.key h ≡ true
   has_key_from e [] c = absurd (contains_none e c)
   has_key_from e (y ∷ h) c =
-      ⊎_elim (λ s. or_left (is_same_key y.key e.key) (has_key e.key h) (subst (λ (z : Event Body). is_same_key z.key e.key ≡ true) (sym s) (same_key-self e.key)))
+      ⊎_elim (λ s. or_left (is_same_key y.key e.key) (has_key e.key h)
+      (subst (λ (z : Event Body). is_same_key z.key e.key ≡ true) (sym s) (same_key-self e.key)))
       (λ r. or_right (is_same_key y.key e.key) (has_key e.key h) (has_key_from e h r)) (contains_cons e y h c)
 
 -- x was made, and no event of h has its key

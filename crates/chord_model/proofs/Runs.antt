@@ -1,5 +1,34 @@
 -- Legal histories: the one run, its order and its trace.
-use Rattle.std.proofs.Common.{◌≡◌, ℕ, zero, suc, ◌<◌, ◌≤◌, Option, None, Some, List, [], ◌∷◌, ◌++◌, length, map, refl, ap, sym, ◌∙◌, subst, arith, inl, inr, ◌⊎◌, ⊎_elim, lt-ltb, ltb-true, append_assoc}
+use Rattle.std.proofs.Common.{
+  ◌≡◌,
+  ℕ,
+  zero,
+  suc,
+  ◌<◌,
+  ◌≤◌,
+  Option,
+  None,
+  Some,
+  List,
+  [],
+  ◌∷◌,
+  ◌++◌,
+  length,
+  map,
+  refl,
+  ap,
+  sym,
+  ◌∙◌,
+  subst,
+  arith,
+  inl,
+  inr,
+  ◌⊎◌,
+  ⊎_elim,
+  lt-ltb,
+  ltb-true,
+  append_assoc,
+}
 use Rattle.std.proofs.lemmas.Bool.{cases_lt}
 use Rattle.std.proofs.lemmas.List.{append-nil}
 use Rattle.std.specs.Prelude.{nat_lt, nat_le, is_none, if◌then◌else◌}
@@ -8,7 +37,21 @@ use mathlib.Core.List.{IsPrefix}
 use Rattle.chord_event.specs.Keys.{IsBefore}
 use Rattle.chord_event.specs.declared.event.Event.{Event}
 use Rattle.chord_model.specs.Machine.{Machine}
-use Rattle.chord_model.specs.Histories.{all_events, pending, effect_after, below, next, IsPossible, IsNext, IsLegal, history, output, trace, open_audits, audit_at}
+use Rattle.chord_model.specs.Histories.{
+  all_events,
+  pending,
+  effect_after,
+  below,
+  next,
+  IsPossible,
+  IsNext,
+  IsLegal,
+  history,
+  output,
+  trace,
+  open_audits,
+  audit_at,
+}
 use Rattle.chord_model.specs.WellFormed.{IsWellFormed}
 use Rattle.chord_event.proofs.Members.{contains_here, contains_cons, contains_filter, filter_contains, contains_right, AllPairs_none, AllPairs_cons}
 use Rattle.chord_event.proofs.Order.{before_trans, before_from_at_most}
@@ -26,13 +69,15 @@ module _ {State Body Piece : Type 0} (m : Machine State Body Piece) where
       record {
         waits = f.0;
         in_time = early;
-        first = λ x c. ⊎_elim (λ lt. l.first x (contains_filter (λ (x : Event Body). nat_lt x.key.time m.duration) (pending m h) x c (lt-ltb x.key.time m.duration lt)))
+        first = λ x c. ⊎_elim (λ lt. l.first x (contains_filter (λ (x : Event Body). nat_lt x.key.time m.duration) (pending m h) x c
+            (lt-ltb x.key.time m.duration lt)))
             (λ (ge : m.duration ≤ x.key.time). omega arith) (cases_lt x.key.time m.duration);
       }
 
   pub next-None : (h : List (Event Body)) → next m h ≡ None → (x : Event Body) → Contains (pending m h) x → m.duration ≤ x.key.time
   next-None h s x c =
-      ⊎_elim (λ lt. absurd (least-None (below m.duration (pending m h)) s x (contains_filter (λ (x : Event Body). nat_lt x.key.time m.duration) (pending m h) x c (lt-ltb x.key.time m.duration lt))))
+      ⊎_elim (λ lt. absurd (least-None (below m.duration (pending m h)) s x
+      (contains_filter (λ (x : Event Body). nat_lt x.key.time m.duration) (pending m h) x c (lt-ltb x.key.time m.duration lt))))
       (λ ge. ge) (cases_lt x.key.time m.duration)
 
   pub none_from_late : (h : List (Event Body)) → ((x : Event Body) → Contains (pending m h) x → m.duration ≤ x.key.time) → next m h ≡ None
@@ -89,7 +134,8 @@ module _ {State Body Piece : Type 0} (m : Machine State Body Piece) where
   module _ {Sound : ℕ → State → Type 0} {Fit : Event Body → Type 0} (w : IsWellFormed m Sound Fit) where
     pub next_is : (h : List (Event Body)) (e : Event Body) → IsPossible m h → IsNext m h e → next m h ≡ Some e
     next_is h e p n = least_is (below m.duration (pending m h)) e
-        (λ x y c d s. one_event m w h p x y (waits_from m h x (filter_contains (λ (x : Event Body). nat_lt x.key.time m.duration) (pending m h) x c).0).known (waits_from m h y (filter_contains (λ (x : Event Body). nat_lt x.key.time m.duration) (pending m h) y d).0).known s)
+        (λ x y c d s. one_event m w h p x y (waits_from m h x (filter_contains (λ (x : Event Body). nat_lt x.key.time m.duration) (pending m h) x
+        c).0).known (waits_from m h y (filter_contains (λ (x : Event Body). nat_lt x.key.time m.duration) (pending m h) y d).0).known s)
         (record {
           among = contains_filter (λ (x : Event Body). nat_lt x.key.time m.duration) (pending m h) e n.waits (lt-ltb e.key.time m.duration n.in_time);
           first = λ x c. n.first x (filter_contains (λ (x : Event Body). nat_lt x.key.time m.duration) (pending m h) x c).0;
@@ -108,7 +154,8 @@ module _ {State Body Piece : Type 0} (m : Machine State Body Piece) where
     taken_before (e ∷ h) l x y c v = go (contains_cons x e h c) (λ r. taken_before h l.0 x e r (waits_from m h e (l.1).waits))
       where
         now : IsBefore e.key y.key
-        now = ⊎_elim (λ made. let later : e.key.time < y.key.time = made_later m w h (possible_from_legal h l.0) e (waits_from m h e (l.1).waits).known y made in omega arith)
+        now = ⊎_elim (λ made. let later : e.key.time < y.key.time = made_later m w h (possible_from_legal h l.0) e
+            (waits_from m h e (l.1).waits).known y made in omega arith)
             (λ old. before_from_at_most e.key y.key ((l.1).first y (pending_from m h y old)) (λ s. v.free e (contains_here e h) s)) (waits_before m e h y v)
 
         go : (e ≡ x) ⊎ Contains h x → (Contains h x → IsBefore x.key e.key) → IsBefore x.key y.key
@@ -117,7 +164,8 @@ module _ {State Body Piece : Type 0} (m : Machine State Body Piece) where
 
     pub legal_ascends : (h : List (Event Body)) → IsLegal m h → AllPairs (λ (a b : Event Body). IsBefore b.key a.key) h
     legal_ascends [] l = AllPairs_none (λ (a b : Event Body). IsBefore b.key a.key)
-    legal_ascends (e ∷ h) l = AllPairs_cons (λ (a b : Event Body). IsBefore b.key a.key) e h (λ x c. taken_before h l.0 x e c (waits_from m h e (l.1).waits)) (legal_ascends h l.0)
+    legal_ascends (e ∷ h) l = AllPairs_cons (λ (a b : Event Body). IsBefore b.key a.key) e h
+        (λ x c. taken_before h l.0 x e c (waits_from m h e (l.1).waits)) (legal_ascends h l.0)
 
   pub trace_grows : (k : ℕ) → IsPrefix (trace m (history m k)) (trace m (history m (suc k)))
   trace_grows k = go (next m (history m k)) refl

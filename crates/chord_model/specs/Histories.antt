@@ -1,5 +1,29 @@
 -- Histories: which events a run takes, one at a time, and what it puts out. A history lists its events, the newest first.
-use Rattle.std.specs.Prelude.{ℕ, zero, suc, ◌≡◌, ◌+◌, ◌<◌, List, [], ◌∷◌, ◌++◌, map, length, Option, None, Some, if◌then◌else◌, Bool, not, ◌==◌, nat_lt, nat_le, is_none, ⊤}
+use Rattle.std.specs.Prelude.{
+  ℕ,
+  zero,
+  suc,
+  ◌≡◌,
+  ◌+◌,
+  ◌<◌,
+  List,
+  [],
+  ◌∷◌,
+  ◌++◌,
+  map,
+  length,
+  Option,
+  None,
+  Some,
+  if◌then◌else◌,
+  Bool,
+  not,
+  ◌==◌,
+  nat_lt,
+  nat_le,
+  is_none,
+  ⊤,
+}
 use Rattle.std.specs.List.{filter, list_any, list_all, cons_option, Contains}
 use Rattle.chord_event.specs.declared.key.Key.{Key}
 use Rattle.chord_event.specs.Keys.{IsAtMost, is_before, is_same_key}

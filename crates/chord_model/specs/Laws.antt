@@ -1,13 +1,74 @@
 -- The laws: of histories, of windows, of whole runs. Each is the contract of a function of this crate.
-use Rattle.std.specs.Prelude.{ℕ, ◌≡◌, ◌≢◌, ◌+◌, ◌*◌, ◌<◌, ◌≤◌, ◌==◌, nat_le, nat_lt, List, [], ◌∷◌, ◌++◌, map, reverse, length, None, Some, IsSome, IsTrue, Bool, false, true, ◌⊎◌, ◌↔◌}
+use Rattle.std.specs.Prelude.{
+  ℕ,
+  ◌≡◌,
+  ◌≢◌,
+  ◌+◌,
+  ◌*◌,
+  ◌<◌,
+  ◌≤◌,
+  ◌==◌,
+  nat_le,
+  nat_lt,
+  List,
+  [],
+  ◌∷◌,
+  ◌++◌,
+  map,
+  reverse,
+  length,
+  None,
+  Some,
+  IsSome,
+  IsTrue,
+  Bool,
+  false,
+  true,
+  ◌⊎◌,
+  ◌↔◌,
+}
 use Rattle.std.specs.List.{All, AllPairs, Contains, filter}
 use mathlib.Core.List.{IsPrefix}
 use Rattle.chord_event.specs.Keys.{IsBefore}
 use Rattle.chord_event.specs.declared.event.Event.{Event}
 use Rattle.chord_model.specs.Machine.{Machine}
 use Rattle.chord_model.specs.WellFormed.{IsWellFormedBy}
-use Rattle.chord_model.specs.Histories.{state, effect_after, all_events, pending, IsPossible, IsNext, IsLegal, next, history, IsOverLimit, full_history, history_below, audit_at, open_audits, output, trace}
-use Rattle.chord_model.specs.Windows.{Division, part_of, Divides, Step, restrict, opened, after_picks, IsClosed, ran_by, waiting, IsPartRun, IsSealedRun, events_run, left_by, made_since, pieces_since}
+use Rattle.chord_model.specs.Histories.{
+  state,
+  effect_after,
+  all_events,
+  pending,
+  IsPossible,
+  IsNext,
+  IsLegal,
+  next,
+  history,
+  IsOverLimit,
+  full_history,
+  history_below,
+  audit_at,
+  open_audits,
+  output,
+  trace,
+}
+use Rattle.chord_model.specs.Windows.{
+  Division,
+  part_of,
+  Divides,
+  Step,
+  restrict,
+  opened,
+  after_picks,
+  IsClosed,
+  ran_by,
+  waiting,
+  IsPartRun,
+  IsSealedRun,
+  events_run,
+  left_by,
+  made_since,
+  pieces_since,
+}
 use Rattle.chord_model.specs.Schedules.{Run, horizon_from, begun, Goes, all_sealed, lowest}
 
 module _ {State Body Piece : Type 0} (m : Machine State Body Piece) where
@@ -44,7 +105,8 @@ module _ {State Body Piece : Type 0} (m : Machine State Body Piece) where
   -- Where no event adds more than `most` to a measure of its target's state, no node's has grown by more than `most` for each event.
   abbrev pub CountsAreBounded : (ℕ → State → Bool) → (Event Body → Bool) → Type 0
   CountsAreBounded sound fit =
-      (measure : State → ℕ) (most : ℕ) → ((s : State) (e : Event Body) → IsTrue (sound e.target s) → IsTrue (fit e) → measure (m.effect s e).state ≤ measure s + most)
+      (measure : State → ℕ) (most : ℕ) → ((s : State) (e : Event Body) → IsTrue (sound e.target s) → IsTrue (fit e)
+      → measure (m.effect s e).state ≤ measure s + most)
       → (h : List (Event Body)) → IsPossible m h → (n : ℕ) → n < m.nodes → measure (state m h n) ≤ measure (m.initial n) + most * length h
 
   -- A legal history is possible.
@@ -91,7 +153,8 @@ module _ {State Body Piece : Type 0} (m : Machine State Body Piece) where
   -- What a part runs behind a possible history is possible.
   abbrev pub PartRunsArePossible : Type 0
   PartRunsArePossible =
-      (d : Division) (h : List (Event Body)) (horizon p : ℕ) (ran : List (Event Body)) → IsPossible m h → IsPartRun m d h horizon p ran → IsPossible m (ran ++ h)
+      (d : Division) (h : List (Event Body)) (horizon p : ℕ) (ran : List (Event Body)) → IsPossible m h → IsPartRun m d h horizon p ran
+      → IsPossible m (ran ++ h)
 
   -- What one node makes in a window for another is due at the horizon or later. What it makes for itself stays in its part.
   abbrev pub OthersComeLater : Type 0
@@ -103,7 +166,8 @@ module _ {State Body Piece : Type 0} (m : Machine State Body Piece) where
   -- After an event of a part, it waits there no more, and of what it made the events for the part below the horizon do.
   abbrev pub WaitingMoves : Type 0
   WaitingMoves =
-      (d : Division) (h : List (Event Body)) (horizon p : ℕ) (ran : List (Event Body)) (e : Event Body) → IsPossible m h → IsPartRun m d h horizon p (e ∷ ran) → (x : Event Body)
+      (d : Division) (h : List (Event Body)) (horizon p : ℕ) (ran : List (Event Body)) (e : Event Body) → IsPossible m h
+      → IsPartRun m d h horizon p (e ∷ ran) → (x : Event Body)
       → Contains (waiting m d h horizon p (e ∷ ran)) x
       ↔ ((Contains (waiting m d h horizon p ran) x × (x ≢ e))
       ⊎ (Contains (effect_after m (ran ++ h) e).events x × (part_of d x.target ≡ p) × (x.key.time < horizon)))
@@ -162,7 +226,8 @@ module _ {State Body Piece : Type 0} (m : Machine State Body Piece) where
   abbrev pub LimitIsFound : Type 0
   LimitIsFound =
       (d : Division) → Divides d m.nodes → (h : List (Event Body)) (time horizon : ℕ) → MayOpen h time horizon
-      → (ran : ℕ → List (Event Body)) → ((p : ℕ) → p < d.parts → IsPartRun m d h horizon p (ran p)) → m.max_events < length h + events_run ran d.parts → IsOverLimit m
+      → (ran : ℕ → List (Event Body)) → ((p : ℕ) → p < d.parts → IsPartRun m d h horizon p (ran p)) → m.max_events < length h + events_run ran d.parts
+      → IsOverLimit m
 
   -- A window from the next event up to its horizon may open, and no audit lies inside it.
   abbrev pub HorizonsMayOpen : Type 0
@@ -174,7 +239,8 @@ module _ {State Body Piece : Type 0} (m : Machine State Body Piece) where
   WindowsAddPieces =
       (h : List (Event Body)) (time horizon : ℕ) → MayOpen h time horizon → All (λ t. (t ≤ time) ⊎ (horizon ≤ t)) m.audit_times
       → (ran : List (Event Body)) → 0 < length ran → IsLegal m (ran ++ h) → All (λ (x : Event Body). x.key.time < horizon) ran
-      → output m (ran ++ h) ≡ output m h ++ (map (audit_at m h) (filter (λ t. nat_le t time) (open_audits m h)) ++ reverse (map (λ b. b.1) (pieces_since m h ran)))
+      → output m (ran ++ h) ≡ output m h ++ (map (audit_at m h) (filter (λ t. nat_le t time) (open_audits m h))
+      ++ reverse (map (λ b. b.1) (pieces_since m h ran)))
 
   -- Such a window closes the audits up to its first time: those that are later stay open.
   abbrev pub WindowsCloseAudits : Type 0
@@ -205,7 +271,8 @@ module _ {State Body Piece : Type 0} (m : Machine State Body Piece) where
   -- A run by windows that comes to its end is the whole run, whatever the divisions, the number of workers and the schedule.
   abbrev pub SchedulesAgree : Type 0
   SchedulesAgree =
-      (deals : ℕ → Division) → ((number : ℕ) → Divides (deals number) m.nodes) → (workers : ℕ) (picks : List ℕ) (taken : List (ℕ × Step Body)) (h : List (Event Body))
+      (deals : ℕ → Division) → ((number : ℕ) → Divides (deals number) m.nodes)
+      → (workers : ℕ) (picks : List ℕ) (taken : List (ℕ × Step Body)) (h : List (Event Body))
       → Goes m deals workers (begun m 0 []) picks taken h → IsWhole h
 
   -- One list of worker numbers has one run: its steps and its end.

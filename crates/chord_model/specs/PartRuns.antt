@@ -19,7 +19,8 @@ module _ {State Body Piece : Type 0} (m : Machine State Body Piece) where
 
   -- after n events of part p: the states that its nodes are seen in, what waits, what it made for the horizon or later, and the
   -- pieces of its events
-  pub record IsPartAt (d : Division) (h : List (Event Body)) (horizon p n : ℕ) (seen : ℕ → State) (wait mail : List (Event Body)) (pieces : List Piece) : Type 0 where
+  pub record IsPartAt (d : Division) (h : List (Event Body)) (horizon p n : ℕ) (seen : ℕ → State) (wait mail : List (Event Body))
+      (pieces : List Piece) : Type 0 where
     pub runs : IsPartRun m d h horizon p (part_run d h horizon p n)
     pub long : length (part_run d h horizon p n) ≡ n
     pub seen_are : (i : ℕ) → i < m.nodes → part_of d i ≡ p → seen i ≡ state m (part_run d h horizon p n ++ h) i

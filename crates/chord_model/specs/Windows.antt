@@ -1,5 +1,29 @@
 -- Windows: workers draw parts of the nodes and run the events of each part by itself, up to a horizon.
-use Rattle.std.specs.Prelude.{ℕ, zero, suc, ◌≡◌, ◌+◌, ◌<◌, List, [], ◌∷◌, ◌++◌, length, Option, None, Some, if◌then◌else◌, Bool, true, false, ◌==◌, ◌&&◌, nat_lt, slice_index, ⊤}
+use Rattle.std.specs.Prelude.{
+  ℕ,
+  zero,
+  suc,
+  ◌≡◌,
+  ◌+◌,
+  ◌<◌,
+  List,
+  [],
+  ◌∷◌,
+  ◌++◌,
+  length,
+  Option,
+  None,
+  Some,
+  if◌then◌else◌,
+  Bool,
+  true,
+  false,
+  ◌==◌,
+  ◌&&◌,
+  nat_lt,
+  slice_index,
+  ⊤,
+}
 use Rattle.std.specs.List.{filter, All}
 use Rattle.chord_event.specs.Keys.{is_before}
 use Rattle.chord_event.specs.declared.event.Event.{Event}

@@ -1,5 +1,32 @@
 -- The nodes of a ring at the start, in the order in which they are met.
-use Rattle.std.proofs.Common.{◌≡◌, ⊎_elim, ℕ, zero, suc, ◌+◌, ◌<◌, ◌≤◌, Bool, true, false, cond, List, [], ◌∷◌, ◌++◌, map, length, get_or, refl, sym, ap, ◌∙◌, subst, arith, add-one}
+use Rattle.std.proofs.Common.{
+  ◌≡◌,
+  ⊎_elim,
+  ℕ,
+  zero,
+  suc,
+  ◌+◌,
+  ◌<◌,
+  ◌≤◌,
+  Bool,
+  true,
+  false,
+  cond,
+  List,
+  [],
+  ◌∷◌,
+  ◌++◌,
+  map,
+  length,
+  get_or,
+  refl,
+  sym,
+  ap,
+  ◌∙◌,
+  subst,
+  arith,
+  add-one,
+}
 use Rattle.std.specs.Prelude.{◌==◌, not, ◌-◌, ◌^◌, Some, find, nat_le, option_map, unwrap_or, if◌then◌else◌}
 use Rattle.std.proofs.lemmas.List.{map-append}
 use Rattle.std.proofs.Common.{append-nil, length-append}
@@ -28,18 +55,23 @@ range-more a n = rw add-one (go a n)
   where
     go : (a n : ℕ) → range_with_len a (suc n) ≡ range_with_len a n ++ (a + n) ∷ []
     go a zero = let e : a + 0 ≡ a = omega arith in ap (λ (k : ℕ). k ∷ []) (sym e)
-    go a (suc n) = let e : a + 1 + n ≡ a + suc n = omega arith in ap (λ (ks : List ℕ). a ∷ ks) (go (a + 1) n ∙ ap (λ (k : ℕ). range_with_len (a + 1) n ++ k ∷ []) e)
+    go a (suc n) = let e : a + 1 + n ≡ a + suc n = omega arith in ap (λ (ks : List ℕ). a ∷ ks)
+        (go (a + 1) n ∙ ap (λ (k : ℕ). range_with_len (a + 1) n ++ k ∷ []) e)
 
 pub filter-range_more : (p : ℕ → Bool) (n : ℕ) → filter p (range_with_len 0 (n + 1)) ≡ filter p (range_with_len 0 n) ++ cond (p n) (n ∷ []) []
 filter-range_more p n =
     let e : 0 + n ≡ n = omega arith in
     ap (filter p) (range-more 0 n ∙ ap (λ (k : ℕ). range_with_len 0 n ++ k ∷ []) e) ∙ filter-append p (range_with_len 0 n) (n ∷ [])
 
-pub filter-range_taken : (p : ℕ → Bool) (n : ℕ) (done : List ℕ) → p n ≡ true → done ≡ filter p (range_with_len 0 n) → done ++ n ∷ [] ≡ filter p (range_with_len 0 (n + 1))
-filter-range_taken p n done holds h = (λ i. h i ++ n ∷ []) ∙ sym (filter-range_more p n ∙ ap (λ (b : Bool). filter p (range_with_len 0 n) ++ cond b (n ∷ []) []) holds)
+pub filter-range_taken : (p : ℕ → Bool) (n : ℕ) (done : List ℕ) → p n ≡ true → done ≡ filter p (range_with_len 0 n)
+    → done ++ n ∷ [] ≡ filter p (range_with_len 0 (n + 1))
+filter-range_taken p n done holds h = (λ i. h i ++ n ∷ []) ∙ sym (filter-range_more p n
+    ∙ ap (λ (b : Bool). filter p (range_with_len 0 n) ++ cond b (n ∷ []) []) holds)
 
-pub filter-range_passed : (p : ℕ → Bool) (n : ℕ) (done : List ℕ) → p n ≡ false → done ≡ filter p (range_with_len 0 n) → done ≡ filter p (range_with_len 0 (n + 1))
-filter-range_passed p n done fails h = h ∙ sym (filter-range_more p n ∙ ap (λ (b : Bool). filter p (range_with_len 0 n) ++ cond b (n ∷ []) []) fails ∙ append-nil (filter p (range_with_len 0 n)))
+pub filter-range_passed : (p : ℕ → Bool) (n : ℕ) (done : List ℕ) → p n ≡ false → done ≡ filter p (range_with_len 0 n)
+    → done ≡ filter p (range_with_len 0 (n + 1))
+filter-range_passed p n done fails h = h ∙ sym (filter-range_more p n ∙ ap (λ (b : Bool). filter p (range_with_len 0 n) ++ cond b (n ∷ []) []) fails
+    ∙ append-nil (filter p (range_with_len 0 n)))
 
 pub range-contains : (a n x : ℕ) → Contains (range_with_len a n) x → (a ≤ x) × (x < a + n)
 range-contains a zero x c = absurd (contains_none x c)
@@ -72,17 +104,20 @@ other-known sc n x c = initial-known sc x (filter_contains _ (initial_nodes sc) 
 
 pub others-apart : (sc : Scenario) (n : ℕ) → AreApart (λ x. x) (others sc n)
 unfolding others initial_nodes
-others-apart sc n = filter-apart (λ x. x) _ (filter (is_initial sc) (range_with_len 0 (node_count sc))) (filter-apart (λ x. x) (is_initial sc) (range_with_len 0 (node_count sc)) (range-apart 0 (node_count sc)))
+others-apart sc n = filter-apart (λ x. x) _ (filter (is_initial sc) (range_with_len 0 (node_count sc)))
+    (filter-apart (λ x. x) (is_initial sc) (range_with_len 0 (node_count sc)) (range-apart 0 (node_count sc)))
 
 -- different nodes stand at different distances
-ways-apart : (sc : Scenario) (n : ℕ) (xs : List ℕ) → IsInRange sc → n < node_count sc → ((x : ℕ) → Contains xs x → x < node_count sc) → AreApart (λ x. x) xs → AreApart (way sc n) xs
+ways-apart : (sc : Scenario) (n : ℕ) (xs : List ℕ) → IsInRange sc → n < node_count sc → ((x : ℕ) → Contains xs x → x < node_count sc)
+    → AreApart (λ x. x) xs → AreApart (way sc n) xs
 ways-apart sc n [] ranges known all h = tt
 ways-apart sc n (x ∷ xs) ranges known all h = (
   λ y c e.
       let here = all x (contains_here x xs) in
       let there = all y (contains_there y x xs c) in
       h.0 y c (ranges.nodes.apart x y here there
-      (distance-injective sc.bits (ident_of sc n) (ident_of sc x) (ident_of sc y) (ranges.nodes.on_circle n known) (ranges.nodes.on_circle x here) (ranges.nodes.on_circle y there) e)),
+      (distance-injective sc.bits (ident_of sc n) (ident_of sc x) (ident_of sc y) (ranges.nodes.on_circle n known) (ranges.nodes.on_circle x here)
+      (ranges.nodes.on_circle y there) e)),
   ways-apart sc n xs ranges known (λ y c. all y (contains_there y x xs c)) h.1,
 )
 
@@ -115,19 +150,22 @@ ascends measure (x ∷ xs) up apart = (
   λ y c.
       let le : measure x ≤ measure (get_or xs c.0 y) = up 0 (suc c.0) y (omega arith) (omega (arith, c.1)) in
       let e : measure (get_or xs c.0 y) ≡ measure y = ap measure c.2 in
-      let apart : same_measure measure x (get_or xs c.0 y) ≡ false = apart_from_distinct (same_measure measure) (x ∷ xs) 0 (suc c.0) y apart (omega arith) (omega (arith, c.1)) in
+      let apart : same_measure measure x (get_or xs c.0 y) ≡ false = apart_from_distinct (same_measure measure) (x ∷ xs) 0 (suc c.0) y apart
+      (omega arith) (omega (arith, c.1)) in
       grind (arith, nat_tests),
   ascends measure xs (λ i j d l k. up (suc i) (suc j) d (omega (arith, l)) (omega (arith, k))) (IsDistinct-tail (same_measure measure) x xs apart),
 )
 
 -- the other nodes, put in the order of their distances, are met in that order
-pub sorted_others : (sc : Scenario) (n : ℕ) (ys : List ℕ) → IsInRange sc → n < node_count sc → IsPermutation (others sc n) ys → IsNonDecreasingBy (way sc n) ys → ys ≡ clockwise sc n
+pub sorted_others : (sc : Scenario) (n : ℕ) (ys : List ℕ) → IsInRange sc → n < node_count sc → IsPermutation (others sc n) ys
+    → IsNonDecreasingBy (way sc n) ys → ys ≡ clockwise sc n
 unfolding clockwise
 sorted_others sc n ys ranges known moved up =
     let apart = others-ways_apart sc n ranges known in
     let flips : (x y : ℕ) → same_measure (way sc n) x y ≡ same_measure (way sc n) y x = λ x y. eqb-flip (way sc n x) (way sc n y) in
     same_ascending (way sc n) ys (sorted_by (way sc n) (others sc n))
-    (ascends (way sc n) ys up (IsDistinct-IsPermutation (same_measure (way sc n)) flips (others sc n) ys moved (distinct_from_apart (way sc n) (others sc n) apart)))
+    (ascends (way sc n) ys up (IsDistinct-IsPermutation (same_measure (way sc n)) flips (others sc n) ys moved
+    (distinct_from_apart (way sc n) (others sc n) apart)))
     (sorted_by-ascends (way sc n) (others sc n) apart)
     (λ z c. sorted_by-has (way sc n) (others sc n) z (Contains-permutation ys (others sc n) z (IsPermutation-sym (others sc n) ys moved) c))
     (λ z c. Contains-permutation (others sc n) ys z moved (sorted_by-contains (way sc n) (others sc n) z c))
@@ -138,7 +176,8 @@ first_tagged-is sc n least [] = refl
 first_tagged-is sc n least (x ∷ xs) = go (nat_le least (way sc n x)) (first_tagged-is sc n least xs)
   where
     go : (b : Bool) → first_tagged n least (tagged sc n xs) ≡ first_at sc n least xs
-        → unwrap_or (option_map (λ (m : Met). m.node) (cond b (Some (record { way = way sc n x; node = x })) (find (λ (m : Met). nat_le least m.way) (tagged sc n xs)))) n ≡ unwrap_or (cond b (Some x) (find (λ y. nat_le least (way sc n y)) xs)) n
+        → unwrap_or (option_map (λ (m : Met). m.node) (cond b (Some (record { way = way sc n x; node = x }))
+        (find (λ (m : Met). nat_le least m.way) (tagged sc n xs)))) n ≡ unwrap_or (cond b (Some x) (find (λ y. nat_le least (way sc n y)) xs)) n
     go true rest = refl
     go false rest = rest
 
@@ -148,8 +187,10 @@ pub fingers-more : (sc : Scenario) (n i : ℕ) (done : List ℕ) (least : ℕ) (
 fingers-more sc n i done least met first is far so_far =
     let next : i + 1 - 2 ≡ i - 2 + 1 = omega arith in
     let at : 2 + (i - 2) ≡ i = omega arith in
-    let here : first_tagged n least met ≡ finger sc n i = ap (first_tagged n least) is ∙ first_tagged-is sc n least (clockwise sc n) ∙ ap (λ (k : ℕ). first_at sc n k (clockwise sc n)) far in
-    let range : range_with_len 2 (i + 1 - 2) ≡ range_with_len 2 (i - 2) ++ i ∷ [] = ap (range_with_len 2) next ∙ range-more 2 (i - 2) ∙ ap (λ (k : ℕ). range_with_len 2 (i - 2) ++ k ∷ []) at in
+    let here : first_tagged n least met ≡ finger sc n i = ap (first_tagged n least) is ∙ first_tagged-is sc n least (clockwise sc n)
+    ∙ ap (λ (k : ℕ). first_at sc n k (clockwise sc n)) far in
+    let range : range_with_len 2 (i + 1 - 2) ≡ range_with_len 2 (i - 2) ++ i ∷ [] = ap (range_with_len 2) next ∙ range-more 2 (i - 2)
+    ∙ ap (λ (k : ℕ). range_with_len 2 (i - 2) ++ k ∷ []) at in
     (λ j. so_far j ++ here j ∷ []) ∙ sym (ap (map (finger sc n)) range ∙ map-append (finger sc n) (range_with_len 2 (i - 2)) (i ∷ []))
 
 rec_at : {A : Type 0} (P : A → Type 0) (xs : List A) (x : A) → AllByRecursion P xs → Contains xs x → P x
@@ -177,7 +218,8 @@ all_tagged : (sc : Scenario) (n : ℕ) (xs : List ℕ) → AllByRecursion (λ (m
 all_tagged sc n [] = tt
 all_tagged sc n (x ∷ xs) = (refl, all_tagged sc n xs)
 
-ways_of : (sc : Scenario) (n : ℕ) (met : List Met) → AllByRecursion (λ m. m.way ≡ way sc n m.node) met → IsNonDecreasingBy (λ m. m.way) met → IsNonDecreasingBy (way sc n) (map (λ (m : Met). m.node) met)
+ways_of : (sc : Scenario) (n : ℕ) (met : List Met) → AllByRecursion (λ m. m.way ≡ way sc n m.node) met → IsNonDecreasingBy (λ m. m.way) met
+    → IsNonDecreasingBy (way sc n) (map (λ (m : Met). m.node) met)
 ways_of sc n met own up = λ i j d l k.
     let long : length (map (λ (m : Met). m.node) met) ≡ length met = map_long met in
     let e : Met = record { way = way sc n d; node = d } in
@@ -185,26 +227,33 @@ ways_of sc n met own up = λ i j d l k.
     let le : (get_or met i e).way ≤ (get_or met j e).way = up i j e l (omega (arith, k, long)) in
     omega (arith, le, at i, at j)
   where
-    ways_at : (met : List Met) → AllByRecursion (λ m. m.way ≡ way sc n m.node) met → (d : ℕ) (i : ℕ) → way sc n (get_or (map (λ (m : Met). m.node) met) i d) ≡ (get_or met i (record { way = way sc n d; node = d })).way
+    ways_at : (met : List Met) → AllByRecursion (λ m. m.way ≡ way sc n m.node) met → (d : ℕ) (i : ℕ)
+        → way sc n (get_or (map (λ (m : Met). m.node) met) i d) ≡ (get_or met i (record { way = way sc n d; node = d })).way
     ways_at [] own d i = refl
     ways_at (m ∷ met) own d zero = sym own.0
     ways_at (m ∷ met) own d (suc i) = ways_at met own.1 d i
 
-pub sorted_tagged : (sc : Scenario) (n : ℕ) (met : List Met) → IsInRange sc → n < node_count sc → IsPermutation (tagged sc n (others sc n)) met → IsNonDecreasingBy (λ m. m.way) met → met ≡ tagged sc n (clockwise sc n)
+pub sorted_tagged : (sc : Scenario) (n : ℕ) (met : List Met) → IsInRange sc → n < node_count sc → IsPermutation (tagged sc n (others sc n)) met
+    → IsNonDecreasingBy (λ m. m.way) met → met ≡ tagged sc n (clockwise sc n)
 sorted_tagged sc n met ranges known moved up =
     let Own : Met → Type 0 = λ m. m.way ≡ way sc n m.node in
     let from : List Met = tagged sc n (others sc n) in
-    let own : AllByRecursion Own met = rec_from Own met (λ m c. rec_at Own from m (all_tagged sc n (others sc n)) (Contains-permutation met from m (IsPermutation-sym from met moved) c)) in
-    let nodes : IsPermutation (others sc n) (map (λ (m : Met). m.node) met) = subst (λ xs. IsPermutation xs (map (λ (m : Met). m.node) met)) (tagged-nodes sc n (others sc n)) (IsPermutation-map (λ (m : Met). m.node) (tagged sc n (others sc n)) met moved) in
+    let own : AllByRecursion Own met = rec_from Own met (λ m c. rec_at Own from m (all_tagged sc n (others sc n))
+    (Contains-permutation met from m (IsPermutation-sym from met moved) c)) in
+    let nodes : IsPermutation (others sc n) (map (λ (m : Met). m.node) met) = subst (λ xs. IsPermutation xs (map (λ (m : Met). m.node) met))
+    (tagged-nodes sc n (others sc n)) (IsPermutation-map (λ (m : Met). m.node) (tagged sc n (others sc n)) met moved) in
     retagged sc n met own ∙ ap (tagged sc n) (sorted_others sc n (map (λ (m : Met). m.node) met) ranges known nodes (ways_of sc n met own up))
 
 -- one state more
-pub states-more : {A : Type 0} (f : ℕ → A) (n : ℕ) (done : List A) (x : A) → x ≡ f n → done ≡ map f (range_with_len 0 n) → done ++ x ∷ [] ≡ map f (range_with_len 0 (n + 1))
+pub states-more : {A : Type 0} (f : ℕ → A) (n : ℕ) (done : List A) (x : A) → x ≡ f n → done ≡ map f (range_with_len 0 n)
+    → done ++ x ∷ [] ≡ map f (range_with_len 0 (n + 1))
 states-more f n done x here so_far =
     let at : 0 + n ≡ n = omega arith in
-    (λ i. so_far i ++ here i ∷ []) ∙ sym (ap (map f) (range-more 0 n ∙ ap (λ (k : ℕ). range_with_len 0 n ++ k ∷ []) at) ∙ map-append f (range_with_len 0 n) (n ∷ []))
+    (λ i. so_far i ++ here i ∷ []) ∙ sym (ap (map f) (range-more 0 n ∙ ap (λ (k : ℕ). range_with_len 0 n ++ k ∷ []) at)
+    ∙ map-append f (range_with_len 0 n) (n ∷ []))
 
-pub timers-long : (sc : Scenario) (n : ℕ) → length (timers sc n) ≡ 2 + length (traffic_timers sc.lookups) + length (if is_churn_node sc n then life_timers sc.churn else [])
+pub timers-long : (sc : Scenario) (n : ℕ) → length (timers sc n) ≡ 2 + length (traffic_timers sc.lookups) + length
+    (if is_churn_node sc n then life_timers sc.churn else [])
 unfolding timers
 timers-long sc n =
     let all = length-append (traffic_timers sc.lookups) (if is_churn_node sc n then life_timers sc.churn else []) in

@@ -1,5 +1,30 @@
 -- Lists in the order of a measure.
-use Rattle.std.proofs.Common.{◌≡◌, ◌⊎◌, ⊎_elim, inl, inr, ℕ, ◌<◌, ◌≤◌, Bool, true, false, cond, List, [], ◌∷◌, length, refl, sym, ap, ◌∙◌, subst, arith, nat_lt, ◌↔◌}
+use Rattle.std.proofs.Common.{
+  ◌≡◌,
+  ◌⊎◌,
+  ⊎_elim,
+  inl,
+  inr,
+  ℕ,
+  ◌<◌,
+  ◌≤◌,
+  Bool,
+  true,
+  false,
+  cond,
+  List,
+  [],
+  ◌∷◌,
+  length,
+  refl,
+  sym,
+  ap,
+  ◌∙◌,
+  subst,
+  arith,
+  nat_lt,
+  ◌↔◌,
+}
 use Rattle.std.specs.List.{Contains, AllPairs}
 use Rattle.std.specs.List.Sorted.{IsNonDecreasingBy}
 use Rattle.std.proofs.lemmas.Bool.Decides.{nat_tests}
@@ -16,7 +41,8 @@ pub put_by-contains : (measure : ℕ → ℕ) (x : ℕ) (ys : List ℕ) (z : ℕ
 put_by-contains measure x [] z c = contains_cons z x [] c
 put_by-contains measure x (y ∷ ys) z c = go (nat_lt (measure x) (measure y)) c (put_by-contains measure x ys z)
   where
-    go : (b : Bool) → Contains (cond b (x ∷ (y ∷ ys)) (y ∷ put_by measure x ys)) z → (Contains (put_by measure x ys) z → (x ≡ z) ⊎ Contains ys z) → (x ≡ z) ⊎ Contains (y ∷ ys) z
+    go : (b : Bool) → Contains (cond b (x ∷ (y ∷ ys)) (y ∷ put_by measure x ys)) z → (Contains (put_by measure x ys) z → (x ≡ z) ⊎ Contains ys z)
+        → (x ≡ z) ⊎ Contains (y ∷ ys) z
     go true h rest = contains_cons z x (y ∷ ys) h
     go false h rest =
         ⊎_elim (λ e. inr (subst (λ w. Contains (y ∷ ys) w) e (contains_here y ys)))
@@ -35,7 +61,8 @@ pub put_by-keeps : (measure : ℕ → ℕ) (x : ℕ) (ys : List ℕ) (z : ℕ) �
 put_by-keeps measure x [] z c = absurd (contains_none z c)
 put_by-keeps measure x (y ∷ ys) z c = go (nat_lt (measure x) (measure y)) (contains_cons z y ys c) (put_by-keeps measure x ys z)
   where
-    go : (b : Bool) → (y ≡ z) ⊎ Contains ys z → (Contains ys z → Contains (put_by measure x ys) z) → Contains (cond b (x ∷ (y ∷ ys)) (y ∷ put_by measure x ys)) z
+    go : (b : Bool) → (y ≡ z) ⊎ Contains ys z → (Contains ys z → Contains (put_by measure x ys) z)
+        → Contains (cond b (x ∷ (y ∷ ys)) (y ∷ put_by measure x ys)) z
     go true h rest = contains_there z x (y ∷ ys) c
     go false (inl e) rest = subst (λ w. Contains (y ∷ put_by measure x ys) w) e (contains_here y (put_by measure x ys))
     go false (inr r) rest = contains_there z y (put_by measure x ys) (rest r)
@@ -55,7 +82,8 @@ sorted_by-has measure (x ∷ xs) z c =
     (contains_cons z x xs c)
 
 -- an element that differs from all others by its measure keeps a list ascending
-pub put_by-ascends : (measure : ℕ → ℕ) (x : ℕ) (ys : List ℕ) → ((y : ℕ) → Contains ys y → measure x ≡ measure y → ⊥) → IsAscending measure ys → IsAscending measure (put_by measure x ys)
+pub put_by-ascends : (measure : ℕ → ℕ) (x : ℕ) (ys : List ℕ) → ((y : ℕ) → Contains ys y → measure x ≡ measure y → ⊥) → IsAscending measure ys
+    → IsAscending measure (put_by measure x ys)
 put_by-ascends measure x [] new up = (λ y c. absurd (contains_none y c), tt)
 put_by-ascends measure x (y ∷ ys) new up =
     go (nat_lt (measure x) (measure y)) refl (put_by-ascends measure x ys (λ z c. new z (contains_there z y ys c)) up.1)
@@ -72,7 +100,8 @@ put_by-ascends measure x (y ∷ ys) new up =
         let first : measure y < measure x = omega (arith, apart, least) in
         ⊎_elim (λ e. subst (λ w. measure y < measure w) e first) (λ r. up.0 z r) (put_by-contains measure x ys z c)
 
-    go : (b : Bool) → nat_lt (measure x) (measure y) ≡ b → IsAscending measure (put_by measure x ys) → IsAscending measure (cond b (x ∷ (y ∷ ys)) (y ∷ put_by measure x ys))
+    go : (b : Bool) → nat_lt (measure x) (measure y) ≡ b → IsAscending measure (put_by measure x ys)
+        → IsAscending measure (cond b (x ∷ (y ∷ ys)) (y ∷ put_by measure x ys))
     go true h rest = (before h, up)
     go false h rest = (after h, rest)
 
@@ -87,7 +116,8 @@ sorted_by-ascends measure (x ∷ xs) apart =
     put_by-ascends measure x (sorted_by measure xs) (λ y c. apart.0 y (sorted_by-contains measure xs y c)) (sorted_by-ascends measure xs apart.1)
 
 -- two ascending lists of the same elements are one
-pub same_ascending : (measure : ℕ → ℕ) (xs ys : List ℕ) → IsAscending measure xs → IsAscending measure ys → ((z : ℕ) → Contains xs z → Contains ys z) → ((z : ℕ) → Contains ys z → Contains xs z) → xs ≡ ys
+pub same_ascending : (measure : ℕ → ℕ) (xs ys : List ℕ) → IsAscending measure xs → IsAscending measure ys → ((z : ℕ) → Contains xs z → Contains ys z)
+    → ((z : ℕ) → Contains ys z → Contains xs z) → xs ≡ ys
 same_ascending measure [] [] p q h k = refl
 same_ascending measure [] (y ∷ ys) p q h k = absurd (contains_none y (k y (contains_here y ys)))
 same_ascending measure (x ∷ xs) [] p q h k = absurd (contains_none x (h x (contains_here x xs)))

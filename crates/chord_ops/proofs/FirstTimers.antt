@@ -61,7 +61,8 @@ armed_with sc s (Some gap) true None = refl
 armed_with sc s (Some gap) true (Some times) = refl
 
 armed_at : (sc : Scenario) (s : NodeState) (lookups : Option Span) (churn : Option Churn)
-    → timers_set sc s.me lookups (is_churn_node sc s.me) churn ≡ (life_with sc (is_churn_node sc (traffic_with sc lookups (two_armed sc s)).state.me) churn (traffic_with sc lookups (two_armed sc s))).events
+    → timers_set sc s.me lookups (is_churn_node sc s.me) churn ≡ (life_with sc (is_churn_node sc (traffic_with sc lookups (two_armed sc s)).state.me)
+    churn (traffic_with sc lookups (two_armed sc s))).events
 unfolding stabilize_armed finger_armed timer_made
 armed_at sc s None churn = armed_with sc s None (is_churn_node sc s.me) churn
 armed_at sc s (Some gap) churn = armed_with sc s (Some gap) (is_churn_node sc s.me) churn

@@ -50,11 +50,13 @@ pub noted_if : (sc : Scenario) (n : ℕ) (b : Bool) (x y : Turn) → HasNoted sc
 noted_if sc n true x y g h = g
 noted_if sc n false x y g h = h
 
-pub noted_when_some : {A : Type 0} (sc : Scenario) (n : ℕ) (P : A → Type 0) (o : Option A) (step : A → Turn → Turn) (turn : Turn) → IfSome o P → HasNoted sc n turn → ((a : A) → P a → HasNoted sc n (step a turn)) → HasNoted sc n (when_some o step turn)
+pub noted_when_some : {A : Type 0} (sc : Scenario) (n : ℕ) (P : A → Type 0) (o : Option A) (step : A → Turn → Turn) (turn : Turn) → IfSome o P
+    → HasNoted sc n turn → ((a : A) → P a → HasNoted sc n (step a turn)) → HasNoted sc n (when_some o step turn)
 noted_when_some sc n P None step turn known h noted = h
 noted_when_some sc n P (Some a) step turn known h noted = noted a known
 
-pub knows_when_some : {A : Type 0} (sc : Scenario) (o : Option A) (step : A → Turn → Turn) (turn : Turn) → KnowsNodes sc turn.state → ((a : A) → KnowsNodes sc (step a turn).state) → KnowsNodes sc (when_some o step turn).state
+pub knows_when_some : {A : Type 0} (sc : Scenario) (o : Option A) (step : A → Turn → Turn) (turn : Turn) → KnowsNodes sc turn.state
+    → ((a : A) → KnowsNodes sc (step a turn).state) → KnowsNodes sc (when_some o step turn).state
 knows_when_some sc None step turn h knows = h
 knows_when_some sc (Some a) step turn h knows = knows a
 
@@ -67,7 +69,8 @@ no_node sc = none_of (λ (node : ℕ). node < node_count sc)
 pub one_node : (sc : Scenario) (node : ℕ) → node < node_count sc → AllNodes sc (node ∷ [])
 one_node sc node at = All-cons (λ (x : ℕ). x < node_count sc) node [] at (no_node sc)
 
-pub notes_lines : (sc : Scenario) (n k : ℕ) (lines more : List Line) (lookups : List Lookup) → All (IsLineOf sc) more → length more ≤ k → AreNotes sc n lines lookups → AreNotes sc (n + k) (lines ++ more) lookups
+pub notes_lines : (sc : Scenario) (n k : ℕ) (lines more : List Line) (lookups : List Lookup) → All (IsLineOf sc) more → length more ≤ k
+    → AreNotes sc n lines lookups → AreNotes sc (n + k) (lines ++ more) lookups
 notes_lines sc n k lines more lookups all le h =
     record {
       named = All-append (IsLineOf sc) lines more h.named all;
@@ -81,7 +84,8 @@ noted_line sc n text turn is h =
 
 -- the lines of lookups that are given up name no node
 
-lost_with : (sc : Scenario) (wanted : Aim) (time : ℕ) (lookup : Lookup) (rest : List Line) → All (IsLineOf sc) rest → All (IsLineOf sc) (cons_option (lost_for wanted time lookup) rest)
+lost_with : (sc : Scenario) (wanted : Aim) (time : ℕ) (lookup : Lookup) (rest : List Line) → All (IsLineOf sc) rest
+    → All (IsLineOf sc) (cons_option (lost_for wanted time lookup) rest)
 lost_with sc aim.User time lookup rest all = All-cons (IsLineOf sc) _ rest (no_node sc) all
 lost_with sc (aim.Finger index) time lookup rest all = all
 
@@ -107,14 +111,16 @@ lost_alone_few aim.User time lookup = omega arith
 lost_alone_few (aim.Finger index) time lookup = omega arith
 
 -- the line of a lookup that is given up
-pub notes_lost : (sc : Scenario) (n time : ℕ) (lookup : Lookup) (lines : List Line) (lookups : List Lookup) → AreNotes sc n lines lookups → AreNotes sc (n + 1) (lines ++ option_to_list (lost_line time lookup)) lookups
+pub notes_lost : (sc : Scenario) (n time : ℕ) (lookup : Lookup) (lines : List Line) (lookups : List Lookup) → AreNotes sc n lines lookups
+    → AreNotes sc (n + 1) (lines ++ option_to_list (lost_line time lookup)) lookups
 notes_lost sc n time lookup lines lookups h =
     notes_lines sc n 1 lines (option_to_list (lost_line time lookup)) lookups (lost_alone sc lookup.aim time lookup)
     (lost_alone_few lookup.aim time lookup) h
 
 -- Lookups
 
-pub notes_inserted : (sc : Scenario) (n : ℕ) (lines : List Line) (lookups : List Lookup) (place : ℕ) (lookup : Lookup) → AreNotes sc n lines lookups → AreNotes sc (n + 1) lines (insert lookups place lookup)
+pub notes_inserted : (sc : Scenario) (n : ℕ) (lines : List Line) (lookups : List Lookup) (place : ℕ) (lookup : Lookup) → AreNotes sc n lines lookups
+    → AreNotes sc (n + 1) lines (insert lookups place lookup)
 notes_inserted sc n lines lookups place lookup h =
     record {
       named = h.named;
@@ -128,7 +134,8 @@ notes_inserted sc n lines lookups place lookup h =
           );
     }
 
-pub notes_removed : (sc : Scenario) (n : ℕ) (lines : List Line) (lookups : List Lookup) (place : ℕ) → AreNotes sc n lines lookups → AreNotes sc n lines (remove lookups place)
+pub notes_removed : (sc : Scenario) (n : ℕ) (lines : List Line) (lookups : List Lookup) (place : ℕ) → AreNotes sc n lines lookups
+    → AreNotes sc n lines (remove lookups place)
 notes_removed sc n lines lookups place h =
     record {
       named = h.named;

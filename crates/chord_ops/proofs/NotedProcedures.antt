@@ -16,12 +16,54 @@ use Rattle.chord_scenario.specs.Blocks.{IsLineOf}
 use Rattle.chord_node.specs.Limits.{most_failures, most_steps, most_user_lookups}
 use Rattle.chord_scenario.specs.World.{is_churn_node, node_count}
 use Rattle.chord_ops.specs.declared.turn.Turn.{Turn}
-use Rattle.chord_ops.specs.Procedures.{armed, asked, begun, gone_down, failed, finger_armed, finished, finished_for, followed, for_attempt, fresh_lookup, join_failed, join_retried, life_armed, lost_line, rise_armed, stabilize_armed, stranded, traffic_armed, came_up, user_lookup, walked, with_lookup, without_attempt, without_lookup}
+use Rattle.chord_ops.specs.Procedures.{
+  armed,
+  asked,
+  begun,
+  gone_down,
+  failed,
+  finger_armed,
+  finished,
+  finished_for,
+  followed,
+  for_attempt,
+  fresh_lookup,
+  join_failed,
+  join_retried,
+  life_armed,
+  lost_line,
+  rise_armed,
+  stabilize_armed,
+  stranded,
+  traffic_armed,
+  came_up,
+  user_lookup,
+  walked,
+  with_lookup,
+  without_attempt,
+  without_lookup,
+}
 use Rattle.chord_ops.specs.Search.{NamesNode, step_answer}
 use Rattle.chord_ops.specs.Turns.{called, noted, timer_made}
 use Rattle.chord_ops.proofs.Growing.{known}
 use Rattle.chord_ops.proofs.KeptTurns.{step_answer_names}
-use Rattle.chord_ops.proofs.Noted.{HasNoted, KnowsNodes, all_lost, few_lost, knows_when_some, no_node, noted_if, noted_line, noted_when_some, notes_cleared, notes_inserted, notes_lost, notes_removed, one_node, one_more}
+use Rattle.chord_ops.proofs.Noted.{
+  HasNoted,
+  KnowsNodes,
+  all_lost,
+  few_lost,
+  knows_when_some,
+  no_node,
+  noted_if,
+  noted_line,
+  noted_when_some,
+  notes_cleared,
+  notes_inserted,
+  notes_lost,
+  notes_removed,
+  one_node,
+  one_more,
+}
 
 -- Timers
 
@@ -58,38 +100,45 @@ pub noted_failed : (sc : Scenario) (n : ℕ) (lookup : Lookup) (turn : Turn) →
 unfolding failed
 noted_failed sc n lookup turn h = notes_lost sc n turn.time lookup turn.lines turn.state.lookups h
 
-noted_finished_for : (sc : Scenario) (n : ℕ) (wanted : Aim) (lookup : Lookup) (owner : ℕ) (turn : Turn) → owner < node_count sc → HasNoted sc n turn → HasNoted sc (n + 1) (finished_for wanted lookup owner turn)
+noted_finished_for : (sc : Scenario) (n : ℕ) (wanted : Aim) (lookup : Lookup) (owner : ℕ) (turn : Turn) → owner < node_count sc → HasNoted sc n turn
+    → HasNoted sc (n + 1) (finished_for wanted lookup owner turn)
 noted_finished_for sc n aim.User lookup owner turn at h = noted_line sc n _ turn (one_node sc owner at) h
 noted_finished_for sc n (aim.Finger index) lookup owner turn at h = one_more sc n h
 
-noted_finished : (sc : Scenario) (n : ℕ) (lookup : Lookup) (owner : ℕ) (turn : Turn) → owner < node_count sc → HasNoted sc n turn → HasNoted sc (n + 1) (finished lookup owner turn)
+noted_finished : (sc : Scenario) (n : ℕ) (lookup : Lookup) (owner : ℕ) (turn : Turn) → owner < node_count sc → HasNoted sc n turn
+    → HasNoted sc (n + 1) (finished lookup owner turn)
 unfolding finished
 noted_finished sc n lookup owner turn at h = noted_finished_for sc n lookup.aim lookup owner turn at h
 
-noted_asked : (sc : Scenario) (n place : ℕ) (lookup : Lookup) (next : ℕ) (turn : Turn) → HasNoted sc n turn → HasNoted sc (n + 1) (asked sc place lookup next turn)
+noted_asked : (sc : Scenario) (n place : ℕ) (lookup : Lookup) (next : ℕ) (turn : Turn) → HasNoted sc n turn
+    → HasNoted sc (n + 1) (asked sc place lookup next turn)
 unfolding asked called
 noted_asked sc n place lookup next turn h =
     noted_if sc (n + 1) (nat_lt lookup.steps most_steps) _ (failed lookup turn)
     (notes_inserted sc n turn.lines turn.state.lookups place _ h) (noted_failed sc n lookup turn h)
 
-pub noted_followed : (sc : Scenario) (n place : ℕ) (lookup : Lookup) (a : Answer) (turn : Turn) → NamesNode sc a → HasNoted sc n turn → HasNoted sc (n + 1) (followed sc place lookup a turn)
+pub noted_followed : (sc : Scenario) (n place : ℕ) (lookup : Lookup) (a : Answer) (turn : Turn) → NamesNode sc a → HasNoted sc n turn
+    → HasNoted sc (n + 1) (followed sc place lookup a turn)
 unfolding followed
 noted_followed sc n place lookup (answer.Owner owner) turn at h = noted_finished sc n lookup owner turn at h
 noted_followed sc n place lookup (answer.Next next) turn at h = noted_asked sc n place lookup next turn h
 noted_followed sc n place lookup answer.Stuck turn at h = noted_failed sc n lookup turn h
 
-pub noted_walked : (sc : Scenario) (n place : ℕ) (lookup : Lookup) (turn : Turn) → KnowsNodes sc turn.state → HasNoted sc n turn → HasNoted sc (n + 1) (walked sc place lookup turn)
+pub noted_walked : (sc : Scenario) (n place : ℕ) (lookup : Lookup) (turn : Turn) → KnowsNodes sc turn.state → HasNoted sc n turn
+    → HasNoted sc (n + 1) (walked sc place lookup turn)
 unfolding walked
 noted_walked sc n place lookup turn knows h =
     noted_followed sc n place lookup (step_answer sc turn.state lookup.key lookup.avoid) turn
     (step_answer_names sc turn.state lookup.key lookup.avoid knows.own knows.succ_known knows.fingers_known) h
 
-pub noted_begun : (sc : Scenario) (n key : ℕ) (wanted : Aim) (turn : Turn) → KnowsNodes sc turn.state → HasNoted sc n turn → HasNoted sc (n + 1) (begun sc key wanted turn)
+pub noted_begun : (sc : Scenario) (n key : ℕ) (wanted : Aim) (turn : Turn) → KnowsNodes sc turn.state → HasNoted sc n turn
+    → HasNoted sc (n + 1) (begun sc key wanted turn)
 unfolding begun
 noted_begun sc n key wanted turn knows h =
     noted_walked sc n (length turn.state.lookups) (fresh_lookup key wanted turn.time) turn knows h
 
-pub noted_user_lookup : (sc : Scenario) (n key : ℕ) (turn : Turn) → KnowsNodes sc turn.state → HasNoted sc n turn → HasNoted sc (n + 1 + 1) (user_lookup sc key turn)
+pub noted_user_lookup : (sc : Scenario) (n key : ℕ) (turn : Turn) → KnowsNodes sc turn.state → HasNoted sc n turn
+    → HasNoted sc (n + 1 + 1) (user_lookup sc key turn)
 unfolding user_lookup
 noted_user_lookup sc n key turn knows h =
     noted_if sc (n + 1 + 1) (nat_lt (count_by is_user turn.state.lookups) most_user_lookups) _ _
@@ -98,7 +147,9 @@ noted_user_lookup sc n key turn knows h =
     (one_more sc (n + 1) (noted_line sc n (line.Busy key) turn (no_node sc) h))
 
 -- the step with the lookup of a call, which was taken out
-pub noted_with_lookup : (sc : Scenario) (n number : ℕ) (step : ℕ → Lookup → Turn → Turn) (turn : Turn) → ((place : ℕ) (lookup : Lookup) → HasNoted sc n (without_lookup place turn) → HasNoted sc (n + 1) (step place lookup (without_lookup place turn))) → HasNoted sc n turn → HasNoted sc (n + 1) (with_lookup number step turn)
+pub noted_with_lookup : (sc : Scenario) (n number : ℕ) (step : ℕ → Lookup → Turn → Turn) (turn : Turn)
+    → ((place : ℕ) (lookup : Lookup) → HasNoted sc n (without_lookup place turn)
+    → HasNoted sc (n + 1) (step place lookup (without_lookup place turn))) → HasNoted sc n turn → HasNoted sc (n + 1) (with_lookup number step turn)
 unfolding with_lookup
 noted_with_lookup sc n number step turn noted h =
     let still : HasNoted sc (n + 1) turn = one_more sc n h in
@@ -131,7 +182,8 @@ noted_join_failed sc n attempt turn h =
     (noted_gone_down sc (n + 1) (noted line.JoinFailed turn) (noted_line sc n line.JoinFailed turn (no_node sc) h)))
 
 -- the step with the attempt to join, which was taken out
-pub noted_for_attempt : (sc : Scenario) (n : ℕ) (step : Attempt → Turn → Turn) (turn : Turn) → ((attempt : Attempt) → HasNoted sc (n + 1) (step attempt (without_attempt turn))) → HasNoted sc n turn → HasNoted sc (n + 1) (for_attempt step turn)
+pub noted_for_attempt : (sc : Scenario) (n : ℕ) (step : Attempt → Turn → Turn) (turn : Turn)
+    → ((attempt : Attempt) → HasNoted sc (n + 1) (step attempt (without_attempt turn))) → HasNoted sc n turn → HasNoted sc (n + 1) (for_attempt step turn)
 unfolding for_attempt
 noted_for_attempt sc n step turn noted h =
     noted_when_some sc (n + 1) (λ _. Unit {0}) turn.state.join _ turn (known turn.state.join)

@@ -27,8 +27,82 @@ use Rattle.chord_node.specs.Limits.{most_steps, most_timeouts}
 use Rattle.chord_scenario.specs.World.{ident_of, is_churn_node, node_count}
 use Rattle.chord_ops.specs.Asked.{IsBody}
 use Rattle.chord_ops.specs.declared.turn.Turn.{Turn}
-use Rattle.chord_ops.specs.Procedures.{call_of, gone_down, finger_armed, stabilize_armed, stranded, traffic_armed, came_up, without_attempt, without_call, without_lookup}
-use Rattle.chord_ops.specs.Rules.{acted, answered_call, answered_for, avoiding, block_of, cmd_crash, cmd_join, cmd_lookup, effect, finger_after, finger_tick, finger_turned, has_finger_lookup, has_ping_call, has_repair_call, head, head_asked, head_notified, holds, is_down, is_joining, is_member, is_void, join_answered, join_asked, join_followed, join_list_answered, join_list_taken, join_timed_out, joined, key_words, life_end, list_answered, list_answered_for, list_asked, list_replied, lookup_answered, lookup_timed_out, notified, predecessor_weighed, once_more, opening, past, ping_timed_out, pinged, ponged, random_key, random_lookup, replied, rise, stabilize_tick, state_answered, state_asked, state_replied, state_timed_out, step_asked, step_replied, timed_out, timeout, traffic_tick, successors_taken, without_head}
+use Rattle.chord_ops.specs.Procedures.{
+  call_of,
+  gone_down,
+  finger_armed,
+  stabilize_armed,
+  stranded,
+  traffic_armed,
+  came_up,
+  without_attempt,
+  without_call,
+  without_lookup,
+}
+use Rattle.chord_ops.specs.Rules.{
+  acted,
+  answered_call,
+  answered_for,
+  avoiding,
+  block_of,
+  cmd_crash,
+  cmd_join,
+  cmd_lookup,
+  effect,
+  finger_after,
+  finger_tick,
+  finger_turned,
+  has_finger_lookup,
+  has_ping_call,
+  has_repair_call,
+  head,
+  head_asked,
+  head_notified,
+  holds,
+  is_down,
+  is_joining,
+  is_member,
+  is_void,
+  join_answered,
+  join_asked,
+  join_followed,
+  join_list_answered,
+  join_list_taken,
+  join_timed_out,
+  joined,
+  key_words,
+  life_end,
+  list_answered,
+  list_answered_for,
+  list_asked,
+  list_replied,
+  lookup_answered,
+  lookup_timed_out,
+  notified,
+  predecessor_weighed,
+  once_more,
+  opening,
+  past,
+  ping_timed_out,
+  pinged,
+  ponged,
+  random_key,
+  random_lookup,
+  replied,
+  rise,
+  stabilize_tick,
+  state_answered,
+  state_asked,
+  state_replied,
+  state_timed_out,
+  step_asked,
+  step_replied,
+  timed_out,
+  timeout,
+  traffic_tick,
+  successors_taken,
+  without_head,
+}
 use Rattle.chord_ops.specs.Search.{NamesNode}
 use Rattle.chord_ops.specs.Sound.{IsSoundEvent}
 use Rattle.chord_ops.specs.Turns.{called, noted, timer_made}
@@ -37,7 +111,22 @@ use Rattle.chord_ops.proofs.Found.{IfSome-find}
 use Rattle.chord_ops.proofs.Growing.{known}
 use Rattle.chord_ops.proofs.KeptRules.{none_of}
 use Rattle.chord_ops.proofs.Noted.{HasNoted, KnowsNodes, no_node, noted_if, noted_line, noted_when_some, one_node, one_more, two_more}
-use Rattle.chord_ops.proofs.NotedProcedures.{knows_traffic_armed, noted_begun, noted_gone_down, noted_failed, noted_followed, noted_for_attempt, noted_join_failed, noted_rise_armed, noted_stranded, noted_traffic_armed, noted_came_up, noted_user_lookup, noted_walked, noted_with_lookup}
+use Rattle.chord_ops.proofs.NotedProcedures.{
+  knows_traffic_armed,
+  noted_begun,
+  noted_gone_down,
+  noted_failed,
+  noted_followed,
+  noted_for_attempt,
+  noted_join_failed,
+  noted_rise_armed,
+  noted_stranded,
+  noted_traffic_armed,
+  noted_came_up,
+  noted_user_lookup,
+  noted_walked,
+  noted_with_lookup,
+}
 
 -- Commands
 
@@ -65,7 +154,8 @@ noted_cmd_lookup sc n key turn knows h =
 
 -- Timers
 
-noted_rise : (sc : Scenario) (n epoch : ℕ) (turn : Turn) → IfSome turn.state.via (λ via. via < node_count sc) → HasNoted sc n turn → HasNoted sc (n + 1) (rise sc epoch turn)
+noted_rise : (sc : Scenario) (n epoch : ℕ) (turn : Turn) → IfSome turn.state.via (λ via. via < node_count sc) → HasNoted sc n turn
+    → HasNoted sc (n + 1) (rise sc epoch turn)
 unfolding rise
 noted_rise sc n epoch turn at h =
     let still : HasNoted sc (n + 1) turn = one_more sc n h in
@@ -80,13 +170,15 @@ noted_stabilize_tick sc n epoch turn h =
     (noted_if sc n (is_joining turn.state || has_repair_call turn.state) _ _ h
     (noted_when_some sc n (λ _. Unit {0}) (head turn.state) _ (stabilize_armed sc turn) (known (head turn.state)) h (λ first _. h)))
 
-noted_finger_turned : (sc : Scenario) (n index : ℕ) (turn : Turn) → KnowsNodes sc turn.state → HasNoted sc n turn → HasNoted sc (n + 1) (finger_turned sc index turn)
+noted_finger_turned : (sc : Scenario) (n index : ℕ) (turn : Turn) → KnowsNodes sc turn.state → HasNoted sc n turn
+    → HasNoted sc (n + 1) (finger_turned sc index turn)
 unfolding finger_turned
 noted_finger_turned sc n index turn knows h =
     noted_begun sc n (finger_start sc.bits (ident_of sc turn.state.me) index) (aim.Finger index)
     (record turn { state = record turn.state { next_finger = finger_after sc.bits index } }) knows h
 
-noted_finger_tick : (sc : Scenario) (n epoch : ℕ) (turn : Turn) → KnowsNodes sc turn.state → HasNoted sc n turn → HasNoted sc (n + 1) (finger_tick sc epoch turn)
+noted_finger_tick : (sc : Scenario) (n epoch : ℕ) (turn : Turn) → KnowsNodes sc turn.state → HasNoted sc n turn
+    → HasNoted sc (n + 1) (finger_tick sc epoch turn)
 unfolding finger_tick finger_armed timer_made
 noted_finger_tick sc n epoch turn knows h =
     let still : HasNoted sc (n + 1) turn = one_more sc n h in
@@ -100,7 +192,8 @@ noted_random_lookup sc n turn knows h =
     noted_user_lookup sc n (random_key sc turn.state)
     (record turn { state = record turn.state { place = turn.state.place + key_words sc.bits } }) knows h
 
-noted_traffic_tick : (sc : Scenario) (n epoch : ℕ) (turn : Turn) → KnowsNodes sc turn.state → HasNoted sc n turn → HasNoted sc (n + 1 + 1) (traffic_tick sc epoch turn)
+noted_traffic_tick : (sc : Scenario) (n epoch : ℕ) (turn : Turn) → KnowsNodes sc turn.state → HasNoted sc n turn
+    → HasNoted sc (n + 1 + 1) (traffic_tick sc epoch turn)
 unfolding traffic_tick
 noted_traffic_tick sc n epoch turn knows h =
     let still : HasNoted sc (n + 1 + 1) turn = two_more sc n h in
@@ -119,7 +212,8 @@ noted_life_end sc n epoch turn h =
 
 -- Timeouts
 
-noted_lookup_timed_out : (sc : Scenario) (n silent place : ℕ) (lookup : Lookup) (turn : Turn) → KnowsNodes sc turn.state → HasNoted sc n turn → HasNoted sc (n + 1) (lookup_timed_out sc silent place lookup turn)
+noted_lookup_timed_out : (sc : Scenario) (n silent place : ℕ) (lookup : Lookup) (turn : Turn) → KnowsNodes sc turn.state → HasNoted sc n turn
+    → HasNoted sc (n + 1) (lookup_timed_out sc silent place lookup turn)
 unfolding lookup_timed_out
 noted_lookup_timed_out sc n silent place lookup turn knows h =
     noted_if sc (n + 1) (nat_lt lookup.timeouts most_timeouts) _ _
@@ -132,7 +226,8 @@ noted_join_timed_out sc n silent turn h =
     noted_for_attempt sc n _ turn
     (λ attempt. noted_join_failed sc n (avoiding silent turn.state attempt) (without_attempt turn) h) h
 
-noted_head_asked : (sc : Scenario) (n : ℕ) (first : Option ℕ) (turn : Turn) → IfSome turn.state.via (λ via. via < node_count sc) → HasNoted sc n turn → HasNoted sc (n + 1) (head_asked sc first turn)
+noted_head_asked : (sc : Scenario) (n : ℕ) (first : Option ℕ) (turn : Turn) → IfSome turn.state.via (λ via. via < node_count sc) → HasNoted sc n turn
+    → HasNoted sc (n + 1) (head_asked sc first turn)
 unfolding called
 noted_head_asked sc n None turn at h =
     noted_when_some sc (n + 1) (λ via. via < node_count sc) turn.state.via (stranded sc) turn at
@@ -140,7 +235,8 @@ noted_head_asked sc n None turn at h =
     (λ via known. noted_stranded sc n via turn known h)
 noted_head_asked sc n (Some first) turn at h = one_more sc n h
 
-noted_state_timed_out : (sc : Scenario) (n : ℕ) (turn : Turn) → IfSome turn.state.via (λ via. via < node_count sc) → HasNoted sc n turn → HasNoted sc (n + 1) (state_timed_out sc turn)
+noted_state_timed_out : (sc : Scenario) (n : ℕ) (turn : Turn) → IfSome turn.state.via (λ via. via < node_count sc) → HasNoted sc n turn
+    → HasNoted sc (n + 1) (state_timed_out sc turn)
 unfolding state_timed_out
 noted_state_timed_out sc n turn at h = noted_head_asked sc n (head (without_head turn).state) (without_head turn) at h
 
@@ -153,7 +249,8 @@ noted_ping_timed_out : (sc : Scenario) (n silent notifier : ℕ) (turn : Turn) �
 unfolding ping_timed_out
 noted_ping_timed_out sc n silent notifier turn h = noted_if sc n (holds turn.state.prdc silent) _ turn h h
 
-noted_timed_out : (sc : Scenario) (n number silent : ℕ) (wanted : Purpose) (turn : Turn) → KnowsNodes sc turn.state → IfSome turn.state.via (λ via. via < node_count sc) → HasNoted sc n turn → HasNoted sc (n + 1) (timed_out sc number silent wanted turn)
+noted_timed_out : (sc : Scenario) (n number silent : ℕ) (wanted : Purpose) (turn : Turn) → KnowsNodes sc turn.state
+    → IfSome turn.state.via (λ via. via < node_count sc) → HasNoted sc n turn → HasNoted sc (n + 1) (timed_out sc number silent wanted turn)
 noted_timed_out sc n number silent purpose.Lookup turn knows at h =
     noted_with_lookup sc n number (lookup_timed_out sc silent) turn
     (λ place lookup g. noted_lookup_timed_out sc n silent place lookup (without_lookup place turn) knows g) h
@@ -165,7 +262,8 @@ noted_timed_out sc n number silent purpose.List turn knows at h =
 noted_timed_out sc n number silent (purpose.Ping notifier) turn knows at h =
     one_more sc n (noted_ping_timed_out sc n silent notifier turn h)
 
-noted_timeout : (sc : Scenario) (n number : ℕ) (turn : Turn) → IsNodeState sc turn.state → KnowsNodes sc turn.state → HasNoted sc n turn → HasNoted sc (n + 1 + 1) (timeout sc number turn)
+noted_timeout : (sc : Scenario) (n number : ℕ) (turn : Turn) → IsNodeState sc turn.state → KnowsNodes sc turn.state → HasNoted sc n turn
+    → HasNoted sc (n + 1 + 1) (timeout sc number turn)
 unfolding timeout
 noted_timeout sc n number turn is knows h =
     noted_when_some sc (n + 1 + 1) (IsCall sc) (call_of number turn.state) _ turn
@@ -177,26 +275,31 @@ noted_timeout sc n number turn is knows h =
 
 -- Requests, and notifies
 
-noted_at_member : (sc : Scenario) (n : ℕ) (k : MessageKind) (sender : ℕ) (turn after : Turn) → sender < node_count sc → HasNoted sc n turn → HasNoted sc n after → HasNoted sc (n + 1) (if is_member turn.state then after else noted (line.Drop k sender) turn)
+noted_at_member : (sc : Scenario) (n : ℕ) (k : MessageKind) (sender : ℕ) (turn after : Turn) → sender < node_count sc → HasNoted sc n turn
+    → HasNoted sc n after → HasNoted sc (n + 1) (if is_member turn.state then after else noted (line.Drop k sender) turn)
 noted_at_member sc n k sender turn after at h g =
     noted_if sc (n + 1) (is_member turn.state) after _ (one_more sc n g)
     (noted_line sc n (line.Drop k sender) turn (one_node sc sender at) h)
 
-noted_step_asked : (sc : Scenario) (n sender number key : ℕ) (avoid : List ℕ) (turn : Turn) → sender < node_count sc → HasNoted sc n turn → HasNoted sc (n + 1) (step_asked sc sender number key avoid turn)
+noted_step_asked : (sc : Scenario) (n sender number key : ℕ) (avoid : List ℕ) (turn : Turn) → sender < node_count sc → HasNoted sc n turn
+    → HasNoted sc (n + 1) (step_asked sc sender number key avoid turn)
 unfolding step_asked
 noted_step_asked sc n sender number key avoid turn at h = noted_at_member sc n kind.Step sender turn _ at h h
 
-noted_state_asked : (sc : Scenario) (n sender number : ℕ) (turn : Turn) → sender < node_count sc → HasNoted sc n turn → HasNoted sc (n + 1) (state_asked sc sender number turn)
+noted_state_asked : (sc : Scenario) (n sender number : ℕ) (turn : Turn) → sender < node_count sc → HasNoted sc n turn
+    → HasNoted sc (n + 1) (state_asked sc sender number turn)
 unfolding state_asked
 noted_state_asked sc n sender number turn at h =
     noted_at_member sc n kind.GetState sender turn _ at h
     (noted_when_some sc n (λ _. Unit {0}) turn.state.prdc _ turn (known turn.state.prdc) h (λ prdc _. h))
 
-noted_list_asked : (sc : Scenario) (n sender number : ℕ) (turn : Turn) → sender < node_count sc → HasNoted sc n turn → HasNoted sc (n + 1) (list_asked sc sender number turn)
+noted_list_asked : (sc : Scenario) (n sender number : ℕ) (turn : Turn) → sender < node_count sc → HasNoted sc n turn
+    → HasNoted sc (n + 1) (list_asked sc sender number turn)
 unfolding list_asked
 noted_list_asked sc n sender number turn at h = noted_at_member sc n kind.GetList sender turn _ at h h
 
-noted_pinged : (sc : Scenario) (n sender number : ℕ) (turn : Turn) → sender < node_count sc → HasNoted sc n turn → HasNoted sc (n + 1) (pinged sc sender number turn)
+noted_pinged : (sc : Scenario) (n sender number : ℕ) (turn : Turn) → sender < node_count sc → HasNoted sc n turn
+    → HasNoted sc (n + 1) (pinged sc sender number turn)
 unfolding pinged
 noted_pinged sc n sender number turn at h = noted_at_member sc n kind.Ping sender turn _ at h h
 
@@ -215,7 +318,9 @@ noted_notified sc n sender turn at h =
 
 -- Replies
 
-noted_replied : (sc : Scenario) (n : ℕ) (k : MessageKind) (sender : ℕ) (step : Call → Turn → Turn) (o : Option Call) (turn : Turn) → sender < node_count sc → IfSome o (IsCall sc) → HasNoted sc n turn → ((call : Call) → IsCall sc call → HasNoted sc (n + 1) (step call (without_call call.number turn))) → HasNoted sc (n + 1) (replied k sender step o turn)
+noted_replied : (sc : Scenario) (n : ℕ) (k : MessageKind) (sender : ℕ) (step : Call → Turn → Turn) (o : Option Call) (turn : Turn)
+    → sender < node_count sc → IfSome o (IsCall sc) → HasNoted sc n turn
+    → ((call : Call) → IsCall sc call → HasNoted sc (n + 1) (step call (without_call call.number turn))) → HasNoted sc (n + 1) (replied k sender step o turn)
 noted_replied sc n k sender step None turn at out h noted =
     noted_if sc (n + 1) (is_down turn.state) _ _
     (noted_line sc n (line.Drop k sender) turn (one_node sc sender at) h)
@@ -232,7 +337,8 @@ noted_join_asked sc n next attempt turn h =
     noted_if sc (n + 1) (nat_lt attempt.steps most_steps) _ _ (one_more sc n h)
     (noted_join_failed sc n attempt turn h)
 
-noted_join_followed : (sc : Scenario) (n to : ℕ) (a : Answer) (attempt : Attempt) (turn : Turn) → HasNoted sc n turn → HasNoted sc (n + 1) (join_followed sc to a attempt turn)
+noted_join_followed : (sc : Scenario) (n to : ℕ) (a : Answer) (attempt : Attempt) (turn : Turn) → HasNoted sc n turn
+    → HasNoted sc (n + 1) (join_followed sc to a attempt turn)
 unfolding join_followed called
 noted_join_followed sc n to (answer.Owner owner) attempt turn h = one_more sc n h
 noted_join_followed sc n to (answer.Next next) attempt turn h = noted_join_asked sc n next attempt turn h
@@ -244,12 +350,14 @@ noted_join_answered sc n to a turn h =
     noted_for_attempt sc n (join_followed sc to a) turn
     (λ attempt. noted_join_followed sc n to a attempt (without_attempt turn) h) h
 
-noted_lookup_answered : (sc : Scenario) (n : ℕ) (a : Answer) (place : ℕ) (lookup : Lookup) (turn : Turn) → NamesNode sc a → HasNoted sc n turn → HasNoted sc (n + 1) (lookup_answered sc a place lookup turn)
+noted_lookup_answered : (sc : Scenario) (n : ℕ) (a : Answer) (place : ℕ) (lookup : Lookup) (turn : Turn) → NamesNode sc a → HasNoted sc n turn
+    → HasNoted sc (n + 1) (lookup_answered sc a place lookup turn)
 unfolding lookup_answered
 noted_lookup_answered sc n a place lookup turn names h =
     noted_followed sc n place (record lookup { hops = lookup.hops + 1 }) a turn names h
 
-noted_answered_for : (sc : Scenario) (n : ℕ) (a : Answer) (call : Call) (wanted : Purpose) (turn : Turn) → NamesNode sc a → HasNoted sc n turn → HasNoted sc (n + 1) (answered_for sc a call wanted turn)
+noted_answered_for : (sc : Scenario) (n : ℕ) (a : Answer) (call : Call) (wanted : Purpose) (turn : Turn) → NamesNode sc a → HasNoted sc n turn
+    → HasNoted sc (n + 1) (answered_for sc a call wanted turn)
 noted_answered_for sc n a call purpose.Lookup turn names h =
     noted_with_lookup sc n call.number (lookup_answered sc a) turn
     (λ place lookup g. noted_lookup_answered sc n a place lookup (without_lookup place turn) names g) h
@@ -259,20 +367,23 @@ noted_answered_for sc n a call purpose.State turn names h = one_more sc n h
 noted_answered_for sc n a call purpose.List turn names h = one_more sc n h
 noted_answered_for sc n a call (purpose.Ping notifier) turn names h = one_more sc n h
 
-noted_step_replied : (sc : Scenario) (n sender number : ℕ) (a : Answer) (turn : Turn) → sender < node_count sc → NamesNode sc a → IsNodeState sc turn.state → HasNoted sc n turn → HasNoted sc (n + 1) (step_replied sc sender number a turn)
+noted_step_replied : (sc : Scenario) (n sender number : ℕ) (a : Answer) (turn : Turn) → sender < node_count sc → NamesNode sc a
+    → IsNodeState sc turn.state → HasNoted sc n turn → HasNoted sc (n + 1) (step_replied sc sender number a turn)
 unfolding step_replied
 noted_step_replied sc n sender number a turn at names is h =
     noted_replied sc n kind.StepReply sender (λ call. answered_for sc a call call.purpose) (answered_call kind.StepReply number turn.state) turn
     at (call_answered sc kind.StepReply number turn.state is) h
     (λ call out. noted_answered_for sc n a call call.purpose (without_call call.number turn) names h)
 
-noted_state_answered : (sc : Scenario) (n prdc : ℕ) (list : List ℕ) (call : Call) (turn : Turn) → HasNoted sc n turn → HasNoted sc n (state_answered sc prdc list call turn)
+noted_state_answered : (sc : Scenario) (n prdc : ℕ) (list : List ℕ) (call : Call) (turn : Turn) → HasNoted sc n turn
+    → HasNoted sc n (state_answered sc prdc list call turn)
 unfolding state_answered called
 noted_state_answered sc n prdc list call turn h =
     noted_if sc n (between sc.bits (ident_of sc turn.state.me) (ident_of sc prdc) (ident_of sc call.to)) _ _ h
     (noted_head_notified sc n (successors_taken sc call.to list turn) h)
 
-noted_state_replied : (sc : Scenario) (n sender number prdc : ℕ) (list : List ℕ) (turn : Turn) → sender < node_count sc → IsNodeState sc turn.state → HasNoted sc n turn → HasNoted sc (n + 1) (state_replied sc sender number prdc list turn)
+noted_state_replied : (sc : Scenario) (n sender number prdc : ℕ) (list : List ℕ) (turn : Turn) → sender < node_count sc → IsNodeState sc turn.state
+    → HasNoted sc n turn → HasNoted sc (n + 1) (state_replied sc sender number prdc list turn)
 unfolding state_replied
 noted_state_replied sc n sender number prdc list turn at is h =
     noted_replied sc n kind.StateReply sender (state_answered sc prdc list) (answered_call kind.StateReply number turn.state) turn
@@ -284,7 +395,8 @@ noted_list_answered : (sc : Scenario) (n to : ℕ) (list : List ℕ) (turn : Tur
 unfolding list_answered
 noted_list_answered sc n to list turn h = noted_head_notified sc n (successors_taken sc to list turn) h
 
-noted_join_list_taken : (sc : Scenario) (n to : ℕ) (list : List ℕ) (attempt : Attempt) (turn : Turn) → to < node_count sc → HasNoted sc n turn → HasNoted sc (n + 1) (join_list_taken sc to list attempt turn)
+noted_join_list_taken : (sc : Scenario) (n to : ℕ) (list : List ℕ) (attempt : Attempt) (turn : Turn) → to < node_count sc → HasNoted sc n turn
+    → HasNoted sc (n + 1) (join_list_taken sc to list attempt turn)
 unfolding join_list_taken
 noted_join_list_taken sc n to [] attempt turn at h = noted_join_failed sc n attempt turn h
 noted_join_list_taken sc n to (first ∷ rest) attempt turn at h =
@@ -292,13 +404,15 @@ noted_join_list_taken sc n to (first ∷ rest) attempt turn at h =
     (noted_line sc n (line.Member to) turn (one_node sc to at) h)
     (noted_join_failed sc n attempt turn h)
 
-noted_join_list_answered : (sc : Scenario) (n to : ℕ) (list : List ℕ) (turn : Turn) → to < node_count sc → HasNoted sc n turn → HasNoted sc (n + 1) (join_list_answered sc to list turn)
+noted_join_list_answered : (sc : Scenario) (n to : ℕ) (list : List ℕ) (turn : Turn) → to < node_count sc → HasNoted sc n turn
+    → HasNoted sc (n + 1) (join_list_answered sc to list turn)
 unfolding join_list_answered
 noted_join_list_answered sc n to list turn at h =
     noted_for_attempt sc n (join_list_taken sc to list) turn
     (λ attempt. noted_join_list_taken sc n to list attempt (without_attempt turn) at h) h
 
-noted_list_answered_for : (sc : Scenario) (n : ℕ) (list : List ℕ) (to : ℕ) (wanted : Purpose) (turn : Turn) → to < node_count sc → HasNoted sc n turn → HasNoted sc (n + 1) (list_answered_for sc list to wanted turn)
+noted_list_answered_for : (sc : Scenario) (n : ℕ) (list : List ℕ) (to : ℕ) (wanted : Purpose) (turn : Turn) → to < node_count sc → HasNoted sc n turn
+    → HasNoted sc (n + 1) (list_answered_for sc list to wanted turn)
 noted_list_answered_for sc n list to purpose.List turn at h =
     noted_list_answered sc (n + 1) to list turn (one_more sc n h)
 noted_list_answered_for sc n list to purpose.JoinList turn at h = noted_join_list_answered sc n to list turn at h
@@ -307,14 +421,16 @@ noted_list_answered_for sc n list to purpose.JoinStep turn at h = one_more sc n 
 noted_list_answered_for sc n list to purpose.State turn at h = one_more sc n h
 noted_list_answered_for sc n list to (purpose.Ping notifier) turn at h = one_more sc n h
 
-noted_list_replied : (sc : Scenario) (n sender number : ℕ) (list : List ℕ) (turn : Turn) → sender < node_count sc → IsNodeState sc turn.state → HasNoted sc n turn → HasNoted sc (n + 1) (list_replied sc sender number list turn)
+noted_list_replied : (sc : Scenario) (n sender number : ℕ) (list : List ℕ) (turn : Turn) → sender < node_count sc → IsNodeState sc turn.state
+    → HasNoted sc n turn → HasNoted sc (n + 1) (list_replied sc sender number list turn)
 unfolding list_replied
 noted_list_replied sc n sender number list turn at is h =
     noted_replied sc n kind.ListReply sender (λ call. list_answered_for sc list call.to call.purpose) (answered_call kind.ListReply number turn.state) turn
     at (call_answered sc kind.ListReply number turn.state is) h
     (λ call out. noted_list_answered_for sc n list call.to call.purpose (without_call call.number turn) out.to h)
 
-noted_ponged : (sc : Scenario) (n sender number : ℕ) (turn : Turn) → sender < node_count sc → IsNodeState sc turn.state → HasNoted sc n turn → HasNoted sc (n + 1) (ponged sender number turn)
+noted_ponged : (sc : Scenario) (n sender number : ℕ) (turn : Turn) → sender < node_count sc → IsNodeState sc turn.state → HasNoted sc n turn
+    → HasNoted sc (n + 1) (ponged sender number turn)
 unfolding ponged
 noted_ponged sc n sender number turn at is h =
     noted_replied sc n kind.Pong sender (λ call. λ t. t) (answered_call kind.Pong number turn.state) turn
@@ -323,7 +439,8 @@ noted_ponged sc n sender number turn at is h =
 
 -- The whole table
 
-noted_acted : (sc : Scenario) (n sender : ℕ) (message : Body) (turn : Turn) → sender < node_count sc → IsBody sc message → IsNodeState sc turn.state → KnowsNodes sc turn.state → HasNoted sc n turn → HasNoted sc (n + 1 + 1) (acted sc sender message turn)
+noted_acted : (sc : Scenario) (n sender : ℕ) (message : Body) (turn : Turn) → sender < node_count sc → IsBody sc message → IsNodeState sc turn.state
+    → KnowsNodes sc turn.state → HasNoted sc n turn → HasNoted sc (n + 1 + 1) (acted sc sender message turn)
 noted_acted sc n sender (body.CmdJoin via) turn at names is knows h =
     one_more sc (n + 1) (noted_cmd_join sc n via turn names h)
 noted_acted sc n sender body.CmdCrash turn at names is knows h =

@@ -24,11 +24,14 @@ farther_again sc n c x false e = rw (e) refl
 -- to look at a node again changes nothing
 pub visited_again : (sc : Scenario) (n key : ℕ) (avoid : List ℕ) (c x : ℕ) → visited sc n key avoid (visited sc n key avoid c x) x ≡ visited sc n key avoid c x
 visited_again sc n key avoid c x =
-    elim (precedes sc n key avoid x) as (λ p. (if p then farther sc n (if p then farther sc n c x else c) x else (if p then farther sc n c x else c)) ≡ (if p then farther sc n c x else c)) [
+    elim (precedes sc n key avoid x) as (λ p. (if p then farther sc n (if p then farther sc n c x else c) x else (if p then farther sc n c x else c))
+    ≡ (if p then farther sc n c x else c)) [
       | true ↦ farther_again sc n c x (nat_lt (far sc n c) (far sc n x)) refl
       | false ↦ refl
     ]
 
 -- the closest node of one more finger
-pub visited_more : (sc : Scenario) (n key : ℕ) (avoid first fingers : List ℕ) (i : ℕ) → i < length fingers → fold (farther sc n) n (filter (precedes sc n key avoid) (first ++ take (i + 1) fingers)) ≡ visited sc n key avoid (fold (farther sc n) n (filter (precedes sc n key avoid) (first ++ take i fingers))) (get_or fingers i 0)
+pub visited_more : (sc : Scenario) (n key : ℕ) (avoid first fingers : List ℕ) (i : ℕ) → i < length fingers
+    → fold (farther sc n) n (filter (precedes sc n key avoid) (first ++ take (i + 1) fingers))
+    ≡ visited sc n key avoid (fold (farther sc n) n (filter (precedes sc n key avoid) (first ++ take i fingers))) (get_or fingers i 0)
 visited_more sc n key avoid first fingers i within = fold-filter_more (farther sc n) n (precedes sc n key avoid) first fingers i 0 within

@@ -1,5 +1,32 @@
 -- The audits at the start and at the end of a run.
-use Rattle.std.proofs.Common.{◌≡◌, ◌∙◌, ℕ, zero, suc, ◌+◌, ◌*◌, ◌-◌, ◌/◌, ◌<◌, ◌≤◌, Bool, true, false, cond, List, [], ◌∷◌, ◌++◌, length, length-append, ap, sym, refl, subst, arith}
+use Rattle.std.proofs.Common.{
+  ◌≡◌,
+  ◌∙◌,
+  ℕ,
+  zero,
+  suc,
+  ◌+◌,
+  ◌*◌,
+  ◌-◌,
+  ◌/◌,
+  ◌<◌,
+  ◌≤◌,
+  Bool,
+  true,
+  false,
+  cond,
+  List,
+  [],
+  ◌∷◌,
+  ◌++◌,
+  length,
+  length-append,
+  ap,
+  sym,
+  refl,
+  subst,
+  arith,
+}
 use Rattle.std.specs.Prelude.{nat_le}
 use Rattle.std.proofs.lemmas.Bool.Decides.{nat_tests}
 use Rattle.std.specs.List.{AllByRecursion, filter}
@@ -38,9 +65,11 @@ module _ (sc : Scenario) (ranges : IsInRange sc) where
 
   all_due : (times : List ℕ) → AllByRecursion (λ u. u ≤ sc.duration) times → due sc.duration times ≡ times
   all_due [] most = refl
-  all_due (u ∷ times) most = let first : u ≤ sc.duration = most.0 in let come : nat_le u sc.duration ≡ true = grind (arith, nat_tests) in ap (λ b. cond b (u ∷ due sc.duration times) (due sc.duration times)) come ∙ ap (λ us. u ∷ us) (all_due times most.1)
+  all_due (u ∷ times) most = let first : u ≤ sc.duration = most.0 in let come : nat_le u sc.duration ≡ true = grind (arith, nat_tests)
+      in ap (λ b. cond b (u ∷ due sc.duration times) (due sc.duration times)) come ∙ ap (λ us. u ∷ us) (all_due times most.1)
 
-  each_picked : (b : Bool) (u : ℕ) (us : List ℕ) → u ≤ sc.duration → AllByRecursion (λ v. v ≤ sc.duration) us → AllByRecursion (λ v. v ≤ sc.duration) (cond b (u ∷ us) us)
+  each_picked : (b : Bool) (u : ℕ) (us : List ℕ) → u ≤ sc.duration → AllByRecursion (λ v. v ≤ sc.duration) us
+      → AllByRecursion (λ v. v ≤ sc.duration) (cond b (u ∷ us) us)
   each_picked true u us most others = (most, others)
   each_picked false u us most others = others
 
@@ -52,7 +81,8 @@ module _ (sc : Scenario) (ranges : IsInRange sc) where
   pub whole_trace_is : (past : List (Event Body)) (clock : List ℕ) → clock ≡ open_audits (chord sc) past → IsWhole (chord sc) past → length past ≤ sc.max_events
       → output (chord sc) past ++ audits_at sc (state (chord sc) past) (due sc.duration clock) ≡ whole_trace sc
   whole_trace_is past clock clock_is whole few =
-      let within : AllByRecursion (λ u. u ≤ sc.duration) clock = subst (λ us. AllByRecursion (λ u. u ≤ sc.duration) us) (sym clock_is) (each_left _ (audit_times sc) (audits-within sc ranges)) in
+      let within : AllByRecursion (λ u. u ≤ sc.duration) clock = subst (λ us. AllByRecursion (λ u. u ≤ sc.duration) us) (sym clock_is)
+      (each_left _ (audit_times sc) (audits-within sc ranges)) in
       ap (λ us. output (chord sc) past ++ audits_at sc (state (chord sc) past) us) (all_due clock within ∙ clock_is)
       ∙ sym (trace_at_end (chord sc) past whole.ended)
       ∙ ap (trace (chord sc)) ((whole.within_limit few).0)

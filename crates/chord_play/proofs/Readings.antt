@@ -4,7 +4,24 @@ use Rattle.std.specs.Io.KnownBytes.{Consumes, IsAtEnd}
 use Rattle.chord_play.specs.Faults.{fault_of_scenario}
 use Rattle.chord_play.specs.declared.fault.PlayFault.TheVariants as play
 use Rattle.chord_scenario.specs.declared.fault.ScenarioFault.{ScenarioFault}
-use Rattle.chord_scenario.specs.declared.fault.ScenarioFault.TheVariants.{NotToml, UnknownKey, MissingKey, WrongType, OutOfRange, BadName, SameName, SameId, UnknownNode, TooFewInitial, TimeAfterEnd, BadLatencyRow, SelfLink, SameLinkTwice, LatencyBelowWindow, Memory}
+use Rattle.chord_scenario.specs.declared.fault.ScenarioFault.TheVariants.{
+  NotToml,
+  UnknownKey,
+  MissingKey,
+  WrongType,
+  OutOfRange,
+  BadName,
+  SameName,
+  SameId,
+  UnknownNode,
+  TooFewInitial,
+  TimeAfterEnd,
+  BadLatencyRow,
+  SelfLink,
+  SameLinkTwice,
+  LatencyBelowWindow,
+  Memory,
+}
 
 -- what was read up to the end is all that was left
 pub whole_text : (old new : Option (List ℕ)) (text : List ℕ) → Consumes old new text → IsAtEnd new → (bytes : List ℕ) → old ≡ Some bytes → text ≡ bytes

@@ -12,6 +12,7 @@ other_errors run.TooManyEvents fits = inr (inr (inl cc))
 other_errors run.Write fits = inr (inr (inr cc))
 other_errors run.BadDivision fits = absurd (fits cc)
 
-pub errors_of : (r : Result Report RunError) → (r ≢ Err run.BadDivision) → IfErr r (λ e. (e ≡ run.Memory) ⊎ (e ≡ run.Worker) ⊎ (e ≡ run.TooManyEvents) ⊎ (e ≡ run.Write))
+pub errors_of : (r : Result Report RunError) → (r ≢ Err run.BadDivision)
+    → IfErr r (λ e. (e ≡ run.Memory) ⊎ (e ≡ run.Worker) ⊎ (e ≡ run.TooManyEvents) ⊎ (e ≡ run.Write))
 errors_of (Ok report) fits = search rules
 errors_of (Err e) fits = other_errors e (λ is. fits (ap Err is))

@@ -1,5 +1,28 @@
 -- The entries before a horizon, and their events in key order.
-use Rattle.std.proofs.Common.{◌≡◌, ℕ, Bool, true, false, cond, nat_lt, List, [], ◌∷◌, ◌++◌, length, length-append, ◌+◌, Some, IsSome, refl, sym, ap, ◌∙◌, subst, arith}
+use Rattle.std.proofs.Common.{
+  ◌≡◌,
+  ℕ,
+  Bool,
+  true,
+  false,
+  cond,
+  nat_lt,
+  List,
+  [],
+  ◌∷◌,
+  ◌++◌,
+  length,
+  length-append,
+  ◌+◌,
+  Some,
+  IsSome,
+  refl,
+  sym,
+  ap,
+  ◌∙◌,
+  subst,
+  arith,
+}
 use Rattle.std.specs.List.{filter}
 use Rattle.std.specs.Cmp.{IsTotalOrder}
 use Rattle.std.specs.List.Sorted.{IsSorted}
@@ -22,7 +45,22 @@ use Rattle.chord_event.proofs.Members.{contains_filter, filter_contains}
 use Rattle.chord_queue.specs.EventKey.{event_key}
 use Rattle.chord_queue.specs.Places.{Events, Entry, waiting_key, waiting_cmp, is_due, events_at, in_key_order, IsPlaced}
 use Rattle.chord_queue.proofs.Inserting.{is_in, contained}
-use Rattle.chord_queue.proofs.Places.{AreDistinct, Held, held_permuted, distinct_first, distinct_more, distinct_rest, in_of_order, of_order_in, event_in, entry_of, event_of, key_at, ordered, first_out}
+use Rattle.chord_queue.proofs.Places.{
+  AreDistinct,
+  Held,
+  held_permuted,
+  distinct_first,
+  distinct_more,
+  distinct_rest,
+  in_of_order,
+  of_order_in,
+  event_in,
+  entry_of,
+  event_of,
+  key_at,
+  ordered,
+  first_out,
+}
 
 -- what a filter keeps
 in_filter : {A : Type 0} (p : A → Bool) (xs : List A) (x : A) → IsIn x (filter p xs) → IsIn x xs × (p x ≡ true)
@@ -44,7 +82,11 @@ ordered_filter p [] o = o
 ordered_filter p (e ∷ es) o = by_test (p e) (ordered_filter p es o.1)
   where
     by_test : (b : Bool) → InKeyOrder event_key (filter p es) → InKeyOrder event_key (cond b (e ∷ filter p es) (filter p es))
-    by_test true on = (all_from (λ x. IsBefore (event_key e) (event_key x)) (filter p es) (λ x h. all_in (λ y. IsBefore (event_key e) (event_key y)) es o.0 x (in_filter p es x h).0), on)
+    by_test true on = (
+      all_from (λ x. IsBefore (event_key e) (event_key x)) (filter p es)
+          (λ x h. all_in (λ y. IsBefore (event_key e) (event_key y)) es o.0 x (in_filter p es x h).0),
+      on,
+    )
     by_test false on = on
 
 pub held_due : (s : Events) (ws : List Entry) (h : ℕ) → Held s ws → Held s (filter (is_due h) ws)
@@ -54,7 +96,8 @@ held_due s ws h held = record {
 }
 
 -- the events of the entries before the horizon
-pub due_events : (s : Events) (ws : List Entry) (h : ℕ) → Held s ws → in_key_order (events_at s (filter (is_due h) ws)) ≡ before event_key h (in_key_order (events_at s ws))
+pub due_events : (s : Events) (ws : List Entry) (h : ℕ) → Held s ws → in_key_order (events_at s (filter (is_due h) ws))
+    ≡ before event_key h (in_key_order (events_at s ws))
 due_events s ws h held =
     same_list event_key (in_key_order (events_at s (filter (is_due h) ws))) (before event_key h (in_key_order (events_at s ws)))
     (ordered s (filter (is_due h) ws) (held_due s ws h held)) (ordered_filter early (in_key_order (events_at s ws)) (ordered s ws held)) there back
@@ -69,27 +112,32 @@ due_events s ws h held =
     there z k =
         let r = entry_of s (filter (is_due h) ws) z (in_of_order (events_at s (filter (is_due h) ws)) z k) in
         let is = in_filter (is_due h) ws r.0 r.1 in
-        filter_in early (in_key_order (events_at s ws)) z (of_order_in (events_at s ws) z (event_in s ws r.0 z is.0 r.2)) (ap (λ (q : Key). nat_lt q.time h) (key_of r.0 z is.0 r.2) ∙ is.1)
+        filter_in early (in_key_order (events_at s ws)) z (of_order_in (events_at s ws) z (event_in s ws r.0 z is.0 r.2))
+        (ap (λ (q : Key). nat_lt q.time h) (key_of r.0 z is.0 r.2) ∙ is.1)
 
     back : (z : Event Body) → IsIn z (filter early (in_key_order (events_at s ws))) → IsIn z (in_key_order (events_at s (filter (is_due h) ws)))
     back z k =
         let is = in_filter early (in_key_order (events_at s ws)) z k in
         let r = entry_of s ws z (in_of_order (events_at s ws) z is.0) in
-        of_order_in (events_at s (filter (is_due h) ws)) z (event_in s (filter (is_due h) ws) r.0 z (filter_in (is_due h) ws r.0 r.1 (ap (λ (q : Key). nat_lt q.time h) (sym (key_of r.0 z r.1 r.2)) ∙ is.1)) r.2)
+        of_order_in (events_at s (filter (is_due h) ws)) z (event_in s (filter (is_due h) ws) r.0 z
+        (filter_in (is_due h) ws r.0 r.1 (ap (λ (q : Key). nat_lt q.time h) (sym (key_of r.0 z r.1 r.2)) ∙ is.1)) r.2)
 
 waiting_total : IsTotalOrder waiting_cmp
 waiting_total =
-    then_total (back_total (on_total waiting_key (then_total (on_total (λ (k : Key). k.time) nat_cmp_total) (then_total (on_total (λ (k : Key). k.origin) nat_cmp_total) (on_total (λ (k : Key). k.number) nat_cmp_total)))))
+    then_total (back_total (on_total waiting_key (then_total (on_total (λ (k : Key). k.time) nat_cmp_total)
+    (then_total (on_total (λ (k : Key). k.origin) nat_cmp_total) (on_total (λ (k : Key). k.number) nat_cmp_total)))))
     (on_total (λ (w : Entry). w.place) nat_cmp_total)
 
 last_greatest : (ws : List Entry) (w : Entry) → IsSorted waiting_cmp (ws ++ w ∷ []) → IsUpperBound waiting_cmp w ws
 last_greatest ws w up = recursion_from_All (λ v. is_lt (waiting_cmp w v) ≡ false) ws (λ i d h.
-    let far = sorted_far (λ a b. is_lt (waiting_cmp a b)) (ranks_by waiting_total (λ (v : Entry). v)) (ws ++ w ∷ []) up i (length ws) d (omega (arith, h)) (omega (arith, length-append ws (w ∷ []))) in
+    let far = sorted_far (λ a b. is_lt (waiting_cmp a b)) (ranks_by waiting_total (λ (v : Entry). v)) (ws ++ w ∷ []) up i (length ws) d
+    (omega (arith, h)) (omega (arith, length-append ws (w ∷ []))) in
     (λ j. is_lt (waiting_cmp (sym (get_or-append_seam ws w [] d) j) (sym (get_or-append ws (w ∷ []) d i h) j))) ∙ far)
 
 sorted_front : (ws : List Entry) (w : Entry) → IsSorted waiting_cmp (ws ++ w ∷ []) → IsSorted waiting_cmp ws
 sorted_front ws w up k d l h =
-    (λ j. is_lt (waiting_cmp (sym (get_or-append ws (w ∷ []) d (k + 1) h) j) (sym (get_or-append ws (w ∷ []) d k (omega (arith, h))) j))) ∙ up k d l (omega (arith, h, length-append ws (w ∷ [])))
+    (λ j. is_lt (waiting_cmp (sym (get_or-append ws (w ∷ []) d (k + 1) h) j) (sym (get_or-append ws (w ∷ []) d k (omega (arith, h))) j)))
+    ∙ up k d l (omega (arith, h, length-append ws (w ∷ [])))
 
 -- sorted entries, of which the last has the first key
 pub record Due (s : Events) (ws : List Entry) : Type 0 where

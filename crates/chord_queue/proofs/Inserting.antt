@@ -6,7 +6,20 @@ use Rattle.chord_event.specs.declared.event.Event.{Event}
 use Rattle.chord_event.specs.Keys.{IsBefore}
 use Rattle.chord_event.specs.KeyOrder.{InKeyOrder, IsNewKey, put_in_order}
 use Rattle.chord_event.proofs.KeyLists.{IsIn, all_from, all_in, in_put, ordered_put, put_in}
-use Rattle.chord_event.proofs.Members.{AllPairs_append, AllPairs_at, AllPairs_cons, AllPairs_none, AllPairs_rest, contains_append, contains_cons, contains_here, contains_left, contains_none, contains_right, contains_there}
+use Rattle.chord_event.proofs.Members.{
+  AllPairs_append,
+  AllPairs_at,
+  AllPairs_cons,
+  AllPairs_none,
+  AllPairs_rest,
+  contains_append,
+  contains_cons,
+  contains_here,
+  contains_left,
+  contains_none,
+  contains_right,
+  contains_there,
+}
 use Rattle.chord_event.proofs.Order.{before_not_same}
 use Rattle.chord_queue.specs.EventKey.{event_key}
 
@@ -83,6 +96,7 @@ module _ (x : Event Body) (q es : List (Event Body)) (all : AreApart (q ++ (es +
       (ordered_apart (put_in_order event_key x q) (ordered_put event_key x q o last_new))
       (apart_front es (x ∷ []) (apart_back q (es ++ x ∷ []) all))
       (λ a b c d. ⊎_elim
-      (λ e. subst (λ (w : Event Body). w.key ≢ b.key) (sym e) (λ s. apart_across es (x ∷ []) (apart_back q (es ++ x ∷ []) all) b x d (contains_here x []) (sym s)))
+      (λ e. subst (λ (w : Event Body). w.key ≢ b.key) (sym e) (λ s. apart_across es (x ∷ []) (apart_back q (es ++ x ∷ []) all) b x d
+      (contains_here x []) (sym s)))
       (λ r. apart_across q (es ++ x ∷ []) all a b (contained q a r) (contains_left es (x ∷ []) b d))
       (in_put event_key x q a (is_in (put_in_order event_key x q) a c)))

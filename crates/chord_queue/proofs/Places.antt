@@ -1,5 +1,36 @@
 -- The entries of a heap, and the events at their places.
-use Rattle.std.proofs.Common.{◌≡◌, ◌≢◌, inl, inr, ℕ, suc, ◌+◌, ◌<◌, Bool, true, false, cond, List, [], ◌∷◌, map, length, Option, Some, None, IsSomeAnd, option_map, slice_get, slice_index_or, refl, sym, ap, ◌∙◌, subst, arith}
+use Rattle.std.proofs.Common.{
+  ◌≡◌,
+  ◌≢◌,
+  inl,
+  inr,
+  ℕ,
+  suc,
+  ◌+◌,
+  ◌<◌,
+  Bool,
+  true,
+  false,
+  cond,
+  List,
+  [],
+  ◌∷◌,
+  map,
+  length,
+  Option,
+  Some,
+  None,
+  IsSomeAnd,
+  option_map,
+  slice_get,
+  slice_index_or,
+  refl,
+  sym,
+  ap,
+  ◌∙◌,
+  subst,
+  arith,
+}
 use Rattle.std.specs.List.{AllByRecursion, IsDistinct, cons_option}
 use Rattle.std.specs.List.Sorted.{IsPermutation}
 use Rattle.std.specs.BinaryHeap.{IsHeap, IsUpperBound, heap_items, heap_len}
@@ -50,7 +81,8 @@ same_key-flips a b = flips_by (is_same_key a b) refl
 pub distinct_first : (w : Entry) (ws : List Entry) → AreDistinct (w ∷ ws) → (v : Entry) → IsIn v ws → waiting_key w ≢ waiting_key v
 distinct_first w ws d = in_rest ws (IsDistinct-head is_same_key (waiting_key w) (map waiting_key ws) d)
   where
-    in_rest : (xs : List Entry) → AllByRecursion (λ k. is_same_key (waiting_key w) k ≡ false) (map waiting_key xs) → (v : Entry) → IsIn v xs → waiting_key w ≢ waiting_key v
+    in_rest : (xs : List Entry) → AllByRecursion (λ k. is_same_key (waiting_key w) k ≡ false) (map waiting_key xs) → (v : Entry) → IsIn v xs
+        → waiting_key w ≢ waiting_key v
     in_rest [] all v h = absurd h
     in_rest (x ∷ xs) all v (inl e) = λ s. differs (waiting_key w) (waiting_key x) all.0 (s ∙ ap waiting_key e)
     in_rest (x ∷ xs) all v (inr h) = in_rest xs all.1 v h
@@ -58,7 +90,8 @@ distinct_first w ws d = in_rest ws (IsDistinct-head is_same_key (waiting_key w) 
 pub distinct_more : (w : Entry) (ws : List Entry) → ((v : Entry) → IsIn v ws → waiting_key w ≢ waiting_key v) → AreDistinct ws → AreDistinct (w ∷ ws)
 distinct_more w ws f d = IsDistinct-cons is_same_key (waiting_key w) (map waiting_key ws) (in_rest ws f) d
   where
-    in_rest : (xs : List Entry) → ((v : Entry) → IsIn v xs → waiting_key w ≢ waiting_key v) → AllByRecursion (λ k. is_same_key (waiting_key w) k ≡ false) (map waiting_key xs)
+    in_rest : (xs : List Entry) → ((v : Entry) → IsIn v xs → waiting_key w ≢ waiting_key v)
+        → AllByRecursion (λ k. is_same_key (waiting_key w) k ≡ false) (map waiting_key xs)
     in_rest [] g = tt
     in_rest (x ∷ xs) g = (apart (waiting_key w) (waiting_key x) (g x (inl refl)), in_rest xs (λ v h. g v (inr h)))
 
@@ -71,7 +104,8 @@ permuted_in xs ys p z h = is_in ys z (Contains-permutation xs ys z p (contained 
 pub held_permuted : (s : Events) (xs ys : List Entry) → IsPermutation xs ys → Held s xs → Held s ys
 held_permuted s xs ys p held = record {
   placed = all_from (IsPlaced s) ys (λ w h. all_in (IsPlaced s) xs held.placed w (permuted_in ys xs (IsPermutation-sym xs ys p) w h));
-  distinct = IsDistinct-IsPermutation is_same_key same_key-flips (map waiting_key xs) (map waiting_key ys) (IsPermutation-map waiting_key xs ys p) held.distinct;
+  distinct = IsDistinct-IsPermutation is_same_key same_key-flips (map waiting_key xs) (map waiting_key ys) (IsPermutation-map waiting_key xs ys p)
+      held.distinct;
 }
 
 held_rest : (s : Events) (w : Entry) (ws : List Entry) → Held s (w ∷ ws) → Held s ws
@@ -81,7 +115,8 @@ held_rest s w ws held = record { placed = held.placed.1; distinct = distinct_res
 pub event_of : (s : Events) (w : Entry) → IsPlaced s w → (e : Event Body) × (s w.place ≡ Some e) × (e.key ≡ waiting_key w)
 event_of s w is = event_by (s w.place) refl is
   where
-    event_by : (o : Option (Event Body)) → s w.place ≡ o → IsSomeAnd o (λ e. e.key ≡ waiting_key w) → (e : Event Body) × (s w.place ≡ Some e) × (e.key ≡ waiting_key w)
+    event_by : (o : Option (Event Body)) → s w.place ≡ o → IsSomeAnd o (λ e. e.key ≡ waiting_key w)
+        → (e : Event Body) × (s w.place ≡ Some e) × (e.key ≡ waiting_key w)
     event_by None g h = absurd h
     event_by (Some e) g h = (e, g, h)
 
@@ -106,7 +141,8 @@ pub entry_of : (s : Events) (ws : List Entry) (e : Event Body) → IsIn e (event
 entry_of s [] e h = absurd h
 entry_of s (x ∷ xs) e h = entry_by (s x.place) refl (entry_of s xs e) h
   where
-    entry_by : (o : Option (Event Body)) → s x.place ≡ o → (IsIn e (events_at s xs) → EntryOf s xs e) → IsIn e (cons_option o (events_at s xs)) → EntryOf s (x ∷ xs) e
+    entry_by : (o : Option (Event Body)) → s x.place ≡ o → (IsIn e (events_at s xs) → EntryOf s xs e) → IsIn e (cons_option o (events_at s xs))
+        → EntryOf s (x ∷ xs) e
     entry_by None g on k = let r = on k in (r.0, inr r.1, r.2)
     entry_by (Some y) g on (inl q) = (x, inl refl, g ∙ ap Some (sym q))
     entry_by (Some y) g on (inr k) = let r = on k in (r.0, inr r.1, r.2)
@@ -125,7 +161,8 @@ event_first : (s : Events) (w : Entry) (ws : List Entry) (e : Event Body) → s 
 event_first s w ws e g = ap (λ o. cons_option o (events_at s ws)) g
 
 -- what holds of the keys of entries holds of the keys of their events
-keys_in_order : (s : Events) (ws : List Entry) (P : Key → Type 0) → AllByRecursion (IsPlaced s) ws → ((w : Entry) → IsIn w ws → P (waiting_key w)) → AllByRecursion (λ e. P (event_key e)) (in_key_order (events_at s ws))
+keys_in_order : (s : Events) (ws : List Entry) (P : Key → Type 0) → AllByRecursion (IsPlaced s) ws → ((w : Entry) → IsIn w ws → P (waiting_key w))
+    → AllByRecursion (λ e. P (event_key e)) (in_key_order (events_at s ws))
 keys_in_order s ws P placed f = all_from (λ e. P (event_key e)) (in_key_order (events_at s ws)) (λ z h.
     let r = entry_of s ws z (in_of_order (events_at s ws) z h) in
     subst P (sym (key_at s r.0 z (all_in (IsPlaced s) ws placed r.0 r.1) r.2)) (f r.0 r.1))
@@ -135,8 +172,10 @@ ordered s [] held = tt
 ordered s (w ∷ ws) held =
     let own = event_of s w held.placed.0 in let e = own.0 in
     let others = distinct_first w ws held.distinct in
-    let new : IsNewKey event_key e.key (in_key_order (events_at s ws)) = keys_in_order s ws (λ k. k ≢ e.key) held.placed.1 (λ v h q. others v h (sym own.2 ∙ sym q)) in
-    subst (λ es. InKeyOrder event_key (in_key_order es)) (sym (event_first s w ws e own.1)) (ordered_put event_key e (in_key_order (events_at s ws)) (ordered s ws (held_rest s w ws held)) new)
+    let new : IsNewKey event_key e.key (in_key_order (events_at s ws)) = keys_in_order s ws (λ k. k ≢ e.key) held.placed.1
+    (λ v h q. others v h (sym own.2 ∙ sym q)) in
+    subst (λ es. InKeyOrder event_key (in_key_order es)) (sym (event_first s w ws e own.1))
+    (ordered_put event_key e (in_key_order (events_at s ws)) (ordered s ws (held_rest s w ws held)) new)
 
 pub order_permuted : (s : Events) (xs ys : List Entry) → IsPermutation xs ys → Held s xs → in_key_order (events_at s xs) ≡ in_key_order (events_at s ys)
 order_permuted s xs ys p held =
@@ -158,15 +197,20 @@ later w v ne h = later_by (key_cmp (waiting_key v) (waiting_key w)) refl
     later_by Greater q = compared (waiting_key v) (waiting_key w) Greater q
 
 -- the entry that no other exceeds has the first event
-pub first_out : (s : Events) (ws rest : List Entry) (w : Entry) (e : Event Body) → Held s ws → IsPermutation ws (w ∷ rest) → IsUpperBound waiting_cmp w rest → s w.place ≡ Some e
+pub first_out : (s : Events) (ws rest : List Entry) (w : Entry) (e : Event Body) → Held s ws → IsPermutation ws (w ∷ rest)
+    → IsUpperBound waiting_cmp w rest → s w.place ≡ Some e
     → Held s rest × (in_key_order (events_at s ws) ≡ e ∷ in_key_order (events_at s rest))
 first_out s ws rest w e held p up g =
     let all = held_permuted s ws (w ∷ rest) p held in
     let others = distinct_first w rest all.distinct in
     let own = key_at s w e all.placed.0 g in
-    let after : AllByRecursion (λ x. IsBefore (event_key e) (event_key x)) (in_key_order (events_at s rest)) = keys_in_order s rest (λ k. IsBefore e.key k) all.placed.1
-    (λ v h. subst (λ k. IsBefore k (waiting_key v)) (sym own) (later w v (others v h) (all_in (λ y. is_lt (waiting_cmp w y) ≡ false) rest up v h))) in
-    (held_rest s w rest all, order_permuted s ws (w ∷ rest) p held ∙ ap in_key_order (event_first s w rest e g) ∙ put_first event_key e (in_key_order (events_at s rest)) after)
+    let after : AllByRecursion (λ x. IsBefore (event_key e) (event_key x)) (in_key_order (events_at s rest)) = keys_in_order s rest
+    (λ k. IsBefore e.key k) all.placed.1
+    (λ v h. subst (λ k. IsBefore k (waiting_key v)) (sym own) (later w v (others v h) (all_in (λ y. is_lt (waiting_cmp w y) ≡ false) rest up v h))) in (
+      held_rest s w rest all,
+      order_permuted s ws (w ∷ rest) p held ∙ ap in_key_order (event_first s w rest e g)
+          ∙ put_first event_key e (in_key_order (events_at s rest)) after,
+    )
 
 -- events stay where the entries' places do
 stays : (s t : Events) (ws : List Entry) → ((w : Entry) → IsIn w ws → t w.place ≡ s w.place) → events_at t ws ≡ events_at s ws
@@ -187,7 +231,8 @@ pub record ChangesAt (s t : Events) (place : ℕ) (new : Option (Event Body)) : 
 pub changes_by : (s t : Slab (Event Body)) (place : ℕ) (new : Option (Event Body)) → Updates s t place new → ChangesAt (get s) (get t) place new
 changes_by s t place new u = record { changed = u.changed; others = u.others }
 
-pub popped : (s t : Events) (ws rest : List Entry) (w : Entry) (e : Event Body) → Held s ws → IsPermutation ws (w ∷ rest) → IsUpperBound waiting_cmp w rest → s w.place ≡ Some e → ChangesAt s t w.place None
+pub popped : (s t : Events) (ws rest : List Entry) (w : Entry) (e : Event Body) → Held s ws → IsPermutation ws (w ∷ rest)
+    → IsUpperBound waiting_cmp w rest → s w.place ≡ Some e → ChangesAt s t w.place None
     → Held t rest × (in_key_order (events_at s ws) ≡ e ∷ in_key_order (events_at t rest))
 popped s t ws rest w e held p up g change =
     let all = held_permuted s ws (w ∷ rest) p held in
@@ -196,7 +241,9 @@ popped s t ws rest w e held p up g change =
     distinct_first w rest all.distinct v h (sym (key_at s w e all.placed.0 g) ∙ key_at s v e (all_in (IsPlaced s) rest all.placed.1 v h) (ap s q ∙ g))) in
     (held_stays s t rest kept out.0, out.1 ∙ ap (λ es. e ∷ in_key_order es) (sym (stays s t rest kept)))
 
-pub inserted : (s t : Events) (ws more : List Entry) (es : List (Event Body)) (w : Entry) (e : Event Body) → Held s ws → in_key_order (events_at s ws) ≡ es → IsNewKey event_key e.key es → waiting_key w ≡ e.key → s w.place ≡ None → ChangesAt s t w.place (Some e) → IsPermutation (w ∷ ws) more
+pub inserted : (s t : Events) (ws more : List Entry) (es : List (Event Body)) (w : Entry) (e : Event Body) → Held s ws
+    → in_key_order (events_at s ws) ≡ es → IsNewKey event_key e.key es → waiting_key w ≡ e.key → s w.place ≡ None → ChangesAt s t w.place (Some e)
+    → IsPermutation (w ∷ ws) more
     → Held t more × (in_key_order (events_at t more) ≡ put_in_order event_key e es)
 inserted s t ws more es w e held shown new key vacant change p =
     let kept : (v : Entry) → IsIn v ws → t v.place ≡ s v.place = λ v h. change.others v.place (λ q.
@@ -207,14 +254,18 @@ inserted s t ws more es w e held shown new key vacant change p =
     let at_v = event_of s v (all_in (IsPlaced s) ws held.placed v h) in
     let among : IsIn at_v.0 es = subst (IsIn at_v.0) shown (of_order_in (events_at s ws) at_v.0 (event_in s ws v at_v.0 h at_v.1)) in
     all_in (λ x. event_key x ≢ e.key) es new at_v.0 among (at_v.2 ∙ sym q ∙ key) in
-    let all : Held t (w ∷ ws) = record { placed = (own, rest.placed); distinct = distinct_more w ws others held.distinct } in
-    (held_permuted t (w ∷ ws) more p all, sym (order_permuted t (w ∷ ws) more p all) ∙ ap in_key_order (event_first t w ws e change.changed) ∙ ap (put_in_order event_key e) (ap in_key_order (stays s t ws kept) ∙ shown))
+    let all : Held t (w ∷ ws) = record { placed = (own, rest.placed); distinct = distinct_more w ws others held.distinct } in (
+      held_permuted t (w ∷ ws) more p all,
+      sym (order_permuted t (w ∷ ws) more p all) ∙ ap in_key_order (event_first t w ws e change.changed)
+          ∙ ap (put_in_order event_key e) (ap in_key_order (stays s t ws kept) ∙ shown),
+    )
 
 -- the fields of the pending events
 pub held_by : (p : Inside) → IsPlacedHeap p → Held (get p.events) (heap_items p.heap)
 held_by p is = record { placed = is.placed; distinct = is.distinct }
 
-pub placed_by : (p : Inside) → IsHeap waiting_cmp (heap_items p.heap) → Held (get p.events) (heap_items p.heap) → slab_len p.events ≡ heap_len p.heap → IsPlacedHeap p
+pub placed_by : (p : Inside) → IsHeap waiting_cmp (heap_items p.heap) → Held (get p.events) (heap_items p.heap) → slab_len p.events ≡ heap_len p.heap
+    → IsPlacedHeap p
 placed_by p heap held counted = record {
   ordered = heap;
   placed = held.placed;
@@ -231,11 +282,15 @@ pub kept_by : (p : Inside) (s : Slab (Event Body)) (ws : List Entry) → IsPlace
     → Held (get s) ws × (in_key_order (events_at (get s) ws) ≡ pending_of p)
 kept_by p s ws is items slots =
     let same : (w : Entry) → IsIn w ws → get s w.place ≡ get p.events w.place = λ w h. ap (λ l. slice_index_or l w.place None) slots in
-    let held : Held (get p.events) ws = subst (Held (get p.events)) (sym items) (held_by p is) in
-    (held_stays (get p.events) (get s) ws same held, ap in_key_order (stays (get p.events) (get s) ws same) ∙ ap (λ l. in_key_order (events_at (get p.events) l)) items)
+    let held : Held (get p.events) ws = subst (Held (get p.events)) (sym items) (held_by p is) in (
+      held_stays (get p.events) (get s) ws same held,
+      ap in_key_order (stays (get p.events) (get s) ws same)
+          ∙ ap (λ l. in_key_order (events_at (get p.events) l)) items,
+    )
 
 -- what the first event's key says
-pub first_of : {A : Type 0} (f : Key → A) (s : Events) (ws : List Entry) (w : Entry) → Held s ws → IsUpperBound waiting_cmp w ws → w ≡ slice_index_or ws 0 w → 0 < length ws
+pub first_of : {A : Type 0} (f : Key → A) (s : Events) (ws : List Entry) (w : Entry) → Held s ws → IsUpperBound waiting_cmp w ws
+    → w ≡ slice_index_or ws 0 w → 0 < length ws
     → Some (f (waiting_key w)) ≡ option_map (λ e. f e.key) (slice_get (in_key_order (events_at s ws)) 0)
 first_of f s [] w held up first some = absurd (omega (arith, some))
 first_of f s (x ∷ xs) w held up first some =
@@ -247,7 +302,8 @@ length_put : (e : Event Body) (es : List (Event Body)) → length (put_in_order 
 length_put e [] = refl
 length_put e (x ∷ xs) = length_by (is_before (event_key e) (event_key x)) (length_put e xs)
   where
-    length_by : (b : Bool) → length (put_in_order event_key e xs) ≡ length xs + 1 → length (cond b (e ∷ (x ∷ xs)) (x ∷ put_in_order event_key e xs)) ≡ length (x ∷ xs) + 1
+    length_by : (b : Bool) → length (put_in_order event_key e xs) ≡ length xs + 1
+        → length (cond b (e ∷ (x ∷ xs)) (x ∷ put_in_order event_key e xs)) ≡ length (x ∷ xs) + 1
     length_by true h = omega arith
     length_by false h = omega (arith, h)
 
@@ -256,7 +312,8 @@ pub length_ordered : (s : Events) (ws : List Entry) → AllByRecursion (IsPlaced
 length_ordered s [] all = refl
 length_ordered s (w ∷ ws) all =
     let own = event_of s w all.0 in
-    ap (λ es. length (in_key_order es)) (event_first s w ws own.0 own.1) ∙ length_put own.0 (in_key_order (events_at s ws)) ∙ length_more (length_ordered s ws all.1)
+    ap (λ es. length (in_key_order es)) (event_first s w ws own.0 own.1) ∙ length_put own.0 (in_key_order (events_at s ws))
+    ∙ length_more (length_ordered s ws all.1)
   where
     length_more : {m n : ℕ} → m ≡ n → m + 1 ≡ suc n
     length_more h = omega (arith, h)

@@ -72,11 +72,13 @@ keys_fit profile bits top h =
     }
 
 -- nodes of other numbers stand at other places
-met : (nodes : List Node) (i j : ℕ) → same_id nodes ≡ None → i < j → j < length nodes → get_or (map (λ n. n.ident) nodes) i 0 ≡ get_or (map (λ n. n.ident) nodes) j 0 → ⊥
+met : (nodes : List Node) (i j : ℕ) → same_id nodes ≡ None → i < j → j < length nodes
+    → get_or (map (λ n. n.ident) nodes) i 0 ≡ get_or (map (λ n. n.ident) nodes) j 0 → ⊥
 unfolding same_id
 met nodes i j h less within same =
     let d = first_of nodes j within in
-    let apart = no_repeat (λ x y. x.ident == y.ident) nodes d (mapped_none (λ r. SameId r.first.name r.second.name) (first_repeat (λ x y. x.ident == y.ident) [] nodes) h) i j less within in
+    let apart = no_repeat (λ x y. x.ident == y.ident) nodes d (mapped_none (λ r. SameId r.first.name r.second.name)
+    (first_repeat (λ x y. x.ident == y.ident) [] nodes) h) i j less within in
     let one = get_or-map (λ n. n.ident) nodes i d 0 (omega arith) in
     let two = get_or-map (λ n. n.ident) nodes j d 0 within in
     false≢true (sym apart ∙ eq-eqb (get_or nodes i d).ident (get_or nodes j d).ident (sym one ∙ same ∙ two))

@@ -31,7 +31,8 @@ kept_bad nodes r = by_case (link_of r)
 pub kept_unknown : (nodes : List Node) (r : Row) → keeps_unknown (kept_link nodes r) ≡ row_names_unknown nodes r
 kept_unknown nodes r = by_case (link_of r)
   where
-    by_case : (o : Option Link) → keeps_unknown (option_map (kept_of nodes) o) ≡ option_map_or (λ l. is_none (index_of l.first nodes) || is_none (index_of l.second nodes)) o false
+    by_case : (o : Option Link) → keeps_unknown (option_map (kept_of nodes) o)
+        ≡ option_map_or (λ l. is_none (index_of l.first nodes) || is_none (index_of l.second nodes)) o false
     by_case None = refl
     by_case (Some l) = refl
 
@@ -52,12 +53,15 @@ find-kept keep test own same n (r ∷ rows) =
     ]
 
 -- the first row of which a question holds, by what is kept
-pub row_fault-kept : (fault : Place → ScenarioFault) (keep : Row → Option RowLink) (test : Option RowLink → Bool) (own : Row → Bool) → ((r : Row) → test (keep r) ≡ own r) → (rows : List Row)
+pub row_fault-kept : (fault : Place → ScenarioFault) (keep : Row → Option RowLink) (test : Option RowLink → Bool) (own : Row → Bool)
+    → ((r : Row) → test (keep r) ≡ own r) → (rows : List Row)
     → row_fault fault test (map keep rows) ≡ row_fault fault own rows
 row_fault-kept fault keep test own same rows =
-    ap (option_map (λ (p : ℕ × Option RowLink). fault (place.Row p.0))) (find-kept keep test own same 1 rows) ∙ twice (find (λ p. own p.1) (enumerate_from 1 rows))
+    ap (option_map (λ (p : ℕ × Option RowLink). fault (place.Row p.0))) (find-kept keep test own same 1 rows)
+    ∙ twice (find (λ p. own p.1) (enumerate_from 1 rows))
   where
-    twice : (o : Option (ℕ × Row)) → option_map (λ (p : ℕ × Option RowLink). fault (place.Row p.0)) (option_map (λ (p : ℕ × Row). (p.0, keep p.1)) o) ≡ option_map (λ (p : ℕ × Row). fault (place.Row p.0)) o
+    twice : (o : Option (ℕ × Row)) → option_map (λ (p : ℕ × Option RowLink). fault (place.Row p.0)) (option_map (λ (p : ℕ × Row). (p.0, keep p.1)) o)
+        ≡ option_map (λ (p : ℕ × Row). fault (place.Row p.0)) o
     twice None = refl
     twice (Some p) = refl
 

@@ -1,5 +1,36 @@
 -- What a file without faults says of its latencies.
-use Rattle.std.proofs.Common.{◌≡◌, ◌≢◌, ap, refl, ℕ, zero, suc, ◌+◌, ◌*◌, ◌<◌, ◌≤◌, Bool, true, false, List, [], ◌∷◌, length, find, get_or, nat_lt, ◌==◌, Option, Some, None, option_map, unwrap_or, inl, inr, arith}
+use Rattle.std.proofs.Common.{
+  ◌≡◌,
+  ◌≢◌,
+  ap,
+  refl,
+  ℕ,
+  zero,
+  suc,
+  ◌+◌,
+  ◌*◌,
+  ◌<◌,
+  ◌≤◌,
+  Bool,
+  true,
+  false,
+  List,
+  [],
+  ◌∷◌,
+  length,
+  find,
+  get_or,
+  nat_lt,
+  ◌==◌,
+  Option,
+  Some,
+  None,
+  option_map,
+  unwrap_or,
+  inl,
+  inr,
+  arith,
+}
 use Rattle.std.specs.Option.{option_and_then}
 use Rattle.std.proofs.lemmas.Bool.{cases_Bool, eqb-false}
 use Rattle.std.proofs.lemmas.Bool.Decides.{nat_tests}
@@ -39,7 +70,8 @@ passed test (y ∷ ys) d (suc k) h within =
     ]
 
 -- none of a list meets a later one
-no_meeting : (meets : Node → Node → Bool) (nodes : List Node) (d : Node) → first_meeting meets nodes ≡ None → (i j : ℕ) → i < j → j < length nodes → meets (get_or nodes i d) (get_or nodes j d) ≡ false
+no_meeting : (meets : Node → Node → Bool) (nodes : List Node) (d : Node) → first_meeting meets nodes ≡ None → (i j : ℕ) → i < j → j < length nodes
+    → meets (get_or nodes i d) (get_or nodes j d) ≡ false
 no_meeting meets [] d h i j less within = absurd (omega arith)
 no_meeting meets (x ∷ xs) d h i zero less within = absurd (omega arith)
 no_meeting meets (x ∷ xs) d h zero (suc j) less within =
@@ -63,17 +95,21 @@ row_latency-bounded default rows x y good most = by_case (find (names_pair x.nam
         let g = find-good (names_pair x.name y.name) rows r good e in
         rw (row_latency-found x.name y.name rows r g e) g.bounded
 
-module _ (sc : Setup) (rows : List Row) (has : HasLatencies sc.nodes rows sc.latencies) (good : bad_latency_row rows ≡ None) (distinct : same_name sc.nodes ≡ None)
+module _ (sc : Setup) (rows : List Row) (has : HasLatencies sc.nodes rows sc.latencies) (good : bad_latency_row rows ≡ None)
+    (distinct : same_name sc.nodes ≡ None)
     (near : latency_below_window sc.window sc.latency sc.nodes rows ≡ None) (least : 1 ≤ sc.latency) (most : sc.latency ≤ 1000000000) where
-  between : (i j : ℕ) (d : Node) → i ≢ j → i < node_count sc → j < node_count sc → latency sc i j ≡ latency_by_rows sc.latency rows (get_or sc.nodes i d) (get_or sc.nodes j d)
+  between : (i j : ℕ) (d : Node) → i ≢ j → i < node_count sc → j < node_count sc
+      → latency sc i j ≡ latency_by_rows sc.latency rows (get_or sc.nodes i d) (get_or sc.nodes j d)
   between i j d apart hi hj =
-      latency-between rows sc i j (get_or sc.nodes i d) (get_or sc.nodes j d) has good distinct apart (slice_get-get_or sc.nodes i d hi) (slice_get-get_or sc.nodes j d hj)
+      latency-between rows sc i j (get_or sc.nodes i d) (get_or sc.nodes j d) has good distinct apart (slice_get-get_or sc.nodes i d hi)
+      (slice_get-get_or sc.nodes j d hj)
 
   far_from : (i j : ℕ) (d : Node) → i < j → j < node_count sc → sc.window ≤ latency_by_rows sc.latency rows (get_or sc.nodes i d) (get_or sc.nodes j d)
   unfolding latency_below_window
   far_from i j d less within =
       let meets = λ (x y : Node). nat_lt (latency_by_rows sc.latency rows x y) sc.window in
-      let far = no_meeting meets sc.nodes d (mapped_none (λ (p : Node × Node). LatencyBelowWindow p.0.name p.1.name) (first_meeting meets sc.nodes) near) i j less within in
+      let far = no_meeting meets sc.nodes d (mapped_none (λ (p : Node × Node). LatencyBelowWindow p.0.name p.1.name) (first_meeting meets sc.nodes)
+      near) i j less within in
       grind (arith, nat_tests)
 
   windows : (i j : ℕ) (d : Node) → i < node_count sc → j < node_count sc → i ≢ j → sc.window ≤ latency sc i j
@@ -82,7 +118,8 @@ module _ (sc : Setup) (rows : List Row) (has : HasLatencies sc.nodes rows sc.lat
         | yes less ↦ rw (between i j d apart hi hj) (far_from i j d less hj)
         | no not_less ↦
             let more : j < i = omega arith in
-            let swapped : latency_by_rows sc.latency rows (get_or sc.nodes i d) (get_or sc.nodes j d) ≡ latency_by_rows sc.latency rows (get_or sc.nodes j d) (get_or sc.nodes i d)
+            let swapped : latency_by_rows sc.latency rows (get_or sc.nodes i d) (get_or sc.nodes j d)
+            ≡ latency_by_rows sc.latency rows (get_or sc.nodes j d) (get_or sc.nodes i d)
             = ap (λ o. unwrap_or o sc.latency) (row_latency-swap (get_or sc.nodes i d).name (get_or sc.nodes j d).name rows) in
             rw (between i j d apart hi hj, swapped) (far_from j i d more hi)
       ]
@@ -96,7 +133,8 @@ module _ (sc : Setup) (rows : List Row) (has : HasLatencies sc.nodes rows sc.lat
       elim (cases_Bool (i == j)) [
         | inl same ↦ rw (to_itself i j same) (omega arith)
         | inr apart ↦
-            rw (between i j d (eqb-false i j apart) hi hj) (row_latency-bounded sc.latency rows (get_or sc.nodes i d) (get_or sc.nodes j d) (bad_latency_row-none rows good) most)
+            rw (between i j d (eqb-false i j apart) hi hj) (row_latency-bounded sc.latency rows (get_or sc.nodes i d) (get_or sc.nodes j d)
+            (bad_latency_row-none rows good) most)
       ]
 
   positive : (i j : ℕ) → 1 ≤ latency sc i j

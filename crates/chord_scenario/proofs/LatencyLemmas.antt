@@ -1,5 +1,41 @@
 -- How a square of latencies grows by one row.
-use Rattle.std.proofs.Common.{◌≡◌, ◌∙◌, sym, ap, subst, ℕ, ◌+◌, ◌*◌, ◌<◌, ◌≤◌, Bool, true, false, ◌&&◌, ◌||◌, List, [], ◌∷◌, ◌++◌, length, get_or, set, find, Option, Some, None, bytes_eq, option_and_then, unwrap_or, inl, inr, ◌⊎◌, ◌==◌, arith, refl}
+use Rattle.std.proofs.Common.{
+  ◌≡◌,
+  ◌∙◌,
+  sym,
+  ap,
+  subst,
+  ℕ,
+  ◌+◌,
+  ◌*◌,
+  ◌<◌,
+  ◌≤◌,
+  Bool,
+  true,
+  false,
+  ◌&&◌,
+  ◌||◌,
+  List,
+  [],
+  ◌∷◌,
+  ◌++◌,
+  length,
+  get_or,
+  set,
+  find,
+  Option,
+  Some,
+  None,
+  bytes_eq,
+  option_and_then,
+  unwrap_or,
+  inl,
+  inr,
+  ◌⊎◌,
+  ◌==◌,
+  arith,
+  refl,
+}
 use Rattle.std.specs.Option.{option_or, option_map_or}
 use Rattle.std.proofs.lemmas.Bool.{cases_Bool, and_parts, false≢true, eqb-true, eqb-false}
 use Rattle.std.proofs.lemmas.Option.{same_Some}
@@ -99,7 +135,14 @@ good-not_bad r h = good_link (link_of r) refl h
   where
     good_latency : (l : Link) (o : Option ℕ) → link_of r ≡ Some l → l.latency ≡ o → is_none o ≡ false → IsGood r
     good_latency l None e f g = absurd (false≢true (sym g))
-    good_latency l (Some n) e f g = let (low, high) = link_latency-range r l n e f in record { link = l; latency = n; is = e; has = f; some = low; bounded = high }
+    good_latency l (Some n) e f g = let (low, high) = link_latency-range r l n e f in record {
+      link = l;
+      latency = n;
+      is = e;
+      has = f;
+      some = low;
+      bounded = high;
+    }
 
     good_link : (o : Option Link) → link_of r ≡ o → option_map_or (λ l. is_none l.latency) o true ≡ false → IsGood r
     good_link None e g = absurd (false≢true (sym g))
@@ -177,7 +220,8 @@ joins-itself : (l : Link) → joins l.first l.second l ≡ true
 joins-itself l = rw (same_bytes l.first, same_bytes l.second)
 
 joins-itself-back : (l : Link) → joins l.second l.first l ≡ true
-joins-itself-back l = or_swap (bytes_eq l.first l.second && bytes_eq l.second l.first) (bytes_eq l.first l.first && bytes_eq l.second l.second) ∙ rw (same_bytes l.first, same_bytes l.second)
+joins-itself-back l = or_swap (bytes_eq l.first l.second && bytes_eq l.second l.first) (bytes_eq l.first l.first && bytes_eq l.second l.second)
+    ∙ rw (same_bytes l.first, same_bytes l.second)
 
 module _ (nodes : List Node) (rows : List Row) (r : Row) (e : Ends) (cells : List ℕ) (has : HasLatencies nodes rows cells) (ends : IsEndsOf nodes r e) where
   abbrev n : ℕ
@@ -195,7 +239,8 @@ module _ (nodes : List Node) (rows : List Row) (r : Row) (e : Ends) (cells : Lis
 
   unnamed-old : (a b : List ℕ) → names_pair a b r ≡ false → row_latency a b (rows ++ r ∷ []) ≡ row_latency a b rows
   unnamed-old a b other =
-      let kept : find (names_pair a b) (rows ++ r ∷ []) ≡ find (names_pair a b) rows = find-append (names_pair a b) rows (r ∷ []) ∙ rw other (or_none (find (names_pair a b) rows)) in
+      let kept : find (names_pair a b) (rows ++ r ∷ []) ≡ find (names_pair a b) rows = find-append (names_pair a b) rows (r ∷ [])
+      ∙ rw other (or_none (find (names_pair a b) rows)) in
       ap (λ o. option_and_then (λ (l : Link). l.latency) (option_and_then link_of o)) kept
     where
       or_none : (o : Option Row) → option_or o None ≡ o
@@ -229,9 +274,11 @@ module _ (nodes : List Node) (rows : List Row) (r : Row) (e : Ends) (cells : Lis
           named_cell (inr (one, two)) =
               let row : i ≡ e.second = same_Some _ _ (sym ia ∙ ap (λ x. index_of x nodes) (sym two) ∙ ends.second) in
               let column : j ≡ e.first = same_Some _ _ (sym ib ∙ ap (λ x. index_of x nodes) (sym one) ∙ ends.first) in
-              let within : e.second * n + e.first < length (set cells (e.first * n + e.second) e.latency) = rw (length-set, has.size) (cell-within n e.second e.first second_below first_below) in
+              let within : e.second * n + e.first < length (set cells (e.first * n + e.second) e.latency) = rw (length-set, has.size)
+              (cell-within n e.second e.first second_below first_below) in
               let unnamed : find (names_pair a b) rows ≡ None = find-swap a b rows ∙ rw (← one, ← two) none in
-              rw (row, column) (get_or-set_same (set cells (e.first * n + e.second) e.latency) (e.second * n + e.first) e.latency 0 within) ∙ sym (named-new a b unnamed named)
+              rw (row, column) (get_or-set_same (set cells (e.first * n + e.second) e.latency) (e.second * n + e.first) e.latency 0 within)
+              ∙ sym (named-new a b unnamed named)
       cell_is a b i j ia ib (inr other) =
           writes-other cells (e.first * n + e.second) (e.second * n + e.first) e.latency (i * n + j) not_first not_second
           ∙ has.cell a b i j ia ib ∙ sym (ap (λ o. unwrap_or o 0) (unnamed-old a b other))

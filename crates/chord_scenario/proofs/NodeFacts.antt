@@ -1,5 +1,44 @@
 -- What a file without faults says of its nodes and commands.
-use Rattle.std.proofs.Common.{◌≡◌, ◌∙◌, sym, ap, refl, ℕ, zero, suc, ◌+◌, ◌<◌, ◌≤◌, ◌^◌, Bool, true, false, ◌&&◌, ◌||◌, List, [], ◌∷◌, ◌++◌, length, map, filter, find, get_or, slice_get, nat_le, nat_lt, Option, Some, None, option_map, unwrap_or, inl, inr, arith, count_by}
+use Rattle.std.proofs.Common.{
+  ◌≡◌,
+  ◌∙◌,
+  sym,
+  ap,
+  refl,
+  ℕ,
+  zero,
+  suc,
+  ◌+◌,
+  ◌<◌,
+  ◌≤◌,
+  ◌^◌,
+  Bool,
+  true,
+  false,
+  ◌&&◌,
+  ◌||◌,
+  List,
+  [],
+  ◌∷◌,
+  ◌++◌,
+  length,
+  map,
+  filter,
+  find,
+  get_or,
+  slice_get,
+  nat_le,
+  nat_lt,
+  Option,
+  Some,
+  None,
+  option_map,
+  unwrap_or,
+  inl,
+  inr,
+  arith,
+  count_by,
+}
 use Rattle.std.specs.Option.{option_and_then}
 use Rattle.std.specs.List.{AllByRecursion, list_any, enumerate_from}
 use Rattle.std.proofs.lemmas.Bool.{cases_Bool, false≢true, ltb-true}
@@ -16,7 +55,21 @@ use Rattle.toml.specs.Data.{Members}
 use Rattle.chord_scenario.specs.Values.{data_at, number_at, truth_at, identifier_of}
 use Rattle.chord_scenario.specs.Sections.{Section}
 use Rattle.chord_scenario.specs.Search.{first_repeat, repeat_of}
-use Rattle.chord_scenario.specs.Settings.{on_circle, is_node, is_command, name_at, node_of, nodes_of, index_of, node_at, operation_at, action_by, action_of, command_of, commands_of}
+use Rattle.chord_scenario.specs.Settings.{
+  on_circle,
+  is_node,
+  is_command,
+  name_at,
+  node_of,
+  nodes_of,
+  index_of,
+  node_at,
+  operation_at,
+  action_by,
+  action_of,
+  command_of,
+  commands_of,
+}
 use Rattle.chord_scenario.specs.KeyFaults.{is_churn_section}
 use Rattle.chord_scenario.specs.Faults.{too_few_initial, time_after_end}
 use Rattle.chord_scenario.specs.Range.{IsActionOf, IsCommandOf}
@@ -38,13 +91,16 @@ module _ {A : Type 0} (alike : A → A → Bool) where
       ]
 
   -- each of those before is unlike each that follows
-  unlike : (before xs : List A) (d : A) → first_repeat alike before xs ≡ None → (j : ℕ) → j < length xs → AllByRecursion (λ x. alike x (get_or xs j d) ≡ false) before
+  unlike : (before xs : List A) (d : A) → first_repeat alike before xs ≡ None → (j : ℕ) → j < length xs
+      → AllByRecursion (λ x. alike x (get_or xs j d) ≡ false) before
   unlike before [] d h j within = absurd (omega arith)
   unlike before (y ∷ ys) d h zero within =
-      let (none, rest) = or_none (option_map (repeat_of y (length before + 1)) (find (λ x. alike x.1 y) (enumerate_from 1 before))) (first_repeat alike (before ++ y ∷ []) ys) h in
+      let (none, rest) = or_none (option_map (repeat_of y (length before + 1)) (find (λ x. alike x.1 y) (enumerate_from 1 before)))
+      (first_repeat alike (before ++ y ∷ []) ys) h in
       find-none-each y 1 before (mapped_none (repeat_of y (length before + 1)) (find (λ x. alike x.1 y) (enumerate_from 1 before)) none)
   unlike before (y ∷ ys) d h (suc j) within =
-      let (none, rest) = or_none (option_map (repeat_of y (length before + 1)) (find (λ x. alike x.1 y) (enumerate_from 1 before))) (first_repeat alike (before ++ y ∷ []) ys) h in
+      let (none, rest) = or_none (option_map (repeat_of y (length before + 1)) (find (λ x. alike x.1 y) (enumerate_from 1 before)))
+      (first_repeat alike (before ++ y ∷ []) ys) h in
       front _ before (y ∷ []) (unlike (before ++ y ∷ []) ys d rest j (omega arith))
     where
       front : (P : A → Type 0) (xs zs : List A) → AllByRecursion P (xs ++ zs) → AllByRecursion P xs
@@ -56,18 +112,21 @@ module _ {A : Type 0} (alike : A → A → Bool) where
   at P (x ∷ xs) zero d h within = h.0
   at P (x ∷ xs) (suc i) d h within = at P xs i d h.1 (omega arith)
 
-  no_repeat-from : (before xs : List A) (d : A) → first_repeat alike before xs ≡ None → (i j : ℕ) → i < j → j < length xs → alike (get_or xs i d) (get_or xs j d) ≡ false
+  no_repeat-from : (before xs : List A) (d : A) → first_repeat alike before xs ≡ None → (i j : ℕ) → i < j → j < length xs
+      → alike (get_or xs i d) (get_or xs j d) ≡ false
   no_repeat-from before [] d h i j less within = absurd (omega arith)
   no_repeat-from before (y ∷ ys) d h i zero less within = absurd (omega arith)
   no_repeat-from before (y ∷ ys) d h zero (suc j) less within =
-      let (none, rest) = or_none (option_map (repeat_of y (length before + 1)) (find (λ x. alike x.1 y) (enumerate_from 1 before))) (first_repeat alike (before ++ y ∷ []) ys) h in
+      let (none, rest) = or_none (option_map (repeat_of y (length before + 1)) (find (λ x. alike x.1 y) (enumerate_from 1 before)))
+      (first_repeat alike (before ++ y ∷ []) ys) h in
       last before y (λ x. alike x (get_or ys j d) ≡ false) (unlike (before ++ y ∷ []) ys d rest j (omega arith))
     where
       last : (xs : List A) (y : A) (P : A → Type 0) → AllByRecursion P (xs ++ y ∷ []) → P y
       last [] y P h = h.0
       last (x ∷ xs) y P h = last xs y P h.1
   no_repeat-from before (y ∷ ys) d h (suc i) (suc j) less within =
-      let (none, rest) = or_none (option_map (repeat_of y (length before + 1)) (find (λ x. alike x.1 y) (enumerate_from 1 before))) (first_repeat alike (before ++ y ∷ []) ys) h in
+      let (none, rest) = or_none (option_map (repeat_of y (length before + 1)) (find (λ x. alike x.1 y) (enumerate_from 1 before)))
+      (first_repeat alike (before ++ y ∷ []) ys) h in
       no_repeat-from (before ++ y ∷ []) ys d rest i j (omega arith) (omega arith)
 
   -- no two of a list without a repeat are alike
@@ -101,7 +160,8 @@ churns_from bits s ss n (suc k) churns here later h = or_later (is_churn_section
     or_later true b e = refl
     or_later false b e = e
 
-churns_among : (bits : ℕ) (ss : List Section) (n : Node) → n.churn ≡ true → (i : ℕ) → slice_get (nodes_among bits ss) i ≡ Some n → list_any is_churn_section ss ≡ true
+churns_among : (bits : ℕ) (ss : List Section) (n : Node) → n.churn ≡ true → (i : ℕ) → slice_get (nodes_among bits ss) i ≡ Some n
+    → list_any is_churn_section ss ≡ true
 churns_among bits [] n churns i h = absurd (cc)
 churns_among bits (s ∷ ss) n churns i h =
     elim (cases_Bool (is_node s.at)) [
@@ -109,7 +169,8 @@ churns_among bits (s ∷ ss) n churns i h =
       | inr other ↦ rw other (churns_among bits ss n churns i (rw other at h))
     ]
 
-pub a_node_churns : (sc : Setup) (bits : ℕ) (ss : List Section) (i : ℕ) → sc.nodes ≡ nodes_of bits ss → is_churn_node sc i ≡ true → list_any is_churn_section ss ≡ true
+pub a_node_churns : (sc : Setup) (bits : ℕ) (ss : List Section) (i : ℕ) → sc.nodes ≡ nodes_of bits ss → is_churn_node sc i ≡ true
+    → list_any is_churn_section ss ≡ true
 unfolding nodes_of is_churn_node
 a_node_churns sc bits ss i nodes h = by_case (slice_get sc.nodes i) refl h
   where
@@ -164,4 +225,5 @@ module _ (sc : Setup) (some : 0 < node_count sc) where
 
   pub commands_fit : (ss : List Section) → time_after_end sc.duration ss ≡ None → AllByRecursion (IsCommandOf sc) (commands_of sc.bits sc.nodes ss)
   unfolding commands_of time_after_end
-  commands_fit ss h = commands_fit-each ss (mapped_none (λ (s : Section). TimeAfterEnd s.at) (find (λ s. is_command s.at && nat_le sc.duration (number_at key.AtUs s.members)) ss) h)
+  commands_fit ss h = commands_fit-each ss (mapped_none (λ (s : Section). TimeAfterEnd s.at)
+      (find (λ s. is_command s.at && nat_le sc.duration (number_at key.AtUs s.members)) ss) h)

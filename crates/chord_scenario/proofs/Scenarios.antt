@@ -21,13 +21,15 @@ node_questions-distinct ss nodes h =
     (or_none (same_name nodes) (option_or (same_id nodes) None) rest).0
 
 -- the latency of two different nodes is that of the rows
-pub latency-between : (rows : List Row) (sc : Setup) (i j : ℕ) (x y : Node) → HasLatencies sc.nodes rows sc.latencies → bad_latency_row rows ≡ None → same_name sc.nodes ≡ None
+pub latency-between : (rows : List Row) (sc : Setup) (i j : ℕ) (x y : Node) → HasLatencies sc.nodes rows sc.latencies → bad_latency_row rows ≡ None
+    → same_name sc.nodes ≡ None
     → i ≢ j → slice_get sc.nodes i ≡ Some x → slice_get sc.nodes j ≡ Some y → latency sc i j ≡ latency_by_rows sc.latency rows x y
 unfolding latency
 latency-between rows sc i j x y has good distinct apart hx hy =
     let wi = slice_get_within sc.nodes i x hx in
     let wj = slice_get_within sc.nodes j y hy in
-    rw (ne_eqb i j apart) (latency_in-between sc.nodes rows sc.latencies sc.latency i j x y has good distinct wi wj (at_place sc.nodes i x hx wi) (at_place sc.nodes j y hy wj))
+    rw (ne_eqb i j apart) (latency_in-between sc.nodes rows sc.latencies sc.latency i j x y has good distinct wi wj (at_place sc.nodes i x hx wi)
+    (at_place sc.nodes j y hy wj))
 
 pub scenario_fault-not : (toml csv : List ℕ) → document toml ≡ None → scenario_fault toml csv ≡ Some NotToml
 unfolding scenario_fault

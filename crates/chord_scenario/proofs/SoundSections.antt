@@ -14,7 +14,17 @@ use Rattle.chord_scenario.specs.FileKeys.{keys_at}
 use Rattle.chord_scenario.specs.Values.{data_at, as_whole, is_between, is_in_range}
 use Rattle.chord_scenario.specs.Sections.{Section, table_at, tables_of, sections}
 use Rattle.chord_scenario.specs.Search.{first_some}
-use Rattle.chord_scenario.specs.KeyFaults.{key_fault_in, is_churn_section, is_missing, unknown_key, missing_key, has_wrong_type, wrong_type, is_out_of_range, out_of_range}
+use Rattle.chord_scenario.specs.KeyFaults.{
+  key_fault_in,
+  is_churn_section,
+  is_missing,
+  unknown_key,
+  missing_key,
+  has_wrong_type,
+  wrong_type,
+  is_out_of_range,
+  out_of_range,
+}
 use Rattle.chord_scenario.specs.Faults.{first_answer}
 use Rattle.chord_scenario.specs.Groups.{key_questions}
 use Rattle.chord_scenario.proofs.FirstRepeat.{mapped_none}
@@ -41,19 +51,25 @@ sound_each : (profile bits : ℕ) (churns : Bool) (ss : List Section)
     → AllByRecursion (IsSound profile bits churns) ss
 sound_each profile bits churns [] missing wrong out = tt
 sound_each profile bits churns (s ∷ ss) missing wrong out =
-    let (m, ms) = or_none (key_fault_in profile MissingKey (is_missing churns) s) (first_some (key_fault_in profile MissingKey (is_missing churns)) ss) missing in
+    let (m, ms) = or_none (key_fault_in profile MissingKey (is_missing churns) s)
+    (first_some (key_fault_in profile MissingKey (is_missing churns)) ss) missing in
     let (w, ws) = or_none (key_fault_in profile WrongType has_wrong_type s) (first_some (key_fault_in profile WrongType has_wrong_type) ss) wrong in
-    let (o, os) = or_none (key_fault_in profile OutOfRange (is_out_of_range bits) s) (first_some (key_fault_in profile OutOfRange (is_out_of_range bits)) ss) out in (
+    let (o, os) = or_none (key_fault_in profile OutOfRange (is_out_of_range bits) s)
+    (first_some (key_fault_in profile OutOfRange (is_out_of_range bits)) ss) out in (
       record {
-        present = find-none-each (is_missing churns s) (keys_at profile s.at) (mapped_none (λ (e : Entry). MissingKey s.at e.0) (find (is_missing churns s) (keys_at profile s.at)) m);
-        typed = find-none-each (has_wrong_type s) (keys_at profile s.at) (mapped_none (λ (e : Entry). WrongType s.at e.0) (find (has_wrong_type s) (keys_at profile s.at)) w);
-        fitting = find-none-each (is_out_of_range bits s) (keys_at profile s.at) (mapped_none (λ (e : Entry). OutOfRange s.at e.0) (find (is_out_of_range bits s) (keys_at profile s.at)) o);
+        present = find-none-each (is_missing churns s) (keys_at profile s.at)
+            (mapped_none (λ (e : Entry). MissingKey s.at e.0) (find (is_missing churns s) (keys_at profile s.at)) m);
+        typed = find-none-each (has_wrong_type s) (keys_at profile s.at)
+            (mapped_none (λ (e : Entry). WrongType s.at e.0) (find (has_wrong_type s) (keys_at profile s.at)) w);
+        fitting = find-none-each (is_out_of_range bits s) (keys_at profile s.at)
+            (mapped_none (λ (e : Entry). OutOfRange s.at e.0) (find (is_out_of_range bits s) (keys_at profile s.at)) o);
       },
       sound_each profile bits churns ss ms ws os,
     )
 
 -- no question of keys has an answer, so each table is sound
-pub sound_sections : (profile bits : ℕ) (ss : List Section) → first_answer (key_questions profile bits ss) ≡ None → AllByRecursion (IsSound profile bits (list_any is_churn_section ss)) ss
+pub sound_sections : (profile bits : ℕ) (ss : List Section) → first_answer (key_questions profile bits ss) ≡ None
+    → AllByRecursion (IsSound profile bits (list_any is_churn_section ss)) ss
 unfolding missing_key wrong_type out_of_range
 sound_sections profile bits ss h =
     let known = (or_none (unknown_key profile ss) _ h).1 in
@@ -87,7 +103,8 @@ holds_in_file P file h =
     record { top = of_top.0; churn = of_churn; lookups = of_lookups }
 
 -- a whole number that is in range
-whole_fits : (bits least greatest default : ℕ) (d : Data) → is_in_range bits (Whole least greatest) d ≡ true → is_between least greatest (unwrap_or (as_whole d) default) ≡ true
+whole_fits : (bits least greatest default : ℕ) (d : Data) → is_in_range bits (Whole least greatest) d ≡ true
+    → is_between least greatest (unwrap_or (as_whole d) default) ≡ true
 unfolding is_in_range
 whole_fits bits least greatest default d h = by_case (as_whole d) h
   where
@@ -109,7 +126,8 @@ between-fits least greatest n h =
     record { low = leb-true least n low; high = leb-true n greatest high }
 
 -- a number that has to be there
-pub number_fits : (bits least greatest : ℕ) (agrees : Data → Bool) (o : Option Data) → is_none o ≡ false → option_map_or (λ d. not (is_in_range bits (Whole least greatest) d && agrees d)) o false ≡ false
+pub number_fits : (bits least greatest : ℕ) (agrees : Data → Bool) (o : Option Data) → is_none o ≡ false
+    → option_map_or (λ d. not (is_in_range bits (Whole least greatest) d && agrees d)) o false ≡ false
     → Fits least greatest (unwrap_or (option_and_then as_whole o) 0)
 number_fits bits least greatest agrees None there h = absurd (false≢true (sym there))
 number_fits bits least greatest agrees (Some d) there h =
@@ -126,12 +144,14 @@ default_fits bits least greatest default agrees (Some d) own h =
     between-fits least greatest (unwrap_or (as_whole d) default) (whole_fits bits least greatest default d fits)
 
 -- a number agrees with the others of its table
-pub number_agrees : (fits : Data → Bool) (agrees : ℕ → Bool) (o : Option Data) → is_none o ≡ false → option_map_or (λ d. not (fits d && agrees (unwrap_or (as_whole d) 0))) o false ≡ false
+pub number_agrees : (fits : Data → Bool) (agrees : ℕ → Bool) (o : Option Data) → is_none o ≡ false
+    → option_map_or (λ d. not (fits d && agrees (unwrap_or (as_whole d) 0))) o false ≡ false
     → agrees (unwrap_or (option_and_then as_whole o) 0) ≡ true
 number_agrees fits agrees None there h = absurd (false≢true (sym there))
 number_agrees fits agrees (Some d) there h = (and_parts (fits d) (agrees (unwrap_or (as_whole d) 0)) (not_false _ h)).1
 
 -- the value that has to be there has its type
-pub there_typed : (typed : Data → Bool) (o : Option Data) → is_none o ≡ false → option_map_or (λ d. not (typed d)) o false ≡ false → (d : Data) × (o ≡ Some d) × (typed d ≡ true)
+pub there_typed : (typed : Data → Bool) (o : Option Data) → is_none o ≡ false → option_map_or (λ d. not (typed d)) o false ≡ false
+    → (d : Data) × (o ≡ Some d) × (typed d ≡ true)
 there_typed typed None there h = absurd (false≢true (sym there))
 there_typed typed (Some d) there h = (d, refl, not_false _ h)

@@ -1,5 +1,37 @@
 -- What a file without faults of keys says of its numbers, spans and tables.
-use Rattle.std.proofs.Common.{◌≡◌, ◌∙◌, sym, ap, refl, ℕ, ◌+◌, ◌*◌, ◌≤◌, Bool, true, false, not, ◌&&◌, List, [], ◌∷◌, ◌++◌, length, filter, nat_le, Option, Some, None, IfSome, IsSome, option_map, inl, inr, arith, length-append}
+use Rattle.std.proofs.Common.{
+  ◌≡◌,
+  ◌∙◌,
+  sym,
+  ap,
+  refl,
+  ℕ,
+  ◌+◌,
+  ◌*◌,
+  ◌≤◌,
+  Bool,
+  true,
+  false,
+  not,
+  ◌&&◌,
+  List,
+  [],
+  ◌∷◌,
+  ◌++◌,
+  length,
+  filter,
+  nat_le,
+  Option,
+  Some,
+  None,
+  IfSome,
+  IsSome,
+  option_map,
+  inl,
+  inr,
+  arith,
+  length-append,
+}
 use Rattle.std.specs.Option.{option_map_or, option_and_then, is_some}
 use Rattle.std.specs.List.{AllByRecursion}
 use Rattle.std.proofs.lemmas.Bool.{cases_Bool, and_parts, false≢true, leb-true}
@@ -84,7 +116,10 @@ module _ (profile bits : ℕ) (churns : Bool) (top : Members) (s : IsSound profi
 module _ (profile bits : ℕ) (churns : Bool) where
   -- the spans of a churn table and of a lookups table
   churn_fits : (o : Option Data) → AllByRecursion (IsSound profile bits churns) (table_at place.Churn o)
-      → IfSome (option_map (λ ms. record { life = record { least = number_at key.LifeMinUs ms; greatest = number_at key.LifeMaxUs ms }; down = record { least = number_at key.DownMinUs ms; greatest = number_at key.DownMaxUs ms } }) (option_and_then as_table o)) IsChurn
+      → IfSome (option_map (λ ms. record {
+        life = record { least = number_at key.LifeMinUs ms; greatest = number_at key.LifeMaxUs ms };
+        down = record { least = number_at key.DownMinUs ms; greatest = number_at key.DownMaxUs ms };
+      }) (option_and_then as_table o)) IsChurn
   churn_fits None h = tt
   churn_fits (Some (string s)) h = tt
   churn_fits (Some (integer z)) h = tt
@@ -168,12 +203,23 @@ module _ (test : Place → Bool) where
   chosen-among : (g : Group) (n : ℕ) (ds : Items) → length (chosen (tables_among g n ds)) ≤ item_count ds
   chosen-among g n no_items = omega arith
   chosen-among g n (item d ds) =
-      omega (arith, chosen-append (table_at (place_in g n) (Some d)) (tables_among g (n + 1) ds), chosen-table (place_in g n) (Some d), chosen-among g (n + 1) ds)
+      omega (
+        arith,
+        chosen-append (table_at (place_in g n) (Some d)) (tables_among g (n + 1) ds),
+        chosen-table (place_in g n) (Some d),
+        chosen-among g
+            (n + 1) ds,
+      )
 
   chosen-none_among : (g : Group) → ((n : ℕ) → test (place_in g n) ≡ false) → (n : ℕ) (ds : Items) → length (chosen (tables_among g n ds)) ≡ 0
   chosen-none_among g out n no_items = refl
   chosen-none_among g out n (item d ds) =
-      omega (arith, chosen-append (table_at (place_in g n) (Some d)) (tables_among g (n + 1) ds), chosen-no_table (place_in g n) (out n) (Some d), chosen-none_among g out (n + 1) ds)
+      omega (
+        arith,
+        chosen-append (table_at (place_in g n) (Some d)) (tables_among g (n + 1) ds),
+        chosen-no_table (place_in g n) (out n) (Some d),
+        chosen-none_among g out (n + 1) ds,
+      )
 
   chosen-none_of : (g : Group) → ((n : ℕ) → test (place_in g n) ≡ false) → (o : Option Data) → length (chosen (tables_of g o)) ≡ 0
   chosen-none_of g out None = refl
@@ -197,7 +243,8 @@ module _ (test : Place → Bool) where
   chosen-most_of g bits least greatest agrees (Some (datetime t)) h = omega arith
   chosen-most_of g bits least greatest agrees (Some (table ms)) h = omega arith
   chosen-most_of g bits least greatest agrees (Some (array ds)) h =
-      let (fits, agree) = and_parts (is_between least greatest (item_count ds)) (agrees (array ds)) (kept (is_between least greatest (item_count ds) && agrees (array ds)) h) in
+      let (fits, agree) = and_parts (is_between least greatest (item_count ds)) (agrees (array ds))
+      (kept (is_between least greatest (item_count ds) && agrees (array ds)) h) in
       let (low, high) = and_parts (nat_le least (item_count ds)) (nat_le (item_count ds) greatest) fits in
       omega (arith, chosen-among g 1 ds, leb-true (item_count ds) greatest high)
     where
@@ -206,7 +253,8 @@ module _ (test : Place → Bool) where
       kept false e = absurd (false≢true (sym e))
 
   chosen-sections : (top : Members) → test place.Top ≡ false → test place.Churn ≡ false → test place.Lookups ≡ false
-      → length (chosen (sections top)) ≡ length (chosen (tables_of Nodes (data_at key.Node top))) + length (chosen (tables_of Commands (data_at key.Command top)))
+      → length (chosen (sections top)) ≡ length (chosen (tables_of Nodes (data_at key.Node top))) + length
+      (chosen (tables_of Commands (data_at key.Command top)))
   unfolding sections
   chosen-sections top not_top not_churn not_lookups =
       let first = record { at = place.Top; members = top } ∷ [] in

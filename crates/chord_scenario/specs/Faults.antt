@@ -1,5 +1,30 @@
 -- The fifteen faults of a scenario: each is one question of the whole of both texts, and the first answer counts.
-use Rattle.std.specs.Prelude.{ℕ, ◌+◌, Bool, false, ◌&&◌, ◌||◌, not, ◌==◌, List, [], ◌∷◌, codes, length, bytes_eq, nat_le, nat_lt, count_by, Option, Some, None, is_none, option_map, unwrap_or, if◌then◌else◌}
+use Rattle.std.specs.Prelude.{
+  ℕ,
+  ◌+◌,
+  Bool,
+  false,
+  ◌&&◌,
+  ◌||◌,
+  not,
+  ◌==◌,
+  List,
+  [],
+  ◌∷◌,
+  codes,
+  length,
+  bytes_eq,
+  nat_le,
+  nat_lt,
+  count_by,
+  Option,
+  Some,
+  None,
+  is_none,
+  option_map,
+  unwrap_or,
+  if◌then◌else◌,
+}
 use Rattle.std.specs.Option.{option_map_or, option_or}
 use Rattle.std.specs.List.{list_all}
 use Rattle.std.specs.Char.{is_ascii_alphanumeric}
@@ -9,7 +34,19 @@ use Rattle.toml.specs.Parse.{parse_document}
 use Rattle.chord_scenario.specs.declared.key.FileKey.TheVariants as key
 use Rattle.chord_scenario.specs.declared.setting.Node.{Node}
 use Rattle.chord_scenario.specs.declared.fault.ScenarioFault.{ScenarioFault}
-use Rattle.chord_scenario.specs.declared.fault.ScenarioFault.TheVariants.{NotToml, BadName, SameName, SameId, UnknownNode, TooFewInitial, TimeAfterEnd, BadLatencyRow, SelfLink, SameLinkTwice, LatencyBelowWindow}
+use Rattle.chord_scenario.specs.declared.fault.ScenarioFault.TheVariants.{
+  NotToml,
+  BadName,
+  SameName,
+  SameId,
+  UnknownNode,
+  TooFewInitial,
+  TimeAfterEnd,
+  BadLatencyRow,
+  SelfLink,
+  SameLinkTwice,
+  LatencyBelowWindow,
+}
 use Rattle.chord_scenario.specs.declared.key.Place.TheVariants as place
 use Rattle.chord_scenario.specs.Operations.{is_join}
 use Rattle.chord_scenario.specs.Values.{number_at, text_at}

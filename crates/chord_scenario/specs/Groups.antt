@@ -4,7 +4,18 @@ use Rattle.toml.specs.Data.{Members}
 use Rattle.chord_scenario.specs.declared.key.FileKey.TheVariants as key
 use Rattle.chord_scenario.specs.declared.setting.Node.{Node}
 use Rattle.chord_scenario.specs.declared.fault.ScenarioFault.{ScenarioFault}
-use Rattle.chord_scenario.specs.Faults.{bad_name, same_name, same_id, unknown_node, too_few_initial, time_after_end, bad_latency_row, self_link, same_link_twice, latency_below_window}
+use Rattle.chord_scenario.specs.Faults.{
+  bad_name,
+  same_name,
+  same_id,
+  unknown_node,
+  too_few_initial,
+  time_after_end,
+  bad_latency_row,
+  self_link,
+  same_link_twice,
+  latency_below_window,
+}
 use Rattle.chord_scenario.specs.KeyFaults.{unknown_key, missing_key, wrong_type, out_of_range}
 use Rattle.chord_scenario.specs.Rows.{Row}
 use Rattle.chord_scenario.specs.Sections.{Section}

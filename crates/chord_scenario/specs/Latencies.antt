@@ -1,5 +1,26 @@
 -- What is kept of the rows of a latency file, and the square of latencies, one for each two nodes.
-use Rattle.std.specs.Prelude.{◌≡◌, ℕ, ◌+◌, ◌*◌, ◌||◌, Bool, true, false, List, map, length, bytes_eq, slice_index, Option, Some, is_none, option_map, unwrap_or, ◌==◌, if◌then◌else◌}
+use Rattle.std.specs.Prelude.{
+  ◌≡◌,
+  ℕ,
+  ◌+◌,
+  ◌*◌,
+  ◌||◌,
+  Bool,
+  true,
+  false,
+  List,
+  map,
+  length,
+  bytes_eq,
+  slice_index,
+  Option,
+  Some,
+  is_none,
+  option_map,
+  unwrap_or,
+  ◌==◌,
+  if◌then◌else◌,
+}
 use Rattle.std.specs.Option.{option_map_or}
 use Rattle.csv.specs.Reading.{AreRecords, default_config, strip_bom}
 use Rattle.csv.specs.declared.parser.State.TheVariants as st

@@ -1,5 +1,26 @@
 -- What a scenario file sets: its nodes and commands, its numbers with their defaults.
-use Rattle.std.specs.Prelude.{ℕ, ◌+◌, ◌^◌, Bool, true, false, List, [], ◌∷◌, map, filter, bytes_eq, nat_lt, Option, Some, None, option_map, option_and_then, unwrap_or, if◌then◌else◌}
+use Rattle.std.specs.Prelude.{
+  ℕ,
+  ◌+◌,
+  ◌^◌,
+  Bool,
+  true,
+  false,
+  List,
+  [],
+  ◌∷◌,
+  map,
+  filter,
+  bytes_eq,
+  nat_lt,
+  Option,
+  Some,
+  None,
+  option_map,
+  option_and_then,
+  unwrap_or,
+  if◌then◌else◌,
+}
 use Rattle.chord_circle.specs.Names.{ident_of_name}
 use Rattle.toml.specs.Data.{Members, as_table}
 use Rattle.chord_scenario.specs.declared.key.Place.{Place}

@@ -1,5 +1,27 @@
 -- What a table of a scenario file holds at a key, and which values a key may hold.
-use Rattle.std.specs.Prelude.{ℕ, ◌+◌, ◌*◌, ◌^◌, pos, Bool, true, false, ◌&&◌, ◌||◌, List, length, nat_le, nat_lt, Option, Some, None, is_some, option_and_then, unwrap_or, if◌then◌else◌}
+use Rattle.std.specs.Prelude.{
+  ℕ,
+  ◌+◌,
+  ◌*◌,
+  ◌^◌,
+  pos,
+  Bool,
+  true,
+  false,
+  ◌&&◌,
+  ◌||◌,
+  List,
+  length,
+  nat_le,
+  nat_lt,
+  Option,
+  Some,
+  None,
+  is_some,
+  option_and_then,
+  unwrap_or,
+  if◌then◌else◌,
+}
 use Rattle.std.specs.Option.{option_map_or}
 use Rattle.std.specs.List.{list_all}
 use Rattle.std.specs.Str.Parse.{digits_value}

@@ -1,5 +1,30 @@
 -- How an engine goes on from event to event.
-use Rattle.std.proofs.Common.{◌≡◌, ◌∙◌, ◌↔◌, ⊎_elim, ℕ, ◌^◌, ◌+◌, ◌<◌, ◌≤◌, List, [], ◌∷◌, ◌++◌, None, Some, Option, length, get_or, set, ap, sym, refl, subst, arith}
+use Rattle.std.proofs.Common.{
+  ◌≡◌,
+  ◌∙◌,
+  ◌↔◌,
+  ⊎_elim,
+  ℕ,
+  ◌^◌,
+  ◌+◌,
+  ◌<◌,
+  ◌≤◌,
+  List,
+  [],
+  ◌∷◌,
+  ◌++◌,
+  None,
+  Some,
+  Option,
+  length,
+  get_or,
+  set,
+  ap,
+  sym,
+  refl,
+  subst,
+  arith,
+}
 use Rattle.std.specs.Prelude.{nat_lt, option_map, slice_get}
 use Rattle.std.proofs.lemmas.Option.{none-some}
 use Rattle.std.specs.Io.KnownBytes.{Appends}
@@ -27,7 +52,19 @@ use Rattle.chord_model.specs.Laws.{IsWhole}
 use Rattle.chord_model.specs.WellFormed.{IsWellFormed}
 use Rattle.chord_model.specs.Worlds.{AreStatesAfter, IsFirstAt, IsWorld}
 use Rattle.chord_model.proofs.Audits.{open_after, output_next}
-use Rattle.chord_model.proofs.Course.{history_goes_on, is_fit, is_in_time, is_sound, none_left, same_read, state_read, target_in_range, too_many, world_after, world_at_start}
+use Rattle.chord_model.proofs.Course.{
+  history_goes_on,
+  is_fit,
+  is_in_time,
+  is_sound,
+  none_left,
+  same_read,
+  state_read,
+  target_in_range,
+  too_many,
+  world_after,
+  world_at_start,
+}
 use Rattle.chord_model.proofs.Distinct.{meets}
 use Rattle.chord_model.proofs.Horizons.{whole_from}
 use Rattle.chord_model.proofs.Runs.{history_is_legal, possible_from_legal}
@@ -57,7 +94,8 @@ use Rattle.chord_trace.specs.Texts.{pieces_text}
 use Rattle.chord_trace.specs.Writing.{AppendsFront}
 
 -- another list of the same events serves as well
-world_same : (sc : Scenario) (states : List NodeState) (xs ys : List (Event Body)) (count : ℕ) → ((x : Event Body) → Contains ys x ↔ Contains xs x) → AreApart ys → IsWorld (chord sc) states xs count → IsWorld (chord sc) states ys count
+world_same : (sc : Scenario) (states : List NodeState) (xs ys : List (Event Body)) (count : ℕ) → ((x : Event Body) → Contains ys x ↔ Contains xs x)
+    → AreApart ys → IsWorld (chord sc) states xs count → IsWorld (chord sc) states ys count
 world_same sc states xs ys count same apart w = record {
   long = w.long;
   states_are = w.states_are;
@@ -66,19 +104,22 @@ world_same sc states xs ys count same apart w = record {
 }
 
 -- the head of a list in the order of keys is its first event
-first_at : (horizon : ℕ) (event : Event Body) (rest : List (Event Body)) → InKeyOrder event_key (event ∷ rest) → event.key.time < horizon → IsFirstAt (event ∷ rest) horizon 0
+first_at : (horizon : ℕ) (event : Event Body) (rest : List (Event Body)) → InKeyOrder event_key (event ∷ rest) → event.key.time < horizon
+    → IsFirstAt (event ∷ rest) horizon 0
 first_at horizon event rest ordered in_time = record {
   inside = omega arith;
   in_time = λ d. in_time;
   first = λ d. All_from (λ (x : Event Body). IsAtMost event.key x.key) (event ∷ rest)
       (λ x c. ⊎_elim
       (λ (same : event ≡ x). subst (λ (z : Event Body). IsAtMost event.key z.key) same (at_most_self event.key))
-      (λ (later : Contains rest x). at_most_from_before event.key x.key (all_in (λ (y : Event Body). IsBefore event.key y.key) rest ordered.0 x (is_in rest x later)))
+      (λ (later : Contains rest x). at_most_from_before event.key x.key
+      (all_in (λ (y : Event Body). IsBefore event.key y.key) rest ordered.0 x (is_in rest x later)))
       (contains_cons x event rest c));
 }
 
 -- what is taken out is the next event
-pub taken_is_next : (sc : Scenario) (old now : Option (List ℕ)) (e : Engine) (event : Event Body) (rest : List (Event Body)) → IsAt sc old now e → InKeyOrder event_key e.pending → e.pending ≡ event ∷ rest
+pub taken_is_next : (sc : Scenario) (old now : Option (List ℕ)) (e : Engine) (event : Event Body) (rest : List (Event Body)) → IsAt sc old now e
+    → InKeyOrder event_key e.pending → e.pending ≡ event ∷ rest
     → event.key.time < sc.duration → e.count < sc.max_events → HasTaken sc old now (record e { pending = rest }) event
 taken_is_next sc old now e event rest at ordered is in_time allowed = record {
   at = record {
@@ -105,19 +146,24 @@ pub none_late : (horizon : ℕ) (es : List (Event Body)) → None ≡ time_of_fi
 none_late horizon [] is = All_from (λ (e : Event Body). horizon ≤ e.key.time) [] (λ x c. absurd (contains_none x c))
 none_late horizon (e ∷ es) is = absurd (none-some e.key.time is)
 
-pub all_late : (horizon time : ℕ) (es : List (Event Body)) → Some time ≡ time_of_first es → horizon ≤ time → InKeyOrder event_key es → All (λ (e : Event Body). horizon ≤ e.key.time) es
+pub all_late : (horizon time : ℕ) (es : List (Event Body)) → Some time ≡ time_of_first es → horizon ≤ time → InKeyOrder event_key es
+    → All (λ (e : Event Body). horizon ≤ e.key.time) es
 all_late horizon time [] is late ordered = All_from (λ (e : Event Body). horizon ≤ e.key.time) [] (λ x c. absurd (contains_none x c))
 all_late horizon time (e ∷ es) is late ordered = All_from (λ (x : Event Body). horizon ≤ x.key.time) (e ∷ es)
     (λ x c. let here : time ≡ e.key.time = ap value is in
     ⊎_elim
     (λ (same : e ≡ x). subst (λ (z : Event Body). horizon ≤ z.key.time) same (omega (arith, late, here)))
-    (λ (later : Contains es x). let after = (at_most_from_before e.key x.key (all_in (λ (y : Event Body). IsBefore e.key y.key) es ordered.0 x (is_in es x later))) in omega (arith, late, here, after))
+    (λ (later : Contains es x). let after = (at_most_from_before e.key x.key
+    (all_in (λ (y : Event Body). IsBefore e.key y.key) es ordered.0 x (is_in es x later))) in omega (arith, late, here, after))
     (contains_cons x e es c))
 
 -- what has gone out of an engine is the beginning of a trace
 pub begin_at : (sc : Scenario) (old now : Option (List ℕ)) (e : Engine) → IsAt sc old now e → IsBeginning sc old now
-begin_at sc old now e a =
-    (e.count, fronts_longer sc old now (output (chord sc) (history (chord sc) e.count)) _ (front_of_whole old now (pieces_text sc (output (chord sc) (history (chord sc) e.count))) a.written))
+begin_at sc old now e a = (
+  e.count,
+  fronts_longer sc old now (output (chord sc) (history (chord sc) e.count)) _
+      (front_of_whole old now (pieces_text sc (output (chord sc) (history (chord sc) e.count))) a.written),
+)
 
 module _ (sc : Scenario) (ranges : IsInRange sc) where
   w : IsWellFormed (chord sc) (IsStateOf sc) (IsSoundEvent sc)
@@ -137,7 +183,8 @@ module _ (sc : Scenario) (ranges : IsInRange sc) where
     state_known : (n : ℕ) (d : NodeState) → n < node_count sc → AllNodes sc (get_or states n d).succ
     state_known n d l =
         subst (λ s. AllNodes sc s.succ) (sym (a.states_are.state_at n d l))
-        ((meets (chord sc) w (past count) (possible_from_legal (chord sc) (past count) (history_is_legal (chord sc) count))).sound n l).invariant.neighbours.succ_known
+        ((meets (chord sc) w (past count) (possible_from_legal (chord sc) (past count) (history_is_legal (chord sc) count))).sound n
+        l).invariant.neighbours.succ_known
 
     pub states_known : All (λ (s : NodeState). AllNodes sc s.succ) states
     states_known n d l = state_known n d (omega (arith, l, states_long))
@@ -192,7 +239,11 @@ module _ (sc : Scenario) (ranges : IsInRange sc) where
 
     -- the state that is read for the event
     pub taken_read : (s : NodeState) × (s ≡ get_or states event.target s)
-    taken_read = (get_or states event.target (initial_state sc 0), same_read states event.target (initial_state sc 0) (get_or states event.target (initial_state sc 0)) target_is_node)
+    taken_read = (
+      get_or states event.target (initial_state sc 0),
+      same_read states event.target (initial_state sc 0)
+          (get_or states event.target (initial_state sc 0)) target_is_node,
+    )
 
     -- the audits that the event lets become due, of nodes in these states
     abbrev audits_due : (ℕ → NodeState) → List Piece
@@ -214,18 +265,21 @@ module _ (sc : Scenario) (ranges : IsInRange sc) where
 
       pub state_has_room : HasRoom s
       state_has_room = subst HasRoom (sym is_here)
-          (room_is_left sc ranges here (possible_from_legal (chord sc) here (history_is_legal (chord sc) e.count)) (omega (arith, world.long, t.at.within)) event.target event_is_sound.target)
+          (room_is_left sc ranges here (possible_from_legal (chord sc) here (history_is_legal (chord sc) e.count))
+          (omega (arith, world.long, t.at.within)) event.target event_is_sound.target)
 
       outputs : output (chord sc) (past (e.count + 1)) ≡ output (chord sc) here ++ put (block_of sc s event)
       outputs = ap (output (chord sc)) goes_on ∙ output_next (chord sc) event here
-          ∙ (λ i. output (chord sc) here ++ (audits_at sc (state (chord sc) here) (due event.key.time (sym t.at.audits i)) ++ piece.OfEvent (block_of sc (sym is_here i) event) ∷ []))
+          ∙ (λ i. output (chord sc) here ++ (audits_at sc (state (chord sc) here) (due event.key.time (sym t.at.audits i))
+          ++ piece.OfEvent (block_of sc (sym is_here i) event) ∷ []))
 
       -- the front of that is the front of the trace that is one event longer
       pub begin_more : (x : Option (List ℕ)) → AppendsFront now x (pieces_text sc (put (block_of sc s event))) → IsBeginning sc old x
       begin_more x front = (
         e.count + 1,
         fronts_longer sc old x (output (chord sc) (past (e.count + 1))) _
-            (subst (λ ps. AppendsFront old x (pieces_text sc ps)) (sym outputs) (fronts_then sc old now x (output (chord sc) here) (put (block_of sc s event)) t.at.written front)),
+            (subst (λ ps. AppendsFront old x (pieces_text sc ps)) (sym outputs)
+            (fronts_then sc old now x (output (chord sc) here) (put (block_of sc s event)) t.at.written front)),
       )
 
       -- the audits are put out with a slice of the states
@@ -256,13 +310,15 @@ module _ (sc : Scenario) (ranges : IsInRange sc) where
       module _ (made : List (Event Body)) (made_is : made ≡ (effect sc s event).events) where
         next_world : IsWorld (chord sc) (set states event.target (effect sc s event).state) (e.pending ++ made) (e.count + 1)
         next_world = subst (λ ms. IsWorld (chord sc) (set states event.target (effect sc s event).state) (e.pending ++ ms) (e.count + 1)) (sym made_is)
-            (subst (λ z. IsWorld (chord sc) (set states event.target (effect sc z event).state) (e.pending ++ (effect sc z event).events) (e.count + 1)) (sym read)
+            (subst (λ z. IsWorld (chord sc) (set states event.target (effect sc z event).state) (e.pending ++ (effect sc z event).events)
+            (e.count + 1)) (sym read)
             (world_after (chord sc) w states events e.count world 0 event t.next first s))
 
         pub made_apart : AreApart (e.pending ++ made)
         made_apart = next_world.apart
 
-        pub next_at : (f : Engine) (mid new : Option (List ℕ)) (middle : Tally) (block : Block) → block ≡ block_of sc s event → f.states.items ≡ set states event.target (effect sc s event).state
+        pub next_at : (f : Engine) (mid new : Option (List ℕ)) (middle : Tally) (block : Block) → block ≡ block_of sc s event
+            → f.states.items ≡ set states event.target (effect sc s event).state
             → ((x : Event Body) → Contains f.pending x ↔ Contains (e.pending ++ made) x) → InKeyOrder event_key f.pending
             → f.clock ≡ filter (λ u. nat_lt event.key.time u) e.clock → f.count ≡ e.count + 1
             → Adds sc now mid e.tally middle audits → Adds sc mid new middle f.tally (piece.OfEvent block ∷ [])
@@ -276,8 +332,10 @@ module _ (sc : Scenario) (ranges : IsInRange sc) where
             record {
               world = subst (λ k. IsWorld (chord sc) f.states.items f.pending k) (sym count_is)
                   (subst (λ ss. IsWorld (chord sc) ss f.pending (e.count + 1)) (sym states_are)
-                  (world_same sc (set states event.target (effect sc s event).state) (e.pending ++ made) f.pending (e.count + 1) same (ordered_apart f.pending ordered) next_world));
-              audits = clock_is ∙ ap (filter (λ u. nat_lt event.key.time u)) t.at.audits ∙ sym (open_after (chord sc) event here) ∙ ap (open_audits (chord sc)) (sym (long ∙ goes_on));
+                  (world_same sc (set states event.target (effect sc s event).state) (e.pending ++ made) f.pending (e.count + 1) same
+                  (ordered_apart f.pending ordered) next_world));
+              audits = clock_is ∙ ap (filter (λ u. nat_lt event.key.time u)) t.at.audits ∙ sym (open_after (chord sc) event here)
+                  ∙ ap (open_audits (chord sc)) (sym (long ∙ goes_on));
               written = subst (λ ps. Appends old new (pieces_text sc ps)) (sym pieces)
                   (subst (λ text. Appends old new text) (sym (texts-append sc (output (chord sc) here) (put (block_of sc s event))))
                   (Appends-trans old now new (pieces_text sc (output (chord sc) here)) (pieces_text sc (put (block_of sc s event))) t.at.written all.written));
@@ -288,7 +346,8 @@ module _ (sc : Scenario) (ranges : IsInRange sc) where
 
   -- The start
 
-  pub start_at : (now : Option (List ℕ)) (e : Engine) → e.states.items ≡ initial_ring sc → ((x : Event Body) → Contains e.pending x ↔ Contains ([] ++ start_events sc) x) → InKeyOrder event_key e.pending
+  pub start_at : (now : Option (List ℕ)) (e : Engine) → e.states.items ≡ initial_ring sc
+      → ((x : Event Body) → Contains e.pending x ↔ Contains ([] ++ start_events sc) x) → InKeyOrder event_key e.pending
       → e.clock ≡ audit_times sc → IsTallyOf [] e.tally → e.count ≡ 0 → IsAt sc now now e
   unfolding initial_ring
   start_at now e states_are same ordered clock_is tally_is count_is =
@@ -300,7 +359,8 @@ module _ (sc : Scenario) (ranges : IsInRange sc) where
       record {
         world = subst (λ k. IsWorld (chord sc) e.states.items e.pending k) (sym count_is)
             (subst (λ ss. IsWorld (chord sc) ss e.pending 0) (sym states_are)
-            (world_same sc (initial_ring sc) (start_events sc) e.pending 0 same (ordered_apart e.pending ordered) (world_at_start (chord sc) w (initial_ring sc) ring)));
+            (world_same sc (initial_ring sc) (start_events sc) e.pending 0 same (ordered_apart e.pending ordered)
+            (world_at_start (chord sc) w (initial_ring sc) ring)));
         audits = clock_is ∙ sym (audits_at_start sc ranges) ∙ ap (open_audits (chord sc)) (sym none);
         written = subst (λ h. Appends now now (pieces_text sc (output (chord sc) h))) (sym none) (Appends-nil now);
         tallied = subst (λ h. IsTallyOf (output (chord sc) h) e.tally) (sym none) tally_is;
@@ -311,7 +371,8 @@ module _ (sc : Scenario) (ranges : IsInRange sc) where
   -- The end
 
   module _ (old now : Option (List ℕ)) (e : Engine) (at : IsAt sc old now e) where
-    pub over_limit : (es : List (Event Body)) (time : ℕ) → es ≡ e.pending → Some time ≡ time_of_first es → InKeyOrder event_key es → time < sc.duration → sc.max_events ≤ e.count → HasTooManyEvents sc
+    pub over_limit : (es : List (Event Body)) (time : ℕ) → es ≡ e.pending → Some time ≡ time_of_first es → InKeyOrder event_key es
+        → time < sc.duration → sc.max_events ≤ e.count → HasTooManyEvents sc
     over_limit [] time is some ordered in_time full = absurd (none-some time (sym some))
     over_limit (event ∷ es) time is some ordered in_time full =
         let same : time ≡ event.key.time = ap value some in
@@ -323,7 +384,8 @@ module _ (sc : Scenario) (ranges : IsInRange sc) where
       rest = audits_at sc (state (chord sc) (past e.count)) (due sc.duration e.clock)
 
       whole : IsWhole (chord sc) (past e.count)
-      whole = whole_from (chord sc) w (past e.count) (history_is_legal (chord sc) e.count) (none_left (chord sc) w e.states.items e.pending e.count at.world late)
+      whole = whole_from (chord sc) w (past e.count) (history_is_legal (chord sc) e.count)
+          (none_left (chord sc) w e.states.items e.pending e.count at.world late)
 
       few : length (past e.count) ≤ sc.max_events
       few = omega (arith, at.world.long, at.within)

@@ -1,5 +1,31 @@
 -- The greatest and the least of numbers: of two lists together, and by how many numbers lie past it.
-use Rattle.std.proofs.Common.{◌≡◌, ◌≢◌, ◌∙◌, ℕ, ◌+◌, ◌≤◌, Bool, true, false, cond, nat_lt, List, [], ◌∷◌, ◌++◌, refl, ap, sym, arith, append-nil, count_by, fold, length, max, min}
+use Rattle.std.proofs.Common.{
+  ◌≡◌,
+  ◌≢◌,
+  ◌∙◌,
+  ℕ,
+  ◌+◌,
+  ◌≤◌,
+  Bool,
+  true,
+  false,
+  cond,
+  nat_lt,
+  List,
+  [],
+  ◌∷◌,
+  ◌++◌,
+  refl,
+  ap,
+  sym,
+  arith,
+  append-nil,
+  count_by,
+  fold,
+  length,
+  max,
+  min,
+}
 use Rattle.std.proofs.lemmas.Bool.Decides.{nat_tests}
 use Rattle.std.proofs.lemmas.List.Sums.{fold-append, sum_by-cons}
 use Rattle.chord_trace.specs.Numbers.{greatest, least}

@@ -1,5 +1,29 @@
 -- Counts by time, as a map has them.
-use Rattle.std.proofs.Common.{◌≡◌, ◌∙◌, ℕ, suc, ◌+◌, ◌<◌, ◌≤◌, Bool, true, false, cond, List, [], ◌∷◌, ◌++◌, length, refl, ap, arith, Option, None, Some, unwrap_or}
+use Rattle.std.proofs.Common.{
+  ◌≡◌,
+  ◌∙◌,
+  ℕ,
+  suc,
+  ◌+◌,
+  ◌<◌,
+  ◌≤◌,
+  Bool,
+  true,
+  false,
+  cond,
+  List,
+  [],
+  ◌∷◌,
+  ◌++◌,
+  length,
+  refl,
+  ap,
+  arith,
+  Option,
+  None,
+  Some,
+  unwrap_or,
+}
 use Rattle.std.specs.Prelude.{is_some}
 use Rattle.std.specs.declared.cmp.Ordering.{Ordering}
 use Rattle.std.specs.declared.cmp.Ordering.TheVariants.{Less, Equal, Greater}
@@ -41,9 +65,11 @@ counted-insert test (e ∷ es) k w c len more = go (nat_cmp k e.0) (ranks k e.0)
     new (Some n) len more = absurd (omega arith)
 
     go : (o : Ordering) → MatchOrdering o (k < e.0) (k ≡ e.0) (e.0 < k)
-        → length (match_ordering o ((k, w) ∷ e ∷ es) ((e.0, w) ∷ es) (e ∷ insert_entry nat_cmp es k w)) ≡ suc (length es) + cond (is_some (cond (is_eq o) (Some e.1) (lookup (is_at (nat_cmp k)) es))) 0 1
+        → length (match_ordering o ((k, w) ∷ e ∷ es) ((e.0, w) ∷ es) (e ∷ insert_entry nat_cmp es k w))
+        ≡ suc (length es) + cond (is_some (cond (is_eq o) (Some e.1) (lookup (is_at (nat_cmp k)) es))) 0 1
         → w ≡ unwrap_or (cond (is_eq o) (Some e.1) (lookup (is_at (nat_cmp k)) es)) 0 + c
-        → (length (insert_entry nat_cmp es k w) ≡ length es + cond (is_some (lookup (is_at (nat_cmp k)) es)) 0 1 → w ≡ unwrap_or (lookup (is_at (nat_cmp k)) es) 0 + c → counted test (insert_entry nat_cmp es k w) ≡ counted test es + cond (test k) c 0)
+        → (length (insert_entry nat_cmp es k w) ≡ length es + cond (is_some (lookup (is_at (nat_cmp k)) es)) 0 1
+        → w ≡ unwrap_or (lookup (is_at (nat_cmp k)) es) 0 + c → counted test (insert_entry nat_cmp es k w) ≡ counted test es + cond (test k) c 0)
         → counted test (match_ordering o ((k, w) ∷ e ∷ es) ((e.0, w) ∷ es) (e ∷ insert_entry nat_cmp es k w)) ≡ counted test (e ∷ es) + cond (test k) c 0
     go Less lt len more rest =
         let first = counted-cons test (k, w) (e ∷ es) in

@@ -1,5 +1,38 @@
 -- A merge on its way: the blocks put out so far, and what is left of the lists.
-use Rattle.std.proofs.Common.{◌≡◌, ◌≢◌, ◌∙◌, ◌⊎◌, inl, inr, ℕ, suc, ◌<◌, ◌≤◌, ◌↔◌, ◌==◌, Bool, true, false, not, cond, List, [], ◌∷◌, ◌++◌, refl, ap, sym, subst, arith, append_assoc, append-nil, count_by, length, map, Vec}
+use Rattle.std.proofs.Common.{
+  ◌≡◌,
+  ◌≢◌,
+  ◌∙◌,
+  ◌⊎◌,
+  inl,
+  inr,
+  ℕ,
+  suc,
+  ◌<◌,
+  ◌≤◌,
+  ◌↔◌,
+  ◌==◌,
+  Bool,
+  true,
+  false,
+  not,
+  cond,
+  List,
+  [],
+  ◌∷◌,
+  ◌++◌,
+  refl,
+  ap,
+  sym,
+  subst,
+  arith,
+  append_assoc,
+  append-nil,
+  count_by,
+  length,
+  map,
+  Vec,
+}
 use Rattle.std.specs.BinaryHeap.{IsUpperBound}
 use Rattle.std.specs.Global.{Global}
 use Rattle.std.specs.List.{AllByRecursion, AllPairs, Contains, filter}
@@ -8,7 +41,14 @@ use Rattle.std.specs.Ordering.{is_lt}
 use Rattle.std.specs.Vec.Iter.{into_iter_items}
 use Rattle.std.proofs.lemmas.Bool.Decides.{nat_tests}
 use Rattle.std.proofs.lemmas.List.{length-append}
-use Rattle.std.proofs.lemmas.List.Sorted.{Contains-permutation, IsPermutation-append_left, IsPermutation-map, IsPermutation-middle, IsPermutation-sym, IsPermutation-trans}
+use Rattle.std.proofs.lemmas.List.Sorted.{
+  Contains-permutation,
+  IsPermutation-append_left,
+  IsPermutation-map,
+  IsPermutation-middle,
+  IsPermutation-sym,
+  IsPermutation-trans,
+}
 use Rattle.std.proofs.lemmas.List.Sums.{sum_by-cons}
 use Rattle.chord_event.specs.declared.block.Block.{Block}
 use Rattle.chord_event.specs.declared.key.Key.{Key}
@@ -114,8 +154,10 @@ moved all done ls ms p g =
       merged = g.merged;
       before = λ x y h k. g.before x y h (moved_together ms ls back y k);
       single = λ k. omega (arith, g.single k, same_number (λ l. count_by (has_key k) (together l)) (count-add (has_key k)) ls ms p);
-      kept = λ b h. append_in done (together ms) b (elim (in_append done (together ls) b (g.kept b h)) [ inl k ↦ inl k | inr k ↦ inr (moved_together ls ms p b k) ]);
-      only = λ b h. g.only b (append_in done (together ls) b (elim (in_append done (together ms) b h) [ inl k ↦ inl k | inr k ↦ inr (moved_together ms ls back b k) ]));
+      kept = λ b h. append_in done (together ms) b (elim (in_append done (together ls) b (g.kept b h))
+          [ inl k ↦ inl k | inr k ↦ inr (moved_together ls ms p b k) ]);
+      only = λ b h. g.only b (append_in done (together ls) b (elim (in_append done (together ms) b h)
+          [ inl k ↦ inl k | inr k ↦ inr (moved_together ms ls back b k) ]));
     }
 
 -- a list that has no block left
@@ -129,7 +171,8 @@ used_up all done ls g = record {
   only = g.only;
 }
 
-ordered_push : (done : List Block) (x : Block) → InKeyOrder block_key done → ((y : Block) → IsIn y done → IsBefore y.key x.key) → InKeyOrder block_key (done ++ x ∷ [])
+ordered_push : (done : List Block) (x : Block) → InKeyOrder block_key done → ((y : Block) → IsIn y done → IsBefore y.key x.key)
+    → InKeyOrder block_key (done ++ x ∷ [])
 ordered_push [] x o f = (tt, tt)
 ordered_push (d ∷ done) x o f = (
   all_from (λ (y : Block). IsBefore d.key y.key) (done ++ x ∷ []) (λ y h. elim (in_append done (x ∷ []) y h) [
@@ -147,7 +190,14 @@ first_before x xs ls o single least y h = elim (in_append xs (together ls) y h) 
   | inr k ↦ before_from_at_most x.key y.key (least y k) (λ e.
       let self : has_key x.key x ≡ true = same_key-self x.key in
       let same : has_key x.key y ≡ true = ap (λ q. is_same_key x.key q) (sym e) ∙ same_key-self x.key in
-      omega (arith, single, sum_by-cons (λ z. cond (has_key x.key z) 1 0) x (xs ++ together ls), ap (λ b. cond {A = ℕ} b 1 0) self, counts_it (has_key x.key) (xs ++ together ls) y h same))
+      omega (
+        arith,
+        single,
+        sum_by-cons (λ z. cond (has_key x.key z) 1 0) x (xs ++ together ls),
+        ap (λ b. cond {A = ℕ} b 1 0) self,
+        counts_it
+            (has_key x.key) (xs ++ together ls) y h same,
+      ))
 ]
 
 -- such a block put out
@@ -196,13 +246,15 @@ pub popped : (all done : List Block) (h : Head) (ws : List Head) → IsUpperBoun
 popped all done h ws up g = put_out all done h.first (into_iter_items h.rest) (map ahead ws) (least_of h ws up g.ordered.1) g
 
 -- a head taken from the heap, and the next block's put there
-module _ (all done merged : List Block) (ws rest : List Head) (h : Head) (out : IsPermutation ws (h ∷ rest)) (up : IsUpperBound head_cmp h rest) (more : merged ≡ done ++ h.first ∷ []) where
+module _ (all done merged : List Block) (ws rest : List Head) (h : Head) (out : IsPermutation ws (h ∷ rest)) (up : IsUpperBound head_cmp h rest)
+    (more : merged ≡ done ++ h.first ∷ []) where
   taken_out : IsMerging all done (map ahead ws) → IsMerging all merged (into_iter_items h.rest ∷ map ahead rest)
   taken_out g =
       subst (λ l. IsMerging all l (into_iter_items h.rest ∷ map ahead rest)) (sym more)
       (popped all done h rest up (moved all done (map ahead ws) (map ahead (h ∷ rest)) (IsPermutation-map ahead ws (h ∷ rest) out) g))
 
-  pub with_next : (new : List Head) (n : Head) → into_iter_items h.rest ≡ ahead n → IsPermutation (n ∷ rest) new → IsMerging all done (map ahead ws) → IsMerging all merged (map ahead new)
+  pub with_next : (new : List Head) (n : Head) → into_iter_items h.rest ≡ ahead n → IsPermutation (n ∷ rest) new → IsMerging all done (map ahead ws)
+      → IsMerging all merged (map ahead new)
   with_next new n is put g =
       moved all merged (map ahead (n ∷ rest)) (map ahead new) (IsPermutation-map ahead (n ∷ rest) new put)
       (subst (λ l. IsMerging all merged (l ∷ map ahead rest)) is (taken_out g))
@@ -214,9 +266,16 @@ module _ (ws rest : List Head) (h : Head) (out : IsPermutation ws (h ∷ rest)) 
   before_len : left_len (map ahead ws) ≡ suc (length (into_iter_items h.rest ++ together (map ahead rest)))
   before_len = same_len (map ahead ws) (map ahead (h ∷ rest)) (IsPermutation-map ahead ws (h ∷ rest) out)
 
-  pub fewer_with_next : (new : List Head) (n : Head) → into_iter_items h.rest ≡ ahead n → IsPermutation (n ∷ rest) new → left_len (map ahead new) < left_len (map ahead ws)
+  pub fewer_with_next : (new : List Head) (n : Head) → into_iter_items h.rest ≡ ahead n → IsPermutation (n ∷ rest) new
+      → left_len (map ahead new) < left_len (map ahead ws)
   fewer_with_next new n is put =
-      omega (arith, before_len, same_len (map ahead (n ∷ rest)) (map ahead new) (IsPermutation-map ahead (n ∷ rest) new put), ap (λ l. length (l ++ together (map ahead rest))) is)
+      omega (
+        arith,
+        before_len,
+        same_len (map ahead (n ∷ rest)) (map ahead new) (IsPermutation-map ahead (n ∷ rest) new put),
+        ap
+            (λ l. length (l ++ together (map ahead rest))) is,
+      )
 
   pub fewer_without_next : into_iter_items h.rest ≡ [] → left_len (map ahead rest) < left_len (map ahead ws)
   fewer_without_next is = omega (arith, before_len, ap (λ l. length (l ++ together (map ahead rest))) is)
@@ -235,11 +294,13 @@ lists_together (v ∷ vs) = go v.items (lists_together vs)
     go [] e = e
     go (b ∷ bs) e = ap (λ r. (b ∷ bs) ++ r) e
 
-lists_ordered : (lists : List (Vec Block Global)) → AllByRecursion (λ (blocks : Vec Block Global). InKeyOrder block_key blocks.items) lists → AllByRecursion (λ l. InKeyOrder block_key l) (with_blocks lists)
+lists_ordered : (lists : List (Vec Block Global)) → AllByRecursion (λ (blocks : Vec Block Global). InKeyOrder block_key blocks.items) lists
+    → AllByRecursion (λ l. InKeyOrder block_key l) (with_blocks lists)
 lists_ordered [] o = tt
 lists_ordered (v ∷ vs) o = go v.items o.0 (lists_ordered vs o.1)
   where
-    go : (bs : List Block) → InKeyOrder block_key bs → AllByRecursion (λ l. InKeyOrder block_key l) (with_blocks vs) → AllByRecursion (λ l. InKeyOrder block_key l) (put_filled bs (with_blocks vs))
+    go : (bs : List Block) → InKeyOrder block_key bs → AllByRecursion (λ l. InKeyOrder block_key l) (with_blocks vs)
+        → AllByRecursion (λ l. InKeyOrder block_key l) (put_filled bs (with_blocks vs))
     go [] here rest = rest
     go (b ∷ bs) here rest = (here, rest)
 
@@ -288,11 +349,13 @@ ended lists done g =
 
 -- the head of one list more
 pub head_added : (all : List (List Block)) (hs new : List Head) (h : Head) (blocks : List Block) (lists : List (Vec Block Global))
-    → blocks ≡ ahead h → IsPermutation all (map ahead hs ++ put_filled blocks (with_blocks lists)) → IsPermutation (h ∷ hs) new → IsPermutation all (map ahead new ++ with_blocks lists)
+    → blocks ≡ ahead h → IsPermutation all (map ahead hs ++ put_filled blocks (with_blocks lists)) → IsPermutation (h ∷ hs) new
+    → IsPermutation all (map ahead new ++ with_blocks lists)
 head_added all hs new h blocks lists is before put =
     let left = with_blocks lists in
     let first : IsPermutation all (map ahead hs ++ ahead h ∷ left) = subst (λ l. IsPermutation all (map ahead hs ++ put_filled l left)) is before in
-    let front = IsPermutation-trans all (map ahead hs ++ ahead h ∷ left) (ahead h ∷ (map ahead hs ++ left)) first (IsPermutation-middle (map ahead hs) (ahead h) left) in
+    let front = IsPermutation-trans all (map ahead hs ++ ahead h ∷ left) (ahead h ∷ (map ahead hs ++ left)) first
+    (IsPermutation-middle (map ahead hs) (ahead h) left) in
     IsPermutation-trans all (map ahead (h ∷ hs) ++ left) (map ahead new ++ left) front
     (IsPermutation-append_left left (map ahead (h ∷ hs)) (map ahead new) (IsPermutation-map ahead (h ∷ hs) new put))
 
@@ -309,17 +372,20 @@ same_blocks : (lists : List (Vec Block Global)) → all_blocks (filter has_some 
 same_blocks [] = refl
 same_blocks (v ∷ vs) = go (v.len == 0) refl (same_blocks vs)
   where
-    go : (t : Bool) → (v.len == 0) ≡ t → all_blocks (filter has_some vs) ≡ all_blocks vs → all_blocks (cond (not t) (v ∷ filter has_some vs) (filter has_some vs)) ≡ all_blocks (v ∷ vs)
+    go : (t : Bool) → (v.len == 0) ≡ t → all_blocks (filter has_some vs) ≡ all_blocks vs
+        → all_blocks (cond (not t) (v ∷ filter has_some vs) (filter has_some vs)) ≡ all_blocks (v ∷ vs)
     go true e rest =
         let zero_len : v.len ≡ 0 = grind (arith, nat_tests) in
         rest ∙ sym (ap (λ l. l ++ all_blocks vs) (no_items v.items (sym v.ok.0 ∙ zero_len)))
     go false e rest = ap (λ l. v.items ++ l) rest
 
-still_ordered : (lists : List (Vec Block Global)) → AllByRecursion (λ (blocks : Vec Block Global). InKeyOrder block_key blocks.items) lists → AllByRecursion (λ (blocks : Vec Block Global). InKeyOrder block_key blocks.items) (filter has_some lists)
+still_ordered : (lists : List (Vec Block Global)) → AllByRecursion (λ (blocks : Vec Block Global). InKeyOrder block_key blocks.items) lists
+    → AllByRecursion (λ (blocks : Vec Block Global). InKeyOrder block_key blocks.items) (filter has_some lists)
 still_ordered [] o = tt
 still_ordered (v ∷ vs) o = go (has_some v) (still_ordered vs o.1)
   where
-    go : (t : Bool) → AllByRecursion (λ (blocks : Vec Block Global). InKeyOrder block_key blocks.items) (filter has_some vs) → AllByRecursion (λ (blocks : Vec Block Global). InKeyOrder block_key blocks.items) (cond t (v ∷ filter has_some vs) (filter has_some vs))
+    go : (t : Bool) → AllByRecursion (λ (blocks : Vec Block Global). InKeyOrder block_key blocks.items) (filter has_some vs)
+        → AllByRecursion (λ (blocks : Vec Block Global). InKeyOrder block_key blocks.items) (cond t (v ∷ filter has_some vs) (filter has_some vs))
     go true rest = (o.0, rest)
     go false rest = rest
 
@@ -336,7 +402,8 @@ merged_filtered lists kept blocks is merged = record {
 }
 
 -- of one list, and of none
-pub one_merged : (lists before : List (Vec Block Global)) (v : Vec Block Global) → lists ≡ before ++ v ∷ [] → length before ≡ 0 → CanMerge lists → IsMerged lists v.items
+pub one_merged : (lists before : List (Vec Block Global)) (v : Vec Block Global) → lists ≡ before ++ v ∷ [] → length before ≡ 0 → CanMerge lists
+    → IsMerged lists v.items
 one_merged lists before v is none can =
     let one : lists ≡ v ∷ [] = is ∙ ap (λ l. l ++ v ∷ []) (no_items before none) in
     record {
@@ -345,4 +412,7 @@ one_merged lists before v is none can =
     }
 
 pub none_merged : (lists : List (Vec Block Global)) → length lists ≡ 0 → IsMerged lists []
-none_merged lists none = record { ordered = tt; same = λ b. subst (λ l. Contains [] b ↔ Contains l b) (sym (ap all_blocks (no_items lists none))) (λ h. h, λ h. h) }
+none_merged lists none = record {
+  ordered = tt;
+  same = λ b. subst (λ l. Contains [] b ↔ Contains l b) (sym (ap all_blocks (no_items lists none))) (λ h. h, λ h. h);
+}

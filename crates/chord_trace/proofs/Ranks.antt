@@ -49,6 +49,8 @@ counted-split (x ∷ before) e rest sorted =
     let is_lt : nat_lt x.0 e.0 ≡ true = grind (arith, nat_tests) in
     let is_le : nat_le x.0 e.0 ≡ true = grind (arith, nat_tests) in
     let all = counted-cons (λ _. true) x before in
-    let below = counted-cons (λ time. nat_lt time e.0) x (before ++ e ∷ rest) ∙ ap (λ b. cond b x.1 0 + counted (λ time. nat_lt time e.0) (before ++ e ∷ rest)) is_lt in
-    let up_to = counted-cons (λ time. nat_le time e.0) x (before ++ e ∷ rest) ∙ ap (λ b. cond b x.1 0 + counted (λ time. nat_le time e.0) (before ++ e ∷ rest)) is_le in
+    let below = counted-cons (λ time. nat_lt time e.0) x (before ++ e ∷ rest)
+    ∙ ap (λ b. cond b x.1 0 + counted (λ time. nat_lt time e.0) (before ++ e ∷ rest)) is_lt in
+    let up_to = counted-cons (λ time. nat_le time e.0) x (before ++ e ∷ rest)
+    ∙ ap (λ b. cond b x.1 0 + counted (λ time. nat_le time e.0) (before ++ e ∷ rest)) is_le in
     (omega (arith, all, below, more.0), omega (arith, all, up_to, more.1))

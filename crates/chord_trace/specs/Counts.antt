@@ -1,7 +1,20 @@
 -- How many lines there are of each kind.
 use Rattle.std.specs.Prelude.{ℕ, ◌+◌, ◌≤◌, List, count_by}
 use Rattle.chord_event.specs.declared.line.Line.{Line}
-use Rattle.chord_trace.specs.Kinds.{is_member, is_join_failed, is_crash, is_stranded, is_drop, is_late, is_timeout, is_lookup, is_found, is_lost, is_busy, is_ignored}
+use Rattle.chord_trace.specs.Kinds.{
+  is_member,
+  is_join_failed,
+  is_crash,
+  is_stranded,
+  is_drop,
+  is_late,
+  is_timeout,
+  is_lookup,
+  is_found,
+  is_lost,
+  is_busy,
+  is_ignored,
+}
 use Rattle.chord_trace.specs.declared.line_counts.LineCounts.{LineCounts}
 
 -- how many of the lines are of each kind

@@ -1,5 +1,33 @@
 -- What a part sees of the states, as copies are made and changed.
-use Rattle.std.proofs.Common.{◌≡◌, ◌≢◌, ℕ, ◌+◌, ◌<◌, List, [], ◌∷◌, ◌++◌, Option, Some, None, length, get_or, set, refl, ap, sym, ◌∙◌, subst, arith, inl, inr, ⊎_elim, get_or-set_same, get_or-set_other, length-append}
+use Rattle.std.proofs.Common.{
+  ◌≡◌,
+  ◌≢◌,
+  ℕ,
+  ◌+◌,
+  ◌<◌,
+  List,
+  [],
+  ◌∷◌,
+  ◌++◌,
+  Option,
+  Some,
+  None,
+  length,
+  get_or,
+  set,
+  refl,
+  ap,
+  sym,
+  ◌∙◌,
+  subst,
+  arith,
+  inl,
+  inr,
+  ⊎_elim,
+  get_or-set_same,
+  get_or-set_other,
+  length-append,
+}
 use Rattle.std.proofs.lemmas.Bool.{cases_eq, cases_lt}
 use Rattle.std.proofs.lemmas.Option.{none-some}
 use Rattle.std.proofs.Math.ListN.{get_or-append, length-set}
@@ -31,9 +59,12 @@ pub seen_first : (states : List NodeState) (c : Copies) → c.slots.items ≡ []
 seen_first states c none i s = ap (λ l. in_slot s (get_or l i None) c.states.items states i) none
 
 -- slots are made
-module _ (states : List NodeState) (old new : Copies) (slots_are : (i : ℕ) → get_or new.slots.items i None ≡ get_or old.slots.items i None) (states_are : new.states.items ≡ old.states.items) where
+module _ (states : List NodeState) (old new : Copies) (slots_are : (i : ℕ) → get_or new.slots.items i None ≡ get_or old.slots.items i None)
+    (states_are : new.states.items ≡ old.states.items) where
   pub slots_seen : HaveSeen states old new
-  slots_seen = record { same = λ i s l. ap (λ z. in_slot s z new.states.items states i) (slots_are i) ∙ ap (λ z. in_slot s (get_or old.slots.items i None) z states i) states_are }
+  slots_seen = record {
+    same = λ i s l. ap (λ z. in_slot s z new.states.items states i) (slots_are i) ∙ ap (λ z. in_slot s (get_or old.slots.items i None) z states i) states_are;
+  }
 
   as_before : (k : ℕ) (s : NodeState) → get_or new.states.items k s ≡ get_or old.states.items k s
   as_before k s = ap (λ z. get_or z k s) states_are
@@ -43,13 +74,17 @@ module _ (states : List NodeState) (old new : Copies) (slots_are : (i : ℕ) →
     long = inl long;
     filled = λ i k e. omega (arith, ap length states_are, are.filled i k (sym (slots_are i) ∙ e));
     named = λ i k s e. ap (λ (z : NodeState). z.me) (as_before k s) ∙ are.named i k s (sym (slots_are i) ∙ e);
-    placed = λ k s l. slots_are (get_or new.states.items k s).me ∙ ap (λ (z : NodeState). get_or old.slots.items z.me None) (as_before k s) ∙ are.placed k s (omega (arith, l, ap length states_are));
-    inside = λ k s l. subst (λ (z : NodeState). (z.me < length states) × (part_of d z.me ≡ part)) (sym (as_before k s)) (are.inside k s (omega (arith, l, ap length states_are)));
+    placed = λ k s l. slots_are (get_or new.states.items k s).me ∙ ap (λ (z : NodeState). get_or old.slots.items z.me None) (as_before k s)
+        ∙ are.placed k s (omega (arith, l, ap length states_are));
+    inside = λ k s l. subst (λ (z : NodeState). (z.me < length states) × (part_of d z.me ≡ part)) (sym (as_before k s))
+        (are.inside k s (omega (arith, l, ap length states_are)));
   }
 
 -- a copy is made
-module _ (d : Division) (part : ℕ) (states : List NodeState) (old new : Copies) (are : AreCopies d part states old) (long : length old.slots.items ≡ length states) (node : ℕ) (copy : NodeState) (inside : node < length states)
-    (slots_are : new.slots.items ≡ set old.slots.items node (Some (length old.states.items))) (states_are : new.states.items ≡ old.states.items ++ copy ∷ []) (none : get_or old.slots.items node None ≡ None) where
+module _ (d : Division) (part : ℕ) (states : List NodeState) (old new : Copies) (are : AreCopies d part states old)
+    (long : length old.slots.items ≡ length states) (node : ℕ) (copy : NodeState) (inside : node < length states)
+    (slots_are : new.slots.items ≡ set old.slots.items node (Some (length old.states.items)))
+    (states_are : new.states.items ≡ old.states.items ++ copy ∷ []) (none : get_or old.slots.items node None ≡ None) where
   last : (s : NodeState) → get_or new.states.items (length old.states.items) s ≡ copy
   last s = ap (λ l. get_or l (length old.states.items) s) states_are ∙ get_or-append_seam old.states.items copy [] s
 
@@ -74,13 +109,15 @@ module _ (d : Division) (part : ℕ) (states : List NodeState) (old new : Copies
   pub copy_seen : (s : NodeState) → copy ≡ get_or states node s → HaveSeen states old new
   copy_seen s0 is = record { same = same }
     where
-      elsewhere : (i : ℕ) (s : NodeState) (o : Option ℕ) → get_or old.slots.items i None ≡ o → in_slot s o new.states.items states i ≡ in_slot s o old.states.items states i
+      elsewhere : (i : ℕ) (s : NodeState) (o : Option ℕ) → get_or old.slots.items i None ≡ o
+          → in_slot s o new.states.items states i ≡ in_slot s o old.states.items states i
       elsewhere i s None e = refl
       elsewhere i s (Some k) e = first k s (are.filled i k e)
 
       same : (i : ℕ) (s : NodeState) → i < length states → seen s states new i ≡ seen s states old i
       same i s l = ⊎_elim
-          (λ t. ap (λ z. in_slot s z new.states.items states i) (ap (λ z. get_or new.slots.items z None) t ∙ here) ∙ last s ∙ is ∙ same_read states node s0 s inside ∙ ap (λ z. get_or states z s) (sym t)
+          (λ t. ap (λ z. in_slot s z new.states.items states i) (ap (λ z. get_or new.slots.items z None) t ∙ here) ∙ last s ∙ is
+          ∙ same_read states node s0 s inside ∙ ap (λ z. get_or states z s) (sym t)
           ∙ sym (ap (λ z. in_slot s z old.states.items states i) (ap (λ z. get_or old.slots.items z None) t ∙ none)))
           (λ ne. ap (λ z. in_slot s z new.states.items states i) (other i ne) ∙ elsewhere i s (get_or old.slots.items i None) refl)
           (cases_eq i node)
@@ -90,7 +127,8 @@ module _ (d : Division) (part : ℕ) (states : List NodeState) (old new : Copies
     where
       filled : (i k : ℕ) → get_or new.slots.items i None ≡ Some k → k < length new.states.items
       filled i k e = ⊎_elim
-          (λ t. let at : length old.states.items ≡ k = some_is (length old.states.items) k (sym here ∙ ap (λ z. get_or new.slots.items z None) (sym t) ∙ e) in omega (arith, at, longer))
+          (λ t. let at : length old.states.items ≡ k = some_is (length old.states.items) k
+          (sym here ∙ ap (λ z. get_or new.slots.items z None) (sym t) ∙ e) in omega (arith, at, longer))
           (λ ne. omega (arith, are.filled i k (sym (other i ne) ∙ e), longer))
           (cases_eq i node)
 
@@ -107,21 +145,26 @@ module _ (d : Division) (part : ℕ) (states : List NodeState) (old new : Copies
 
       placed : (k : ℕ) (s : NodeState) → k < length new.states.items → get_or new.slots.items (get_or new.states.items k s).me None ≡ Some k
       placed k s l = ⊎_elim
-          (λ lt. ap (λ (z : NodeState). get_or new.slots.items z.me None) (first k s lt) ∙ other (get_or old.states.items k s).me (differs k s lt) ∙ are.placed k s lt)
+          (λ lt. ap (λ (z : NodeState). get_or new.slots.items z.me None) (first k s lt) ∙ other (get_or old.states.items k s).me (differs k s lt)
+          ∙ are.placed k s lt)
           (λ ge. let at : length old.states.items ≡ k = omega (arith, ge, l, longer) in
-          ap (λ z. get_or new.slots.items (get_or new.states.items z s).me None) (sym at) ∙ ap (λ (z : NodeState). get_or new.slots.items z.me None) (last s) ∙ ap (λ z. get_or new.slots.items z None) me ∙ here ∙ ap Some at)
+          ap (λ z. get_or new.slots.items (get_or new.states.items z s).me None) (sym at)
+          ∙ ap (λ (z : NodeState). get_or new.slots.items z.me None) (last s) ∙ ap (λ z. get_or new.slots.items z None) me ∙ here ∙ ap Some at)
           (cases_lt k (length old.states.items))
 
-      within : (k : ℕ) (s : NodeState) → k < length new.states.items → ((get_or new.states.items k s).me < length states) × (part_of d (get_or new.states.items k s).me ≡ part)
+      within : (k : ℕ) (s : NodeState) → k < length new.states.items → ((get_or new.states.items k s).me < length states)
+          × (part_of d (get_or new.states.items k s).me ≡ part)
       within k s l = ⊎_elim
           (λ lt. subst (λ (z : NodeState). (z.me < length states) × (part_of d z.me ≡ part)) (sym (first k s lt)) (are.inside k s lt))
           (λ ge. let at : length old.states.items ≡ k = omega (arith, ge, l, longer) in
           subst (λ z. ((get_or new.states.items z s).me < length states) × (part_of d (get_or new.states.items z s).me ≡ part)) at
-          (subst (λ (z : NodeState). (z.me < length states) × (part_of d z.me ≡ part)) (sym (last s)) (subst (λ z. (z < length states) × (part_of d z ≡ part)) (sym me) (inside, in_part))))
+          (subst (λ (z : NodeState). (z.me < length states) × (part_of d z.me ≡ part)) (sym (last s))
+          (subst (λ z. (z < length states) × (part_of d z ≡ part)) (sym me) (inside, in_part))))
           (cases_lt k (length old.states.items))
 
 -- a copy is changed
-module _ (d : Division) (part : ℕ) (states : List NodeState) (old new : Copies) (are : AreCopies d part states old) (node slot : ℕ) (after : NodeState) (at : IsSlot old node slot)
+module _ (d : Division) (part : ℕ) (states : List NodeState) (old new : Copies) (are : AreCopies d part states old) (node slot : ℕ)
+    (after : NodeState) (at : IsSlot old node slot)
     (slots_are : new.slots.items ≡ old.slots.items) (states_are : new.states.items ≡ set old.states.items slot after) (me : after.me ≡ node) where
   now_here : (s : NodeState) → get_or new.states.items slot s ≡ after
   now_here s = ap (λ l. get_or l slot s) states_are ∙ get_or-set_same old.states.items slot after s at.inside
@@ -135,7 +178,8 @@ module _ (d : Division) (part : ℕ) (states : List NodeState) (old new : Copies
   -- who stands where is as before
   same_me : (k : ℕ) (s : NodeState) → (get_or new.states.items k s).me ≡ (get_or old.states.items k s).me
   same_me k s = ⊎_elim
-      (λ e. ap (λ z. (get_or new.states.items z s).me) e ∙ ap (λ (z : NodeState). z.me) (now_here s) ∙ me ∙ sym (are.named node slot s at.slot) ∙ ap (λ z. (get_or old.states.items z s).me) (sym e))
+      (λ e. ap (λ z. (get_or new.states.items z s).me) e ∙ ap (λ (z : NodeState). z.me) (now_here s) ∙ me ∙ sym (are.named node slot s at.slot)
+      ∙ ap (λ z. (get_or old.states.items z s).me) (sym e))
       (λ ne. ap (λ (z : NodeState). z.me) (now_other k s ne)) (cases_eq k slot)
 
   pub copies_changed : AreCopies d part states new
@@ -143,7 +187,8 @@ module _ (d : Division) (part : ℕ) (states : List NodeState) (old new : Copies
     long = ⊎_elim (λ l. inl (omega (arith, ap length slots_are, l))) (λ e. inr (slots_are ∙ e)) are.long;
     filled = λ i k e. omega (arith, are.filled i k (ap (λ z. get_or z i None) (sym slots_are) ∙ e), as_long);
     named = λ i k s e. same_me k s ∙ are.named i k s (ap (λ z. get_or z i None) (sym slots_are) ∙ e);
-    placed = λ k s l. ap (λ z. get_or z (get_or new.states.items k s).me None) slots_are ∙ ap (λ z. get_or old.slots.items z None) (same_me k s) ∙ are.placed k s (omega (arith, l, as_long));
+    placed = λ k s l. ap (λ z. get_or z (get_or new.states.items k s).me None) slots_are ∙ ap (λ z. get_or old.slots.items z None) (same_me k s)
+        ∙ are.placed k s (omega (arith, l, as_long));
     inside = λ k s l. subst (λ z. (z < length states) × (part_of d z ≡ part)) (sym (same_me k s)) (are.inside k s (omega (arith, l, as_long)));
   }
 

@@ -9,8 +9,11 @@ use Rattle.chord_window.specs.Divisions.{block_part}
 -- one more node has its part
 pub one_more : (f : ℕ → ℕ) (parts n : ℕ) (old new : List ℕ) → old ≡ map f (range_with_len 0 n) → All (λ p. p < parts) old → new ≡ old ++ f n ∷ [] → f n < parts
     → (new ≡ map f (range_with_len 0 (n + 1))) × All (λ p. p < parts) new
-one_more f parts n old new are below more in_range =
-    (more ∙ ap (λ l. l ++ f n ∷ []) are ∙ sym (map-range_with_len_more f 0 n n (omega arith)), subst (All (λ p. p < parts)) (sym more) (All-push (λ p. p < parts) old (f n) below in_range))
+one_more f parts n old new are below more in_range = (
+  more ∙ ap (λ l. l ++ f n ∷ []) are ∙ sym (map-range_with_len_more f 0 n n (omega arith)),
+  subst (All (λ p. p < parts)) (sym more)
+      (All-push (λ p. p < parts) old (f n) below in_range),
+)
 
 -- the block of a node is one of the parts
 pub block_below : (nodes parts n : ℕ) → n < nodes → 0 < parts → block_part nodes parts n < parts

@@ -1,5 +1,29 @@
 -- The start and the end of a run by windows.
-use Rattle.std.proofs.Common.{◌≡◌, ◌∙◌, ℕ, ◌+◌, ◌^◌, ◌<◌, ◌≤◌, List, [], ◌++◌, Option, None, Some, option_map, length, length-append, get_or, set, ap, sym, refl, subst, arith}
+use Rattle.std.proofs.Common.{
+  ◌≡◌,
+  ◌∙◌,
+  ℕ,
+  ◌+◌,
+  ◌^◌,
+  ◌<◌,
+  ◌≤◌,
+  List,
+  [],
+  ◌++◌,
+  Option,
+  None,
+  Some,
+  option_map,
+  length,
+  length-append,
+  get_or,
+  set,
+  ap,
+  sym,
+  refl,
+  subst,
+  arith,
+}
 use Rattle.std.proofs.lemmas.Option.{none-some}
 use Rattle.std.specs.Io.KnownBytes.{Appends}
 use Rattle.std.specs.List.{All}
@@ -42,7 +66,8 @@ use Rattle.chord_window.proofs.EngineCourse.{few_audits, middle_tallied}
 use Rattle.chord_window.proofs.Shares.{inside_parts, shares_are_all, with_audits}
 
 module _ (sc : Scenario) (ranges : IsInRange sc) where
-  pub start_at : (now : Option (List ℕ)) (e : Engine) → IsWorldOf sc e.world → e.world.count ≡ 0 → e.clock ≡ audit_times sc → length e.tallies.items ≡ e.world.division.parts → AreTalliesOf (λ part. []) e.tallies.items → IsAt sc now now e
+  pub start_at : (now : Option (List ℕ)) (e : Engine) → IsWorldOf sc e.world → e.world.count ≡ 0 → e.clock ≡ audit_times sc
+      → length e.tallies.items ≡ e.world.division.parts → AreTalliesOf (λ part. []) e.tallies.items → IsAt sc now now e
   start_at now e world count_is clock_is each none_tallied =
       let none : history (chord sc) e.world.count ≡ [] = ap (history (chord sc)) count_is in
       record {
@@ -63,7 +88,10 @@ module _ (sc : Scenario) (ranges : IsInRange sc) where
     no_next : next (chord sc) past ≡ None
     no_next = go (next (chord sc) past) refl (sym at.world.opening_is ∙ ended)
       where
-        go : (n : Option (Event Body)) → next (chord sc) past ≡ n → option_map {U = Opening} (λ (z : Event Body). record { time = z.key.time; horizon = horizon_from (chord sc) z.key.time }) n ≡ None → next (chord sc) past ≡ None
+        go : (n : Option (Event Body)) → next (chord sc) past ≡ n → option_map {U = Opening} (λ (z : Event Body). record {
+          time = z.key.time;
+          horizon = horizon_from (chord sc) z.key.time;
+        }) n ≡ None → next (chord sc) past ≡ None
         go None s t = s
         go (Some z) s t = absurd (some_none (record { time = z.key.time; horizon = horizon_from (chord sc) z.key.time }) t)
           where
@@ -90,12 +118,14 @@ module _ (sc : Scenario) (ranges : IsInRange sc) where
         (subst (λ text. Appends old x text) (sym (texts-append sc (output (chord sc) (past)) rest))
         (Appends-trans old now x (pieces_text sc (output (chord sc) (past))) (pieces_text sc rest) at.written adds.written))
 
-    module _ (some : 0 < e.world.division.parts) (below : All (λ p. p < e.world.division.parts) e.world.division.of_node) (before after : Tally) (first_is : before ≡ get_or e.tallies.items 0 before)
+    module _ (some : 0 < e.world.division.parts) (below : All (λ p. p < e.world.division.parts) e.world.division.of_node) (before after : Tally)
+        (first_is : before ≡ get_or e.tallies.items 0 before)
         (adds : (earlier : List Piece) → IsTallyOf earlier before → IsTallyOf (earlier ++ rest) after) where
       -- the tallies have the shares of the whole trace
       pub whole_trace_shared : AreTalliesOf (share_of e.world.division (whole_trace sc)) (set e.tallies.items 0 after)
       whole_trace_shared part t l = subst (λ ps. IsTallyOf ps (get_or (set e.tallies.items 0 after) part t))
-          (with_audits e.world.division (audit_facts sc (state (chord sc) past)) (output (chord sc) past) (due sc.duration e.clock) part ∙ ap (λ ps. share_of e.world.division ps part) trace_is)
+          (with_audits e.world.division (audit_facts sc (state (chord sc) past)) (output (chord sc) past) (due sc.duration e.clock) part
+          ∙ ap (λ ps. share_of e.world.division ps part) trace_is)
           (middle_tallied at rest before after first_is adds part t l)
 
       abbrev many : ℕ
@@ -103,10 +133,12 @@ module _ (sc : Scenario) (ranges : IsInRange sc) where
 
       -- which are all its pieces
       all_shares : IsPermutation (whole_trace sc) (shares_to (share_of e.world.division (whole_trace sc)) many)
-      all_shares = subst (λ n. IsPermutation (whole_trace sc) (shares_to (share_of e.world.division (whole_trace sc)) n)) (sym (length-set e.tallies.items 0 after ∙ at.each))
+      all_shares = subst (λ n. IsPermutation (whole_trace sc) (shares_to (share_of e.world.division (whole_trace sc)) n))
+          (sym (length-set e.tallies.items 0 after ∙ at.each))
           (shares_are_all e.world.division (whole_trace sc) e.world.division.parts (inside_parts e.world.division some below))
 
-      pub shares_fit : (left : ℕ) → taken after + left ≡ taken before + length e.clock → length (shares_to (share_of e.world.division (whole_trace sc)) many) ≤ 2 ^ 40
+      pub shares_fit : (left : ℕ) → taken after + left ≡ taken before + length e.clock
+          → length (shares_to (share_of e.world.division (whole_trace sc)) many) ≤ 2 ^ 40
       shares_fit left size = omega (
         arith,
         length_permutation (whole_trace sc) (shares_to (share_of e.world.division (whole_trace sc)) many) all_shares,
@@ -118,11 +150,13 @@ module _ (sc : Scenario) (ranges : IsInRange sc) where
         ranges.numbers.max_events_greatest,
       )
 
-      pub whole_trace_reported : (joined : Tally) (report : Report) → ((share : ℕ → List Piece) → AreTalliesOf share (set e.tallies.items 0 after) → IsTallyOf (shares_to share many) joined)
+      pub whole_trace_reported : (joined : Tally) (report : Report) → ((share : ℕ → List Piece) → AreTalliesOf share (set e.tallies.items 0 after)
+          → IsTallyOf (shares_to share many) joined)
           → ((pieces : List Piece) → IsTallyOf pieces joined → IsReportOf pieces report) → IsReportOf (whole_trace sc) report
       whole_trace_reported joined report joins reports =
           let share = share_of e.world.division (whole_trace sc) in
-          reordered (shares_to share many) (whole_trace sc) report (IsPermutation-sym (whole_trace sc) (shares_to share many) all_shares) (reports (shares_to share many) (joins share whole_trace_shared))
+          reordered (shares_to share many) (whole_trace sc) report (IsPermutation-sym (whole_trace sc) (shares_to share many) all_shares)
+          (reports (shares_to share many) (joins share whole_trace_shared))
 
     pub begin_end : (x : Option (List ℕ)) → AppendsFront now x (pieces_text sc rest) → IsBeginning sc old x
     begin_end x front = (

@@ -1,5 +1,36 @@
 -- How a run goes on from window to window.
-use Rattle.std.proofs.Common.{◌≡◌, ◌∙◌, ℕ, zero, suc, ◌+◌, ◌<◌, ◌≤◌, ◌^◌, ◌==◌, List, [], ◌∷◌, ◌++◌, Option, None, Some, length, length-append, append_assoc, map, set, get_or, ap, sym, refl, subst, arith, add-one, ⊎_elim}
+use Rattle.std.proofs.Common.{
+  ◌≡◌,
+  ◌∙◌,
+  ℕ,
+  zero,
+  suc,
+  ◌+◌,
+  ◌<◌,
+  ◌≤◌,
+  ◌^◌,
+  ◌==◌,
+  List,
+  [],
+  ◌∷◌,
+  ◌++◌,
+  Option,
+  None,
+  Some,
+  length,
+  length-append,
+  append_assoc,
+  map,
+  set,
+  get_or,
+  ap,
+  sym,
+  refl,
+  subst,
+  arith,
+  add-one,
+  ⊎_elim,
+}
 use Rattle.std.proofs.lemmas.List.{length-map, length-reverse, length-set}
 use Rattle.std.proofs.lemmas.List.Sums.{length-filter, count_by-le-length}
 use Rattle.std.specs.Prelude.{nat_lt}
@@ -64,9 +95,11 @@ begin_at sc old now e at = (
 pub at_spared : (sc : Scenario) (old now : Option (List ℕ)) (e : Engine) (s : Spares) → IsAt sc old now e → IsAt sc old now (record e { spares = s })
 at_spared sc old now e s at = record { world = at.world; audits = at.audits; written = at.written; each = at.each; tallied = at.tallied; room = at.room }
 
-short_lists : (sc : Scenario) (world : World) (horizon k : ℕ) (xs : List Done) → AreDoneFrom sc world horizon k xs → (b : Block) → Contains (all_blocks (block_lists xs)) b → IsShortBlock sc b
+short_lists : (sc : Scenario) (world : World) (horizon k : ℕ) (xs : List Done) → AreDoneFrom sc world horizon k xs → (b : Block)
+    → Contains (all_blocks (block_lists xs)) b → IsShortBlock sc b
 short_lists sc world horizon k [] each b c = absurd (contains_none b c)
-short_lists sc world horizon k (d ∷ xs) each b c = ⊎_elim (λ m. All_at (IsShortBlock sc) d.blocks.items b (each.0).blocks_are m) (λ m. short_lists sc world horizon (suc k) xs each.1 b m) (contains_append d.blocks.items (all_blocks (block_lists xs)) b c)
+short_lists sc world horizon k (d ∷ xs) each b c = ⊎_elim (λ m. All_at (IsShortBlock sc) d.blocks.items b (each.0).blocks_are m)
+    (λ m. short_lists sc world horizon (suc k) xs each.1 b m) (contains_append d.blocks.items (all_blocks (block_lists xs)) b c)
 
 -- the texts of blocks are those of their pieces
 blocks_text : (sc : Scenario) (bs : List Block) → pieces_text sc (map piece.OfEvent bs) ≡ flat_map (block_text sc) bs
@@ -78,17 +111,31 @@ share_shorter d pieces part = omega (arith, length-filter (λ p. tally_part d p 
 
 -- the tallies after audits, which go into the first one
 module _ {sc : Scenario} {old now : Option (List ℕ)} {e : Engine} (at : IsAt sc old now e) where
-  pub first_tally : 0 < e.world.division.parts → (before : Tally) → before ≡ get_or e.tallies.items 0 before → IsTallyOf (share_of e.world.division (output (chord sc) (history (chord sc) e.world.count)) 0) before
-  first_tally some before is = subst (λ t. IsTallyOf (share_of e.world.division (output (chord sc) (history (chord sc) e.world.count)) 0) t) (sym is) (at.tallied 0 before (omega (arith, some, at.each)))
+  pub first_tally : 0 < e.world.division.parts → (before : Tally) → before ≡ get_or e.tallies.items 0 before
+      → IsTallyOf (share_of e.world.division (output (chord sc) (history (chord sc) e.world.count)) 0) before
+  first_tally some before is = subst (λ t. IsTallyOf (share_of e.world.division (output (chord sc) (history (chord sc) e.world.count)) 0) t) (sym is)
+      (at.tallied 0 before (omega (arith, some, at.each)))
 
-  pub audits_fit : 0 < e.world.division.parts → sc.max_events ≤ 50000000 → (before : Tally) → before ≡ get_or e.tallies.items 0 before → taken before + length e.clock ≤ 2 ^ 40
-  audits_fit some few before is = omega (arith, (first_tally some before is).size, share_shorter e.world.division (output (chord sc) (history (chord sc) e.world.count)) 0, at.room, at.world.within, few)
+  pub audits_fit : 0 < e.world.division.parts → sc.max_events ≤ 50000000 → (before : Tally) → before ≡ get_or e.tallies.items 0 before
+      → taken before + length e.clock ≤ 2 ^ 40
+  audits_fit some few before is = omega (
+    arith,
+    (first_tally some before is).size,
+    share_shorter e.world.division
+        (output (chord sc) (history (chord sc) e.world.count)) 0,
+    at.room,
+    at.world.within,
+    few,
+  )
 
-  pub middle_tallied : (audits : List Piece) (before after : Tally) → before ≡ get_or e.tallies.items 0 before → ((earlier : List Piece) → IsTallyOf earlier before → IsTallyOf (earlier ++ audits) after)
+  pub middle_tallied : (audits : List Piece) (before after : Tally) → before ≡ get_or e.tallies.items 0 before
+      → ((earlier : List Piece) → IsTallyOf earlier before → IsTallyOf (earlier ++ audits) after)
       → AreTalliesOf (with_first (share_of e.world.division (output (chord sc) (history (chord sc) e.world.count))) audits) (set e.tallies.items 0 after)
-  middle_tallied audits before after is adds = first_added (share_of e.world.division (output (chord sc) (history (chord sc) e.world.count))) e.tallies.items audits at.tallied before after is adds
+  middle_tallied audits before after is adds = first_added (share_of e.world.division (output (chord sc) (history (chord sc) e.world.count)))
+      e.tallies.items audits at.tallied before after is adds
 
-  pub few_audits : 0 < e.world.division.parts → (audits : List Piece) (before after : Tally) → before ≡ get_or e.tallies.items 0 before → ((earlier : List Piece) → IsTallyOf earlier before → IsTallyOf (earlier ++ audits) after)
+  pub few_audits : 0 < e.world.division.parts → (audits : List Piece) (before after : Tally) → before ≡ get_or e.tallies.items 0 before
+      → ((earlier : List Piece) → IsTallyOf earlier before → IsTallyOf (earlier ++ audits) after)
       → (left : ℕ) → taken after + left ≡ taken before + length e.clock → length audits + left ≡ length e.clock
   few_audits some audits before after is adds left size =
       let first = first_tally some before is in
@@ -113,13 +160,15 @@ done_length sc world horizon k done is =
       is.long,
     )
 
-list_within : (sc : Scenario) (world : World) (horizon k : ℕ) (xs : List Done) → AreDoneFrom sc world horizon k xs → (part : ℕ) → length (blocks_at (block_lists xs) part) ≤ events_in xs
+list_within : (sc : Scenario) (world : World) (horizon k : ℕ) (xs : List Done) → AreDoneFrom sc world horizon k xs → (part : ℕ)
+    → length (blocks_at (block_lists xs) part) ≤ events_in xs
 list_within sc world horizon k [] each part = omega arith
 list_within sc world horizon k (d ∷ xs) each zero = omega (arith, done_length sc world horizon k d each.0)
 list_within sc world horizon k (d ∷ xs) each (suc part) = omega (arith, list_within sc world horizon (suc k) xs each.1 part)
 
 -- the blocks of each part are short
-pub lists_short : (sc : Scenario) (world : World) (horizon k : ℕ) (xs : List Done) → AreDoneFrom sc world horizon k xs → (part : ℕ) → All (λ (b : Block). length b.lines ≤ 64) (blocks_at (block_lists xs) part)
+pub lists_short : (sc : Scenario) (world : World) (horizon k : ℕ) (xs : List Done) → AreDoneFrom sc world horizon k xs → (part : ℕ)
+    → All (λ (b : Block). length b.lines ≤ 64) (blocks_at (block_lists xs) part)
 lists_short sc world horizon k [] each part = λ i b l. absurd (omega (arith, l))
 lists_short sc world horizon k (d ∷ xs) each zero = λ i b l. ((each.0).blocks_are i b l).short
 lists_short sc world horizon k (d ∷ xs) each (suc part) = lists_short sc world horizon (suc k) xs each.1 part
@@ -132,7 +181,8 @@ module _ (sc : Scenario) (ranges : IsInRange sc) (old now : Option (List ℕ)) (
   states_known i d l =
       let node : i < node_count sc = omega (arith, l, at.world.states_are.nodes_are) in
       subst (λ s. AllNodes sc s.succ) (sym (at.world.states_are.state_at i d node))
-      ((meets (chord sc) (well_formed sc ranges) past (possible_from_legal (chord sc) past (history_is_legal (chord sc) e.world.count))).sound i node).invariant.neighbours.succ_known
+      ((meets (chord sc) (well_formed sc ranges) past (possible_from_legal (chord sc) past (history_is_legal (chord sc) e.world.count))).sound i
+      node).invariant.neighbours.succ_known
 
   pub are_states : AreStates sc e.world.states.items (state (chord sc) past)
   are_states i l = at.world.states_are.state_at i (state (chord sc) past i) l
@@ -145,7 +195,8 @@ module _ (sc : Scenario) (ranges : IsInRange sc) (old now : Option (List ℕ)) (
     goes_on = subst (λ k. history (chord sc) k ≡ first.event ∷ past) (sym (add-one e.world.count)) (ap (λ z. cons_option z past) first.next_is)
 
     -- the audits that are due stand ahead of the next event
-    pub begin_audits : (x : Option (List ℕ)) → AppendsFront now x (pieces_text sc (audits_at sc (state (chord sc) past) (due o.time e.clock))) → IsBeginning sc old x
+    pub begin_audits : (x : Option (List ℕ)) → AppendsFront now x (pieces_text sc (audits_at sc (state (chord sc) past) (due o.time e.clock)))
+        → IsBeginning sc old x
     begin_audits x front = (
       e.world.count + 1,
       fronts_longer sc old x (output (chord sc) (history (chord sc) (e.world.count + 1))) _
@@ -157,18 +208,24 @@ module _ (sc : Scenario) (ranges : IsInRange sc) (old now : Option (List ℕ)) (
         last : List Piece
         last = (effect_after (chord sc) past first.event).piece ∷ []
 
-        outputs : output (chord sc) (history (chord sc) (e.world.count + 1)) ≡ output (chord sc) past ++ (audits_at sc (state (chord sc) past) (due o.time e.clock) ++ last)
+        outputs : output (chord sc) (history (chord sc) (e.world.count + 1)) ≡ output (chord sc) past
+            ++ (audits_at sc (state (chord sc) past) (due o.time e.clock) ++ last)
         outputs = ap (output (chord sc)) goes_on ∙ output_next (chord sc) first.event past
             ∙ ap (λ t. output (chord sc) past ++ (audits_at sc (state (chord sc) past) (due t (open_audits (chord sc) past)) ++ last)) (sym first.time_is)
             ∙ ap (λ ts. output (chord sc) past ++ (audits_at sc (state (chord sc) past) (due o.time ts) ++ last)) (sym at.audits)
 
-    pub begin_middle : (x : Option (List ℕ)) (before after : Tally) → Adds sc now x before after (audits_at sc (state (chord sc) past) (due o.time e.clock)) → IsBeginning sc old x
-    begin_middle x before after audits = begin_audits x (front_of_whole now x (pieces_text sc (audits_at sc (state (chord sc) past) (due o.time e.clock))) audits.written)
+    pub begin_middle : (x : Option (List ℕ)) (before after : Tally) → Adds sc now x before after
+        (audits_at sc (state (chord sc) past) (due o.time e.clock)) → IsBeginning sc old x
+    begin_middle x before after audits = begin_audits x (front_of_whole now x
+        (pieces_text sc (audits_at sc (state (chord sc) past) (due o.time e.clock))) audits.written)
 
     -- each tally has room for the blocks of its part
-    pub blocks_fit : (dones : List Done) → AreDone sc e.world o.horizon dones → (middle : Option (List ℕ)) (before after : Tally) → 0 < e.world.division.parts → before ≡ get_or e.tallies.items 0 before
-        → Adds sc now middle before after (audits_at sc (state (chord sc) past) (due o.time e.clock)) → (left : ℕ) → taken after + left ≡ taken before + length e.clock → e.world.count + events_in dones ≤ sc.max_events
-        → (part : ℕ) (t : Tally) → part < length (set e.tallies.items 0 after) → taken (get_or (set e.tallies.items 0 after) part t) + length (blocks_at (block_lists dones) part) ≤ 2 ^ 40
+    pub blocks_fit : (dones : List Done) → AreDone sc e.world o.horizon dones → (middle : Option (List ℕ)) (before after : Tally)
+        → 0 < e.world.division.parts → before ≡ get_or e.tallies.items 0 before
+        → Adds sc now middle before after (audits_at sc (state (chord sc) past) (due o.time e.clock)) → (left : ℕ)
+        → taken after + left ≡ taken before + length e.clock → e.world.count + events_in dones ≤ sc.max_events
+        → (part : ℕ) (t : Tally) → part < length (set e.tallies.items 0 after)
+        → taken (get_or (set e.tallies.items 0 after) part t) + length (blocks_at (block_lists dones) part) ≤ 2 ^ 40
     blocks_fit dones a middle before after some first_is audits left size many part t l =
         let d = e.world.division in
         let new = audits_at sc (state (chord sc) past) (due o.time e.clock) in
@@ -186,7 +243,8 @@ module _ (sc : Scenario) (ranges : IsInRange sc) (old now : Option (List ℕ)) (
           ranges.numbers.max_events_greatest,
         )
 
-    module _ (dones : List Done) (a : AreDone sc e.world o.horizon dones) (same_time : a.time ≡ o.time) (bs : List Block) (merged : IsMerged (block_lists dones) bs) where
+    module _ (dones : List Done) (a : AreDone sc e.world o.horizon dones) (same_time : a.time ≡ o.time) (bs : List Block)
+        (merged : IsMerged (block_lists dones) bs) where
       abbrev put : List Piece
       put = audits_at sc (state (chord sc) past) (due o.time e.clock) ++ map piece.OfEvent bs
 
@@ -205,7 +263,9 @@ module _ (sc : Scenario) (ranges : IsInRange sc) (old now : Option (List ℕ)) (
       text_is : pieces_text sc (map piece.OfEvent bs) ≡ flat_map (block_text sc) bs
       text_is = blocks_text sc bs
 
-      pub begin_blocks : (middle x : Option (List ℕ)) (before after : Tally) → Adds sc now middle before after (audits_at sc (state (chord sc) past) (due o.time e.clock)) → AppendsFront middle x (flat_map (block_text sc) bs) → IsBeginning sc old x
+      pub begin_blocks : (middle x : Option (List ℕ)) (before after : Tally)
+          → Adds sc now middle before after (audits_at sc (state (chord sc) past) (due o.time e.clock))
+          → AppendsFront middle x (flat_map (block_text sc) bs) → IsBeginning sc old x
       begin_blocks middle x before after audits front = (
         e.world.count + events_in dones,
         fronts_longer sc old x (output (chord sc) (history (chord sc) (e.world.count + events_in dones))) _
@@ -219,37 +279,51 @@ module _ (sc : Scenario) (ranges : IsInRange sc) (old now : Option (List ℕ)) (
       abbrev middle_share : ℕ → List Piece
       middle_share = with_first (share_of e.world.division (output (chord sc) past)) (audits_at sc (state (chord sc) past) (due o.time e.clock))
 
-      shares_are : (part : ℕ) → middle_share part ++ map piece.OfEvent (blocks_at (block_lists dones) part) ≡ share_of e.world.division (output (chord sc) past ++ put) part
+      shares_are : (part : ℕ) → middle_share part ++ map piece.OfEvent (blocks_at (block_lists dones) part)
+          ≡ share_of e.world.division (output (chord sc) past ++ put) part
       shares_are part =
           let d = e.world.division in
           let audits = audits_at sc (state (chord sc) past) (due o.time e.clock) in
-          ap (λ l. l ++ map piece.OfEvent (blocks_at (block_lists dones) part)) (with_audits d (audit_facts sc (state (chord sc) past)) (output (chord sc) past) (due o.time e.clock) part)
+          ap (λ l. l ++ map piece.OfEvent (blocks_at (block_lists dones) part))
+          (with_audits d (audit_facts sc (state (chord sc) past)) (output (chord sc) past) (due o.time e.clock) part)
           ∙ ap (λ l. share_of d (output (chord sc) past ++ audits) part ++ map piece.OfEvent l)
-          (sym (own_blocks d (block_lists dones) bs (can_merge sc ranges e.world at.world o.horizon dones a nowhere) (of_own_parts sc ranges e.world at.world o.horizon dones a nowhere) merged part))
+          (sym (own_blocks d (block_lists dones) bs (can_merge sc ranges e.world at.world o.horizon dones a nowhere)
+          (of_own_parts sc ranges e.world at.world o.horizon dones a nowhere) merged part))
           ∙ ap (λ l. share_of d (output (chord sc) past ++ audits) part ++ l) (sym (share_events d bs part))
           ∙ sym (share-append d (output (chord sc) past ++ audits) (map piece.OfEvent bs) part)
           ∙ ap (λ l. share_of d l part) (append_assoc (output (chord sc) past) audits (map piece.OfEvent bs))
 
       module _ (middle : Option (List ℕ)) (before after : Tally) (some : 0 < e.world.division.parts) (first_is : before ≡ get_or e.tallies.items 0 before)
-          (audits : Adds sc now middle before after (audits_at sc (state (chord sc) past) (due o.time e.clock))) (left : ℕ) (size : taken after + left ≡ taken before + length e.clock) where
-        pub next_at : (f : Engine) (new : Option (List ℕ)) → IsWorldOf sc f.world → f.world.count ≡ e.world.count + events_in dones → f.world.division ≡ e.world.division
-            → f.clock ≡ filter (λ u. nat_lt o.time u) e.clock → length f.clock ≡ left → Appends middle new (flat_map (block_text sc) bs) → length f.tallies.items ≡ length (set e.tallies.items 0 after)
-            → ((share : ℕ → List Piece) → AreTalliesOf share (set e.tallies.items 0 after) → AreTalliesOf (λ part. share part ++ map piece.OfEvent (blocks_at (block_lists dones) part)) f.tallies.items) → IsAt sc old new f
+          (audits : Adds sc now middle before after (audits_at sc (state (chord sc) past) (due o.time e.clock))) (left : ℕ)
+          (size : taken after + left ≡ taken before + length e.clock) where
+        pub next_at : (f : Engine) (new : Option (List ℕ)) → IsWorldOf sc f.world → f.world.count ≡ e.world.count + events_in dones
+            → f.world.division ≡ e.world.division
+            → f.clock ≡ filter (λ u. nat_lt o.time u) e.clock → length f.clock ≡ left → Appends middle new (flat_map (block_text sc) bs)
+            → length f.tallies.items ≡ length (set e.tallies.items 0 after)
+            → ((share : ℕ → List Piece) → AreTalliesOf share (set e.tallies.items 0 after)
+            → AreTalliesOf (λ part. share part ++ map piece.OfEvent (blocks_at (block_lists dones) part)) f.tallies.items) → IsAt sc old new f
         next_at f new world count division clock left_is blocks each adds =
-            let pieces : output (chord sc) (history (chord sc) f.world.count) ≡ output (chord sc) past ++ put = ap (λ k. output (chord sc) (history (chord sc) k)) count ∙ outputs in
+            let pieces : output (chord sc) (history (chord sc) f.world.count) ≡ output (chord sc) past
+            ++ put = ap (λ k. output (chord sc) (history (chord sc) k)) count ∙ outputs in
             record {
               world = world;
               audits = clock ∙ ap (filter (λ u. nat_lt o.time u)) at.audits ∙ ap (λ t. filter (λ u. nat_lt t u) (open_audits (chord sc) past)) (sym same_time)
-                  ∙ sym (window_leaves_open sc ranges e.world at.world o.horizon dones a nowhere) ∙ ap (λ k. open_audits (chord sc) (history (chord sc) k)) (sym count);
+                  ∙ sym (window_leaves_open sc ranges e.world at.world o.horizon dones a nowhere)
+                  ∙ ap (λ k. open_audits (chord sc) (history (chord sc) k)) (sym count);
               written = subst (λ ps. Appends old new (pieces_text sc ps)) (sym pieces)
                   (subst (λ text. Appends old new text) (sym (texts-append sc (output (chord sc) past) put))
                   (Appends-trans old now new (pieces_text sc (output (chord sc) past)) (pieces_text sc put) at.written
-                  (subst (λ text. Appends now new text) (sym (texts-append sc (audits_at sc (state (chord sc) past) (due o.time e.clock)) (map piece.OfEvent bs)))
-                  (Appends-trans now middle new (pieces_text sc (audits_at sc (state (chord sc) past) (due o.time e.clock))) (pieces_text sc (map piece.OfEvent bs)) audits.written
+                  (subst (λ text. Appends now new text) (sym (texts-append sc (audits_at sc (state (chord sc) past) (due o.time e.clock))
+                  (map piece.OfEvent bs)))
+                  (Appends-trans now middle new (pieces_text sc (audits_at sc (state (chord sc) past) (due o.time e.clock)))
+                  (pieces_text sc (map piece.OfEvent bs)) audits.written
                   (subst (λ t. Appends middle new t) (sym text_is) blocks)))));
               each = each ∙ length-set e.tallies.items 0 after ∙ at.each ∙ ap (λ (d : Division). d.parts) (sym division);
-              tallied = λ part t l. subst (λ ps. IsTallyOf ps (get_or f.tallies.items part t)) (shares_are part ∙ ap (λ ps. share_of e.world.division ps part) (sym pieces) ∙ ap (λ d. share_of d (output (chord sc) (history (chord sc) f.world.count)) part) (sym division))
-                  (adds middle_share (middle_tallied at (audits_at sc (state (chord sc) past) (due o.time e.clock)) before after first_is audits.tallied) part t l);
+              tallied = λ part t l. subst (λ ps. IsTallyOf ps (get_or f.tallies.items part t))
+                  (shares_are part ∙ ap (λ ps. share_of e.world.division ps part) (sym pieces)
+                  ∙ ap (λ d. share_of d (output (chord sc) (history (chord sc) f.world.count)) part) (sym division))
+                  (adds middle_share (middle_tallied at (audits_at sc (state (chord sc) past) (due o.time e.clock)) before after first_is
+                  audits.tallied) part t l);
               room = omega (
                 arith,
                 at.room,
@@ -268,6 +342,9 @@ time_in : ℕ → Option Opening → ℕ
 time_in other None = other
 time_in other (Some o) = o.time
 
-pub same_opening : (o : Opening) (other : Option Opening) (time : ℕ) → other ≡ Some (record { time = time; horizon = o.horizon }) → other ≡ Some o → time ≡ o.time
+pub same_opening : (o : Opening) (other : Option Opening) (time : ℕ) → other ≡ Some (record {
+  time = time;
+  horizon = o.horizon;
+}) → other ≡ Some o → time ≡ o.time
 unfolding time_in
 same_opening o other time a b = ap (time_in 0) (sym a ∙ b)

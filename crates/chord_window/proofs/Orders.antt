@@ -1,5 +1,37 @@
 -- What parts leave is put at the places of the parts, and taken out in their order.
-use Rattle.std.proofs.Common.{◌≡◌, ◌∙◌, ◌≢◌, ◌⊎◌, inl, inr, ℕ, zero, suc, ◌+◌, ◌<◌, ◌≤◌, List, [], ◌∷◌, length, slice_index_or, slice_set, Option, None, Some, refl, sym, ap, subst, ⊎_elim, cond, eqb, eq-eqb, ne_eqb, arith}
+use Rattle.std.proofs.Common.{
+  ◌≡◌,
+  ◌∙◌,
+  ◌≢◌,
+  ◌⊎◌,
+  inl,
+  inr,
+  ℕ,
+  zero,
+  suc,
+  ◌+◌,
+  ◌<◌,
+  ◌≤◌,
+  List,
+  [],
+  ◌∷◌,
+  length,
+  slice_index_or,
+  slice_set,
+  Option,
+  None,
+  Some,
+  refl,
+  sym,
+  ap,
+  subst,
+  ⊎_elim,
+  cond,
+  eqb,
+  eq-eqb,
+  ne_eqb,
+  arith,
+}
 use Rattle.std.specs.Prelude.{All}
 use Rattle.std.specs.List.{Contains}
 use Rattle.std.proofs.lemmas.List.Sums.{sum_by-cons}
@@ -33,9 +65,14 @@ pub all_to_come : (parts : ℕ) (dones : List Done) → HasEachOnce parts (parts
 all_to_come parts dones once k below = to_come k dones (omega (arith, once.each_once k below))
 
 -- each of the results is one of them
-are_of : (dones : List Done) (parts : ℕ) (rest : List Done) → ((k : ℕ) (x : Done) → k < length rest → Contains dones (slice_index_or rest k x)) → All (λ x. x < parts) (parts_of rest) → AreOf dones parts rest
+are_of : (dones : List Done) (parts : ℕ) (rest : List Done) → ((k : ℕ) (x : Done) → k < length rest → Contains dones (slice_index_or rest k x))
+    → All (λ x. x < parts) (parts_of rest) → AreOf dones parts rest
 are_of dones parts [] inside below = tt
-are_of dones parts (d ∷ ds) inside below = ((below 0 0 (omega arith), inside 0 d (omega arith)), are_of dones parts ds (λ k x in_range. inside (suc k) x (omega arith)) (λ k x in_range. below (suc k) x (omega arith)))
+are_of dones parts (d ∷ ds) inside below = (
+  (below 0 0 (omega arith), inside 0 d (omega arith)),
+  are_of dones parts ds
+      (λ k x in_range. inside (suc k) x (omega arith)) (λ k x in_range. below (suc k) x (omega arith)),
+)
 
 same_default : (dones : List Done) (k : ℕ) (x y : Done) → k < length dones → slice_index_or dones k x ≡ slice_index_or dones k y
 same_default [] k x y in_range = absurd (omega arith)
@@ -69,13 +106,15 @@ pub one_placed : (dones : List Done) (slots : List (Option Done)) (d : Done) (re
     → IsFilled dones k (slice_index_or (slice_set slots d.part (Some d)) k None) ⊎ IsToCome k rest
 one_placed dones slots d rest k in_range among before = by_place (ℕ_discrete k d.part)
   where
-    there : k ≢ d.part → IsFilled dones k (slice_index_or slots k None) ⊎ IsToCome k (d ∷ rest) → IsFilled dones k (slice_index_or (slice_set slots d.part (Some d)) k None) ⊎ IsToCome k rest
+    there : k ≢ d.part → IsFilled dones k (slice_index_or slots k None) ⊎ IsToCome k (d ∷ rest)
+        → IsFilled dones k (slice_index_or (slice_set slots d.part (Some d)) k None) ⊎ IsToCome k rest
     there apart (inl filled) = inl (subst (IsFilled dones k) (sym (set_there slots d.part k (Some d) apart)) filled)
     there apart (inr (inl same)) = absurd (apart (sym same))
     there apart (inr (inr later)) = inr later
 
     by_place : Dec (k ≡ d.part) → IsFilled dones k (slice_index_or (slice_set slots d.part (Some d)) k None) ⊎ IsToCome k rest
-    by_place (yes same) = inl (subst (λ n. IsFilled dones k (slice_index_or (slice_set slots d.part (Some d)) n None)) (sym same) (subst (IsFilled dones k) (sym (set_here slots d.part (Some d) in_range)) (sym same, among)))
+    by_place (yes same) = inl (subst (λ n. IsFilled dones k (slice_index_or (slice_set slots d.part (Some d)) n None)) (sym same)
+        (subst (IsFilled dones k) (sym (set_here slots d.part (Some d) in_range)) (sym same, among)))
     by_place (no apart) = there apart before
 
 -- where none is to come, each place is filled
@@ -84,28 +123,34 @@ none_to_come dones slot k (inl filled) = filled
 none_to_come dones slot k (inr none) = absurd none
 
 -- filled places hold one for each part
-filled_from : (dones : List Done) (from : ℕ) (slots : List (Option Done)) → ((k : ℕ) → k < length slots → IsFilled dones (from + k) (slice_index_or slots k None))
+filled_from : (dones : List Done) (from : ℕ) (slots : List (Option Done))
+    → ((k : ℕ) → k < length slots → IsFilled dones (from + k) (slice_index_or slots k None))
     → AreInOrderFrom dones from (in_slots slots) × (length (in_slots slots) ≡ length slots)
 filled_from dones from [] filled = (tt, refl)
 filled_from dones from (None ∷ slots) filled = absurd (filled 0 (omega arith))
 filled_from dones from (Some d ∷ slots) filled =
-    let rest = filled_from dones (suc from) slots (λ k in_range. subst (λ n. IsFilled dones n (slice_index_or slots k None)) (omega arith) (filled (suc k) (omega arith))) in
+    let rest = filled_from dones (suc from) slots (λ k in_range. subst (λ n. IsFilled dones n (slice_index_or slots k None)) (omega arith)
+    (filled (suc k) (omega arith))) in
     let here = filled 0 (omega arith) in
     (((omega (arith, here.0), here.1), rest.0), ap suc rest.1)
 
-pub filled_in_order : (dones : List Done) (parts : ℕ) (slots : List (Option Done)) → length slots ≡ parts → ((k : ℕ) → k < parts → IsFilled dones k (slice_index_or slots k None))
+pub filled_in_order : (dones : List Done) (parts : ℕ) (slots : List (Option Done)) → length slots ≡ parts
+    → ((k : ℕ) → k < parts → IsFilled dones k (slice_index_or slots k None))
     → AreInOrderFrom dones 0 (in_slots slots) × (length (in_slots slots) ≡ length slots)
-filled_in_order dones parts slots long filled = filled_from dones 0 slots (λ k in_range. subst (λ n. IsFilled dones n (slice_index_or slots k None)) (omega arith) (filled k (omega (arith, long))))
+filled_in_order dones parts slots long filled = filled_from dones 0 slots
+    (λ k in_range. subst (λ n. IsFilled dones n (slice_index_or slots k None)) (omega arith) (filled k (omega (arith, long))))
 
 -- each of the results of the parts, in their order, is what its part leaves
-pub results_in_order : (sc : Scenario) (w : World) (horizon part : ℕ) (dones list : List Done) → All (IsResult sc w horizon) dones → AreInOrderFrom dones part list → AreDoneFrom sc w horizon part list
+pub results_in_order : (sc : Scenario) (w : World) (horizon part : ℕ) (dones list : List Done) → All (IsResult sc w horizon) dones
+    → AreInOrderFrom dones part list → AreDoneFrom sc w horizon part list
 results_in_order sc w horizon part dones [] all order = tt
 results_in_order sc w horizon part dones (d ∷ list) all order =
     let among = order.0.1 in
     let is : IsResult sc w horizon d = subst (IsResult sc w horizon) among.2 (all among.0 d among.1) in
     (subst (λ n. IsDone sc w horizon n d) order.0.0 is, results_in_order sc w horizon (suc part) dones list all order.1)
 
-pub parts_done : (sc : Scenario) (w : World) (horizon : ℕ) (dones list : List Done) → ArePartsDone sc w horizon dones → AreInOrder dones w.division.parts list → AreDone sc w horizon list
+pub parts_done : (sc : Scenario) (w : World) (horizon : ℕ) (dones list : List Done) → ArePartsDone sc w horizon dones
+    → AreInOrder dones w.division.parts list → AreDone sc w horizon list
 parts_done sc w horizon dones list are order = record {
   time = are.time;
   opening = are.opening;
@@ -136,7 +181,8 @@ none_of part (d ∷ ds) none = at_head (ℕ_discrete d.part part) (none_of part 
 counted : (part : ℕ) (dones : List Done) (d : Done) → d.part ≡ part → Contains dones d → 0 < count_of part (parts_of dones)
 counted part [] d is among = absurd (contains_none d among)
 counted part (x ∷ xs) d is among = ⊎_elim
-    (λ e. let here : ◌≡◌ {A = ℕ} (cond (eqb x.part part) 1 0) 1 = ap (λ b. cond b 1 0) (eq-eqb x.part part (ap (λ (z : Done). z.part) e ∙ is)) in omega (arith, here, count_of-cons part x.part (parts_of xs)))
+    (λ e. let here : ◌≡◌ {A = ℕ} (cond (eqb x.part part) 1 0) 1 = ap (λ b. cond b 1 0) (eq-eqb x.part part (ap (λ (z : Done). z.part) e ∙ is))
+    in omega (arith, here, count_of-cons part x.part (parts_of xs)))
     (λ later. omega (arith, counted part xs d is later, count_of-cons part x.part (parts_of xs)))
     (contains_cons d x xs among)
 
@@ -145,7 +191,8 @@ one_of : (part : ℕ) (dones : List Done) (d : Done) → d.part ≡ part → Con
 one_of part [] d is among once = absurd (contains_none d among)
 one_of part (x ∷ xs) d is among once = at_head (ℕ_discrete x.part part) (contains_cons d x xs among) (one_of part xs d is)
   where
-    at_head : Dec (x.part ≡ part) → (x ≡ d) ⊎ Contains xs d → (Contains xs d → count_of part (parts_of xs) ≡ 1 → events_of part xs ≡ d.events) → cond (eqb x.part part) x.events 0 + events_of part xs ≡ d.events
+    at_head : Dec (x.part ≡ part) → (x ≡ d) ⊎ Contains xs d → (Contains xs d → count_of part (parts_of xs) ≡ 1 → events_of part xs ≡ d.events)
+        → cond (eqb x.part part) x.events 0 + events_of part xs ≡ d.events
     at_head (yes same) (inl e) rest =
         let count : ◌≡◌ {A = ℕ} (cond (eqb x.part part) 1 0) 1 = ap (λ b. cond b 1 0) (eq-eqb x.part part same) in
         let here : ◌≡◌ {A = ℕ} (cond (eqb x.part part) x.events 0) x.events = ap (λ b. cond b x.events 0) (eq-eqb x.part part same) in
@@ -183,7 +230,8 @@ sum_one : (part amount n : ℕ) → part < n → sum_to (λ k. cond (eqb part k)
 sum_one part amount zero below = absurd (omega arith)
 sum_one part amount (suc n) below = at_last (ℕ_discrete part n) (sum_one part amount n)
   where
-    at_last : Dec (part ≡ n) → (part < n → sum_to (λ k. cond (eqb part k) amount 0) n ≡ amount) → cond (eqb part n) amount 0 + sum_to (λ k. cond (eqb part k) amount 0) n ≡ amount
+    at_last : Dec (part ≡ n) → (part < n → sum_to (λ k. cond (eqb part k) amount 0) n ≡ amount)
+        → cond (eqb part n) amount 0 + sum_to (λ k. cond (eqb part k) amount 0) n ≡ amount
     at_last (yes same) rest =
         let here : ◌≡◌ {A = ℕ} (cond (eqb part n) amount 0) amount = ap (λ b. cond b amount 0) (eq-eqb part n same) in
         omega (arith, here, sum_past part amount n (omega (arith, same)))
@@ -200,16 +248,19 @@ events_by_part parts (d ∷ ds) below =
     ∙ sym (sum_plus (λ k. cond (eqb d.part k) d.events 0) (λ k. events_of k ds) parts)
 
 -- where the results are in order, the one at a place has the events of its part
-events_there : (parts : ℕ) (dones : List Done) → HasEachOnce parts (parts_of dones) → (from : ℕ) (list : List Done) → AreInOrderFrom dones from list → (q k : ℕ) → q < length list → from + q ≡ k → k < parts
+events_there : (parts : ℕ) (dones : List Done) → HasEachOnce parts (parts_of dones) → (from : ℕ) (list : List Done) → AreInOrderFrom dones from list
+    → (q k : ℕ) → q < length list → from + q ≡ k → k < parts
     → events_at list q ≡ events_of k dones
 events_there parts dones once from [] order q k l at below = absurd (omega arith)
 events_there parts dones once from (d ∷ list) order zero k l at below = sym (one_of k dones d (omega (arith, order.0.0, at)) order.0.1 (once.each_once k below))
-events_there parts dones once from (d ∷ list) order (suc q) k l at below = events_there parts dones once (suc from) list order.1 q k (omega arith) (omega (arith, at)) below
+events_there parts dones once from (d ∷ list) order (suc q) k l at below = events_there parts dones once (suc from) list order.1 q k (omega arith)
+    (omega (arith, at)) below
 
 -- in the order of the parts they have as many events
 pub events_in_order : (parts : ℕ) (dones list : List Done) → HasEachOnce parts (parts_of dones) → AreInOrder dones parts list → events_in list ≡ events_in dones
 events_in_order parts dones list once order =
     events_sum list
-    ∙ sum_same (events_at list) (λ k. events_of k dones) (length list) (λ k l. events_there parts dones once 0 list order.each k k l (omega arith) (omega (arith, l, order.long)))
+    ∙ sum_same (events_at list) (λ k. events_of k dones) (length list)
+    (λ k l. events_there parts dones once 0 list order.each k k l (omega arith) (omega (arith, l, order.long)))
     ∙ ap (sum_to (λ k. events_of k dones)) order.long
     ∙ sym (events_by_part parts dones once.no_other)

@@ -21,10 +21,12 @@ use Rattle.chord_window.proofs.Openings.{opens_with}
 
 module _ (sc : Scenario) (world : World) (is : IsWorldOf sc world) where
   -- the next window of the window machine
-  within : (o : Opening) → world.opening ≡ Some o → (number : ℕ) → begun (chord sc) number (history (chord sc) world.count) ≡ Within number (opened (history (chord sc) world.count) o.horizon)
+  within : (o : Opening) → world.opening ≡ Some o → (number : ℕ) → begun (chord sc) number (history (chord sc) world.count)
+      ≡ Within number (opened (history (chord sc) world.count) o.horizon)
   within o opening number =
       let w = opens_with sc (history (chord sc) world.count) o (sym is.opening_is ∙ opening) in
-      ap (begun_at (chord sc) number (history (chord sc) world.count)) w.next_is ∙ ap (λ k. Within number (opened (history (chord sc) world.count) k)) (sym w.horizon_is)
+      ap (begun_at (chord sc) number (history (chord sc) world.count)) w.next_is
+      ∙ ap (λ k. Within number (opened (history (chord sc) world.count) k)) (sym w.horizon_is)
 
   -- where there is none, the run has ended
   ended : world.opening ≡ None → (number : ℕ) → begun (chord sc) number (history (chord sc) world.count) ≡ Ended (history (chord sc) world.count)
@@ -33,14 +35,18 @@ module _ (sc : Scenario) (world : World) (is : IsWorldOf sc world) where
       some_none : (o : Opening) → Some o ≡ None → ⊥
       some_none o k = none-some o (sym k)
 
-      go : (n : Option (Event Body)) → option_map {U = Opening} (λ (z : Event Body). record { time = z.key.time; horizon = horizon_from (chord sc) z.key.time }) n ≡ None
+      go : (n : Option (Event Body)) → option_map {U = Opening} (λ (z : Event Body). record {
+        time = z.key.time;
+        horizon = horizon_from (chord sc) z.key.time;
+      }) n ≡ None
           → begun_at (chord sc) number (history (chord sc) world.count) n ≡ Ended (history (chord sc) world.count)
       go None e = refl
       go (Some z) e = absurd (some_none (record { time = z.key.time; horizon = horizon_from (chord sc) z.key.time }) e)
 
   module _ (d : Division) (workers : ℕ) (picks rest : List ℕ) (taken : List Taken) (come : HasCome sc d workers picks rest world.count taken) where
     -- one window more
-    pub come_on : (o : Opening) → world.opening ≡ Some o → (rest' : List ℕ) (after : List Taken) (events count : ℕ) → HasStepped sc d workers world.count o.horizon rest rest' taken after events
+    pub come_on : (o : Opening) → world.opening ≡ Some o → (rest' : List ℕ) (after : List Taken) (events count : ℕ)
+        → HasStepped sc d workers world.count o.horizon rest rest' taken after events
         → count ≡ world.count + events → HasCome sc d workers picks rest' count after
     come_on o opening rest' after events count stepped count_is = record {
       number = come.number + 1;
@@ -48,8 +54,10 @@ module _ (sc : Scenario) (world : World) (is : IsWorldOf sc world) where
       told = stepped.told ∙ ap (λ l. l ++ map shown stepped.steps) come.told ∙ sym (map-append shown come.steps stepped.steps);
       leads = λ more h goes.
           subst (λ s. Goes (chord sc) (λ _. d) workers (begun (chord sc) 0 []) picks s h) (sym (append_assoc come.steps stepped.steps more))
-          (come.leads (stepped.steps ++ more) h (subst (λ r. Goes (chord sc) (λ _. d) workers r rest (stepped.steps ++ more) h) (sym (within o opening come.number))
-          (stepped.leads come.number more h (subst (λ k. Goes (chord sc) (λ _. d) workers (begun (chord sc) (come.number + 1) (history (chord sc) k)) rest' more h) count_is goes))));
+          (come.leads (stepped.steps ++ more) h (subst (λ r. Goes (chord sc) (λ _. d) workers r rest (stepped.steps ++ more) h)
+          (sym (within o opening come.number))
+          (stepped.leads come.number more h (subst (λ k. Goes (chord sc) (λ _. d) workers (begun (chord sc) (come.number + 1) (history (chord sc) k))
+          rest' more h) count_is goes))));
     }
 
     -- the steps of the whole run
@@ -59,11 +67,13 @@ module _ (sc : Scenario) (world : World) (is : IsWorldOf sc world) where
       told = come.told;
       history_left = history (chord sc) world.count;
       goes = subst (λ s. Goes (chord sc) (λ _. d) workers (begun (chord sc) 0 []) picks s (history (chord sc) world.count)) (append-nil come.steps)
-          (come.leads [] (history (chord sc) world.count) (subst (λ r. Goes (chord sc) (λ _. d) workers r rest [] (history (chord sc) world.count)) (sym (ended none come.number)) ends));
+          (come.leads [] (history (chord sc) world.count) (subst (λ r. Goes (chord sc) (λ _. d) workers r rest [] (history (chord sc) world.count))
+          (sym (ended none come.number)) ends));
     }
 
 -- before the first step
-pub come_first : (sc : Scenario) (d : Division) (workers : ℕ) (picks : List ℕ) (count : ℕ) (taken : List Taken) → count ≡ 0 → taken ≡ [] → HasCome sc d workers picks picks count taken
+pub come_first : (sc : Scenario) (d : Division) (workers : ℕ) (picks : List ℕ) (count : ℕ) (taken : List Taken) → count ≡ 0 → taken ≡ []
+    → HasCome sc d workers picks picks count taken
 come_first sc d workers picks count taken zero none = record {
   number = 0;
   steps = [];

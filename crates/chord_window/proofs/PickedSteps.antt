@@ -1,5 +1,40 @@
 -- What one step of a worker makes of a window.
-use Rattle.std.proofs.Common.{◌≡◌, ◌≢◌, ℕ, zero, suc, ◌+◌, ◌-◌, ◌*◌, ◌<◌, ◌≤◌, true, false, List, [], ◌∷◌, Option, None, Some, length, get_or, set, slice_get, refl, ap, sym, ◌∙◌, subst, inl, inr, ◌⊎◌, ⊎_elim, arith, lt-ltb, ltb-true}
+use Rattle.std.proofs.Common.{
+  ◌≡◌,
+  ◌≢◌,
+  ℕ,
+  zero,
+  suc,
+  ◌+◌,
+  ◌-◌,
+  ◌*◌,
+  ◌<◌,
+  ◌≤◌,
+  true,
+  false,
+  List,
+  [],
+  ◌∷◌,
+  Option,
+  None,
+  Some,
+  length,
+  get_or,
+  set,
+  slice_get,
+  refl,
+  ap,
+  sym,
+  ◌∙◌,
+  subst,
+  inl,
+  inr,
+  ◌⊎◌,
+  ⊎_elim,
+  arith,
+  lt-ltb,
+  ltb-true,
+}
 use Rattle.std.specs.Prelude.{nat_lt, ◌||◌, is_some, if◌then◌else◌}
 use Rattle.std.specs.List.{cons_option}
 use Rattle.std.proofs.Math.ListN.{length-set}
@@ -58,14 +93,17 @@ some_same : {A : Type 0} (a b : A) → Some a ≡ Some b → a ≡ b
 some_same a b e = cc
 
 -- a part's run is within the event limit
-pub run_within : (sc : Scenario) (world : World) → IsWorldOf sc world → (horizon : ℕ) (run : PartRun) (q : Queue) → run.part < world.division.parts → IsRunningAt sc world horizon run q → world.count + length run.blocks.items ≤ sc.max_events
-run_within sc world is horizon run q inside running = let e = slot_there world.parts.items run.part (omega (arith, is.parts_are, inside)) in (running e.0).within
+pub run_within : (sc : Scenario) (world : World) → IsWorldOf sc world → (horizon : ℕ) (run : PartRun) (q : Queue) → run.part < world.division.parts
+    → IsRunningAt sc world horizon run q → world.count + length run.blocks.items ≤ sc.max_events
+run_within sc world is horizon run q inside running = let e = slot_there world.parts.items run.part (omega (arith, is.parts_are, inside))
+    in (running e.0).within
 
 module _ (sc : Scenario) (world : World) (horizon : ℕ) where
   abbrev runs : ℕ → ℕ → List (Event Body)
   runs p n = part_run (chord sc) world.division (history (chord sc) world.count) horizon p n
 
-  module _ (drawn : ℕ) (ws : List Worker) (ds : List (Option Done)) (w : Window Body) (picked : IsPickedWith sc world horizon drawn ws ds w) (i : ℕ) (x : Worker) (at : slice_get ws i ≡ Some x) where
+  module _ (drawn : ℕ) (ws : List Worker) (ds : List (Option Done)) (w : Window Body) (picked : IsPickedWith sc world horizon drawn ws ds w) (i : ℕ)
+      (x : Worker) (at : slice_get ws i ≡ Some x) where
     own : IsHeldBy sc world horizon drawn w i x x.run
     own = picked.workers_are i x at
 
@@ -73,13 +111,15 @@ module _ (sc : Scenario) (world : World) (horizon : ℕ) where
     pub may_go : can_go_with drawn ws ds i ≡ true → MayGoOn sc world horizon drawn x
     may_go can = go x.run refl (own) (ap (λ o. has_part o || nat_lt drawn (length ds)) (sym at) ∙ can)
       where
-        go : (o : Option PartRun) → x.run ≡ o → IsHeldBy sc world horizon drawn w i x o → (is_some o || nat_lt drawn (length ds)) ≡ true → MayGoOnWith sc world horizon drawn x o
+        go : (o : Option PartRun) → x.run ≡ o → IsHeldBy sc world horizon drawn w i x o → (is_some o || nat_lt drawn (length ds)) ≡ true
+            → MayGoOnWith sc world horizon drawn x o
         go None e h t = (h.0, omega (arith, ltb-true drawn (length ds) t, picked.slots))
         go (Some run) e h t = (h.0, picked.few)
 
     -- what the window machine's step keeps of the parts that were drawn
     held_more : (ws' : List Worker) (step : Step Body) → length ws' ≡ length ws → next_step (chord sc) world.division w (w.held i) ≡ Some step
-        → (p : ℕ) → p < (after_step w i step).drawn → (((after_step w i step).part p).sealed ≡ true) ⊎ ((j : ℕ) × (j < length ws') × ((after_step w i step).held j ≡ Some p))
+        → (p : ℕ) → p < (after_step w i step).drawn → (((after_step w i step).part p).sealed ≡ true)
+        ⊎ ((j : ℕ) × (j < length ws') × ((after_step w i step).held j ≡ Some p))
     held_more ws' step long next p l =
         let after : after_pick (chord sc) world.division w i ≡ after_step w i step = ap (after_option (chord sc) w i) next in
         let all = subst (λ (v : Window Body). (p : ℕ) → p < v.drawn → ((v.part p).sealed ≡ true) ⊎ ((j : ℕ) × (j < length ws) × (v.held j ≡ Some p))) after
@@ -92,7 +132,13 @@ module _ (sc : Scenario) (world : World) (horizon : ℕ) where
       none_held = (subst (IsHeldBy sc world horizon drawn w i x) h.was_idle.none own).1
 
       some_left : drawn < world.division.parts
-      some_left = omega (arith, picked.slots, ltb-true drawn (length ds) (ap (λ o. o || nat_lt drawn (length ds)) (sym (ap (λ (o : Option Worker). has_part o) at ∙ ap (λ (o : Option PartRun). is_some o) h.was_idle.none)) ∙ can))
+      some_left = omega (
+        arith,
+        picked.slots,
+        ltb-true drawn (length ds)
+            (ap (λ o. o || nat_lt drawn (length ds)) (sym (ap (λ (o : Option Worker). has_part o) at
+            ∙ ap (λ (o : Option PartRun). is_some o) h.was_idle.none)) ∙ can),
+      )
 
       pub drew_few : drawn < world.division.parts
       drew_few = some_left
@@ -109,7 +155,8 @@ module _ (sc : Scenario) (world : World) (horizon : ℕ) where
       fresh_part : w.part drawn ≡ record { ran = []; sealed = false }
       fresh_part = let s = slot_there ds drawn (omega (arith, some_left, picked.slots)) in untouched s.0 s.1
 
-      same_busy : (y : Worker) (j : ℕ) → j ≢ i → (o : Option PartRun) → y.run ≡ o → IsHeldBy sc world horizon drawn w j y o → IsHeldBy sc world horizon (drawn + 1) (after_step w i (Drew w.drawn)) j y o
+      same_busy : (y : Worker) (j : ℕ) → j ≢ i → (o : Option PartRun) → y.run ≡ o → IsHeldBy sc world horizon drawn w j y o
+          → IsHeldBy sc world horizon (drawn + 1) (after_step w i (Drew w.drawn)) j y o
       same_busy y j ne None e k = (k.0, put_other w.held i (Some w.drawn) j ne ∙ k.1)
       same_busy y j ne (Some r) e k = (
         record { run_is = k.0.run_is; part = omega (arith, k.0.part); running = k.0.running },
@@ -140,13 +187,15 @@ module _ (sc : Scenario) (world : World) (horizon : ℕ) where
         held = held_more (set ws i x') (Drew w.drawn) (length-set ws i x') drew_next;
       }
         where
-          workers : (j : ℕ) (y : Worker) → ((j ≡ i) × (y ≡ x')) ⊎ ((j ≢ i) × (slice_get ws j ≡ Some y)) → IsHeldBy sc world horizon (drawn + 1) (after_step w i (Drew w.drawn)) j y y.run
+          workers : (j : ℕ) (y : Worker) → ((j ≡ i) × (y ≡ x')) ⊎ ((j ≢ i) × (slice_get ws j ≡ Some y))
+              → IsHeldBy sc world horizon (drawn + 1) (after_step w i (Drew w.drawn)) j y y.run
           workers j y (inl s) = subst (λ k. IsHeldBy sc world horizon (drawn + 1) (after_step w i (Drew w.drawn)) k y y.run) (sym s.0)
               (subst (λ (z : Worker). IsHeldBy sc world horizon (drawn + 1) (after_step w i (Drew w.drawn)) i z z.run) (sym s.1)
               (subst (IsHeldBy sc world horizon (drawn + 1) (after_step w i (Drew w.drawn)) i x') (sym h.run_is) new_busy))
           workers j y (inr s) = same_busy y j s.0 y.run refl (picked.workers_are j y s.1)
 
-          alone : (j k : ℕ) (y z : Worker) (r s : PartRun) → ((j ≡ i) × (y ≡ x')) ⊎ ((j ≢ i) × (slice_get ws j ≡ Some y)) → ((k ≡ i) × (z ≡ x')) ⊎ ((k ≢ i) × (slice_get ws k ≡ Some z))
+          alone : (j k : ℕ) (y z : Worker) (r s : PartRun) → ((j ≡ i) × (y ≡ x')) ⊎ ((j ≢ i) × (slice_get ws j ≡ Some y))
+              → ((k ≡ i) × (z ≡ x')) ⊎ ((k ≢ i) × (slice_get ws k ≡ Some z))
               → y.run ≡ Some r → z.run ≡ Some s → r.part ≡ s.part → j ≡ k
           alone j k y z r s (inl p) (inl q) a b same = p.0 ∙ sym q.0
           alone j k y z r s (inl p) (inr q) a b same =
@@ -171,7 +220,8 @@ module _ (sc : Scenario) (world : World) (horizon : ℕ) where
           let sum = sum_by-set (weight sc world horizon) ws i x' x (get_inside ws i x at) in
           let here : weight sc world horizon (get_or ws i x) ≡ 0 = ap (weight sc world horizon) (get_back ws i x x at) ∙ old in
           let one : length ds - drawn ≡ suc (length ds - (drawn + 1)) = omega (arith, some_left, picked.slots) in
-          let product : (length ds - drawn) * (sc.max_events - world.count + 2) ≡ (length ds - (drawn + 1)) * (sc.max_events - world.count + 2) + (sc.max_events - world.count + 2) =
+          let product : (length ds - drawn) * (sc.max_events - world.count + 2)
+          ≡ (length ds - (drawn + 1)) * (sc.max_events - world.count + 2) + (sc.max_events - world.count + 2) =
           ap (λ n. n * (sc.max_events - world.count + 2)) one ∙ suc_times (length ds - (drawn + 1)) (sc.max_events - world.count + 2) in
           omega (arith, sum, here, new, product, h.none)
         where
@@ -185,12 +235,14 @@ module _ (sc : Scenario) (world : World) (horizon : ℕ) where
 
       -- what waits there in the window
       waits_there : waiting (chord sc) world.division w.history w.horizon run.part (w.part run.part).ran
-          ≡ waiting (chord sc) world.division (history (chord sc) world.count) horizon run.part (part_run (chord sc) world.division (history (chord sc) world.count) horizon run.part (length run.blocks.items))
+          ≡ waiting (chord sc) world.division (history (chord sc) world.count) horizon run.part
+          (part_run (chord sc) world.division (history (chord sc) world.count) horizon run.part (length run.blocks.items))
       waits_there = ap (λ z. waiting (chord sc) world.division z w.horizon run.part (w.part run.part).ran) picked.history_is
           ∙ ap (λ z. waiting (chord sc) world.division (history (chord sc) world.count) z run.part (w.part run.part).ran) picked.horizon_is
           ∙ ap (λ (z : Part Body). waiting (chord sc) world.division (history (chord sc) world.count) horizon run.part z.ran) own_busy.2
 
-      next_is : (o : Option (Event Body)) → least (waiting (chord sc) world.division (history (chord sc) world.count) horizon run.part (part_run (chord sc) world.division (history (chord sc) world.count) horizon run.part (length run.blocks.items))) ≡ o
+      next_is : (o : Option (Event Body)) → least (waiting (chord sc) world.division (history (chord sc) world.count) horizon run.part
+          (part_run (chord sc) world.division (history (chord sc) world.count) horizon run.part (length run.blocks.items))) ≡ o
           → next_step (chord sc) world.division w (w.held i) ≡ Some (running (chord sc) run.part o)
       next_is o e = ap (next_step (chord sc) world.division w) own_busy.1 ∙ ap (λ z. Some (running (chord sc) run.part z)) (ap least waits_there ∙ e)
 
@@ -208,7 +260,10 @@ module _ (sc : Scenario) (world : World) (horizon : ℕ) where
             let longer : length next.blocks.items ≡ suc (length run.blocks.items) = omega (arith, one.more) in
             ap (λ n. runs run.part n) longer ∙ ap (λ o. cons_option o (runs run.part (length run.blocks.items))) k.is_least
 
-        new_part : (q : ℕ) → q ≡ run.part → put w.part run.part (record (w.part run.part) { ran = k.event ∷ (w.part run.part).ran }) q ≡ record { ran = runs q (length next.blocks.items); sealed = false }
+        new_part : (q : ℕ) → q ≡ run.part → put w.part run.part (record (w.part run.part) { ran = k.event ∷ (w.part run.part).ran }) q ≡ record {
+          ran = runs q (length next.blocks.items);
+          sealed = false;
+        }
         new_part q same = put_same w.part run.part (record (w.part run.part) { ran = k.event ∷ (w.part run.part).ran }) q same
             ∙ ap (λ (z : Part Body). record z { ran = k.event ∷ z.ran }) own_busy.2
             ∙ ap (λ l. record { ran = l; sealed = false }) (sym goes_on ∙ ap (λ z. runs z (length next.blocks.items)) (sym same))
@@ -220,9 +275,15 @@ module _ (sc : Scenario) (world : World) (horizon : ℕ) where
           new_part next.part one.part_is,
         )
 
-        kept_busy : (y : Worker) (j : ℕ) → j ≢ i → slice_get ws j ≡ Some y → (o : Option PartRun) → y.run ≡ o → IsHeldBy sc world horizon drawn w j y o → IsHeldBy sc world horizon drawn (after_step w i (Ran run.part k.event)) j y o
+        kept_busy : (y : Worker) (j : ℕ) → j ≢ i → slice_get ws j ≡ Some y → (o : Option PartRun) → y.run ≡ o
+            → IsHeldBy sc world horizon drawn w j y o → IsHeldBy sc world horizon drawn (after_step w i (Ran run.part k.event)) j y o
         kept_busy y j ne e None is h = h
-        kept_busy y j ne e (Some r) is h = (h.0, h.1, put_other w.part run.part (record (w.part run.part) { ran = k.event ∷ (w.part run.part).ran }) r.part (other_part j y r ne e is) ∙ h.2)
+        kept_busy y j ne e (Some r) is h = (
+          h.0,
+          h.1,
+          put_other w.part run.part (record (w.part run.part) { ran = k.event ∷ (w.part run.part).ran })
+              r.part (other_part j y r ne e is) ∙ h.2,
+        )
 
         pub ran_picked : IsPickedWith sc world horizon drawn (set ws i x') ds (after_step w i (Ran run.part k.event))
         ran_picked = record {
@@ -237,7 +298,8 @@ module _ (sc : Scenario) (world : World) (horizon : ℕ) where
           held = held_more (set ws i x') (Ran run.part k.event) (length-set ws i x') ran_next;
         }
           where
-            workers : (j : ℕ) (y : Worker) → ((j ≡ i) × (y ≡ x')) ⊎ ((j ≢ i) × (slice_get ws j ≡ Some y)) → IsHeldBy sc world horizon drawn (after_step w i (Ran run.part k.event)) j y y.run
+            workers : (j : ℕ) (y : Worker) → ((j ≡ i) × (y ≡ x')) ⊎ ((j ≢ i) × (slice_get ws j ≡ Some y))
+                → IsHeldBy sc world horizon drawn (after_step w i (Ran run.part k.event)) j y y.run
             workers j y (inl s) = subst (λ q. IsHeldBy sc world horizon drawn (after_step w i (Ran run.part k.event)) q y y.run) (sym s.0)
                 (subst (λ (z : Worker). IsHeldBy sc world horizon drawn (after_step w i (Ran run.part k.event)) i z z.run) (sym s.1)
                 (subst (IsHeldBy sc world horizon drawn (after_step w i (Ran run.part k.event)) i x') (sym one.run_is) ran_busy))
@@ -246,14 +308,16 @@ module _ (sc : Scenario) (world : World) (horizon : ℕ) where
             own_run : (y : Worker) (r : PartRun) → y ≡ x' → y.run ≡ Some r → r.part ≡ run.part
             own_run y r is a = ap (λ (v : PartRun). v.part) (some_same r next (sym a ∙ ap (λ (v : Worker). v.run) is ∙ one.run_is)) ∙ one.part_is
 
-            alone : (j l : ℕ) (y z : Worker) (r s : PartRun) → ((j ≡ i) × (y ≡ x')) ⊎ ((j ≢ i) × (slice_get ws j ≡ Some y)) → ((l ≡ i) × (z ≡ x')) ⊎ ((l ≢ i) × (slice_get ws l ≡ Some z))
+            alone : (j l : ℕ) (y z : Worker) (r s : PartRun) → ((j ≡ i) × (y ≡ x')) ⊎ ((j ≢ i) × (slice_get ws j ≡ Some y))
+                → ((l ≡ i) × (z ≡ x')) ⊎ ((l ≢ i) × (slice_get ws l ≡ Some z))
                 → y.run ≡ Some r → z.run ≡ Some s → r.part ≡ s.part → j ≡ l
             alone j l y z r s (inl p) (inl q) a b same = p.0 ∙ sym q.0
             alone j l y z r s (inl p) (inr q) a b same = absurd (other_part l z s q.0 q.1 b (sym same ∙ own_run y r p.1 a))
             alone j l y z r s (inr p) (inl q) a b same = absurd (other_part j y r p.0 p.1 a (same ∙ own_run z s q.1 b))
             alone j l y z r s (inr p) (inr q) a b same = picked.apart j l y z r s p.1 q.1 a b same
 
-            parts : (p : ℕ) (o : Option Done) → IsPartOf sc world horizon drawn w p o → IsPartOf sc world horizon drawn (after_step w i (Ran run.part k.event)) p o
+            parts : (p : ℕ) (o : Option Done) → IsPartOf sc world horizon drawn w p o
+                → IsPartOf sc world horizon drawn (after_step w i (Ran run.part k.event)) p o
             parts p None h = ⊎_elim
                 (λ s. (ap (λ (z : Part Body). z.sealed) (new_part p s), λ l. absurd (omega (arith, l, s, busy.part))))
                 (λ ne. let other = put_other w.part run.part (record (w.part run.part) { ran = k.event ∷ (w.part run.part).ran }) p ne in
@@ -267,16 +331,19 @@ module _ (sc : Scenario) (world : World) (horizon : ℕ) where
                 sealed_twice : false ≡ true → ⊥
                 sealed_twice e = cc
 
-        pub ran_fewer : world.count + length next.blocks.items ≤ sc.max_events → potential_with sc world horizon drawn (set ws i x') (length ds) < potential_with sc world horizon drawn ws (length ds)
+        pub ran_fewer : world.count + length next.blocks.items ≤ sc.max_events
+            → potential_with sc world horizon drawn (set ws i x') (length ds) < potential_with sc world horizon drawn ws (length ds)
         ran_fewer within =
             let old : weight sc world horizon x ≡ sc.max_events - (world.count + length run.blocks.items) + 1 = ap (weight_of sc world horizon) busy.run_is in
             let new : weight sc world horizon x' ≡ sc.max_events - (world.count + length next.blocks.items) + 1 = ap (weight_of sc world horizon) one.run_is in
             let sum = sum_by-set (weight sc world horizon) ws i x' x (get_inside ws i x at) in
-            let here : weight sc world horizon (get_or ws i x) ≡ sc.max_events - (world.count + length run.blocks.items) + 1 = ap (weight sc world horizon) (get_back ws i x x at) ∙ old in
+            let here : weight sc world horizon (get_or ws i x) ≡ sc.max_events - (world.count + length run.blocks.items) + 1 = ap
+            (weight sc world horizon) (get_back ws i x x at) ∙ old in
             omega (arith, sum, here, new, within, one.more)
 
       -- it seals the part
-      module _ (x' : Worker) (done : Done) (is_done : IsDone sc world horizon run.part done) (events : done.events ≡ length run.blocks.items) (idle : IsIdle x') where
+      module _ (x' : Worker) (done : Done) (is_done : IsDone sc world horizon run.part done) (events : done.events ≡ length run.blocks.items)
+          (idle : IsIdle x') where
         pub sealed_next : next_step (chord sc) world.division w (w.held i) ≡ Some (Sealed run.part)
         sealed_next = next_is None (ap least (
             ap (λ q. waiting (chord sc) world.division (history (chord sc) world.count) horizon q (runs q (length run.blocks.items))) (sym is_done.part_is)
@@ -284,12 +351,16 @@ module _ (sc : Scenario) (world : World) (horizon : ℕ) where
             ∙ is_done.sealed.done
             ))
 
-        sealed_part : (q : ℕ) → q ≡ run.part → put w.part run.part (record (w.part run.part) { sealed = true }) q ≡ record { ran = ran_by sc world horizon done; sealed = true }
+        sealed_part : (q : ℕ) → q ≡ run.part → put w.part run.part (record (w.part run.part) { sealed = true }) q ≡ record {
+          ran = ran_by sc world horizon done;
+          sealed = true;
+        }
         sealed_part q same = put_same w.part run.part (record (w.part run.part) { sealed = true }) q same
             ∙ ap (λ (z : Part Body). record z { sealed = true }) own_busy.2
             ∙ ap (λ l. record { ran = l; sealed = true }) (ap (λ n. runs run.part n) (sym events) ∙ ap (λ z. runs z done.events) (sym is_done.part_is))
 
-        left_busy : (y : Worker) (j : ℕ) → j ≢ i → slice_get ws j ≡ Some y → (o : Option PartRun) → y.run ≡ o → IsHeldBy sc world horizon drawn w j y o → IsHeldBy sc world horizon drawn (after_step w i (Sealed run.part)) j y o
+        left_busy : (y : Worker) (j : ℕ) → j ≢ i → slice_get ws j ≡ Some y → (o : Option PartRun) → y.run ≡ o
+            → IsHeldBy sc world horizon drawn w j y o → IsHeldBy sc world horizon drawn (after_step w i (Sealed run.part)) j y o
         left_busy y j ne e None is h = (h.0, put_other w.held i None j ne ∙ h.1)
         left_busy y j ne e (Some r) is h = (
           h.0,
@@ -310,7 +381,8 @@ module _ (sc : Scenario) (world : World) (horizon : ℕ) where
           held = held_more (set ws i x') (Sealed run.part) (length-set ws i x') sealed_next;
         }
           where
-            workers : (j : ℕ) (y : Worker) → ((j ≡ i) × (y ≡ x')) ⊎ ((j ≢ i) × (slice_get ws j ≡ Some y)) → IsHeldBy sc world horizon drawn (after_step w i (Sealed run.part)) j y y.run
+            workers : (j : ℕ) (y : Worker) → ((j ≡ i) × (y ≡ x')) ⊎ ((j ≢ i) × (slice_get ws j ≡ Some y))
+                → IsHeldBy sc world horizon drawn (after_step w i (Sealed run.part)) j y y.run
             workers j y (inl s) = subst (λ q. IsHeldBy sc world horizon drawn (after_step w i (Sealed run.part)) q y y.run) (sym s.0)
                 (subst (λ (z : Worker). IsHeldBy sc world horizon drawn (after_step w i (Sealed run.part)) i z z.run) (sym s.1)
                 (subst (IsHeldBy sc world horizon drawn (after_step w i (Sealed run.part)) i x') (sym idle.none) (idle, put_same w.held i None i refl)))
@@ -322,17 +394,22 @@ module _ (sc : Scenario) (world : World) (horizon : ℕ) where
                 none_is_some : (r : PartRun) → None ≡ Some r → ⊥
                 none_is_some r e = cc
 
-            alone : (j l : ℕ) (y z : Worker) (r s : PartRun) → ((j ≡ i) × (y ≡ x')) ⊎ ((j ≢ i) × (slice_get ws j ≡ Some y)) → ((l ≡ i) × (z ≡ x')) ⊎ ((l ≢ i) × (slice_get ws l ≡ Some z))
+            alone : (j l : ℕ) (y z : Worker) (r s : PartRun) → ((j ≡ i) × (y ≡ x')) ⊎ ((j ≢ i) × (slice_get ws j ≡ Some y))
+                → ((l ≡ i) × (z ≡ x')) ⊎ ((l ≢ i) × (slice_get ws l ≡ Some z))
                 → y.run ≡ Some r → z.run ≡ Some s → r.part ≡ s.part → j ≡ l
             alone j l y z r s (inl p) q a b same = absurd (no_run y r p.1 a)
             alone j l y z r s (inr p) (inl q) a b same = absurd (no_run z s q.1 b)
             alone j l y z r s (inr p) (inr q) a b same = picked.apart j l y z r s p.1 q.1 a b same
 
-            parts_other : (p : ℕ) (o : Option Done) → p ≢ run.part → IsPartOf sc world horizon drawn w p o → IsPartOf sc world horizon drawn (after_step w i (Sealed run.part)) p o
-            parts_other p None ne h = let other = put_other w.part run.part (record (w.part run.part) { sealed = true }) p ne in (ap (λ (z : Part Body). z.sealed) other ∙ h.0, λ l. other ∙ h.1 l)
+            parts_other : (p : ℕ) (o : Option Done) → p ≢ run.part → IsPartOf sc world horizon drawn w p o
+                → IsPartOf sc world horizon drawn (after_step w i (Sealed run.part)) p o
+            parts_other p None ne h = let other = put_other w.part run.part (record (w.part run.part) {
+              sealed = true;
+            }) p ne in (ap (λ (z : Part Body). z.sealed) other ∙ h.0, λ l. other ∙ h.1 l)
             parts_other p (Some d) ne h = (h.0, h.1, put_other w.part run.part (record (w.part run.part) { sealed = true }) p ne ∙ h.2)
 
-            parts : (p : ℕ) (o : Option Done) → ((p ≡ done.part) × (o ≡ Some done)) ⊎ ((p ≢ done.part) × (slice_get ds p ≡ Some o)) → IsPartOf sc world horizon drawn (after_step w i (Sealed run.part)) p o
+            parts : (p : ℕ) (o : Option Done) → ((p ≡ done.part) × (o ≡ Some done)) ⊎ ((p ≢ done.part) × (slice_get ds p ≡ Some o))
+                → IsPartOf sc world horizon drawn (after_step w i (Sealed run.part)) p o
             parts p o (inl s) = subst (IsPartOf sc world horizon drawn (after_step w i (Sealed run.part)) p) (sym s.1) (
               subst (λ q. IsDone sc world horizon q done) (sym (s.0 ∙ is_done.part_is)) is_done,
               omega (arith, s.0, is_done.part_is, busy.part),
@@ -340,12 +417,15 @@ module _ (sc : Scenario) (world : World) (horizon : ℕ) where
             )
             parts p o (inr s) = parts_other p o (λ q. s.0 (q ∙ sym is_done.part_is)) (picked.parts_are p o s.1)
 
-        pub sealed_fewer : potential_with sc world horizon drawn (set ws i x') (length (set ds done.part (Some done))) < potential_with sc world horizon drawn ws (length ds)
+        pub sealed_fewer : potential_with sc world horizon drawn (set ws i x') (length (set ds done.part (Some done))) < potential_with sc world
+            horizon drawn ws (length ds)
         sealed_fewer =
             let old : weight sc world horizon x ≡ sc.max_events - (world.count + length run.blocks.items) + 1 = ap (weight_of sc world horizon) busy.run_is in
             let new : weight sc world horizon x' ≡ 0 = ap (weight_of sc world horizon) idle.none in
             let sum = sum_by-set (weight sc world horizon) ws i x' x (get_inside ws i x at) in
-            let here : weight sc world horizon (get_or ws i x) ≡ sc.max_events - (world.count + length run.blocks.items) + 1 = ap (weight sc world horizon) (get_back ws i x x at) ∙ old in
-            let long : (length (set ds done.part (Some done)) - drawn) * (sc.max_events - world.count + 2) ≡ (length ds - drawn) * (sc.max_events - world.count + 2) =
+            let here : weight sc world horizon (get_or ws i x) ≡ sc.max_events - (world.count + length run.blocks.items) + 1 = ap
+            (weight sc world horizon) (get_back ws i x x at) ∙ old in
+            let long : (length (set ds done.part (Some done)) - drawn) * (sc.max_events - world.count + 2)
+            ≡ (length ds - drawn) * (sc.max_events - world.count + 2) =
             ap (λ n. (n - drawn) * (sc.max_events - world.count + 2)) (length-set ds done.part (Some done)) in
             omega (arith, sum, here, new, long)

@@ -1,5 +1,35 @@
 -- Whose turn it is, and where the turns lead.
-use Rattle.std.proofs.Common.{◌≡◌, ◌≢◌, ℕ, zero, suc, ◌+◌, ◌<◌, ◌≤◌, ◌++◌, Bool, true, false, List, [], ◌∷◌, Option, None, Some, length, map, refl, ap, sym, ◌∙◌, subst, ⊎_elim, arith, append_assoc, ltb-true}
+use Rattle.std.proofs.Common.{
+  ◌≡◌,
+  ◌≢◌,
+  ℕ,
+  zero,
+  suc,
+  ◌+◌,
+  ◌<◌,
+  ◌≤◌,
+  ◌++◌,
+  Bool,
+  true,
+  false,
+  List,
+  [],
+  ◌∷◌,
+  Option,
+  None,
+  Some,
+  length,
+  map,
+  refl,
+  ap,
+  sym,
+  ◌∙◌,
+  subst,
+  ⊎_elim,
+  arith,
+  append_assoc,
+  ltb-true,
+}
 use Rattle.std.specs.Prelude.{nat_lt, ◌&&◌, ◌||◌, is_some, IsSome, if◌then◌else◌}
 use Rattle.std.specs.Option.{option_or}
 use Rattle.std.proofs.lemmas.Bool.{cases_eq}
@@ -27,7 +57,8 @@ use Rattle.chord_window.proofs.PickedSteps.{slot_there}
 pub lowest_found : (can : ℕ → Bool) (i n : ℕ) → lowest_by can i ≡ None → can i ≡ true → i < n → lowest_by can n ≡ Some i
 lowest_found can i zero none here l = absurd (omega arith)
 lowest_found can i (suc n) none here l = ⊎_elim
-    (λ s. ap (λ o. option_or o (if can n then Some n else None)) (ap (lowest_by can) (sym s) ∙ none) ∙ (ap (λ b. if b then Some n else None) (ap can (sym s) ∙ here) ∙ ap Some (sym s)))
+    (λ s. ap (λ o. option_or o (if can n then Some n else None)) (ap (lowest_by can) (sym s) ∙ none)
+    ∙ (ap (λ b. if b then Some n else None) (ap can (sym s) ∙ here) ∙ ap Some (sym s)))
     (λ ne. let differ : i ≢ n = ne in ap (λ o. option_or o (if can n then Some n else None)) (lowest_found can i n none here (omega arith)))
     (cases_eq i n)
 
@@ -36,7 +67,8 @@ one_more : (can : ℕ → Bool) (n i : ℕ) → (b : Bool) → can n ≡ b → (
 one_more can n i true t e = let same : n ≡ i = cc in (omega (arith, same), ap can (sym same) ∙ t)
 one_more can n i false t e = absurd cc
 
-or_more : (can : ℕ → Bool) (n i : ℕ) (o : Option ℕ) → (o ≡ Some i → (i < n) × (can i ≡ true)) → option_or o (if can n then Some n else None) ≡ Some i → (i < suc n) × (can i ≡ true)
+or_more : (can : ℕ → Bool) (n i : ℕ) (o : Option ℕ) → (o ≡ Some i → (i < n) × (can i ≡ true)) → option_or o (if can n then Some n else None) ≡ Some i
+    → (i < suc n) × (can i ≡ true)
 or_more can n i None below e = one_more can n i (can n) refl e
 or_more can n i (Some j) below e = let r = below e in (omega (arith, r.0), r.1)
 
@@ -49,8 +81,10 @@ not_last : (can : ℕ → Bool) (n : ℕ) (b : Bool) → can n ≡ b → (if b t
 not_last can n true t e = absurd cc
 not_last can n false t e = t
 
-or_none : (can : ℕ → Bool) (n i : ℕ) (o : Option ℕ) → (o ≡ None → i < n → can i ≡ false) → option_or o (if can n then Some n else None) ≡ None → i < suc n → can i ≡ false
-or_none can n i None below e l = ⊎_elim (λ same. ap can same ∙ not_last can n (can n) refl e) (λ ne. let differ : i ≢ n = ne in below refl (omega (arith, l))) (cases_eq i n)
+or_none : (can : ℕ → Bool) (n i : ℕ) (o : Option ℕ) → (o ≡ None → i < n → can i ≡ false) → option_or o (if can n then Some n else None) ≡ None
+    → i < suc n → can i ≡ false
+or_none can n i None below e l = ⊎_elim (λ same. ap can same ∙ not_last can n (can n) refl e)
+    (λ ne. let differ : i ≢ n = ne in below refl (omega (arith, l))) (cases_eq i n)
 or_none can n i (Some j) below e l = absurd cc
 
 pub lowest_none : (can : ℕ → Bool) (n : ℕ) → lowest_by can n ≡ None → (i : ℕ) → i < n → can i ≡ false
@@ -69,7 +103,8 @@ unsealed w (suc n) p l undone = ⊎_elim
     and_false true = refl
     and_false false = refl
 
-module _ (sc : Scenario) (world : World) (horizon drawn : ℕ) (ws : List Worker) (ds : List (Option Done)) (w : Window Body) (picked : IsPickedWith sc world horizon drawn ws ds w) where
+module _ (sc : Scenario) (world : World) (horizon drawn : ℕ) (ws : List Worker) (ds : List (Option Done)) (w : Window Body)
+    (picked : IsPickedWith sc world horizon drawn ws ds w) where
   -- a worker can go where it can take a step of the window machine
   pub same_can : (i : ℕ) → i < length ws → can_step (chord sc) world.division w i ≡ can_go_with drawn ws ds i
   same_can i l =
@@ -80,7 +115,8 @@ module _ (sc : Scenario) (world : World) (horizon drawn : ℕ) (ws : List Worker
       some_if true = refl
       some_if false = refl
 
-      go : (x : Worker) (o : Option PartRun) → IsHeldBy sc world horizon drawn w i x o → can_step (chord sc) world.division w i ≡ (is_some o || nat_lt drawn (length ds))
+      go : (x : Worker) (o : Option PartRun) → IsHeldBy sc world horizon drawn w i x o
+          → can_step (chord sc) world.division w i ≡ (is_some o || nat_lt drawn (length ds))
       go x None h = ap (λ z. is_some (next_step (chord sc) world.division w z)) h.1 ∙ some_if (nat_lt w.drawn world.division.parts)
           ∙ ap (λ n. nat_lt n world.division.parts) picked.drawn_is ∙ ap (nat_lt drawn) (sym picked.slots)
       go x (Some r) h = ap (λ z. is_some (next_step (chord sc) world.division w z)) h.1
@@ -103,30 +139,37 @@ module _ (sc : Scenario) (world : World) (horizon drawn : ℕ) (ws : List Worker
 
   -- as long as a worker can go, the window is not closed
   pub not_closed : (i : ℕ) → i < length ws → can_go_with drawn ws ds i ≡ true → all_sealed w world.division.parts ≡ false
-  not_closed i l can = let x = slot_there ws i l in go x.0 x.0.run (picked.workers_are i x.0 x.1) (ap (λ o. has_part o || nat_lt drawn (length ds)) (sym x.1) ∙ can)
+  not_closed i l can = let x = slot_there ws i l in go x.0 x.0.run (picked.workers_are i x.0 x.1)
+      (ap (λ o. has_part o || nat_lt drawn (length ds)) (sym x.1) ∙ can)
     where
       open_slot : (p : ℕ) → drawn ≤ p → (o : Option Done) → IsPartOf sc world horizon drawn w p o → (w.part p).sealed ≡ false
       open_slot p late None h = h.0
       open_slot p late (Some done) h = absurd (omega (arith, late, h.1))
 
-      go : (x : Worker) (o : Option PartRun) → IsHeldBy sc world horizon drawn w i x o → (is_some o || nat_lt drawn (length ds)) ≡ true → all_sealed w world.division.parts ≡ false
+      go : (x : Worker) (o : Option PartRun) → IsHeldBy sc world horizon drawn w i x o → (is_some o || nat_lt drawn (length ds)) ≡ true
+          → all_sealed w world.division.parts ≡ false
       go x None h t =
           let inside : drawn < length ds = ltb-true drawn (length ds) t in
           let slot = slot_there ds drawn inside in
-          unsealed w world.division.parts drawn (omega (arith, inside, picked.slots)) (open_slot drawn (omega arith) slot.0 (picked.parts_are drawn slot.0 slot.1))
+          unsealed w world.division.parts drawn (omega (arith, inside, picked.slots))
+          (open_slot drawn (omega arith) slot.0 (picked.parts_are drawn slot.0 slot.1))
       go x (Some r) h t = unsealed w world.division.parts r.part (omega (arith, h.0.part, picked.few)) (ap (λ z. z.sealed) h.2)
 
   pub within : (i number : ℕ) → i < length ws → can_go_with drawn ws ds i ≡ true → settled (chord sc) (λ _. world.division) number w ≡ Within number w
-  within i number l can = ap (λ b. if b then begun (chord sc) (number + 1) (left_by world.division w.history (ran_by w)) else Within number w) (not_closed i l can)
+  within i number l can = ap (λ b. if b then begun (chord sc) (number + 1) (left_by world.division w.history (ran_by w)) else Within number w)
+      (not_closed i l can)
 
   -- one step more
   pub leads_on : (from : Window Body) (picks rest rest' : List ℕ) (taken : List (ℕ × Step Body)) (i : ℕ) (step : Step Body)
       → Leads sc world.division (length ws) from picks taken (λ number. settled (chord sc) (λ _. world.division) number w) rest
-      → i < length ws → can_go_with drawn ws ds i ≡ true → turn_by (can_go_with drawn ws ds) (length ws) rest ≡ (Some i, rest') → next_step (chord sc) world.division w (w.held i) ≡ Some step
-      → Leads sc world.division (length ws) from picks (taken ++ (i, step) ∷ []) (λ number. settled (chord sc) (λ _. world.division) number (after_step w i step)) rest'
+      → i < length ws → can_go_with drawn ws ds i ≡ true → turn_by (can_go_with drawn ws ds) (length ws) rest ≡ (Some i, rest')
+      → next_step (chord sc) world.division w (w.held i) ≡ Some step
+      → Leads sc world.division (length ws) from picks (taken ++ (i, step) ∷ [])
+      (λ number. settled (chord sc) (λ _. world.division) number (after_step w i step)) rest'
   leads_on from picks rest rest' taken i step led l can turned next number more h goes =
       subst (λ s. Goes (chord sc) (λ _. world.division) (length ws) (Within number from) picks s h) (sym (append_assoc taken ((i, step) ∷ []) more))
-      (led number ((i, step) ∷ more) h (subst (λ r. Goes (chord sc) (λ _. world.division) (length ws) r rest ((i, step) ∷ more) h) (sym (within i number l can)) (steps (same_turn rest ∙ turned) next goes)))
+      (led number ((i, step) ∷ more) h (subst (λ r. Goes (chord sc) (λ _. world.division) (length ws) r rest ((i, step) ∷ more) h)
+      (sym (within i number l can)) (steps (same_turn rest ∙ turned) next goes)))
 
   -- where no worker can go, all parts are done
   pub all_done : 0 < length ws → lowest_by (can_go_with drawn ws ds) (length ws) ≡ None → all_sealed w world.division.parts ≡ true
@@ -138,20 +181,25 @@ module _ (sc : Scenario) (world : World) (horizon drawn : ℕ) (ws : List Worker
 
       go : (b : Bool) → all_sealed w world.division.parts ≡ b → all_sealed w world.division.parts ≡ true
       go true t = t
-      go false t = absurd (none_is_some (lowest (chord sc) world.division w (length ws)) (same_lowest (length ws) (omega arith) ∙ none) (someone_can_step (chord sc) world.division (length ws) w some picked.held t))
+      go false t = absurd (none_is_some (lowest (chord sc) world.division w (length ws)) (same_lowest (length ws) (omega arith) ∙ none)
+          (someone_can_step (chord sc) world.division (length ws) w some picked.held t))
 
 -- a window begins before its first step
 pub begins : (sc : Scenario) (d : Division) (workers : ℕ) (h : List (Event Body)) (horizon : ℕ) (picks : List ℕ) → 0 < d.parts
-    → (number : ℕ) (more : List (ℕ × Step Body)) (g : List (Event Body)) → Goes (chord sc) (λ _. d) workers (settled (chord sc) (λ _. d) number (opened h horizon)) picks more g
+    → (number : ℕ) (more : List (ℕ × Step Body)) (g : List (Event Body))
+    → Goes (chord sc) (λ _. d) workers (settled (chord sc) (λ _. d) number (opened h horizon)) picks more g
     → Goes (chord sc) (λ _. d) workers (Within number (opened h horizon)) picks ([] ++ more) g
 begins sc d workers h horizon picks some number more g goes =
     subst (λ r. Goes (chord sc) (λ _. d) workers r picks more g)
-    (ap (λ b. if b then begun (chord sc) (number + 1) (left_by d (opened h horizon).history (ran_by (opened h horizon))) else Within number (opened h horizon)) (unsealed (opened h horizon) d.parts 0 some refl)) goes
+    (ap (λ b. if b then begun (chord sc) (number + 1) (left_by d (opened h horizon).history (ran_by (opened h horizon))) else Within number
+    (opened h horizon)) (unsealed (opened h horizon) d.parts 0 some refl)) goes
 
 -- the answer of one step more
-pub told_more : (before now : List Taken) (taken : List (ℕ × Step Body)) (worker : ℕ) (step : Step Body) (answered : AStep) → now ≡ before ++ map shown taken → shown_step step ≡ answered
+pub told_more : (before now : List Taken) (taken : List (ℕ × Step Body)) (worker : ℕ) (step : Step Body) (answered : AStep)
+    → now ≡ before ++ map shown taken → shown_step step ≡ answered
     → now ++ record { worker = worker; step = answered } ∷ [] ≡ before ++ map shown (taken ++ (worker, step) ∷ [])
 told_more before now taken worker step answered told is =
     ap (λ l. l ++ record { worker = worker; step = answered } ∷ []) told
     ∙ append_assoc before (map shown taken) (record { worker = worker; step = answered } ∷ [])
-    ∙ ap (λ l. before ++ l) (ap (λ a. map shown taken ++ record { worker = worker; step = a } ∷ []) (sym is) ∙ sym (map-append shown taken ((worker, step) ∷ [])))
+    ∙ ap (λ l. before ++ l) (ap (λ a. map shown taken ++ record { worker = worker; step = a } ∷ []) (sym is)
+    ∙ sym (map-append shown taken ((worker, step) ∷ [])))

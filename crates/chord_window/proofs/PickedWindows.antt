@@ -1,5 +1,30 @@
 -- A window from the first draw to the last seal.
-use Rattle.std.proofs.Common.{◌≡◌, ◌≢◌, ℕ, zero, suc, ◌+◌, ◌<◌, true, false, List, [], ◌∷◌, Option, None, Some, length, slice_get, refl, ap, sym, ◌∙◌, subst, ⊎_elim, arith}
+use Rattle.std.proofs.Common.{
+  ◌≡◌,
+  ◌≢◌,
+  ℕ,
+  zero,
+  suc,
+  ◌+◌,
+  ◌<◌,
+  true,
+  false,
+  List,
+  [],
+  ◌∷◌,
+  Option,
+  None,
+  Some,
+  length,
+  slice_get,
+  refl,
+  ap,
+  sym,
+  ◌∙◌,
+  subst,
+  ⊎_elim,
+  arith,
+}
 use Rattle.std.specs.Prelude.{nat_lt, ◌||◌, is_some, if◌then◌else◌}
 use Rattle.std.specs.List.{AllByRecursion}
 use Rattle.std.proofs.lemmas.Bool.{and_parts, cases_eq}
@@ -42,7 +67,8 @@ get_all P [] each = tt
 get_all P (x ∷ xs) each = (each 0 x refl, get_all P xs (λ i y e. each (suc i) y e))
 
 -- a window that begins
-pub opened_picked : (sc : Scenario) (world : World) (horizon : ℕ) (old new : PickedWindow) → IsOpened world.division.parts old new → AllByRecursion IsIdle old.workers.items
+pub opened_picked : (sc : Scenario) (world : World) (horizon : ℕ) (old new : PickedWindow) → IsOpened world.division.parts old new
+    → AllByRecursion IsIdle old.workers.items
     → IsPicked sc world horizon new (opened (history (chord sc) world.count) horizon)
 opened_picked sc world horizon old new is idle = record {
   history_is = refl;
@@ -50,9 +76,11 @@ opened_picked sc world horizon old new is idle = record {
   drawn_is = sym is.drawn_is;
   few = omega (arith, is.drawn_is);
   slots = is.slots;
-  workers_are = λ i x e. let one = idle_at i x e in subst (IsHeldBy sc world horizon new.drawn (opened (history (chord sc) world.count) horizon) i x) (sym one.none) (one, refl);
+  workers_are = λ i x e. let one = idle_at i x e in subst (IsHeldBy sc world horizon new.drawn (opened (history (chord sc) world.count) horizon) i x)
+      (sym one.none) (one, refl);
   apart = λ i j x y r s e f a b same. absurd (no_run r (sym (idle_at i x e).none ∙ a));
-  parts_are = λ p o e. subst (IsPartOf sc world horizon new.drawn (opened (history (chord sc) world.count) horizon) p) (sym (all_get (λ (slot : Option Done). slot ≡ None) new.dones.items p o is.empty e)) (refl, λ l. refl);
+  parts_are = λ p o e. subst (IsPartOf sc world horizon new.drawn (opened (history (chord sc) world.count) horizon) p)
+      (sym (all_get (λ (slot : Option Done). slot ≡ None) new.dones.items p o is.empty e)) (refl, λ l. refl);
   held = λ p l. absurd (omega arith);
 }
   where
@@ -87,16 +115,19 @@ module _ (sc : Scenario) (world : World) (horizon : ℕ) where
   events_slot k [] each q done e = absurd cc
   events_slot k (None ∷ slots) each q done e = absurd (each 0 None refl)
   events_slot k (Some first ∷ slots) each zero done e = let same : first ≡ done = cc in ap (λ (d : Done). d.events) same
-  events_slot k (Some first ∷ slots) each (suc q) done e = events_slot (suc k) slots (λ j o f. subst (λ n. IsFilled n o) (omega arith) (each (suc j) o f)) q done e
+  events_slot k (Some first ∷ slots) each (suc q) done e = events_slot (suc k) slots
+      (λ j o f. subst (λ n. IsFilled n o) (omega arith) (each (suc j) o f)) q done e
 
-  module _ (ranges : IsInRange sc) (is : IsWorldOf sc world) (ends : IsHorizon world horizon) (old new : PickedWindow) (picks rest : List ℕ) (before after : List Taken)
+  module _ (ranges : IsInRange sc) (is : IsWorldOf sc world) (ends : IsHorizon world horizon) (old new : PickedWindow) (picks rest : List ℕ)
+      (before after : List Taken)
       (some : 0 < length old.workers.items) (t : HasTakenTurns sc world horizon old new picks rest before after) where
     closed : all_sealed t.window world.division.parts ≡ true
     closed = all_done sc world horizon new.drawn new.workers.items new.dones.items t.window t.picked (omega (arith, some, t.same_workers)) t.ended
 
     -- each place is filled
     filled : (p : ℕ) (o : Option Done) → slice_get new.dones.items p ≡ Some o → IsPartOf sc world horizon new.drawn t.window p o → IsFilled p o
-    filled p None e part = absurd (open_and_done (sym part.0 ∙ sealed_each t.window world.division.parts closed p (omega (arith, get_inside new.dones.items p None e, t.picked.slots))))
+    filled p None e part = absurd (open_and_done (sym part.0 ∙ sealed_each t.window world.division.parts closed p
+        (omega (arith, get_inside new.dones.items p None e, t.picked.slots))))
       where
         open_and_done : false ≡ true → ⊥
         open_and_done q = cc
@@ -118,15 +149,19 @@ module _ (sc : Scenario) (world : World) (horizon : ℕ) where
       }
 
       -- the list of a part in the window
-      ran_is : (q : ℕ) → q < world.division.parts → IsSealedRun (chord sc) world.division (history (chord sc) world.count) horizon q (ran_by t.window q) × (length (ran_by t.window q) ≡ events_at dones q)
-      ran_is q l = let slot = slot_there new.dones.items q (omega (arith, l, t.picked.slots)) in go slot.0 slot.1 (t.picked.parts_are q slot.0 slot.1) (filled q slot.0 slot.1 (t.picked.parts_are q slot.0 slot.1))
+      ran_is : (q : ℕ) → q < world.division.parts → IsSealedRun (chord sc) world.division (history (chord sc) world.count) horizon q
+          (ran_by t.window q) × (length (ran_by t.window q) ≡ events_at dones q)
+      ran_is q l = let slot = slot_there new.dones.items q (omega (arith, l, t.picked.slots))
+          in go slot.0 slot.1 (t.picked.parts_are q slot.0 slot.1) (filled q slot.0 slot.1 (t.picked.parts_are q slot.0 slot.1))
         where
           go : (o : Option Done) → slice_get new.dones.items q ≡ Some o → IsPartOf sc world horizon new.drawn t.window q o → IsFilled q o
-              → IsSealedRun (chord sc) world.division (history (chord sc) world.count) horizon q (ran_by t.window q) × (length (ran_by t.window q) ≡ events_at dones q)
+              → IsSealedRun (chord sc) world.division (history (chord sc) world.count) horizon q (ran_by t.window q)
+              × (length (ran_by t.window q) ≡ events_at dones q)
           go None e part full = absurd full
           go (Some done) e part full = (
             subst (λ p. IsSealedRun (chord sc) world.division (history (chord sc) world.count) horizon p (ran_by t.window q)) full.part_is
-                (subst (λ (v : Part Body). IsSealedRun (chord sc) world.division (history (chord sc) world.count) horizon done.part v.ran) (sym part.2) full.sealed),
+                (subst (λ (v : Part Body). IsSealedRun (chord sc) world.division (history (chord sc) world.count) horizon done.part v.ran)
+                (sym part.2) full.sealed),
             ap (λ (v : Part Body). length v.ran) part.2 ∙ full.long ∙ sym (events_slot 0 new.dones.items each q done e) ∙ ap (λ l. events_at l q) (sym taken),
           )
 
@@ -134,22 +169,27 @@ module _ (sc : Scenario) (world : World) (horizon : ℕ) where
       left_is =
           let o : Opening = record { time = ends.0; horizon = horizon } in
           ap (λ h. left_by world.division h (ran_by t.window)) t.picked.history_is
-          ∙ windows_leave_histories (chord sc) (well_formed sc ranges) world.division is.divides world.count ends.0 horizon (window_may_open sc ranges world is o ends.1) (ran_by t.window) (λ q l. (ran_is q l).0)
-          ∙ ap (λ n. history (chord sc) (world.count + n)) (events_run_is (ran_by t.window) (events_at dones) world.division.parts (λ q l. (ran_is q l).1) ∙ ap (sum_to (events_at dones)) (sym long) ∙ sym (events_sum dones))
+          ∙ windows_leave_histories (chord sc) (well_formed sc ranges) world.division is.divides world.count ends.0 horizon
+          (window_may_open sc ranges world is o ends.1) (ran_by t.window) (λ q l. (ran_is q l).0)
+          ∙ ap (λ n. history (chord sc) (world.count + n)) (events_run_is (ran_by t.window) (events_at dones) world.division.parts
+          (λ q l. (ran_is q l).1) ∙ ap (sum_to (events_at dones)) (sym long) ∙ sym (events_sum dones))
 
       pub turns_stepped : HasStepped sc world.division (length old.workers.items) world.count horizon picks rest before after (events_in dones)
       turns_stepped = record {
         steps = t.steps;
         told = t.told;
         leads = λ number more h goes. t.leads number more h (subst (λ r. Goes (chord sc) (λ _. world.division) (length old.workers.items) r rest more h)
-            (sym (ap (λ b. if b then begun (chord sc) (number + 1) (left_by world.division t.window.history (ran_by t.window)) else Within number t.window) closed ∙ ap (begun (chord sc) (number + 1)) left_is)) goes);
+            (sym (ap (λ b. if b then begun (chord sc) (number + 1) (left_by world.division t.window.history (ran_by t.window)) else Within number
+            t.window) closed ∙ ap (begun (chord sc) (number + 1)) left_is)) goes);
       }
 
     -- no worker has a part
     pub turns_idle : AllByRecursion IsIdle new.workers.items
     turns_idle = get_all IsIdle new.workers.items (λ i x e. go i x x.run (t.picked.workers_are i x e)
-        (ap (λ o. has_part o || nat_lt new.drawn (length new.dones.items)) (sym e) ∙ lowest_none (can_go new) (length new.workers.items) t.ended i (get_inside new.workers.items i x e)))
+        (ap (λ o. has_part o || nat_lt new.drawn (length new.dones.items)) (sym e)
+        ∙ lowest_none (can_go new) (length new.workers.items) t.ended i (get_inside new.workers.items i x e)))
       where
-        go : (i : ℕ) (x : Worker) (o : Option PartRun) → IsHeldBy sc world horizon new.drawn t.window i x o → (is_some o || nat_lt new.drawn (length new.dones.items)) ≡ false → IsIdle x
+        go : (i : ℕ) (x : Worker) (o : Option PartRun) → IsHeldBy sc world horizon new.drawn t.window i x o
+            → (is_some o || nat_lt new.drawn (length new.dones.items)) ≡ false → IsIdle x
         go i x None h f = h.0
         go i x (Some r) h f = absurd cc

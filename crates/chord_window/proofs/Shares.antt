@@ -1,10 +1,49 @@
 -- The shares of the parts: of each window, and of the whole trace.
-use Rattle.std.proofs.Common.{◌≡◌, ◌≢◌, ◌∙◌, ℕ, zero, suc, ◌+◌, ◌<◌, ◌≤◌, ◌==◌, Bool, true, false, cond, List, [], ◌∷◌, ◌++◌, Vec, length, map, ap, sym, refl, subst, arith, append-nil, ⊎_elim, eq-eqb, inl, inr}
+use Rattle.std.proofs.Common.{
+  ◌≡◌,
+  ◌≢◌,
+  ◌∙◌,
+  ℕ,
+  zero,
+  suc,
+  ◌+◌,
+  ◌<◌,
+  ◌≤◌,
+  ◌==◌,
+  Bool,
+  true,
+  false,
+  cond,
+  List,
+  [],
+  ◌∷◌,
+  ◌++◌,
+  Vec,
+  length,
+  map,
+  ap,
+  sym,
+  refl,
+  subst,
+  arith,
+  append-nil,
+  ⊎_elim,
+  eq-eqb,
+  inl,
+  inr,
+}
 use Rattle.std.specs.Prelude.{⊤}
 use Rattle.std.proofs.lemmas.Bool.{cases_eq, cases_lt, eqb-true, false_from_ne_true}
 use Rattle.std.proofs.lemmas.List.{get_or_past}
 use Rattle.std.proofs.lemmas.List.Elements.{filter-append}
-use Rattle.std.proofs.lemmas.List.Sorted.{IsPermutation-append_left, IsPermutation-cons, IsPermutation-middle, IsPermutation-refl, IsPermutation-sym, IsPermutation-trans}
+use Rattle.std.proofs.lemmas.List.Sorted.{
+  IsPermutation-append_left,
+  IsPermutation-cons,
+  IsPermutation-middle,
+  IsPermutation-refl,
+  IsPermutation-sym,
+  IsPermutation-trans,
+}
 use Rattle.std.specs.Global.{Global}
 use Rattle.std.specs.List.{All, AllByRecursion, filter}
 use Rattle.std.specs.List.Sorted.{IsPermutation}
@@ -25,7 +64,8 @@ use Rattle.chord_window.proofs.Tallied.{with_first}
 not_same : (m n : ℕ) → m ≢ n → (m == n) ≡ false
 not_same m n ne = false_from_ne_true (m == n) (λ e. ne (eqb-true m n e))
 
-ordered_at : (lists : List (Vec Block Global)) → AllByRecursion (λ (blocks : Vec Block Global). InKeyOrder block_key blocks.items) lists → (part : ℕ) → InKeyOrder block_key (blocks_at lists part)
+ordered_at : (lists : List (Vec Block Global)) → AllByRecursion (λ (blocks : Vec Block Global). InKeyOrder block_key blocks.items) lists → (part : ℕ)
+    → InKeyOrder block_key (blocks_at lists part)
 ordered_at [] ordered part = tt
 ordered_at (v ∷ vs) ordered zero = ordered.0
 ordered_at (v ∷ vs) ordered (suc part) = ordered_at vs ordered.1 part
@@ -46,9 +86,12 @@ module _ (d : Division) where
         let others = share_of d (map (λ u. piece.OfAudit (line u)) times) (suc part) in
         ap (λ b. cond b (piece.OfAudit (line t) ∷ others) others) (not_same 0 (suc part) (λ e. omega (arith, e))) ∙ audits_others times part
 
-    pub with_audits : (pieces : List Piece) (times : List ℕ) (part : ℕ) → with_first (share_of d pieces) (map (λ t. piece.OfAudit (line t)) times) part ≡ share_of d (pieces ++ map (λ t. piece.OfAudit (line t)) times) part
-    with_audits pieces times zero = ap (λ l. share_of d pieces zero ++ l) (sym (audits_first times)) ∙ sym (share-append pieces (map (λ t. piece.OfAudit (line t)) times) zero)
-    with_audits pieces times (suc part) = sym (append-nil (share_of d pieces (suc part))) ∙ ap (λ l. share_of d pieces (suc part) ++ l) (sym (audits_others times part))
+    pub with_audits : (pieces : List Piece) (times : List ℕ) (part : ℕ)
+        → with_first (share_of d pieces) (map (λ t. piece.OfAudit (line t)) times) part ≡ share_of d (pieces ++ map (λ t. piece.OfAudit (line t)) times) part
+    with_audits pieces times zero = ap (λ l. share_of d pieces zero ++ l) (sym (audits_first times))
+        ∙ sym (share-append pieces (map (λ t. piece.OfAudit (line t)) times) zero)
+    with_audits pieces times (suc part) = sym (append-nil (share_of d pieces (suc part)))
+        ∙ ap (λ l. share_of d pieces (suc part) ++ l) (sym (audits_others times part))
         ∙ sym (share-append pieces (map (λ t. piece.OfAudit (line t)) times) (suc part))
 
   -- the blocks of a part's nodes
@@ -60,7 +103,8 @@ module _ (d : Division) where
   share_events (b ∷ blocks) part = go (part_of d b.target == part) (share_events blocks part)
     where
       go : (t : Bool) → share_of d (map piece.OfEvent blocks) part ≡ map piece.OfEvent (of_part part blocks)
-          → cond t (piece.OfEvent b ∷ share_of d (map piece.OfEvent blocks) part) (share_of d (map piece.OfEvent blocks) part) ≡ map piece.OfEvent (cond t (b ∷ of_part part blocks) (of_part part blocks))
+          → cond t (piece.OfEvent b ∷ share_of d (map piece.OfEvent blocks) part) (share_of d (map piece.OfEvent blocks) part)
+          ≡ map piece.OfEvent (cond t (b ∷ of_part part blocks) (of_part part blocks))
       go true e = ap (λ l. piece.OfEvent b ∷ l) e
       go false e = e
 
@@ -71,7 +115,8 @@ module _ (d : Division) where
 
   none_of_part : (part other : ℕ) (blocks : List Block) → part ≢ other → ((b : Block) → IsIn b blocks → part_of d b.target ≡ other) → of_part part blocks ≡ []
   none_of_part part other [] ne each = refl
-  none_of_part part other (b ∷ blocks) ne each = ap (λ t. cond t (b ∷ of_part part blocks) (of_part part blocks)) (not_same (part_of d b.target) part (λ e. ne (sym e ∙ each b (inl refl))))
+  none_of_part part other (b ∷ blocks) ne each = ap (λ t. cond t (b ∷ of_part part blocks) (of_part part blocks))
+      (not_same (part_of d b.target) part (λ e. ne (sym e ∙ each b (inl refl))))
       ∙ none_of_part part other blocks ne (λ c h. each c (inr h))
 
   -- each list has blocks of its own part alone, from part k on
@@ -108,13 +153,17 @@ module _ (d : Division) where
       )
 
   -- what is merged has each part's own list
-  pub own_blocks : (lists : List (Vec Block Global)) (blocks : List Block) → CanMerge lists → OfParts 0 lists → IsMerged lists blocks → (part : ℕ) → of_part part blocks ≡ blocks_at lists part
-  own_blocks lists blocks can each merged part = same_list block_key (of_part part blocks) (blocks_at lists part) (ordered_of_part part blocks merged.ordered) (ordered_at lists can.ordered part)
+  pub own_blocks : (lists : List (Vec Block Global)) (blocks : List Block) → CanMerge lists → OfParts 0 lists → IsMerged lists blocks → (part : ℕ)
+      → of_part part blocks ≡ blocks_at lists part
+  own_blocks lists blocks can each merged part = same_list block_key (of_part part blocks) (blocks_at lists part)
+      (ordered_of_part part blocks merged.ordered) (ordered_at lists can.ordered part)
       (λ z h.
       let f = filter_contains (λ (b : Block). part_of d b.target == part) blocks z (contained (of_part part blocks) z h) in
-      subst (λ l. IsIn z l) same (is_in (of_part part (all_blocks lists)) z (contains_filter (λ (b : Block). part_of d b.target == part) (all_blocks lists) z ((merged.same z).0 f.0) f.1)))
+      subst (λ l. IsIn z l) same (is_in (of_part part (all_blocks lists)) z
+      (contains_filter (λ (b : Block). part_of d b.target == part) (all_blocks lists) z ((merged.same z).0 f.0) f.1)))
       (λ z h.
-      let f = filter_contains (λ (b : Block). part_of d b.target == part) (all_blocks lists) z (contained (of_part part (all_blocks lists)) z (subst (λ l. IsIn z l) (sym same) h)) in
+      let f = filter_contains (λ (b : Block). part_of d b.target == part) (all_blocks lists) z
+      (contained (of_part part (all_blocks lists)) z (subst (λ l. IsIn z l) (sym same) h)) in
       is_in (of_part part blocks) z (contains_filter (λ (b : Block). part_of d b.target == part) blocks z ((merged.same z).1 f.0) f.1))
     where
       same : of_part part (all_blocks lists) ≡ blocks_at lists part
@@ -132,19 +181,25 @@ module _ (d : Division) where
 
   module _ (x : Piece) (pieces : List Piece) (n : ℕ) where
     -- its own part is the last one, or another
-    at_end : tally_part d x ≡ n → IsPermutation (x ∷ (shares_to (share_of d pieces) n ++ share_of d pieces n)) (shares_to (share_of d (x ∷ pieces)) n ++ share_of d (x ∷ pieces) n)
-    at_end e = subst (λ r. IsPermutation (x ∷ (shares_to (share_of d pieces) n ++ share_of d pieces n)) (r ++ share_of d (x ∷ pieces) n)) (sym (shares_below x pieces n (omega (arith, e))))
-        (subst (λ t. IsPermutation (x ∷ (shares_to (share_of d pieces) n ++ share_of d pieces n)) (shares_to (share_of d pieces) n ++ cond t (x ∷ share_of d pieces n) (share_of d pieces n))) (sym (eq-eqb (tally_part d x) n e))
+    at_end : tally_part d x ≡ n → IsPermutation (x ∷ (shares_to (share_of d pieces) n ++ share_of d pieces n))
+        (shares_to (share_of d (x ∷ pieces)) n ++ share_of d (x ∷ pieces) n)
+    at_end e = subst (λ r. IsPermutation (x ∷ (shares_to (share_of d pieces) n ++ share_of d pieces n)) (r ++ share_of d (x ∷ pieces) n))
+        (sym (shares_below x pieces n (omega (arith, e))))
+        (subst (λ t. IsPermutation (x ∷ (shares_to (share_of d pieces) n ++ share_of d pieces n))
+        (shares_to (share_of d pieces) n ++ cond t (x ∷ share_of d pieces n) (share_of d pieces n))) (sym (eq-eqb (tally_part d x) n e))
         (IsPermutation-sym _ _ (IsPermutation-middle (shares_to (share_of d pieces) n) x (share_of d pieces n))))
 
     before_end : tally_part d x ≢ n → IsPermutation (x ∷ shares_to (share_of d pieces) n) (shares_to (share_of d (x ∷ pieces)) n)
         → IsPermutation (x ∷ (shares_to (share_of d pieces) n ++ share_of d pieces n)) (shares_to (share_of d (x ∷ pieces)) n ++ share_of d (x ∷ pieces) n)
-    before_end ne earlier = subst (λ r. IsPermutation (x ∷ (shares_to (share_of d pieces) n ++ share_of d pieces n)) (shares_to (share_of d (x ∷ pieces)) n ++ r)) (sym (share_other x pieces n ne))
+    before_end ne earlier = subst (λ r. IsPermutation (x ∷ (shares_to (share_of d pieces) n ++ share_of d pieces n))
+        (shares_to (share_of d (x ∷ pieces)) n ++ r)) (sym (share_other x pieces n ne))
         (IsPermutation-append_left (share_of d pieces n) (x ∷ shares_to (share_of d pieces) n) (shares_to (share_of d (x ∷ pieces)) n) earlier)
 
-  one_more : (x : Piece) (pieces : List Piece) (n : ℕ) → tally_part d x < n → IsPermutation (x ∷ shares_to (share_of d pieces) n) (shares_to (share_of d (x ∷ pieces)) n)
+  one_more : (x : Piece) (pieces : List Piece) (n : ℕ) → tally_part d x < n
+      → IsPermutation (x ∷ shares_to (share_of d pieces) n) (shares_to (share_of d (x ∷ pieces)) n)
   one_more x pieces zero l = absurd (omega (arith, l))
-  one_more x pieces (suc n) l = ⊎_elim (λ e. at_end x pieces n e) (λ ne. let differ : tally_part d x ≢ n = ne in before_end x pieces n ne (one_more x pieces n (omega (arith, l, differ)))) (cases_eq (tally_part d x) n)
+  one_more x pieces (suc n) l = ⊎_elim (λ e. at_end x pieces n e) (λ ne. let differ : tally_part d x ≢ n = ne
+      in before_end x pieces n ne (one_more x pieces n (omega (arith, l, differ)))) (cases_eq (tally_part d x) n)
 
   no_shares : (n : ℕ) → shares_to (share_of d []) n ≡ []
   no_shares zero = refl
@@ -158,4 +213,5 @@ module _ (d : Division) where
 
   pub inside_parts : 0 < d.parts → All (λ p. p < d.parts) d.of_node → (x : Piece) → tally_part d x < d.parts
   inside_parts some below (piece.OfAudit audit) = some
-  inside_parts some below (piece.OfEvent block) = ⊎_elim (λ l. below block.target 0 l) (λ l. omega (arith, some, get_or_past d.of_node block.target 0 l)) (cases_lt block.target (length d.of_node))
+  inside_parts some below (piece.OfEvent block) = ⊎_elim (λ l. below block.target 0 l)
+      (λ l. omega (arith, some, get_or_past d.of_node block.target 0 l)) (cases_lt block.target (length d.of_node))

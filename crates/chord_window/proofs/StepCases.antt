@@ -1,5 +1,31 @@
 -- The two sources of a part's next event: the due events, and the queue.
-use Rattle.std.proofs.Common.{◌≡◌, ℕ, suc, ◌+◌, ◌<◌, ◌≤◌, ◌^◌, true, false, List, [], ◌∷◌, ◌++◌, Some, length, drop, slice_get, get_or, refl, ap, sym, ◌∙◌, subst, ◌⊎◌, ◌↔◌}
+use Rattle.std.proofs.Common.{
+  ◌≡◌,
+  ℕ,
+  suc,
+  ◌+◌,
+  ◌<◌,
+  ◌≤◌,
+  ◌^◌,
+  true,
+  false,
+  List,
+  [],
+  ◌∷◌,
+  ◌++◌,
+  Some,
+  length,
+  drop,
+  slice_get,
+  get_or,
+  refl,
+  ap,
+  sym,
+  ◌∙◌,
+  subst,
+  ◌⊎◌,
+  ◌↔◌,
+}
 use Rattle.std.specs.List.{Contains}
 use Rattle.chord_event.specs.declared.body.Body.{Body}
 use Rattle.chord_event.specs.declared.event.Event.{Event}
@@ -18,8 +44,10 @@ use Rattle.chord_window.specs.Worlds.{IsWorldOf}
 use Rattle.chord_window.proofs.Ahead.{due_first, due_inside, get_some, made_first, none_left, place_is}
 use Rattle.chord_window.proofs.Stepping.{step_apart, step_few, step_key, step_next, step_over, step_ready}
 
-module _ (sc : Scenario) (ranges : IsInRange sc) (world : World) (is : IsWorldOf sc world) (horizon : ℕ) (due : List (Event Body)) (win : IsWindow sc world horizon due)
-    (run : PartRun) (q : Queue) (inside : run.part < world.division.parts) (r : IsRunning sc world horizon due run q) (ordered : InKeyOrder event_key q.events) where
+module _ (sc : Scenario) (ranges : IsInRange sc) (world : World) (is : IsWorldOf sc world) (horizon : ℕ) (due : List (Event Body))
+    (win : IsWindow sc world horizon due)
+    (run : PartRun) (q : Queue) (inside : run.part < world.division.parts) (r : IsRunning sc world horizon due run q)
+    (ordered : InKeyOrder event_key q.events) where
   module _ (t : comes_first due run.taken q.events ≡ true) (e : Event Body) (at : e ≡ get_or due run.taken e) where
     abbrev ys : List (Event Body)
     ys = drop (suc run.taken) due ++ q.events
@@ -28,31 +56,40 @@ module _ (sc : Scenario) (ranges : IsInRange sc) (world : World) (is : IsWorldOf
     wait_is = ap (λ l. l ++ q.events) (place_is due run.taken e (due_inside due q.events run.taken t) at)
 
     pub due_ready : IsReady sc world.division world.states.items run e
-    due_ready = step_ready sc ranges world is horizon win.time win.may_open due run q inside r e [] ys wait_is (due_first due q.events run.taken win.ordered ordered t e at)
+    due_ready = step_ready sc ranges world is horizon win.time win.may_open due run q inside r e [] ys wait_is
+        (due_first due q.events run.taken win.ordered ordered t e at)
 
     pub due_key : IsNextKey sc world horizon run e.key
-    due_key = step_key sc ranges world is horizon win.time win.may_open due run q inside r e [] ys wait_is (due_first due q.events run.taken win.ordered ordered t e at)
+    due_key = step_key sc ranges world is horizon win.time win.may_open due run q inside r e [] ys wait_is
+        (due_first due q.events run.taken win.ordered ordered t e at)
 
     pub due_over : sc.max_events ≤ world.count + length run.blocks.items → HasTooManyEvents sc
-    due_over full = step_over sc ranges world is horizon win.time win.may_open due run q inside r e [] ys wait_is (due_first due q.events run.taken win.ordered ordered t e at) full
+    due_over full = step_over sc ranges world is horizon win.time win.may_open due run q inside r e [] ys wait_is
+        (due_first due q.events run.taken win.ordered ordered t e at) full
 
     module _ (made : List (Event Body)) (made_is : made ≡ (effect sc (seen_in sc world.states.items run e.target) e).events) where
       pub due_apart : AreApart (q.events ++ made)
-      due_apart = step_apart sc ranges world is horizon win.time win.may_open due run q inside r e [] ys wait_is (due_first due q.events run.taken win.ordered ordered t e at) made made_is q.events (suc run.taken) refl
+      due_apart = step_apart sc ranges world is horizon win.time win.may_open due run q inside r e [] ys wait_is
+          (due_first due q.events run.taken win.ordered ordered t e at) made made_is q.events (suc run.taken) refl
 
       pub due_few : q.pushes + length made < 2 ^ 32
-      due_few = step_few sc ranges world is horizon win.time win.may_open due run q inside r e [] ys wait_is (due_first due q.events run.taken win.ordered ordered t e at) made made_is q.events (suc run.taken) refl
+      due_few = step_few sc ranges world is horizon win.time win.may_open due run q inside r e [] ys wait_is
+          (due_first due q.events run.taken win.ordered ordered t e at) made made_is q.events (suc run.taken) refl
 
       pub due_next : (mid new : PartRun) → HasHandled sc world.division world.states.items e run mid made → (q' : Queue)
-          → new.part ≡ mid.part → new.copies ≡ mid.copies → new.blocks ≡ mid.blocks → new.taken ≡ suc run.taken → new.mail.items ≡ mid.mail.items ++ from_on event_key horizon made
+          → new.part ≡ mid.part → new.copies ≡ mid.copies → new.blocks ≡ mid.blocks → new.taken ≡ suc run.taken
+          → new.mail.items ≡ mid.mail.items ++ from_on event_key horizon made
           → ((x : Event Body) → Contains q'.events x ↔ (Contains q.events x ⊎ (Contains made x × (x.key.time < horizon)))) → InKeyOrder event_key q'.events
           → q'.pushes ≤ q.pushes + length made → world.count + length run.blocks.items < sc.max_events → IsRunning sc world horizon due new q'
-      due_next = step_next sc ranges world is horizon win.time win.may_open due run q inside r e [] ys wait_is (due_first due q.events run.taken win.ordered ordered t e at) made made_is q.events (suc run.taken) refl
+      due_next = step_next sc ranges world is horizon win.time win.may_open due run q inside r e [] ys wait_is
+          (due_first due q.events run.taken win.ordered ordered t e at) made made_is q.events (suc run.taken) refl
 
   module _ (t : comes_first due run.taken q.events ≡ false) where
-    pub all_taken : (q' : Queue) → q' ≡ queue (drop 1 q.events) q.pushes → q.events ≡ [] → (drop run.taken due ++ q'.events ≡ []) × IsRunning sc world horizon due run q'
+    pub all_taken : (q' : Queue) → q' ≡ queue (drop 1 q.events) q.pushes → q.events ≡ []
+        → (drop run.taken due ++ q'.events ≡ []) × IsRunning sc world horizon due run q'
     all_taken q' left none = (
-      ap (λ (z : Queue). drop run.taken due ++ z.events) left ∙ ap (λ l. drop run.taken due ++ drop 1 l) none ∙ ap (λ l. l ++ []) (none_left due q.events run.taken win.ordered ordered t none),
+      ap (λ (z : Queue). drop run.taken due ++ z.events) left ∙ ap (λ l. drop run.taken due ++ drop 1 l) none
+          ∙ ap (λ l. l ++ []) (none_left due q.events run.taken win.ordered ordered t none),
       subst (λ z. IsRunning sc world horizon due run z) (sym (left ∙ ap (λ l. queue (drop 1 l) q.pushes) none ∙ sym (ap (λ l. queue l q.pushes) none))) r,
     )
 
@@ -64,29 +101,37 @@ module _ (sc : Scenario) (ranges : IsInRange sc) (world : World) (is : IsWorldOf
       wait_is2 = ap (λ l. drop run.taken due ++ l) queue_is
 
       pub made_ready : IsReady sc world.division world.states.items run e
-      made_ready = step_ready sc ranges world is horizon win.time win.may_open due run q inside r e (drop run.taken due) (drop 1 q.events) wait_is2 (made_first due q.events run.taken win.ordered ordered t e (drop 1 q.events) queue_is)
+      made_ready = step_ready sc ranges world is horizon win.time win.may_open due run q inside r e (drop run.taken due) (drop 1 q.events) wait_is2
+          (made_first due q.events run.taken win.ordered ordered t e (drop 1 q.events) queue_is)
 
       pub made_key : IsNextKey sc world horizon run e.key
-      made_key = step_key sc ranges world is horizon win.time win.may_open due run q inside r e (drop run.taken due) (drop 1 q.events) wait_is2 (made_first due q.events run.taken win.ordered ordered t e (drop 1 q.events) queue_is)
+      made_key = step_key sc ranges world is horizon win.time win.may_open due run q inside r e (drop run.taken due) (drop 1 q.events) wait_is2
+          (made_first due q.events run.taken win.ordered ordered t e (drop 1 q.events) queue_is)
 
       pub made_over : sc.max_events ≤ world.count + length run.blocks.items → HasTooManyEvents sc
-      made_over full = step_over sc ranges world is horizon win.time win.may_open due run q inside r e (drop run.taken due) (drop 1 q.events) wait_is2 (made_first due q.events run.taken win.ordered ordered t e (drop 1 q.events) queue_is) full
+      made_over full = step_over sc ranges world is horizon win.time win.may_open due run q inside r e (drop run.taken due) (drop 1 q.events) wait_is2
+          (made_first due q.events run.taken win.ordered ordered t e (drop 1 q.events) queue_is) full
 
-      module _ (made : List (Event Body)) (made_is : made ≡ (effect sc (seen_in sc world.states.items run e.target) e).events) (q1 : Queue) (left : q1 ≡ queue (drop 1 q.events) q.pushes) where
+      module _ (made : List (Event Body)) (made_is : made ≡ (effect sc (seen_in sc world.states.items run e.target) e).events) (q1 : Queue)
+          (left : q1 ≡ queue (drop 1 q.events) q.pushes) where
         rest_is : drop run.taken due ++ q1.events ≡ drop run.taken due ++ drop 1 q.events
         rest_is = ap (λ (z : Queue). drop run.taken due ++ z.events) left
 
         pub made_apart : AreApart (q1.events ++ made)
-        made_apart = step_apart sc ranges world is horizon win.time win.may_open due run q inside r e (drop run.taken due) (drop 1 q.events) wait_is2 (made_first due q.events run.taken win.ordered ordered t e (drop 1 q.events) queue_is) made made_is q1.events run.taken rest_is
+        made_apart = step_apart sc ranges world is horizon win.time win.may_open due run q inside r e (drop run.taken due) (drop 1 q.events) wait_is2
+            (made_first due q.events run.taken win.ordered ordered t e (drop 1 q.events) queue_is) made made_is q1.events run.taken rest_is
 
         pub made_few : q1.pushes + length made < 2 ^ 32
         made_few = subst (λ (z : Queue). z.pushes + length made < 2 ^ 32) (sym left)
-            (step_few sc ranges world is horizon win.time win.may_open due run q inside r e (drop run.taken due) (drop 1 q.events) wait_is2 (made_first due q.events run.taken win.ordered ordered t e (drop 1 q.events) queue_is) made made_is q1.events run.taken rest_is)
+            (step_few sc ranges world is horizon win.time win.may_open due run q inside r e (drop run.taken due) (drop 1 q.events) wait_is2
+            (made_first due q.events run.taken win.ordered ordered t e (drop 1 q.events) queue_is) made made_is q1.events run.taken rest_is)
 
         pub made_next : (mid new : PartRun) → HasHandled sc world.division world.states.items e run mid made → (q' : Queue)
-            → new.part ≡ mid.part → new.copies ≡ mid.copies → new.blocks ≡ mid.blocks → new.taken ≡ run.taken → new.mail.items ≡ mid.mail.items ++ from_on event_key horizon made
+            → new.part ≡ mid.part → new.copies ≡ mid.copies → new.blocks ≡ mid.blocks → new.taken ≡ run.taken
+            → new.mail.items ≡ mid.mail.items ++ from_on event_key horizon made
             → ((x : Event Body) → Contains q'.events x ↔ (Contains q1.events x ⊎ (Contains made x × (x.key.time < horizon)))) → InKeyOrder event_key q'.events
             → q'.pushes ≤ q1.pushes + length made → world.count + length run.blocks.items < sc.max_events → IsRunning sc world horizon due new q'
         made_next mid new h q' parts_are copies_are blocks_are takens mails queued o pushes free =
-            step_next sc ranges world is horizon win.time win.may_open due run q inside r e (drop run.taken due) (drop 1 q.events) wait_is2 (made_first due q.events run.taken win.ordered ordered t e (drop 1 q.events) queue_is) made made_is q1.events run.taken rest_is
+            step_next sc ranges world is horizon win.time win.may_open due run q inside r e (drop run.taken due) (drop 1 q.events) wait_is2
+            (made_first due q.events run.taken win.ordered ordered t e (drop 1 q.events) queue_is) made made_is q1.events run.taken rest_is
             mid new h q' parts_are copies_are blocks_are takens mails queued o (subst (λ (z : Queue). q'.pushes ≤ z.pushes + length made) left pushes) free

@@ -1,12 +1,57 @@
 -- How the run of a part goes on.
-use Rattle.std.proofs.Common.{◌≡◌, ◌≢◌, ℕ, suc, Option, None, Some, ◌+◌, ◌<◌, ◌≤◌, List, [], ◌∷◌, ◌++◌, length, map, drop, refl, ap, sym, ◌∙◌, subst, inl, inr, ◌⊎◌, ⊎_elim, ◌↔◌, arith, length-append, ◌^◌}
+use Rattle.std.proofs.Common.{
+  ◌≡◌,
+  ◌≢◌,
+  ℕ,
+  suc,
+  Option,
+  None,
+  Some,
+  ◌+◌,
+  ◌<◌,
+  ◌≤◌,
+  List,
+  [],
+  ◌∷◌,
+  ◌++◌,
+  length,
+  map,
+  drop,
+  refl,
+  ap,
+  sym,
+  ◌∙◌,
+  subst,
+  inl,
+  inr,
+  ◌⊎◌,
+  ⊎_elim,
+  ◌↔◌,
+  arith,
+  length-append,
+  ◌^◌,
+}
 use Rattle.std.specs.List.{All, Contains, cons_option}
 use Rattle.std.proofs.lemmas.List.{map-append}
 use Rattle.chord_event.specs.declared.body.Body.{Body}
 use Rattle.chord_event.specs.declared.event.Event.{Event}
 use Rattle.chord_event.specs.Keys.{IsAtMost}
 use Rattle.chord_event.specs.KeyOrder.{InKeyOrder, from_on}
-use Rattle.chord_event.proofs.Members.{All_at, All_from, AllPairs_append, AllPairs_front, AllPairs_at, AllPairs_rest, contains_append, contains_cons, contains_here, contains_left, contains_none, contains_right, contains_there}
+use Rattle.chord_event.proofs.Members.{
+  All_at,
+  All_from,
+  AllPairs_append,
+  AllPairs_front,
+  AllPairs_at,
+  AllPairs_rest,
+  contains_append,
+  contains_cons,
+  contains_here,
+  contains_left,
+  contains_none,
+  contains_right,
+  contains_there,
+}
 use Rattle.chord_machine.specs.Chord.{chord}
 use Rattle.chord_machine.specs.Room.{HasRoom}
 use Rattle.chord_machine.specs.Run.{HasTooManyEvents}
@@ -18,7 +63,19 @@ use Rattle.chord_model.specs.Laws.{MayOpen}
 use Rattle.chord_model.specs.PartRuns.{IsPartAt, part_run}
 use Rattle.chord_model.specs.WellFormed.{IsWellFormed}
 use Rattle.chord_model.proofs.Distinct.{meets}
-use Rattle.chord_model.proofs.PartCourse.{made_all_apart, made_new, part_event_early, part_event_fit, part_event_in, part_goes_on, part_more, part_over, part_possible, part_seen, part_sound}
+use Rattle.chord_model.proofs.PartCourse.{
+  made_all_apart,
+  made_new,
+  part_event_early,
+  part_event_fit,
+  part_event_in,
+  part_goes_on,
+  part_more,
+  part_over,
+  part_possible,
+  part_seen,
+  part_sound,
+}
 use Rattle.chord_model.proofs.Runs.{history_is_legal, possible_from_legal}
 use Rattle.chord_node.specs.declared.state.NodeState.{NodeState}
 use Rattle.chord_node.specs.Ring.{initial_state}
@@ -44,7 +101,11 @@ module _ (xs ys : List (Event Body)) (e : Event Body) (all : AreApart (xs ++ e �
   pub middle_there : (x : Event Body) → Contains (xs ++ ys) x → Contains (xs ++ e ∷ ys) x × (x ≢ e)
   middle_there x c = ⊎_elim
       (λ k. (contains_left xs (e ∷ ys) x k, λ s. apart_across xs (e ∷ ys) all x e k (contains_here e ys) (ap (λ (z : Event Body). z.key) s)))
-      (λ k. (contains_right xs (e ∷ ys) x (contains_there x e ys k), λ s. AllPairs_at (λ (a b : Event Body). a.key ≢ b.key) e ys (apart_end xs (e ∷ ys) all) x k (ap (λ (z : Event Body). z.key) (sym s))))
+      (λ k. (
+        contains_right xs (e ∷ ys) x (contains_there x e ys k),
+        λ s. AllPairs_at (λ (a b : Event Body). a.key ≢ b.key) e ys
+            (apart_end xs (e ∷ ys) all) x k (ap (λ (z : Event Body). z.key) (sym s)),
+      ))
       (contains_append xs ys x c)
 
   pub middle_back : (x : Event Body) → Contains (xs ++ e ∷ ys) x → x ≢ e → Contains (xs ++ ys) x
@@ -67,7 +128,8 @@ All_push : {A : Type 0} (P : A → Type 0) (xs : List A) (x : A) → All P xs �
 All_push P xs x all here = All_from P (xs ++ x ∷ []) (λ y c. ⊎_elim (λ k. All_at P xs y all k)
     (λ k. ⊎_elim (λ e. subst P e here) (λ r. absurd (contains_none y r)) (contains_cons y x [] k)) (contains_append xs (x ∷ []) y c))
 
-module _ (sc : Scenario) (ranges : IsInRange sc) (world : World) (is : IsWorldOf sc world) (horizon time : ℕ) (o : MayOpen (chord sc) (history (chord sc) world.count) time horizon) (due : List (Event Body))
+module _ (sc : Scenario) (ranges : IsInRange sc) (world : World) (is : IsWorldOf sc world) (horizon time : ℕ)
+    (o : MayOpen (chord sc) (history (chord sc) world.count) time horizon) (due : List (Event Body))
     (run : PartRun) (q : Queue) (inside : run.part < world.division.parts) (r : IsRunning sc world horizon due run q) where
   w : IsWellFormed (chord sc) (IsStateOf sc) (IsSoundEvent sc)
   w = well_formed sc ranges
@@ -87,27 +149,42 @@ module _ (sc : Scenario) (ranges : IsInRange sc) (world : World) (is : IsWorldOf
     all = subst (λ l. AreApart l) wait_is r.at.apart
 
     fit : IsSoundEvent sc e
-    fit = part_event_fit (chord sc) w world.division is.divides (history (chord sc) world.count) time horizon o run.part (length run.blocks.items) (seen_in sc world.states.items run)
+    fit = part_event_fit (chord sc) w world.division is.divides (history (chord sc) world.count) time horizon o run.part (length run.blocks.items)
+        (seen_in sc world.states.items run)
         (drop run.taken due ++ q.events) run.mail.items (map piece.OfEvent run.blocks.items) r.at e there_is least_is
 
     sound : IsStateOf sc e.target (seen_in sc world.states.items run e.target)
-    sound = part_sound (chord sc) w world.division is.divides (history (chord sc) world.count) time horizon o run.part (length run.blocks.items) (seen_in sc world.states.items run)
+    sound = part_sound (chord sc) w world.division is.divides (history (chord sc) world.count) time horizon o run.part (length run.blocks.items)
+        (seen_in sc world.states.items run)
         (drop run.taken due ++ q.events) run.mail.items (map piece.OfEvent run.blocks.items) r.at e there_is least_is
 
-    seen_is : seen_in sc world.states.items run e.target ≡ state (chord sc) (part_run (chord sc) world.division (history (chord sc) world.count) horizon run.part (length run.blocks.items) ++ history (chord sc) world.count) e.target
-    seen_is = part_seen (chord sc) w world.division is.divides (history (chord sc) world.count) time horizon o run.part (length run.blocks.items) (seen_in sc world.states.items run)
+    seen_is : seen_in sc world.states.items run e.target ≡ state (chord sc)
+        (part_run (chord sc) world.division (history (chord sc) world.count) horizon run.part (length run.blocks.items)
+        ++ history (chord sc) world.count) e.target
+    seen_is = part_seen (chord sc) w world.division is.divides (history (chord sc) world.count) time horizon o run.part (length run.blocks.items)
+        (seen_in sc world.states.items run)
         (drop run.taken due ++ q.events) run.mail.items (map piece.OfEvent run.blocks.items) r.at e there_is least_is
 
     room : HasRoom (seen_in sc world.states.items run e.target)
     room = subst HasRoom (sym seen_is)
-        (room_is_left sc ranges (part_run (chord sc) world.division (history (chord sc) world.count) horizon run.part (length run.blocks.items) ++ history (chord sc) world.count)
-        (part_possible (chord sc) w world.division is.divides (history (chord sc) world.count) time horizon o run.part (length run.blocks.items) (seen_in sc world.states.items run)
+        (room_is_left sc ranges (part_run (chord sc) world.division (history (chord sc) world.count) horizon run.part (length run.blocks.items)
+        ++ history (chord sc) world.count)
+        (part_possible (chord sc) w world.division is.divides (history (chord sc) world.count) time horizon o run.part (length run.blocks.items)
+        (seen_in sc world.states.items run)
         (drop run.taken due ++ q.events) run.mail.items (map piece.OfEvent run.blocks.items) r.at e there_is least_is)
-        (omega (arith, length-append (part_run (chord sc) world.division (history (chord sc) world.count) horizon run.part (length run.blocks.items)) (history (chord sc) world.count), r.at.long, is.long, r.within))
+        (omega (
+          arith,
+          length-append (part_run (chord sc) world.division (history (chord sc) world.count) horizon run.part (length run.blocks.items))
+              (history (chord sc) world.count),
+          r.at.long,
+          is.long,
+          r.within,
+        ))
         e.target fit.target)
 
     early : e.key.time < horizon
-    early = part_event_early (chord sc) w world.division is.divides (history (chord sc) world.count) time horizon o run.part (length run.blocks.items) (seen_in sc world.states.items run)
+    early = part_event_early (chord sc) w world.division is.divides (history (chord sc) world.count) time horizon o run.part (length run.blocks.items)
+        (seen_in sc world.states.items run)
         (drop run.taken due ++ q.events) run.mail.items (map piece.OfEvent run.blocks.items) r.at e there_is least_is
 
     pub step_ready : IsReady sc world.division world.states.items run e
@@ -117,9 +194,11 @@ module _ (sc : Scenario) (ranges : IsInRange sc) (world : World) (is : IsWorldOf
       own = λ i s l.
           let node : i < node_count sc = omega (arith, l, is.states_are.nodes_are) in
           ap (λ (z : NodeState). z.me) (is.states_are.state_at i s node)
-          ∙ ((meets (chord sc) w (history (chord sc) world.count) (possible_from_legal (chord sc) (history (chord sc) world.count) (history_is_legal (chord sc) world.count))).sound i node).me;
+          ∙ ((meets (chord sc) w (history (chord sc) world.count) (possible_from_legal (chord sc) (history (chord sc) world.count)
+          (history_is_legal (chord sc) world.count))).sound i node).me;
       target = omega (arith, fit.target, is.states_are.nodes_are);
-      in_part = part_event_in (chord sc) w world.division is.divides (history (chord sc) world.count) time horizon o run.part (length run.blocks.items) (seen_in sc world.states.items run)
+      in_part = part_event_in (chord sc) w world.division is.divides (history (chord sc) world.count) time horizon o run.part
+          (length run.blocks.items) (seen_in sc world.states.items run)
           (drop run.taken due ++ q.events) run.mail.items (map piece.OfEvent run.blocks.items) r.at e there_is least_is;
       state_is_sound = sound;
       room = room;
@@ -131,23 +210,27 @@ module _ (sc : Scenario) (ranges : IsInRange sc) (world : World) (is : IsWorldOf
     step_key = record {
       event = e;
       is_least = from_cons _ (part_run (chord sc) world.division (history (chord sc) world.count) horizon run.part (length run.blocks.items)) e
-          (part_goes_on (chord sc) w world.division is.divides (history (chord sc) world.count) time horizon o run.part (length run.blocks.items) (seen_in sc world.states.items run)
+          (part_goes_on (chord sc) w world.division is.divides (history (chord sc) world.count) time horizon o run.part (length run.blocks.items)
+          (seen_in sc world.states.items run)
           (drop run.taken due ++ q.events) run.mail.items (map piece.OfEvent run.blocks.items) r.at e there_is least_is);
       key_is = refl;
     }
 
     pub step_over : sc.max_events ≤ world.count + length run.blocks.items → HasTooManyEvents sc
-    step_over full = part_over (chord sc) w world.division is.divides (history (chord sc) world.count) time horizon o run.part (length run.blocks.items) (seen_in sc world.states.items run)
+    step_over full = part_over (chord sc) w world.division is.divides (history (chord sc) world.count) time horizon o run.part
+        (length run.blocks.items) (seen_in sc world.states.items run)
         (drop run.taken due ++ q.events) run.mail.items (map piece.OfEvent run.blocks.items) r.at e there_is least_is inside (omega (arith, full, is.long))
 
     module _ (made : List (Event Body)) (made_is : made ≡ (effect sc (seen_in sc world.states.items run e.target) e).events) where
       fresh : (x y : Event Body) → Contains made x → Contains (xs ++ ys) y → x.key ≢ y.key
-      fresh x y c k = made_new (chord sc) w world.division is.divides (history (chord sc) world.count) time horizon o run.part (length run.blocks.items) (seen_in sc world.states.items run)
+      fresh x y c k = made_new (chord sc) w world.division is.divides (history (chord sc) world.count) time horizon o run.part
+          (length run.blocks.items) (seen_in sc world.states.items run)
           (drop run.taken due ++ q.events) run.mail.items (map piece.OfEvent run.blocks.items) r.at e there_is least_is x y
           (subst (λ l. Contains l x) made_is c) (subst (λ l. Contains l y) (sym wait_is) (middle_there xs ys e all y k).0)
 
       alone : AreApart made
-      alone = subst (λ l. AreApart l) (sym made_is) (made_all_apart (chord sc) w world.division is.divides (history (chord sc) world.count) time horizon o run.part (length run.blocks.items) (seen_in sc world.states.items run)
+      alone = subst (λ l. AreApart l) (sym made_is) (made_all_apart (chord sc) w world.division is.divides (history (chord sc) world.count) time
+          horizon o run.part (length run.blocks.items) (seen_in sc world.states.items run)
           (drop run.taken due ++ q.events) run.mail.items (map piece.OfEvent run.blocks.items) r.at e there_is least_is)
 
       few : length made ≤ 6
@@ -166,13 +249,18 @@ module _ (sc : Scenario) (ranges : IsInRange sc) (world : World) (is : IsWorldOf
         step_few = omega (arith, r.pushes, few, r.within, ranges.numbers.max_events_greatest)
 
         pub step_next : (mid new : PartRun) → HasHandled sc world.division world.states.items e run mid made → (q' : Queue)
-            → new.part ≡ mid.part → new.copies ≡ mid.copies → new.blocks ≡ mid.blocks → new.taken ≡ taken → new.mail.items ≡ mid.mail.items ++ from_on event_key horizon made
+            → new.part ≡ mid.part → new.copies ≡ mid.copies → new.blocks ≡ mid.blocks → new.taken ≡ taken
+            → new.mail.items ≡ mid.mail.items ++ from_on event_key horizon made
             → ((x : Event Body) → Contains q'.events x ↔ (Contains left x ⊎ (Contains made x × (x.key.time < horizon)))) → InKeyOrder event_key q'.events
             → q'.pushes ≤ q.pushes + length made → world.count + length run.blocks.items < sc.max_events → IsRunning sc world horizon due new q'
         step_next mid new h q' parts_are copies_are blocks_are takens mails queued ordered pushes free = record {
-          at = subst (λ k. IsPartAt (chord sc) world.division (history (chord sc) world.count) horizon k (length new.blocks.items) (seen_in sc world.states.items new) (drop new.taken due ++ q'.events) new.mail.items (map piece.OfEvent new.blocks.items)) (sym (parts_are ∙ h.same_part))
-              (subst (λ k. IsPartAt (chord sc) world.division (history (chord sc) world.count) horizon run.part k (seen_in sc world.states.items new) (drop new.taken due ++ q'.events) new.mail.items (map piece.OfEvent new.blocks.items)) (sym longer)
-              (part_more (chord sc) w world.division is.divides (history (chord sc) world.count) time horizon o run.part (length run.blocks.items) (seen_in sc world.states.items run)
+          at = subst (λ k. IsPartAt (chord sc) world.division (history (chord sc) world.count) horizon k (length new.blocks.items)
+              (seen_in sc world.states.items new) (drop new.taken due ++ q'.events) new.mail.items (map piece.OfEvent new.blocks.items))
+              (sym (parts_are ∙ h.same_part))
+              (subst (λ k. IsPartAt (chord sc) world.division (history (chord sc) world.count) horizon run.part k (seen_in sc world.states.items new)
+              (drop new.taken due ++ q'.events) new.mail.items (map piece.OfEvent new.blocks.items)) (sym longer)
+              (part_more (chord sc) w world.division is.divides (history (chord sc) world.count) time horizon o run.part (length run.blocks.items)
+              (seen_in sc world.states.items run)
               (drop run.taken due ++ q.events) run.mail.items (map piece.OfEvent run.blocks.items) r.at e there_is least_is
               (seen_in sc world.states.items new) (drop new.taken due ++ q'.events) new.mail.items (map piece.OfEvent new.blocks.items)
               (ap (λ z. seen (initial_state sc 0) world.states.items z e.target) copies_are ∙ h.changed)
@@ -180,9 +268,12 @@ module _ (sc : Scenario) (ranges : IsInRange sc) (world : World) (is : IsWorldOf
               (λ x. (there x, back x))
               wait_apart
               (mails ∙ ap (λ l. l.items ++ from_on event_key horizon made) h.same_mail ∙ ap (λ l. run.mail.items ++ from_on event_key horizon l) made_is)
-              (ap (map piece.OfEvent) blocks_list ∙ map-append piece.OfEvent run.blocks.items (block_of sc (seen_in sc world.states.items run e.target) e ∷ []))));
-          copies = subst (λ k. AreCopies world.division k world.states.items new.copies) (sym parts_are) (subst (λ z. AreCopies world.division mid.part world.states.items z) (sym copies_are) h.copies);
-          blocks_are = subst (λ l. All (IsShortBlock sc) l) (sym blocks_list) (All_push (IsShortBlock sc) run.blocks.items (block_of sc (seen_in sc world.states.items run e.target) e) r.blocks_are h.block);
+              (ap (map piece.OfEvent) blocks_list ∙ map-append piece.OfEvent run.blocks.items
+              (block_of sc (seen_in sc world.states.items run e.target) e ∷ []))));
+          copies = subst (λ k. AreCopies world.division k world.states.items new.copies) (sym parts_are)
+              (subst (λ z. AreCopies world.division mid.part world.states.items z) (sym copies_are) h.copies);
+          blocks_are = subst (λ l. All (IsShortBlock sc) l) (sym blocks_list)
+              (All_push (IsShortBlock sc) run.blocks.items (block_of sc (seen_in sc world.states.items run e.target) e) r.blocks_are h.block);
           within = omega (arith, longer, free);
           pushes = omega (arith, pushes, few, r.pushes, longer);
         }
@@ -197,26 +288,31 @@ module _ (sc : Scenario) (ranges : IsInRange sc) (world : World) (is : IsWorldOf
             rest_there x c = subst (λ l. Contains l x) rest_is (subst (λ k. Contains (drop k due ++ left) x) takens c)
 
             there : (x : Event Body) → Contains (drop new.taken due ++ q'.events) x
-                → (Contains (drop run.taken due ++ q.events) x × (x ≢ e)) ⊎ (Contains (effect sc (seen_in sc world.states.items run e.target) e).events x × (x.key.time < horizon))
+                → (Contains (drop run.taken due ++ q.events) x × (x ≢ e))
+                ⊎ (Contains (effect sc (seen_in sc world.states.items run e.target) e).events x × (x.key.time < horizon))
             there x c = ⊎_elim
                 (λ k. inl (before x (rest_there x (contains_left (drop new.taken due) left x k))))
-                (λ k. ⊎_elim (λ l. inl (before x (rest_there x (contains_right (drop new.taken due) left x l)))) (λ l. inr (subst (λ z. Contains z x) made_is l.0, l.1)) ((queued x).0 k))
+                (λ k. ⊎_elim (λ l. inl (before x (rest_there x (contains_right (drop new.taken due) left x l))))
+                (λ l. inr (subst (λ z. Contains z x) made_is l.0, l.1)) ((queued x).0 k))
                 (contains_append (drop new.taken due) q'.events x c)
               where
                 before : (x : Event Body) → Contains (xs ++ ys) x → Contains (drop run.taken due ++ q.events) x × (x ≢ e)
                 before x k = let f = middle_there xs ys e all x k in (subst (λ l. Contains l x) (sym wait_is) f.0, f.1)
 
-            back : (x : Event Body) → (Contains (drop run.taken due ++ q.events) x × (x ≢ e)) ⊎ (Contains (effect sc (seen_in sc world.states.items run e.target) e).events x × (x.key.time < horizon))
+            back : (x : Event Body) → (Contains (drop run.taken due ++ q.events) x × (x ≢ e))
+                ⊎ (Contains (effect sc (seen_in sc world.states.items run e.target) e).events x × (x.key.time < horizon))
                 → Contains (drop new.taken due ++ q'.events) x
             back x (inl k) = ⊎_elim
                 (λ l. contains_left (drop new.taken due) q'.events x (subst (λ z. Contains (drop z due) x) (sym takens) l))
                 (λ l. contains_right (drop new.taken due) q'.events x ((queued x).1 (inl l)))
-                (contains_append (drop taken due) left x (subst (λ l. Contains l x) (sym rest_is) (middle_back xs ys e all x (subst (λ l. Contains l x) wait_is k.0) k.1)))
+                (contains_append (drop taken due) left x (subst (λ l. Contains l x) (sym rest_is)
+                (middle_back xs ys e all x (subst (λ l. Contains l x) wait_is k.0) k.1)))
             back x (inr k) = contains_right (drop new.taken due) q'.events x ((queued x).1 (inr (subst (λ z. Contains z x) (sym made_is) k.0, k.1)))
 
             wait_apart : AreApart (drop new.taken due ++ q'.events)
             wait_apart = subst (λ z. AreApart (drop z due ++ q'.events)) (sym takens)
-                (AllPairs_append (λ (a b : Event Body). a.key ≢ b.key) (drop taken due) q'.events (AllPairs_front (λ (a b : Event Body). a.key ≢ b.key) (drop taken due) left rest_apart) (ordered_apart q'.events ordered)
+                (AllPairs_append (λ (a b : Event Body). a.key ≢ b.key) (drop taken due) q'.events
+                (AllPairs_front (λ (a b : Event Body). a.key ≢ b.key) (drop taken due) left rest_apart) (ordered_apart q'.events ordered)
                 (λ x y c k s. ⊎_elim (λ l. apart_across (drop taken due) left rest_apart x y c l s)
                 (λ l. fresh y x l.0 (subst (λ z. Contains z x) rest_is (contains_left (drop taken due) left x c)) (sym s))
                 ((queued y).0 k)))

@@ -1,5 +1,31 @@
 -- Tallies that take more, and tallies that are joined.
-use Rattle.std.proofs.Common.{◌≡◌, ◌≢◌, ◌∙◌, ℕ, zero, suc, ◌+◌, ◌<◌, ◌≤◌, List, [], ◌∷◌, ◌++◌, Vec, length, map, get_or, set, ap, sym, refl, subst, arith, length-append, ⊎_elim}
+use Rattle.std.proofs.Common.{
+  ◌≡◌,
+  ◌≢◌,
+  ◌∙◌,
+  ℕ,
+  zero,
+  suc,
+  ◌+◌,
+  ◌<◌,
+  ◌≤◌,
+  List,
+  [],
+  ◌∷◌,
+  ◌++◌,
+  Vec,
+  length,
+  map,
+  get_or,
+  set,
+  ap,
+  sym,
+  refl,
+  subst,
+  arith,
+  length-append,
+  ⊎_elim,
+}
 use Rattle.std.proofs.lemmas.Bool.{cases_eq}
 use Rattle.std.proofs.lemmas.List.{get_or-set_same, get_or-set_other, length-set}
 use Rattle.std.specs.Global.{Global}
@@ -20,7 +46,8 @@ blocks_at_is (x ∷ xs) (suc k) v l is = blocks_at_is xs k v (omega (arith, l)) 
 -- the first tallies have the blocks of their parts besides, and the others are as they were
 pub record HaveAdded (lists : List (Vec Block Global)) (n : ℕ) (old now : List Tally) : Type 0 where
   pub long : length now ≡ length old
-  pub added : (k : ℕ) (t : Tally) (pieces : List Piece) → k < n → k < length old → IsTallyOf pieces (get_or old k t) → IsTallyOf (pieces ++ map piece.OfEvent (blocks_at lists k)) (get_or now k t)
+  pub added : (k : ℕ) (t : Tally) (pieces : List Piece) → k < n → k < length old → IsTallyOf pieces (get_or old k t)
+      → IsTallyOf (pieces ++ map piece.OfEvent (blocks_at lists k)) (get_or now k t)
   pub others : (k : ℕ) (t : Tally) → n ≤ k → get_or now k t ≡ get_or old k t
 
 pub none_added : (lists : List (Vec Block Global)) (tallies : List Tally) → HaveAdded lists 0 tallies tallies
@@ -30,29 +57,37 @@ none_added lists tallies = record {
   others = λ k t l. refl;
 }
 
-pub one_added : (lists : List (Vec Block Global)) (n : ℕ) (old now : List Tally) → HaveAdded lists n old now → n < length old → (before after : Tally) → before ≡ get_or now n before
-    → ((pieces : List Piece) → IsTallyOf pieces before → IsTallyOf (pieces ++ map piece.OfEvent (blocks_at lists n)) after) → HaveAdded lists (n + 1) old (set now n after)
+pub one_added : (lists : List (Vec Block Global)) (n : ℕ) (old now : List Tally) → HaveAdded lists n old now → n < length old → (before after : Tally)
+    → before ≡ get_or now n before
+    → ((pieces : List Piece) → IsTallyOf pieces before → IsTallyOf (pieces ++ map piece.OfEvent (blocks_at lists n)) after)
+    → HaveAdded lists (n + 1) old (set now n after)
 one_added lists n old now h inside before after read adds = record {
   long = omega (arith, length-set now n after, h.long);
   added = λ k t pieces l i is. ⊎_elim
-      (λ s. subst (λ z. IsTallyOf (pieces ++ map piece.OfEvent (blocks_at lists k)) z) (sym (ap (λ j. get_or (set now n after) j t) s ∙ get_or-set_same now n after t (omega (arith, inside, h.long))))
+      (λ s. subst (λ z. IsTallyOf (pieces ++ map piece.OfEvent (blocks_at lists k)) z)
+      (sym (ap (λ j. get_or (set now n after) j t) s ∙ get_or-set_same now n after t (omega (arith, inside, h.long))))
       (subst (λ j. IsTallyOf (pieces ++ map piece.OfEvent (blocks_at lists j)) after) (sym s)
-      (adds pieces (subst (λ z. IsTallyOf pieces z) (ap (λ j. get_or old j t) s ∙ sym (h.others n t (omega arith)) ∙ same_read now n t before (omega (arith, inside, h.long)) ∙ sym read) is))))
-      (λ ne. let differ : k ≢ n = ne in subst (λ z. IsTallyOf (pieces ++ map piece.OfEvent (blocks_at lists k)) z) (sym (get_or-set_other now n k after t ne)) (h.added k t pieces (omega (arith, l, differ)) i is))
+      (adds pieces (subst (λ z. IsTallyOf pieces z) (ap (λ j. get_or old j t) s ∙ sym (h.others n t (omega arith))
+      ∙ same_read now n t before (omega (arith, inside, h.long)) ∙ sym read) is))))
+      (λ ne. let differ : k ≢ n = ne in subst (λ z. IsTallyOf (pieces ++ map piece.OfEvent (blocks_at lists k)) z)
+      (sym (get_or-set_other now n k after t ne)) (h.added k t pieces (omega (arith, l, differ)) i is))
       (cases_eq k n);
   others = λ k t l. get_or-set_other now n k after t (λ s. omega (arith, s, l)) ∙ h.others k t (omega (arith, l));
 }
 
-pub all_added : (lists : List (Vec Block Global)) (n : ℕ) (old now : List Tally) → HaveAdded lists n old now → length old ≤ n → (share : ℕ → List Piece) → AreTalliesOf share old
+pub all_added : (lists : List (Vec Block Global)) (n : ℕ) (old now : List Tally) → HaveAdded lists n old now → length old ≤ n
+    → (share : ℕ → List Piece) → AreTalliesOf share old
     → AreTalliesOf (λ part. share part ++ map piece.OfEvent (blocks_at lists part)) now
-all_added lists n old now h all share are = λ part t l. h.added part t (share part) (omega (arith, l, all, h.long)) (omega (arith, l, h.long)) (are part t (omega (arith, l, h.long)))
+all_added lists n old now h all share are = λ part t l. h.added part t (share part) (omega (arith, l, all, h.long)) (omega (arith, l, h.long))
+    (are part t (omega (arith, l, h.long)))
 
 -- one tally more takes the pieces of the first part
 abbrev pub with_first : (ℕ → List Piece) → List Piece → ℕ → List Piece
 with_first share pieces zero = share zero ++ pieces
 with_first share pieces (suc part) = share (suc part)
 
-pub first_added : (share : ℕ → List Piece) (tallies : List Tally) (pieces : List Piece) → AreTalliesOf share tallies → (before after : Tally) → before ≡ get_or tallies 0 before
+pub first_added : (share : ℕ → List Piece) (tallies : List Tally) (pieces : List Piece) → AreTalliesOf share tallies → (before after : Tally)
+    → before ≡ get_or tallies 0 before
     → ((earlier : List Piece) → IsTallyOf earlier before → IsTallyOf (earlier ++ pieces) after) → AreTalliesOf (with_first share pieces) (set tallies 0 after)
 first_added share [] pieces are before after read adds = λ part t l. absurd (omega (arith, l))
 first_added share (x ∷ xs) pieces are before after read adds = go
@@ -66,7 +101,8 @@ tail [] = []
 tail (x ∷ xs) = xs
 
 -- the item in its turn
-pub in_turn : {A : Type 0} (done rest all : List A) (x : A) (next : List A) → done ++ rest ≡ all → rest ≡ x ∷ next → (length done < length all) × ((d : A) → get_or all (length done) d ≡ x)
+pub in_turn : {A : Type 0} (done rest all : List A) (x : A) (next : List A) → done ++ rest ≡ all → rest ≡ x ∷ next
+    → (length done < length all) × ((d : A) → get_or all (length done) d ≡ x)
 unfolding tail
 in_turn [] rest all x next whole is = (omega (arith, ap length (sym whole ∙ is)), λ d. ap (λ l. get_or l 0 d) (sym whole ∙ is))
 in_turn (y ∷ done) rest [] x next whole is = absurd (omega (arith, ap length whole))
@@ -77,12 +113,15 @@ in_turn (y ∷ done) rest (z ∷ all) x next whole is =
 pub shares_up : (share : ℕ → List Piece) (k n : ℕ) → k < n → length (shares_to share k) + length (share k) ≤ length (shares_to share n)
 shares_up share k zero l = absurd (omega (arith, l))
 shares_up share k (suc n) l = ⊎_elim
-    (λ s. subst (λ j. length (shares_to share j) + length (share j) ≤ length (shares_to share (suc n))) (sym s) (omega (arith, length-append (shares_to share n) (share n))))
+    (λ s. subst (λ j. length (shares_to share j) + length (share j) ≤ length (shares_to share (suc n))) (sym s)
+    (omega (arith, length-append (shares_to share n) (share n))))
     (λ ne. let differ : k ≢ n = ne in omega (arith, shares_up share k n (omega (arith, l, differ)), length-append (shares_to share n) (share n)))
     (cases_eq k n)
 
-pub joined_more : (share : ℕ → List Piece) (done all : List Tally) (t joined both : Tally) → AreTalliesOf share all → (length done < length all) → ((d : Tally) → get_or all (length done) d ≡ t)
-    → ((mine others : List Piece) → IsTallyOf mine joined → IsTallyOf others t → IsTallyOf (mine ++ others) both) → IsTallyOf (shares_to share (length done)) joined → IsTallyOf (shares_to share (length (done ++ t ∷ []))) both
+pub joined_more : (share : ℕ → List Piece) (done all : List Tally) (t joined both : Tally) → AreTalliesOf share all → (length done < length all)
+    → ((d : Tally) → get_or all (length done) d ≡ t)
+    → ((mine others : List Piece) → IsTallyOf mine joined → IsTallyOf others t → IsTallyOf (mine ++ others) both)
+    → IsTallyOf (shares_to share (length done)) joined → IsTallyOf (shares_to share (length (done ++ t ∷ []))) both
 joined_more share done all t joined both are inside place joins is = subst (λ n. IsTallyOf (shares_to share n) both) more
     (joins (shares_to share (length done)) (share (length done)) is (subst (λ z. IsTallyOf (share (length done)) z) (place t) (are (length done) t inside)))
   where

@@ -16,7 +16,8 @@ module _ (sc : Scenario) (w : World) (horizon drawn : ℕ) (x : Worker) (may : M
   busy_from run some = subst (MayGoOnWith sc w horizon drawn x) some may
 
   -- it begins with the next part
-  pub has_drawn : (new : Worker) (run : PartRun) → x.run ≡ None → HasBegun sc w horizon drawn run → new.run ≡ Some run → new.queue ≡ x.queue → HasDrawn sc w horizon drawn x new
+  pub has_drawn : (new : Worker) (run : PartRun) → x.run ≡ None → HasBegun sc w horizon drawn run → new.run ≡ Some run → new.queue ≡ x.queue
+      → HasDrawn sc w horizon drawn x new
   has_drawn new run none begun run_is same = record {
     was_idle = (idle_from none).0;
     run = run;

@@ -24,7 +24,8 @@ pub record AreCopies (d : Division) (part : ℕ) (states : List NodeState) (c : 
   pub filled : (i k : ℕ) → slice_index_or c.slots.items i None ≡ Some k → k < length c.states.items
   pub named : (i k : ℕ) (s : NodeState) → slice_index_or c.slots.items i None ≡ Some k → (slice_index_or c.states.items k s).me ≡ i
   pub placed : (k : ℕ) (s : NodeState) → k < length c.states.items → slice_index_or c.slots.items (slice_index_or c.states.items k s).me None ≡ Some k
-  pub inside : (k : ℕ) (s : NodeState) → k < length c.states.items → ((slice_index_or c.states.items k s).me < length states) × (part_of d (slice_index_or c.states.items k s).me ≡ part)
+  pub inside : (k : ℕ) (s : NodeState) → k < length c.states.items → ((slice_index_or c.states.items k s).me < length states)
+      × (part_of d (slice_index_or c.states.items k s).me ≡ part)
 
 -- each node is seen in the same state
 pub record HaveSeen (states : List NodeState) (old new : Copies) : Type 0 where

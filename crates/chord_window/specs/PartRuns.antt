@@ -1,5 +1,30 @@
 -- The run of a part.
-use Rattle.std.specs.Prelude.{◌≡◌, ◌≢◌, ◌+◌, ◌*◌, ◌<◌, ◌≤◌, ◌++◌, ◌∷◌, ◌↔◌, ℕ, Bool, true, false, List, [], Option, None, Some, drop, length, map, reverse, slice_get, slice_index_or}
+use Rattle.std.specs.Prelude.{
+  ◌≡◌,
+  ◌≢◌,
+  ◌+◌,
+  ◌*◌,
+  ◌<◌,
+  ◌≤◌,
+  ◌++◌,
+  ◌∷◌,
+  ◌↔◌,
+  ℕ,
+  Bool,
+  true,
+  false,
+  List,
+  [],
+  Option,
+  None,
+  Some,
+  drop,
+  length,
+  map,
+  reverse,
+  slice_get,
+  slice_index_or,
+}
 use Rattle.std.specs.List.{All, AllPairs, Contains}
 use Rattle.chord_event.specs.declared.block.Block.{Block}
 use Rattle.chord_event.specs.declared.body.Body.{Body}
@@ -53,7 +78,8 @@ pub record IsShortBlock (sc : Scenario) (block : Block) : Type 0 where
   pub short : length block.lines ≤ 64
 
 -- the event was handled, and these events were made
-pub record HasHandled (sc : Scenario) (d : Division) (states : List NodeState) (event : Event Body) (old new : PartRun) (made : List (Event Body)) : Type 0 where
+pub record HasHandled (sc : Scenario) (d : Division) (states : List NodeState) (event : Event Body) (old new : PartRun)
+    (made : List (Event Body)) : Type 0 where
   pub same_part : new.part ≡ old.part
   pub same_taken : new.taken ≡ old.taken
   pub same_mail : new.mail ≡ old.mail
@@ -110,7 +136,8 @@ pub record HasBegun (sc : Scenario) (w : World) (horizon part : ℕ) (run : Part
 -- the event of this key is the next that the part runs
 pub record IsNextKey (sc : Scenario) (w : World) (horizon : ℕ) (run : PartRun) (key : Key) : Type 0 where
   pub event : Event Body
-  pub is_least : least (waiting (chord sc) w.division (history (chord sc) w.count) horizon run.part (part_run (chord sc) w.division (history (chord sc) w.count) horizon run.part (length run.blocks.items))) ≡ Some event
+  pub is_least : least (waiting (chord sc) w.division (history (chord sc) w.count) horizon run.part
+      (part_run (chord sc) w.division (history (chord sc) w.count) horizon run.part (length run.blocks.items))) ≡ Some event
   pub key_is : event.key ≡ key
 
 -- this is what the run has come to
@@ -142,7 +169,9 @@ pub record IsDone (sc : Scenario) (w : World) (horizon part : ℕ) (done : Done)
   pub long : length (ran_by sc w horizon done) ≡ done.events
   pub within : w.count + done.events ≤ sc.max_events
   pub nodes_are : HasTouched sc w.division (history (chord sc) w.count) (ran_by sc w horizon done) done.part done.nodes.items
-  pub mail_is : (x : Event Body) → Contains done.mail.items x ↔ (Contains (made_since (chord sc) (history (chord sc) w.count) (ran_by sc w horizon done)) x × (horizon ≤ x.key.time))
+  pub mail_is : (x : Event Body) → Contains done.mail.items x ↔ (Contains
+      (made_since (chord sc) (history (chord sc) w.count) (ran_by sc w horizon done)) x × (horizon ≤ x.key.time))
   pub mail_apart : AllPairs (λ (a b : Event Body). a.key ≢ b.key) done.mail.items
-  pub pieces_are : map piece.OfEvent done.blocks.items ≡ reverse (map (λ b. b.1) (pieces_since (chord sc) (history (chord sc) w.count) (ran_by sc w horizon done)))
+  pub pieces_are : map piece.OfEvent done.blocks.items ≡ reverse (map (λ b. b.1)
+      (pieces_since (chord sc) (history (chord sc) w.count) (ran_by sc w horizon done)))
   pub blocks_are : All (IsShortBlock sc) done.blocks.items

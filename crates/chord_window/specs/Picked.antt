@@ -1,5 +1,35 @@
 -- Windows whose workers take their steps in turn.
-use Rattle.std.specs.Prelude.{◌≡◌, ◌+◌, ◌-◌, ◌*◌, ◌<◌, ◌≤◌, ◌++◌, ◌&&◌, ◌||◌, ℕ, zero, suc, Bool, false, List, [], ◌∷◌, Option, None, Some, if◌then◌else◌, is_some, true, ◌⊎◌, length, map, nat_lt, slice_get, sum_by}
+use Rattle.std.specs.Prelude.{
+  ◌≡◌,
+  ◌+◌,
+  ◌-◌,
+  ◌*◌,
+  ◌<◌,
+  ◌≤◌,
+  ◌++◌,
+  ◌&&◌,
+  ◌||◌,
+  ℕ,
+  zero,
+  suc,
+  Bool,
+  false,
+  List,
+  [],
+  ◌∷◌,
+  Option,
+  None,
+  Some,
+  if◌then◌else◌,
+  is_some,
+  true,
+  ◌⊎◌,
+  length,
+  map,
+  nat_lt,
+  slice_get,
+  sum_by,
+}
 use Rattle.std.specs.List.{AllByRecursion}
 use Rattle.std.specs.Option.{option_or}
 use Rattle.chord_event.specs.declared.body.Body.{Body}
@@ -65,7 +95,10 @@ module _ (sc : Scenario) (world : World) (horizon : ℕ) where
   abbrev pub IsHeldBy : (drawn : ℕ) → Window Body → ℕ → Worker → Option PartRun → Type 0
   IsHeldBy drawn w i x None = IsIdle x × (w.held i ≡ None)
   IsHeldBy drawn w i x (Some run) = IsBusy sc world horizon drawn x run × (w.held i ≡ Some run.part)
-      × (w.part run.part ≡ record { ran = part_run (chord sc) world.division (history (chord sc) world.count) horizon run.part (length run.blocks.items); sealed = false })
+      × (w.part run.part ≡ record {
+        ran = part_run (chord sc) world.division (history (chord sc) world.count) horizon run.part (length run.blocks.items);
+        sealed = false;
+      })
 
   -- the part left what it left in the window, or is not done there
   abbrev pub IsPartOf : (drawn : ℕ) → Window Body → ℕ → Option Done → Type 0
@@ -80,7 +113,8 @@ module _ (sc : Scenario) (world : World) (horizon : ℕ) where
     pub few : drawn ≤ world.division.parts
     pub slots : length dones ≡ world.division.parts
     pub workers_are : (i : ℕ) (x : Worker) → slice_get workers i ≡ Some x → IsHeldBy drawn w i x x.run
-    pub apart : (i j : ℕ) (x y : Worker) (r s : PartRun) → slice_get workers i ≡ Some x → slice_get workers j ≡ Some y → x.run ≡ Some r → y.run ≡ Some s → r.part ≡ s.part → i ≡ j
+    pub apart : (i j : ℕ) (x y : Worker) (r s : PartRun) → slice_get workers i ≡ Some x → slice_get workers j ≡ Some y → x.run ≡ Some r
+        → y.run ≡ Some s → r.part ≡ s.part → i ≡ j
     pub parts_are : (p : ℕ) (o : Option Done) → slice_get dones p ≡ Some o → IsPartOf drawn w p o
     -- a part that was drawn is done, or some worker has it
     pub held : (p : ℕ) → p < w.drawn → ((w.part p).sealed ≡ true) ⊎ ((i : ℕ) × (i < length workers) × (w.held i ≡ Some p))
@@ -112,7 +146,8 @@ module _ (sc : Scenario) (world : World) (horizon : ℕ) where
 -- the picks lead from the one window to where the other stands, by these steps
 abbrev pub Leads : Scenario → Division → (workers : ℕ) → Window Body → (picks : List ℕ) → List (ℕ × Step Body) → (ℕ → Run Body) → (rest : List ℕ) → Type 0
 Leads sc d workers from picks steps to rest =
-    (number : ℕ) (more : List (ℕ × Step Body)) (h : List (Event Body)) → Goes (chord sc) (λ _. d) workers (to number) rest more h → Goes (chord sc) (λ _. d) workers (Within number from) picks (steps ++ more) h
+    (number : ℕ) (more : List (ℕ × Step Body)) (h : List (Event Body)) → Goes (chord sc) (λ _. d) workers (to number) rest more h
+    → Goes (chord sc) (λ _. d) workers (Within number from) picks (steps ++ more) h
 
 -- from the window's first step on turns were taken until no worker could go
 pub record HasTakenTurns (sc : Scenario) (world : World) (horizon : ℕ) (old new : PickedWindow) (picks rest : List ℕ) (before after : List Taken) : Type 0 where
@@ -122,10 +157,12 @@ pub record HasTakenTurns (sc : Scenario) (world : World) (horizon : ℕ) (old ne
   pub same_workers : length new.workers.items ≡ length old.workers.items
   pub steps : List (ℕ × Step Body)
   pub told : after ≡ before ++ map shown steps
-  pub leads : Leads sc world.division (length old.workers.items) (opened (history (chord sc) world.count) horizon) picks steps (λ number. settled (chord sc) (λ _. world.division) number window) rest
+  pub leads : Leads sc world.division (length old.workers.items) (opened (history (chord sc) world.count) horizon) picks steps
+      (λ number. settled (chord sc) (λ _. world.division) number window) rest
 
 -- a window of the window machine was run, from the first step to the last
 pub record HasStepped (sc : Scenario) (d : Division) (workers count horizon : ℕ) (picks rest : List ℕ) (before after : List Taken) (events : ℕ) : Type 0 where
   pub steps : List (ℕ × Step Body)
   pub told : after ≡ before ++ map shown steps
-  pub leads : Leads sc d workers (opened (history (chord sc) count) horizon) picks steps (λ number. begun (chord sc) (number + 1) (history (chord sc) (count + events))) rest
+  pub leads : Leads sc d workers (opened (history (chord sc) count) horizon) picks steps
+      (λ number. begun (chord sc) (number + 1) (history (chord sc) (count + events))) rest

@@ -22,5 +22,6 @@ pub record HasCome (sc : Scenario) (d : Division) (workers : ℕ) (picks rest : 
   pub number : ℕ
   pub steps : List (ℕ × Step Body)
   pub told : taken ≡ map shown steps
-  pub leads : (more : List (ℕ × Step Body)) (h : List (Event Body)) → Goes (chord sc) (λ _. d) workers (begun (chord sc) number (history (chord sc) count)) rest more h
+  pub leads : (more : List (ℕ × Step Body)) (h : List (Event Body)) → Goes (chord sc) (λ _. d) workers
+      (begun (chord sc) number (history (chord sc) count)) rest more h
       → Goes (chord sc) (λ _. d) workers (begun (chord sc) 0 []) picks (steps ++ more) h

@@ -52,5 +52,7 @@ HasGoneOn sc w horizon run new (progress.Sealed done) = IsDone sc w horizon run.
 -- one step
 abbrev pub HasProgressed : Scenario → World → (horizon drawn : ℕ) → (old new : Worker) → Progress → Type 0
 HasProgressed sc w horizon drawn old new progress.Drew = HasDrawn sc w horizon drawn old new
-HasProgressed sc w horizon drawn old new (progress.Ran key) = (run : PartRun) × IsBusy sc w horizon drawn old run × HasGoneOn sc w horizon run new (progress.Ran key)
-HasProgressed sc w horizon drawn old new (progress.Sealed done) = (run : PartRun) × IsBusy sc w horizon drawn old run × HasGoneOn sc w horizon run new (progress.Sealed done)
+HasProgressed sc w horizon drawn old new (progress.Ran key) = (run : PartRun) × IsBusy sc w horizon drawn old run
+    × HasGoneOn sc w horizon run new (progress.Ran key)
+HasProgressed sc w horizon drawn old new (progress.Sealed done) = (run : PartRun) × IsBusy sc w horizon drawn old run
+    × HasGoneOn sc w horizon run new (progress.Sealed done)

@@ -1,5 +1,33 @@
 -- What the matches of the commands of the program have at their options.
-use Rattle.std.proofs.Common.{◌≡◌, ◌∙◌, ◌<◌, ◌≤◌, ℕ, zero, suc, true, false, not, List, [], ◌∷◌, length, map, Option, Some, None, is_some, refl, sym, ap, subst, inl, inr, arith, codes}
+use Rattle.std.proofs.Common.{
+  ◌≡◌,
+  ◌∙◌,
+  ◌<◌,
+  ◌≤◌,
+  ℕ,
+  zero,
+  suc,
+  true,
+  false,
+  not,
+  List,
+  [],
+  ◌∷◌,
+  length,
+  map,
+  Option,
+  Some,
+  None,
+  is_some,
+  refl,
+  sym,
+  ap,
+  subst,
+  inl,
+  inr,
+  arith,
+  codes,
+}
 use Rattle.std.specs.Prelude.{IfSome, pos}
 use Rattle.chordsim.specs.Orders.{IsCountUpTo}
 use Rattle.std.specs.List.{All, AllByRecursion as ByRecursion, list_all, slice_index_or}
@@ -16,7 +44,19 @@ use Rattle.clap.specs.Simple.{App, app_of, is_simple}
 use Rattle.clap.proofs.OnLiterals.{clap_on_literals}
 use Rattle.clap.proofs.CallerLemmas.{required_has_value}
 use Rattle.chordsim.proofs.Options.{accepted_text, count_text, empty_list, from_rules, is_plain_rule, not_true, plain_from_rules}
-use Rattle.chordsim.specs.Commands.{SplitNames, check_app, ids_app, run_app, scenario_rule, latency_rule, workers_rule, parts_rule, split_rule, serial_rule, trace_rule}
+use Rattle.chordsim.specs.Commands.{
+  SplitNames,
+  check_app,
+  ids_app,
+  run_app,
+  scenario_rule,
+  latency_rule,
+  workers_rule,
+  parts_rule,
+  split_rule,
+  serial_rule,
+  trace_rule,
+}
 use Rattle.clap.proofs.WalkLemmas.{both}
 use Rattle.clap.specs.declared.builder.arg.Arg.{Arg}
 use Rattle.clap.specs.declared.builder.command.Command.{Command}
@@ -83,9 +123,11 @@ scenario_given c m p rest has others = go (args_of c) refl has.rules_are
         let simple : is_simple_arg x ≡ true = ap (λ (r : Rule). r.is_simple) first in
         let range : x.num_vals ≡ None = ap (λ (r : Rule). r.range) first in
         let least : 1 ≤ least_values x = rw range (omega arith) in
-        let only : (j : ℕ) (e : Arg) → j < length (args_of c) → bytes_eq (slice_index_or (args_of c) j e).id.now (slice_index_or (args_of c) 0 x).id.now ≡ true → j ≡ 0 =
+        let only : (j : ℕ) (e : Arg) → j < length (args_of c) → bytes_eq (slice_index_or (args_of c) j e).id.now
+        (slice_index_or (args_of c) 0 x).id.now ≡ true → j ≡ 0 =
         λ j e lt equal. place xs none_later j e (subst (λ l. j < length l) is lt)
-        (subst (λ (t : Text). bytes_eq (slice_index_or (x ∷ xs) j e).id.now t ≡ true) same_id (subst (λ (l : List Arg). bytes_eq (slice_index_or l j e).id.now (slice_index_or (args_of c) 0 x).id.now ≡ true) is equal)) in
+        (subst (λ (t : Text). bytes_eq (slice_index_or (x ∷ xs) j e).id.now t ≡ true) same_id
+        (subst (λ (l : List Arg). bytes_eq (slice_index_or l j e).id.now (slice_index_or (args_of c) 0 x).id.now ≡ true) is equal)) in
         subst (λ (t : Text). is_some (first_value (found_of m) t) ≡ true) same_id
         (required_has_value c m p has.plain has.local has.negates 0 x (rw is (omega arith))
         (ap (λ (a : Arg). a.required) here ∙ ap (λ (r : Rule). r.required) first)
@@ -168,7 +210,8 @@ pub workers_given : (c : Command) (m : ArgMatches) → IsParsedFrom c m → (nam
     → IfSome (one_text (found_of m) (codes "workers")) (IsCountUpTo 64)
 workers_given c m p names same =
     let has = run_rules c names same in
-    count_text 64 _ (accepted_text c m p (codes "workers") (differ (codes "workers") (codes "help") refl) (differ (codes "workers") (codes "version") refl) (vp.Signed (pos 1) (pos 64))
+    count_text 64 _ (accepted_text c m p (codes "workers") (differ (codes "workers") (codes "help") refl)
+    (differ (codes "workers") (codes "version") refl) (vp.Signed (pos 1) (pos 64))
     (option_rules (codes "workers") (vp.Signed (pos 1) (pos 64)) (args_of c) _ has.rules_are
     (other, (other, ((λ _. (refl, refl)), (other, (other, (other, (other, tt))))))))
     has.plain has.local (differ (codes "workers") [] refl))
@@ -177,7 +220,8 @@ pub parts_given : (c : Command) (m : ArgMatches) → IsParsedFrom c m → (names
     → IfSome (one_text (found_of m) (codes "parts")) (IsCountUpTo 512)
 parts_given c m p names same =
     let has = run_rules c names same in
-    count_text 512 _ (accepted_text c m p (codes "parts") (differ (codes "parts") (codes "help") refl) (differ (codes "parts") (codes "version") refl) (vp.Signed (pos 1) (pos 512))
+    count_text 512 _ (accepted_text c m p (codes "parts") (differ (codes "parts") (codes "help") refl) (differ (codes "parts") (codes "version") refl)
+    (vp.Signed (pos 1) (pos 512))
     (option_rules (codes "parts") (vp.Signed (pos 1) (pos 512)) (args_of c) _ has.rules_are
     (other, (other, (other, ((λ _. (refl, refl)), (other, (other, (other, tt))))))))
     has.plain has.local (differ (codes "parts") [] refl))

@@ -1,5 +1,32 @@
 -- What the matches of a command have at an option, where the rules of its arguments are known.
-use Rattle.std.proofs.Common.{◌≡◌, ◌∙◌, ◌<◌, ◌&&◌, ℕ, suc, Bool, true, false, not, List, [], ◌∷◌, length, map, Option, Some, None, refl, sym, ap, subst, inl, inr, arith, codes}
+use Rattle.std.proofs.Common.{
+  ◌≡◌,
+  ◌∙◌,
+  ◌<◌,
+  ◌&&◌,
+  ℕ,
+  suc,
+  Bool,
+  true,
+  false,
+  not,
+  List,
+  [],
+  ◌∷◌,
+  length,
+  map,
+  Option,
+  Some,
+  None,
+  refl,
+  sym,
+  ap,
+  subst,
+  inl,
+  inr,
+  arith,
+  codes,
+}
 use Rattle.std.specs.Prelude.{IfSome, Result, Ok, Err, cond, option_map, pos, slice_get, unwrap_or}
 use Rattle.std.specs.Str.Parse.{ParsesUnsigned, starts_with_minus}
 use Rattle.std.proofs.lemmas.Int.{ints}
@@ -139,7 +166,8 @@ module _ (old : Command) (m : ArgMatches) (p : IsParsedFrom old m) (id : Text) (
 -- ---- counts
 
 -- what a getter reads of a number at an option that was given
-pub read_count : {E : Type 0} (G : Text → Result ℕ E → Type 0) (o : Option Text) (r : Option ℕ) → ((t : Text) (x : Result ℕ E) → G t x → ParsesUnsigned 32 10 t x)
+pub read_count : {E : Type 0} (G : Text → Result ℕ E → Type 0) (o : Option Text) (r : Option ℕ)
+    → ((t : Text) (x : Result ℕ E) → G t x → ParsesUnsigned 32 10 t x)
     → (o ≡ None → r ≡ None) → ((t : Text) → o ≡ Some t → ReadsOne G t r) → IfSome o (IsCountUpTo 512) → unwrap_or r 1 ≡ count_or_one o
 read_count G None r parses none some fits = rw (none refl) refl
 read_count G (Some t) r parses none some fits = go r (some t refl)
@@ -167,7 +195,8 @@ count_from_range most t passed = go (starts_with_minus t) refl
         rw (without_minus-other t minus) (numeral, omega (arith, ints), omega (arith, ints))
 
 -- the option was given a count
-pub count_text : (most : ℕ) (o : Option Text) → IfSome o (λ t. (u : Text) × (t ≡ read_as (reading_of (vp.Signed (pos 1) (pos most))) u) × Accepts false (vp.Signed (pos 1) (pos most)) u)
+pub count_text : (most : ℕ) (o : Option Text) → IfSome o (λ t. (u : Text) × (t ≡ read_as (reading_of (vp.Signed (pos 1) (pos most))) u)
+    × Accepts false (vp.Signed (pos 1) (pos most)) u)
     → IfSome o (IsCountUpTo most)
 count_text most None h = tt
 count_text most (Some t) h = rw h.1 (count_from_range most h.0 h.2)

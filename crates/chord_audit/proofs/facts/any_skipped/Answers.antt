@@ -15,6 +15,8 @@ loop-node-preserved c =
     let n = c.loop-node.node in let ring = c.args.ring.now in let ranks = c.args.ranks.now in let skipped = c.args.skipped.now in
     let p = λ (n : ℕ). is_marked ring n && is_marked_rank ranks skipped n in
     elim c.else-ring-node.branch [
-      | else-ring-node-via-then-ring-node+else-skipped-ranks w ↦ none_more p n c.loop-node.invariant (second_false (is_marked ring n) (is_marked_rank ranks skipped n) w.if-skipped-ranks.false)
-      | else-ring-node-via-else-ring-node w ↦ none_more p n c.loop-node.invariant (first_false (is_marked ring n) (is_marked_rank ranks skipped n) w.if-ring-node.false)
+      | else-ring-node-via-then-ring-node+else-skipped-ranks w ↦ none_more p n c.loop-node.invariant
+          (second_false (is_marked ring n) (is_marked_rank ranks skipped n) w.if-skipped-ranks.false)
+      | else-ring-node-via-else-ring-node w ↦ none_more p n c.loop-node.invariant
+          (first_false (is_marked ring n) (is_marked_rank ranks skipped n) w.if-ring-node.false)
     ]

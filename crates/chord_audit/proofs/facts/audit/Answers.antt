@@ -11,29 +11,37 @@ returns c = λ state agree.
     let sc = c.args.scenario.now in let states = c.args.states.now in let tables = c.in_ok-tables.tables in let are = c.in_ok-tables.ensures in
     let members = tables.members.items in let best = tables.best.items in let ring = tables.ring.items in let ranks = tables.ranks.items in
     let skipped = tables.skipped.items in let passed = tables.passed.items in
-    line_is sc state c.args.time c.count_marked.result c.count_dead-dead.result c.count_marked-2.result (not c.any_skipped.result) c.count_principals-principals.result c.if-list-principals.result
-    (c.count_marked.ensures ∙ ap (λ (l : List Bool). count_by (is_marked l) (range_with_len 0 (length l))) c.deref-6.ensures.value ∙ members_count sc states members best ring ranks skipped passed are state agree)
+    line_is sc state c.args.time c.count_marked.result c.count_dead-dead.result c.count_marked-2.result (not c.any_skipped.result)
+    c.count_principals-principals.result c.if-list-principals.result
+    (c.count_marked.ensures ∙ ap (λ (l : List Bool). count_by (is_marked l) (range_with_len 0 (length l))) c.deref-6.ensures.value
+    ∙ members_count sc states members best ring ranks skipped passed are state agree)
     (c.count_dead-dead.ensures
     ∙ ap (λ (l : List Bool). count_by (λ n. is_marked l n && is_none (node_at c.deref-2.result.now n)) (range_with_len 0 (length l))) c.deref.ensures.value
     ∙ ap (λ (l : List (Option ℕ)). count_by (λ n. is_marked members n && is_none (node_at l n)) (range_with_len 0 (length members))) c.deref-2.ensures.value
     ∙ dead_are sc states members best ring ranks skipped passed are state agree)
-    (c.count_marked-2.ensures ∙ ap (λ (l : List Bool). count_by (is_marked l) (range_with_len 0 (length l))) c.deref-7.ensures.value ∙ ring_count sc states members best ring ranks skipped passed are state agree)
+    (c.count_marked-2.ensures ∙ ap (λ (l : List Bool). count_by (is_marked l) (range_with_len 0 (length l))) c.deref-7.ensures.value
+    ∙ ring_count sc states members best ring ranks skipped passed are state agree)
     (ap not (c.any_skipped.ensures
-    ∙ ap (λ (l : List Bool). list_any (λ n. is_marked l n && is_marked_rank c.deref-9.result.now c.deref-10.result.now n) (range_with_len 0 (length l))) c.deref-8.ensures.value
+    ∙ ap (λ (l : List Bool). list_any (λ n. is_marked l n && is_marked_rank c.deref-9.result.now c.deref-10.result.now n)
+    (range_with_len 0 (length l))) c.deref-8.ensures.value
     ∙ ap (λ (l : List ℕ). list_any (λ n. is_marked ring n && is_marked_rank l c.deref-10.result.now n) (range_with_len 0 (length ring))) c.deref-9.ensures.value
     ∙ ap (λ (l : List Bool). list_any (λ n. is_marked ring n && is_marked_rank ranks l n) (range_with_len 0 (length ring))) c.deref-10.ensures.value
     ∙ any_is sc states members best ring ranks skipped passed are state agree))
     (c.count_principals-principals.ensures
-    ∙ ap (λ (l : List Bool). count_by (λ n. is_marked l n && not (is_marked_rank c.deref-4.result.now c.deref-5.result.now n)) (range_with_len 0 (length l))) c.deref-3.ensures.value
-    ∙ ap (λ (l : List ℕ). count_by (λ n. is_marked members n && not (is_marked_rank l c.deref-5.result.now n)) (range_with_len 0 (length members))) c.deref-4.ensures.value
+    ∙ ap (λ (l : List Bool). count_by (λ n. is_marked l n && not (is_marked_rank c.deref-4.result.now c.deref-5.result.now n))
+    (range_with_len 0 (length l))) c.deref-3.ensures.value
+    ∙ ap (λ (l : List ℕ). count_by (λ n. is_marked members n && not (is_marked_rank l c.deref-5.result.now n)) (range_with_len 0 (length members)))
+    c.deref-4.ensures.value
     ∙ ap (λ (l : List Bool). count_by (λ n. is_marked members n && not (is_marked_rank ranks l n)) (range_with_len 0 (length members))) c.deref-5.ensures.value
     ∙ principals_are sc states members best ring ranks skipped passed are state agree)
     (elim c.if-list-principals.branch [
       | then-list-principals w ↦
-          let more : nat_lt sc.list c.count_principals-principals.result ≡ true = lt-ltb sc.list c.count_principals-principals.result (omega (arith, c.list.ensures)) in
+          let more : nat_lt sc.list c.count_principals-principals.result
+          ≡ true = lt-ltb sc.list c.count_principals-principals.result (omega (arith, c.list.ensures)) in
           w.result-is ∙ sym (ap (λ b. b && (c.count_dead-dead.result == 0)) more)
       | else-list-principals w ↦
-          let less : nat_lt sc.list c.count_principals-principals.result ≡ false = le-ltb sc.list c.count_principals-principals.result (omega (arith, c.list.ensures)) in
+          let less : nat_lt sc.list c.count_principals-principals.result
+          ≡ false = le-ltb sc.list c.count_principals-principals.result (omega (arith, c.list.ensures)) in
           w.result-is ∙ ap (λ k. nat_lt k c.count_principals-principals.result) c.list.ensures ∙ less
           ∙ sym (first_false (nat_lt sc.list c.count_principals-principals.result) (c.count_dead-dead.result == 0) less)
     ])

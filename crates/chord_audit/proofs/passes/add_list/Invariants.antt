@@ -6,5 +6,6 @@ abbrev pub invariant-loop-node : goal.invariant-loop-node
 invariant-loop-node l = record {
   each : length l.arcs.far.items ≡ length l.initial.arcs.far.items;
   low : l.from < length l.ranks;
-  covered : (k : ℕ) → k < length l.initial.arcs.far.items → (covers l.arcs k || is_inside_list l.ranks k l.from (drop l.node-index l.list)) ≡ (covers l.initial.arcs k || is_inside_list l.ranks k l.initial.from l.list);
+  covered : (k : ℕ) → k < length l.initial.arcs.far.items → (covers l.arcs k || is_inside_list l.ranks k l.from (drop l.node-index l.list))
+      ≡ (covers l.initial.arcs k || is_inside_list l.ranks k l.initial.from l.list);
 }

@@ -13,31 +13,37 @@ pub loop-node-preserved : goal.loop-node-preserved
 loop-node-preserved c =
     let ranks = c.args.ranks.now in let marks = c.args.marks.now in let states = c.args.states.now in let n = c.loop-node.node in
     let old = c.loop-node.arcs in let each = c.loop-node.invariant.each in
-    let step = λ (k : ℕ) (lt : k < length ranks) (now : Bool). one_more (is_passing ranks marks states k) n (reaches old.first old.far.items k) now (c.loop-node.invariant.covered k lt) in
+    let step = λ (k : ℕ) (lt : k < length ranks) (now : Bool). one_more (is_passing ranks marks states k) n (reaches old.first old.far.items k) now
+    (c.loop-node.invariant.covered k lt) in
     elim c.if-marks-node.branch [
       | then-marks-node w ↦ record {
         each = ap (λ (a : Arcs). length a.far.items) w.arcs-is ∙ w.add_list.ensures.length ∙ each;
         covered = λ k lt.
             let state = c.index-states-node.result in
-            let list : list_of states n ≡ state.succ = get_or-map (λ (s : NodeState). s.succ) states n state [] (omega (arith, c.requires.states)) ∙ sym (ap (λ (s : NodeState). s.succ) c.index-states-node.is) in
+            let list : list_of states n ≡ state.succ = get_or-map (λ (s : NodeState). s.succ) states n state [] (omega (arith, c.requires.states))
+            ∙ sym (ap (λ (s : NodeState). s.succ) c.index-states-node.is) in
             let marked =
             ap (λ b. b && is_inside_list ranks k n (list_of states n)) w.if-marks-node.true
             ∙ ap (is_inside_list ranks k n) (list ∙ sym w.as_slice.ensures) in
             step k lt (reaches c.if-marks-node.arcs.first c.if-marks-node.arcs.far.items k)
-            (ap (λ (a : Arcs). reaches a.first a.far.items k) w.arcs-is ∙ w.add_list.ensures.covered k (omega (arith, each)) ∙ ap (λ b. reaches old.first old.far.items k || b) (sym marked));
+            (ap (λ (a : Arcs). reaches a.first a.far.items k) w.arcs-is ∙ w.add_list.ensures.covered k (omega (arith, each))
+            ∙ ap (λ b. reaches old.first old.far.items k || b) (sym marked));
       }
       | else-marks-node w ↦ record {
         each = ap (λ (a : Arcs). length a.far.items) w.arcs-is ∙ each;
         covered = λ k lt.
             step k lt (reaches c.if-marks-node.arcs.first c.if-marks-node.arcs.far.items k)
-            (ap (λ (a : Arcs). reaches a.first a.far.items k) w.arcs-is ∙ or_none (reaches old.first old.far.items k) (is_passing ranks marks states k n) (ap (λ b. b && is_inside_list ranks k n (list_of states n)) w.if-marks-node.false));
+            (ap (λ (a : Arcs). reaches a.first a.far.items k) w.arcs-is
+            ∙ or_none (reaches old.first old.far.items k) (is_passing ranks marks states k n)
+            (ap (λ b. b && is_inside_list ranks k n (list_of states n)) w.if-marks-node.false));
       }
     ]
 
 pub returns-clause-length : goal.returns-clause-length
 returns-clause-length c =
     let arcs = c.loop-node.arcs in
-    ok_then c.covered.result _ _ c.covered.ensures (λ marks is. length-covered arcs.first (length c.args.ranks.now) arcs.far.items marks.items c.loop-node.invariant.each is)
+    ok_then c.covered.result _ _ c.covered.ensures (λ marks is. length-covered arcs.first (length c.args.ranks.now) arcs.far.items marks.items
+    c.loop-node.invariant.each is)
 
 pub returns-clause-passed : goal.returns-clause-passed
 returns-clause-passed c =

@@ -6,7 +6,8 @@ use Rattle.chord_audit.proofs.ranks.idents_of.Goals as goal
 
 pub loop-node-preserved : goal.loop-node-preserved
 loop-node-preserved c =
-    let sc = c.args.scenario.now in let node = c.loop-node.node in let before : List ℕ = c.loop-node.idents.items in let after : List ℕ = c.push.new.self.items in
+    let sc = c.args.scenario.now in let node = c.loop-node.node in let before : List ℕ = c.loop-node.idents.items
+    in let after : List ℕ = c.push.new.self.items in
     let pushed : after ≡ before ++ c.raw.result ∷ [] = c.in_ok-push.ensures.items in
     let ident : c.raw.result ≡ ident_of sc node = c.raw.ensures ∙ c.ident.ensures.value in
     let all : map (ident_of sc) (range_with_len 0 (node + 1)) ≡ map (ident_of sc) (range_with_len 0 node) ++ ident_of sc node ∷ [] =

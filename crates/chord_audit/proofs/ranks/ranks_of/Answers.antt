@@ -10,7 +10,8 @@ use Rattle.chord_audit.proofs.ranks.ranks_of.Goals as goal
 
 pub rank_in-requires-clause-ascend : goal.rank_in-requires-clause-ascend
 rank_in-requires-clause-ascend c =
-    subst IsNonDecreasing (sym c.as_slice-in-loop-ident.ensures.value) (IsNonDecreasingBy-from_sort (λ x. x) c.sort_unstable.new.self.items c.sort_unstable.ensures.sorted)
+    subst IsNonDecreasing (sym c.as_slice-in-loop-ident.ensures.value)
+    (IsNonDecreasingBy-from_sort (λ x. x) c.sort_unstable.new.self.items c.sort_unstable.ensures.sorted)
 
 pub rank_in-requires-clause-contains : goal.rank_in-requires-clause-contains
 rank_in-requires-clause-contains c =
@@ -18,7 +19,8 @@ rank_in-requires-clause-contains c =
     let copied : idents ≡ c.in_ok-sorted.sorted.items = c.deref-ident-items.ensures.value ∙ sym c.as_slice.ensures.value ∙ sym c.in_ok-sorted.ensures.items in
     let there : Contains idents x = (i, c.loop-ident-test.true, get_or_default idents i x 0 c.loop-ident-test.true) in
     let kept : Contains c.sort_unstable.new.self.items x =
-    Contains-permutation c.in_ok-sorted.sorted.items c.sort_unstable.new.self.items x c.sort_unstable.ensures.permutation (subst (λ (l : List ℕ). Contains l x) copied there) in
+    Contains-permutation c.in_ok-sorted.sorted.items c.sort_unstable.new.self.items x c.sort_unstable.ensures.permutation
+    (subst (λ (l : List ℕ). Contains l x) copied there) in
     subst (λ (l : List ℕ). Contains l x) (sym c.as_slice-in-loop-ident.ensures.value) kept
 
 pub returns : goal.returns
@@ -35,5 +37,6 @@ returns c =
       ascend = IsNonDecreasingBy-from_sort (λ x. x) c.sort_unstable.new.self.items c.sort_unstable.ensures.sorted;
       within = λ n lt. c.loop-ident.invariant.within n (omega arith);
       found = λ n lt.
-          c.loop-ident.invariant.found n (omega arith) ∙ ap (λ (l : List ℕ). get_or l n 0) is ∙ get_or-map-range_with_len (ident_of sc) 0 (node_count sc) n n 0 lt (zero-add n);
+          c.loop-ident.invariant.found n (omega arith) ∙ ap (λ (l : List ℕ). get_or l n 0) is
+          ∙ get_or-map-range_with_len (ident_of sc) 0 (node_count sc) n n 0 lt (zero-add n);
     })

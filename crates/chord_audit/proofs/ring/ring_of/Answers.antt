@@ -18,6 +18,7 @@ returns-clause-back c =
     let best = c.args.best.now in
     ok_then c.landed.result _ _ c.landed.ensures.marks (λ ring h n lt.
     let here : n < length c.deref.result.now = omega (arith, far.2.each, ap (λ (l : List (Option ℕ)). length l) c.deref.ensures.value) in
-    let is : is_marked ring.items n ≡ list_any (λ way. is_at way n) c.in_ok-far.far.items = h n here ∙ ap (list_any (λ way. is_at way n)) c.deref.ensures.value in
+    let is : is_marked ring.items n ≡ list_any (λ way. is_at way n) c.in_ok-far.far.items = h n here
+    ∙ ap (list_any (λ way. is_at way n)) c.deref.ensures.value in
     let both = lands_back far.0 best c.in_ok-far.far.items c.requires.lead far.2 far.1 n lt in
     (λ e. both.0 (sym is ∙ e), λ e. is ∙ both.1 e))

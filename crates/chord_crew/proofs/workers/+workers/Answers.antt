@@ -13,5 +13,6 @@ scope-returns g t c =
     let others = c.run_workers-others.ensures in
     record {
       ok = IfOk-weaker _ _ _ (λ whole j. gathered_joined sc world horizon _ _ _ _ whole others.ok shift j) c.gather.ensures.ok;
-      fault = IfErr-weaker _ _ _ (λ fault which. fault_of_either sc world horizon c.captures.mine _ c.join.result fault others.fault shift which) c.gather.ensures.fault;
+      fault = IfErr-weaker _ _ _ (λ fault which. fault_of_either sc world horizon c.captures.mine _ c.join.result fault others.fault shift which)
+          c.gather.ensures.fault;
     }

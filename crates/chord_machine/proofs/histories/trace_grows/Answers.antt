@@ -6,4 +6,5 @@ use Rattle.chord_model.proofs.Runs.{trace_grows}
 use Rattle.chord_machine.proofs.histories.trace_grows.Goals as goal
 
 pub returns : goal.returns
-returns c sc ranges k = subst (λ n. IsPrefix (trace (chord sc) (history (chord sc) k)) (trace (chord sc) (history (chord sc) n))) (sym (add-one k)) (trace_grows (chord sc) k)
+returns c sc ranges k = subst (λ n. IsPrefix (trace (chord sc) (history (chord sc) k)) (trace (chord sc) (history (chord sc) n))) (sym (add-one k))
+    (trace_grows (chord sc) k)

@@ -6,4 +6,5 @@ use Rattle.chord_model.proofs.Outputs.{open_more}
 use Rattle.chord_machine.proofs.windows.windows_close_audits.Goals as goal
 
 pub returns : goal.returns
-returns c sc ranges = λ h time horizon o clear ran some l early. open_more (chord sc) (well_formed sc ranges) h time horizon o clear ran some l (λ x k. All_at (λ x. x.key.time < horizon) ran x early k)
+returns c sc ranges = λ h time horizon o clear ran some l early. open_more (chord sc) (well_formed sc ranges) h time horizon o clear ran some l
+    (λ x k. All_at (λ x. x.key.time < horizon) ran x early k)

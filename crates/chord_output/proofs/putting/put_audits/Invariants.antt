@@ -10,7 +10,8 @@ use Rattle.chord_output.proofs.putting.put_audits.Given as goal
 
 abbrev pub invariant-loop-at : goal.invariant-loop-at
 invariant-loop-at g l = record {
-  put : (state : ℕ → NodeState) → AreStates l.scenario l.states state → HasPut l.scenario state l.time (g.W.Write.contents (wrapped l.initial.writer)) (g.W.Write.contents (wrapped l.writer)) l.initial.tally l.tally l.initial.clock l.clock;
+  put : (state : ℕ → NodeState) → AreStates l.scenario l.states state → HasPut l.scenario state l.time (g.W.Write.contents (wrapped l.initial.writer))
+      (g.W.Write.contents (wrapped l.writer)) l.initial.tally l.tally l.initial.clock l.clock;
   left : filter (λ t. nat_lt l.time t) l.clock ≡ filter (λ t. nat_lt l.time t) l.initial.clock;
   size : taken l.tally + length l.clock ≡ taken l.initial.tally + length l.initial.clock;
   sound : has_failed l.writer ≡ false;

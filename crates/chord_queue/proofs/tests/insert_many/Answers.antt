@@ -23,6 +23,7 @@ loop-number-preserved g c =
     let e = c.event.result in let es = c.loop-number.pending in let n = c.loop-number.number in
     let own : e.key.number ≡ n = ap (λ (k : Key). k.number) c.event.ensures in
     let below = λ (x : Event Body). x.key.number < n + 1 in
-    let rest : AllByRecursion below es = all_from below es (λ x h. omega (arith, all_in (λ (y : Event Body). y.key.number < n) es c.loop-number.invariant x h)) in
+    let rest : AllByRecursion below es = all_from below es (λ x h. omega
+    (arith, all_in (λ (y : Event Body). y.key.number < n) es c.loop-number.invariant x h)) in
     let more : AllByRecursion below (put_in_order event_key e es) = all_put event_key below e es (omega (arith, own)) rest in
     subst (AllByRecursion below) (sym c.insert.ensures) more

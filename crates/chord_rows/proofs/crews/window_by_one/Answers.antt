@@ -8,7 +8,8 @@ pub returns-in-None : goal.returns-in-None
 returns-in-None c =
     let shift = c.work-shift.result in
     let is = c.work-shift.ensures in
-    let finished = from_none shift.fault (AreResults c.args.scenario.now c.args.world.now c.args.horizon shift.seat.numbers shift.done.items) c.in-None.is is.finished in
+    let finished = from_none shift.fault (AreResults c.args.scenario.now c.args.world.now c.args.horizon shift.seat.numbers shift.done.items)
+    c.in-None.is is.finished in
     let exhausted = from_none shift.fault (shift.seat.is_exhausted ≡ true) c.in-None.is is.exhausted in
     let whole = is.same_seat.allowance ∙ (c.in-Ok.ensures.seat.2 ∙ sym c.in-Ok.ensures.draws.1) in
     let parts = c.in-Ok.ensures.draws.0 ∙ c.parts-parts.ensures in

@@ -40,6 +40,8 @@ pub exchange-requires-clause-done : goal.exchange-requires-clause-done
 exchange-requires-clause-done c = (
   c.args.horizon,
   subst (λ (l : List Done). ArePartsDone c.args.scenario.now c.args.world.now c.args.horizon l)
-      (sym (c.in_ok-push-2.ensures.items ∙ ap (λ l. l ++ c.args.first ∷ []) (c.in_ok-push.ensures.items ∙ ap (λ l. l ++ c.args.second ∷ []) c.new-dones.ensures.items)))
-      (together c.args.scenario.now c.args.world.now c.args.horizon c.args.first c.args.second c.requires.first c.requires.second c.requires.horizon.0 c.requires.horizon.1 c.requires.parts),
+      (sym (c.in_ok-push-2.ensures.items ∙ ap (λ l. l ++ c.args.first ∷ [])
+      (c.in_ok-push.ensures.items ∙ ap (λ l. l ++ c.args.second ∷ []) c.new-dones.ensures.items)))
+      (together c.args.scenario.now c.args.world.now c.args.horizon c.args.first c.args.second c.requires.first c.requires.second c.requires.horizon.0
+      c.requires.horizon.1 c.requires.parts),
 )

@@ -5,4 +5,5 @@ use Rattle.chord_scenario.proofs.command.commands.Given as goal
 
 -- the commands so far, followed by those of the tables left, are all
 abbrev pub invariant-loop-table : goal.invariant-loop-table
-invariant-loop-table l = l.commands.items ++ commands_of l.circle l.names.nodes.now (map section_of (drop l.table-index l.tables)) ≡ commands_of l.circle l.names.nodes.now (map section_of l.tables)
+invariant-loop-table l = l.commands.items ++ commands_of l.circle l.names.nodes.now (map section_of (drop l.table-index l.tables))
+    ≡ commands_of l.circle l.names.nodes.now (map section_of l.tables)

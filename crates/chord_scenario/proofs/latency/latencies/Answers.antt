@@ -1,4 +1,31 @@
-use Rattle.std.proofs.Common.{◌≡◌, ◌∙◌, ◌+◌, ◌*◌, ◌<◌, ◌≤◌, sym, ap, subst, ℕ, List, [], ◌∷◌, ◌++◌, Option, None, map, take, drop, length, get_or, option_map, unwrap_or, inr, arith, false}
+use Rattle.std.proofs.Common.{
+  ◌≡◌,
+  ◌∙◌,
+  ◌+◌,
+  ◌*◌,
+  ◌<◌,
+  ◌≤◌,
+  sym,
+  ap,
+  subst,
+  ℕ,
+  List,
+  [],
+  ◌∷◌,
+  ◌++◌,
+  Option,
+  None,
+  map,
+  take,
+  drop,
+  length,
+  get_or,
+  option_map,
+  unwrap_or,
+  inr,
+  arith,
+  false,
+}
 use Rattle.chord_scenario.specs.declared.setting.Node.{Node}
 use Rattle.chord_scenario.specs.declared.latency.Ends.{Ends}
 use Rattle.chord_scenario.specs.declared.row.RowLink.{RowLink}
@@ -43,7 +70,8 @@ ends_of-ends-requires-clause-known c =
     let nodes = c.args.rows.now.names.nodes.now in
     let rows = rows_of c.args.rows.now.text.now in
     let a = at nodes rows c.deref-row-items.result.now c.loop-i.i (c.deref-row-items.ensures.value ∙ c.args.rows.now.kept) c.loop-i-test.true in
-    ap keeps_unknown a.is ∙ kept_unknown nodes a.row ∙ ap (row_names_unknown nodes) a.here ∙ row_fault-none-at UnknownNode (row_names_unknown nodes) rows c.loop-i.i a.row c.requires.known a.within
+    ap keeps_unknown a.is ∙ kept_unknown nodes a.row ∙ ap (row_names_unknown nodes) a.here
+    ∙ row_fault-none-at UnknownNode (row_names_unknown nodes) rows c.loop-i.i a.row c.requires.known a.within
 
 pub ends_of-ends-requires-clause-good : goal.ends_of-ends-requires-clause-good
 ends_of-ends-requires-clause-good c =
@@ -55,30 +83,35 @@ ends_of-ends-requires-clause-good c =
 pub cell_of-place-requires-clause-row : goal.cell_of-place-requires-clause-row
 cell_of-place-requires-clause-row c =
     let nodes = c.args.rows.now.names.nodes.now in
-    let a = at nodes (rows_of c.args.rows.now.text.now) c.deref-row-items.result.now c.loop-i.i (c.deref-row-items.ensures.value ∙ c.args.rows.now.kept) c.loop-i-test.true in
+    let a = at nodes (rows_of c.args.rows.now.text.now) c.deref-row-items.result.now c.loop-i.i
+    (c.deref-row-items.ensures.value ∙ c.args.rows.now.kept) c.loop-i-test.true in
     let e = kept_ends nodes a.row c.ends_of-ends.result (subst (λ k. KeepsEnds k c.ends_of-ends.result) a.is c.ends_of-ends.ensures) in
     index_of-below nodes c.ends_of-ends.result.first e.link.first e.first
 
 pub cell_of-place-requires-clause-column : goal.cell_of-place-requires-clause-column
 cell_of-place-requires-clause-column c =
     let nodes = c.args.rows.now.names.nodes.now in
-    let a = at nodes (rows_of c.args.rows.now.text.now) c.deref-row-items.result.now c.loop-i.i (c.deref-row-items.ensures.value ∙ c.args.rows.now.kept) c.loop-i-test.true in
+    let a = at nodes (rows_of c.args.rows.now.text.now) c.deref-row-items.result.now c.loop-i.i
+    (c.deref-row-items.ensures.value ∙ c.args.rows.now.kept) c.loop-i-test.true in
     let e = kept_ends nodes a.row c.ends_of-ends.result (subst (λ k. KeepsEnds k c.ends_of-ends.result) a.is c.ends_of-ends.ensures) in
     index_of-below nodes c.ends_of-ends.result.second e.link.second e.second
 
 pub cell_of-mirrored-requires-clause-row : goal.cell_of-mirrored-requires-clause-row
 cell_of-mirrored-requires-clause-row c =
     let nodes = c.args.rows.now.names.nodes.now in
-    let a = at nodes (rows_of c.args.rows.now.text.now) c.deref-row-items.result.now c.loop-i.i (c.deref-row-items.ensures.value ∙ c.args.rows.now.kept) c.loop-i-test.true in
+    let a = at nodes (rows_of c.args.rows.now.text.now) c.deref-row-items.result.now c.loop-i.i
+    (c.deref-row-items.ensures.value ∙ c.args.rows.now.kept) c.loop-i-test.true in
     let e = kept_ends nodes a.row c.ends_of-ends.result (subst (λ k. KeepsEnds k c.ends_of-ends.result) a.is c.ends_of-ends.ensures) in
     index_of-below nodes c.ends_of-ends.result.second e.link.second e.second
 
 -- what was read at the cell of the row's nodes is the latency that the rows before give them
 held : (nodes : List Node) (rows : List Row) (r : Row) (e : Ends) (cells : List ℕ) (cell read : ℕ) → HasLatencies nodes rows cells → (ends : IsEndsOf nodes r e)
-    → cell ≡ e.first * length nodes + e.second → cell < length nodes * length nodes → read ≡ get_or cells cell read → unwrap_or (row_latency ends.link.first ends.link.second rows) 0 ≡ read
+    → cell ≡ e.first * length nodes + e.second → cell < length nodes * length nodes → read ≡ get_or cells cell read
+    → unwrap_or (row_latency ends.link.first ends.link.second rows) 0 ≡ read
 held nodes rows r e cells cell read has ends at within is =
     let inside : cell < length cells = rw has.size within in
-    sym (has.cell ends.link.first ends.link.second e.first e.second ends.first ends.second) ∙ ap (λ k. get_or cells k 0) (sym at) ∙ get-same cells cell 0 read inside ∙ sym is
+    sym (has.cell ends.link.first ends.link.second e.first e.second ends.first ends.second) ∙ ap (λ k. get_or cells k 0) (sym at)
+    ∙ get-same cells cell 0 read inside ∙ sym is
 
 pub returns-then-index-ne0-clause-refused : goal.returns-then-index-ne0-clause-refused
 unfolding same_link_twice
@@ -87,7 +120,8 @@ returns-then-index-ne0-clause-refused c =
     let rows = rows_of c.args.rows.now.text.now in
     let a = at nodes rows c.deref-row-items.result.now c.loop-i.i (c.deref-row-items.ensures.value ∙ c.args.rows.now.kept) c.loop-i-test.true in
     let e = kept_ends nodes a.row c.ends_of-ends.result (subst (λ k. KeepsEnds k c.ends_of-ends.result) a.is c.ends_of-ends.ensures) in
-    let read = held nodes (take c.loop-i.i rows) a.row c.ends_of-ends.result c.loop-i.cells.items c.cell_of-place.result c.index.result.now c.loop-i.invariant.has e c.cell_of-place.ensures.value c.cell_of-place.ensures.within c.index.ensures in
+    let read = held nodes (take c.loop-i.i rows) a.row c.ends_of-ends.result c.loop-i.cells.items c.cell_of-place.result c.index.result.now
+    c.loop-i.invariant.has e c.cell_of-place.ensures.value c.cell_of-place.ensures.within c.index.ensures in
     let w = earlier-some rows c.loop-i.i a.row e.link e.is (λ none. c.if-index-ne0.true (sym read ∙ none)) in
     let first = first_repeat-found name_one_pair rows c.loop-i.i a.row c.loop-i.invariant.first a.within a.here w.0 w.1 in
     inr (sym (ap (option_map (λ (r : Repeat Row). SameLinkTwice (place.Row r.second_number))) first))
@@ -98,13 +132,16 @@ loop-i-preserved c =
     let rows = rows_of c.args.rows.now.text.now in
     let a = at nodes rows c.deref-row-items.result.now c.loop-i.i (c.deref-row-items.ensures.value ∙ c.args.rows.now.kept) c.loop-i-test.true in
     let e = kept_ends nodes a.row c.ends_of-ends.result (subst (λ k. KeepsEnds k c.ends_of-ends.result) a.is c.ends_of-ends.ensures) in
-    let read = held nodes (take c.loop-i.i rows) a.row c.ends_of-ends.result c.loop-i.cells.items c.cell_of-place.result c.index.result.now c.loop-i.invariant.has e c.cell_of-place.ensures.value c.cell_of-place.ensures.within c.index.ensures in
+    let read = held nodes (take c.loop-i.i rows) a.row c.ends_of-ends.result c.loop-i.cells.items c.cell_of-place.result c.index.result.now
+    c.loop-i.invariant.has e c.cell_of-place.ensures.value c.cell_of-place.ensures.within c.index.ensures in
     let inv = c.loop-i.invariant in
     let good = AreGood-take c.loop-i.i rows (bad_latency_row-none rows c.requires.good) in
     let unnamed = unnamed-zero e.link.first e.link.second (take c.loop-i.i rows) good (read ∙ c.if-index-ne0.false) in
-    let next : take (c.loop-i.i + 1) rows ≡ take c.loop-i.i rows ++ a.row ∷ [] = take_more rows c.loop-i.i a.row a.within ∙ ap (λ z. take c.loop-i.i rows ++ z ∷ []) (sym a.here) in
+    let next : take (c.loop-i.i + 1) rows ≡ take c.loop-i.i rows ++ a.row ∷ [] = take_more rows c.loop-i.i a.row a.within
+    ∙ ap (λ z. take c.loop-i.i rows ++ z ∷ []) (sym a.here) in
     record {
-      has = rw (next, c.cell_of-place.ensures.value, c.cell_of-mirrored.ensures.value) (latencies-more nodes (take c.loop-i.i rows) a.row c.ends_of-ends.result c.loop-i.cells.items inv.has e unnamed);
+      has = rw (next, c.cell_of-place.ensures.value, c.cell_of-mirrored.ensures.value)
+          (latencies-more nodes (take c.loop-i.i rows) a.row c.ends_of-ends.result c.loop-i.cells.items inv.has e unnamed);
       first = first_repeat-none name_one_pair rows c.loop-i.i a.row inv.first a.within a.here (earlier-none rows c.loop-i.i a.row e.link e.is unnamed);
     }
 
@@ -116,4 +153,5 @@ returns-clause-once c =
     let size : length c.deref-row-items.result.now ≡ length rows = ap length kept ∙ length-map rows (kept_link c.args.rows.now.names.nodes.now) in
     let over : length rows ≤ c.loop-i.i = omega arith in
     let none : drop c.loop-i.i rows ≡ [] = drop_all c.loop-i.i rows over in
-    ap (option_map (λ (r : Repeat Row). SameLinkTwice (place.Row r.second_number))) (sym c.loop-i.invariant.first ∙ ap (first_repeat name_one_pair (take c.loop-i.i rows)) none)
+    ap (option_map (λ (r : Repeat Row). SameLinkTwice (place.Row r.second_number)))
+    (sym c.loop-i.invariant.first ∙ ap (first_repeat name_one_pair (take c.loop-i.i rows)) none)

@@ -8,5 +8,6 @@ use Rattle.chord_scenario.proofs.latency.latencies.Given as goal
 abbrev pub invariant-loop-i : goal.invariant-loop-i
 invariant-loop-i l = record {
   has : HasLatencies l.rows.names.nodes.now (take l.i (rows_of l.rows.text.now)) l.cells.items;
-  first : first_repeat name_one_pair (take l.i (rows_of l.rows.text.now)) (drop l.i (rows_of l.rows.text.now)) ≡ first_repeat name_one_pair [] (rows_of l.rows.text.now);
+  first : first_repeat name_one_pair (take l.i (rows_of l.rows.text.now)) (drop l.i (rows_of l.rows.text.now))
+      ≡ first_repeat name_one_pair [] (rows_of l.rows.text.now);
 }

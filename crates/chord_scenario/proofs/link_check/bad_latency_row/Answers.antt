@@ -12,4 +12,5 @@ unfolding bad_latency_row
 returns c =
     let nodes = c.args.rows.now.names.nodes.now in
     let kept = c.deref.ensures.value ∙ c.args.rows.now.kept in
-    c.bad_in_rows.ensures ∙ ap (row_fault BadLatencyRow keeps_bad_row) kept ∙ row_fault-kept BadLatencyRow (kept_link nodes) keeps_bad_row is_bad_row (kept_bad nodes) (rows_of c.args.rows.now.text.now)
+    c.bad_in_rows.ensures ∙ ap (row_fault BadLatencyRow keeps_bad_row) kept
+    ∙ row_fault-kept BadLatencyRow (kept_link nodes) keeps_bad_row is_bad_row (kept_bad nodes) (rows_of c.args.rows.now.text.now)

@@ -14,5 +14,7 @@ returns-in-None c =
     let nodes = c.args.rows.now.names.nodes.now in
     let kept = c.deref.ensures.value ∙ c.args.rows.now.kept in
     let all : c.self_link_in_rows.result ≡ row_fault SelfLink row_joins_itself (rows_of c.args.rows.now.text.now) =
-    c.self_link_in_rows.ensures ∙ ap (row_fault SelfLink keeps_itself) kept ∙ row_fault-kept SelfLink (kept_link nodes) keeps_itself row_joins_itself (kept_itself nodes) (rows_of c.args.rows.now.text.now) in
-    all ∙ sym (ap (λ o. option_or o (row_fault SelfLink row_joins_itself (rows_of c.args.rows.now.text.now))) (sym c.self_link_in_commands.ensures ∙ c.in-None.is))
+    c.self_link_in_rows.ensures ∙ ap (row_fault SelfLink keeps_itself) kept
+    ∙ row_fault-kept SelfLink (kept_link nodes) keeps_itself row_joins_itself (kept_itself nodes) (rows_of c.args.rows.now.text.now) in
+    all ∙ sym (ap (λ o. option_or o (row_fault SelfLink row_joins_itself (rows_of c.args.rows.now.text.now)))
+    (sym c.self_link_in_commands.ensures ∙ c.in-None.is))

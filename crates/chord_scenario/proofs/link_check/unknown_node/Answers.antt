@@ -14,5 +14,7 @@ returns-in-None c =
     let nodes = c.args.rows.now.names.nodes.now in
     let kept = c.deref.ensures.value ∙ c.args.rows.now.kept in
     let all : c.unknown_in_rows.result ≡ row_fault UnknownNode (row_names_unknown nodes) (rows_of c.args.rows.now.text.now) =
-    c.unknown_in_rows.ensures ∙ ap (row_fault UnknownNode keeps_unknown) kept ∙ row_fault-kept UnknownNode (kept_link nodes) keeps_unknown (row_names_unknown nodes) (kept_unknown nodes) (rows_of c.args.rows.now.text.now) in
-    all ∙ sym (ap (λ o. option_or o (row_fault UnknownNode (row_names_unknown nodes) (rows_of c.args.rows.now.text.now))) (sym c.unknown_in_commands.ensures ∙ c.in-None.is))
+    c.unknown_in_rows.ensures ∙ ap (row_fault UnknownNode keeps_unknown) kept
+    ∙ row_fault-kept UnknownNode (kept_link nodes) keeps_unknown (row_names_unknown nodes) (kept_unknown nodes) (rows_of c.args.rows.now.text.now) in
+    all ∙ sym (ap (λ o. option_or o (row_fault UnknownNode (row_names_unknown nodes) (rows_of c.args.rows.now.text.now)))
+    (sym c.unknown_in_commands.ensures ∙ c.in-None.is))

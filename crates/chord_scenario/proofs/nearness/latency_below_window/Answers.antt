@@ -12,5 +12,6 @@ returns-in-Some c =
     let meets = λ (x y : Node). nat_lt (latency_by_rows c.args.default (rows_of c.args.rows.now.text.now) x y) c.args.window in
     let one : c.in_ok-first.first ≡ c.index-nodes-i.result.name = c.in_ok-first.ensures ∙ c.as_str.ensures in
     let two : c.in_ok-second.second ≡ c.in-Some.other.now.name = c.in_ok-second.ensures ∙ c.as_str-in-Some.ensures in
-    let first = meeting-here meets c.args.nodes.now c.loop-i.i c.index-nodes-i.result c.in-Some.other.now c.loop-i.invariant c.loop-i-test.true c.index-nodes-i.is (sym c.near_after.ensures ∙ ap option_copied c.in-Some.is) in
+    let first = meeting-here meets c.args.nodes.now c.loop-i.i c.index-nodes-i.result c.in-Some.other.now c.loop-i.invariant c.loop-i-test.true
+    c.index-nodes-i.is (sym c.near_after.ensures ∙ ap option_copied c.in-Some.is) in
     rw (one, two) (ap (option_map (λ (p : Node × Node). LatencyBelowWindow p.0.name p.1.name)) first)

@@ -11,8 +11,11 @@ returns-then-latency_in-window c =
     let nodes = c.args.nodes.now in
     let y = c.index-nodes-j.result in
     let before : c.args.i < length nodes = omega arith in
-    let same = latency_in-between nodes (rows_of c.args.rows.now.text.now) c.args.cells.now c.args.default c.args.i c.loop-j.j c.args.node.now y c.requires.square c.requires.good c.requires.distinct before c.loop-j-test.true (at_place nodes c.args.i c.args.node.now c.requires.here before) c.index-nodes-j.is in
-    find-here (λ (z : Node). nat_lt (latency_by_rows c.args.default (rows_of c.args.rows.now.text.now) c.args.node.now z) c.args.window) nodes c.loop-j.j y _ c.loop-j.invariant c.loop-j-test.true c.index-nodes-j.is
+    let same = latency_in-between nodes (rows_of c.args.rows.now.text.now) c.args.cells.now c.args.default c.args.i c.loop-j.j c.args.node.now y
+    c.requires.square c.requires.good c.requires.distinct before c.loop-j-test.true
+    (at_place nodes c.args.i c.args.node.now c.requires.here before) c.index-nodes-j.is in
+    find-here (λ (z : Node). nat_lt (latency_by_rows c.args.default (rows_of c.args.rows.now.text.now) c.args.node.now z) c.args.window) nodes
+    c.loop-j.j y _ c.loop-j.invariant c.loop-j-test.true c.index-nodes-j.is
     (ap (λ v. nat_lt v c.args.window) (sym (c.latency_in.ensures ∙ same)) ∙ lt-ltb c.latency_in.result c.args.window c.if-latency_in-window.true)
 
 pub loop-j-preserved : goal.loop-j-preserved
@@ -20,6 +23,9 @@ loop-j-preserved c =
     let nodes = c.args.nodes.now in
     let y = c.index-nodes-j.result in
     let before : c.args.i < length nodes = omega arith in
-    let same = latency_in-between nodes (rows_of c.args.rows.now.text.now) c.args.cells.now c.args.default c.args.i c.loop-j.j c.args.node.now y c.requires.square c.requires.good c.requires.distinct before c.loop-j-test.true (at_place nodes c.args.i c.args.node.now c.requires.here before) c.index-nodes-j.is in
-    find-next (λ (z : Node). nat_lt (latency_by_rows c.args.default (rows_of c.args.rows.now.text.now) c.args.node.now z) c.args.window) nodes c.loop-j.j y _ c.loop-j.invariant c.loop-j-test.true c.index-nodes-j.is
+    let same = latency_in-between nodes (rows_of c.args.rows.now.text.now) c.args.cells.now c.args.default c.args.i c.loop-j.j c.args.node.now y
+    c.requires.square c.requires.good c.requires.distinct before c.loop-j-test.true
+    (at_place nodes c.args.i c.args.node.now c.requires.here before) c.index-nodes-j.is in
+    find-next (λ (z : Node). nat_lt (latency_by_rows c.args.default (rows_of c.args.rows.now.text.now) c.args.node.now z) c.args.window) nodes
+    c.loop-j.j y _ c.loop-j.invariant c.loop-j-test.true c.index-nodes-j.is
     (ap (λ v. nat_lt v c.args.window) (sym (c.latency_in.ensures ∙ same)) ∙ le-ltb c.latency_in.result c.args.window c.if-latency_in-window.false)

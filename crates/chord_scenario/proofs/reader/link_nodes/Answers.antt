@@ -6,5 +6,6 @@ use Rattle.chord_scenario.proofs.reader.link_nodes.Goals as goal
 
 pub latencies-requires-clause-known : goal.latencies-requires-clause-known
 latencies-requires-clause-known c =
-    link_questions-known c.number_at-list.result c.number_at-duration.result (map section_of c.args.tables.now) c.in_ok-rows.rows.names.nodes.now (rows_of c.in_ok-rows.rows.text.now)
+    link_questions-known c.number_at-list.result c.number_at-duration.result (map section_of c.args.tables.now) c.in_ok-rows.rows.names.nodes.now
+    (rows_of c.in_ok-rows.rows.text.now)
     (sym c.link_fault.ensures ∙ c.in_default.is)

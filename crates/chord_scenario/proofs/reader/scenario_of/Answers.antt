@@ -25,10 +25,12 @@ module _ (top : Members) where
       → first_answer (key_questions profile (number_at key.Bits top) (sections top)) ≡ None
   keys_sound profile bits ss same is h = rw (← same, ← is) h
 
-  own_nodes : (circle : ℕ) (ss : List Section) (nodes : List Node) → circle ≡ number_at key.Bits top → ss ≡ sections top → nodes ≡ nodes_of circle ss → nodes ≡ nodes_in top
+  own_nodes : (circle : ℕ) (ss : List Section) (nodes : List Node) → circle ≡ number_at key.Bits top → ss ≡ sections top → nodes ≡ nodes_of circle ss
+      → nodes ≡ nodes_in top
   own_nodes circle ss nodes is same h = rw (← is, ← same) h
 
-  own_commands : (circle : ℕ) (ss : List Section) (nodes : List Node) (commands : List Command) → circle ≡ number_at key.Bits top → ss ≡ sections top → nodes ≡ nodes_in top
+  own_commands : (circle : ℕ) (ss : List Section) (nodes : List Node) (commands : List Command) → circle ≡ number_at key.Bits top → ss ≡ sections top
+      → nodes ≡ nodes_in top
       → commands ≡ commands_of circle nodes ss → commands ≡ commands_in top
   own_commands circle ss nodes commands is same own h = h ∙ rw (is, same, own)
 
@@ -36,33 +38,39 @@ module _ (top : Members) where
       → first_answer (node_questions (sections top) (nodes_in top)) ≡ None
   nodes_sound ss nodes same own h = rw (← own, ← same) h
 
-  late_sound : (ss : List Section) (nodes : List Node) (rows : List Row) → ss ≡ sections top → nodes ≡ nodes_in top → first_answer (late_questions top ss nodes rows) ≡ None
+  late_sound : (ss : List Section) (nodes : List Node) (rows : List Row) → ss ≡ sections top → nodes ≡ nodes_in top
+      → first_answer (late_questions top ss nodes rows) ≡ None
       → first_answer (late_questions top (sections top) (nodes_in top) rows) ≡ None
   late_sound ss nodes rows same own h = rw (← own, ← same) h
 
 pub circle_of-circle-requires-clause-least : goal.circle_of-circle-requires-clause-least
 circle_of-circle-requires-clause-least c =
     let top = table_view c.args.top.now in
-    let keys = keys_sound top c.number_at-profile.result c.number_at-bits.result (map section_of c.as_slice.result.now) (ap (map section_of) c.as_slice.ensures.value ∙ c.in_ok-tables.ensures) c.number_at-bits.ensures (sym c.key_fault.ensures ∙ c.in_default.is) in
+    let keys = keys_sound top c.number_at-profile.result c.number_at-bits.result (map section_of c.as_slice.result.now)
+    (ap (map section_of) c.as_slice.ensures.value ∙ c.in_ok-tables.ensures) c.number_at-bits.ensures (sym c.key_fault.ensures ∙ c.in_default.is) in
     (keys_fit c.number_at-profile.result (number_at key.Bits top) top keys).least
 
 pub circle_of-circle-requires-clause-greatest : goal.circle_of-circle-requires-clause-greatest
 circle_of-circle-requires-clause-greatest c =
     let top = table_view c.args.top.now in
-    let keys = keys_sound top c.number_at-profile.result c.number_at-bits.result (map section_of c.as_slice.result.now) (ap (map section_of) c.as_slice.ensures.value ∙ c.in_ok-tables.ensures) c.number_at-bits.ensures (sym c.key_fault.ensures ∙ c.in_default.is) in
+    let keys = keys_sound top c.number_at-profile.result c.number_at-bits.result (map section_of c.as_slice.result.now)
+    (ap (map section_of) c.as_slice.ensures.value ∙ c.in_ok-tables.ensures) c.number_at-bits.ensures (sym c.key_fault.ensures ∙ c.in_default.is) in
     (keys_fit c.number_at-profile.result (number_at key.Bits top) top keys).greatest
 
 pub link_nodes-requires-clause-few : goal.link_nodes-requires-clause-few
 link_nodes-requires-clause-few c =
     let top = table_view c.args.top.now in
-    let keys = keys_sound top c.number_at-profile.result c.number_at-bits.result (map section_of c.as_slice.result.now) (ap (map section_of) c.as_slice.ensures.value ∙ c.in_ok-tables.ensures) c.number_at-bits.ensures (sym c.key_fault.ensures ∙ c.in_default.is) in
-    let own = own_nodes top c.circle_of-circle.result (map section_of c.as_slice-2.result.now) c.in_ok-nodes.nodes.items c.circle_of-circle.ensures (ap (map section_of) c.as_slice-2.ensures.value ∙ c.in_ok-tables.ensures) c.in_ok-nodes.ensures.value in
+    let keys = keys_sound top c.number_at-profile.result c.number_at-bits.result (map section_of c.as_slice.result.now)
+    (ap (map section_of) c.as_slice.ensures.value ∙ c.in_ok-tables.ensures) c.number_at-bits.ensures (sym c.key_fault.ensures ∙ c.in_default.is) in
+    let own = own_nodes top c.circle_of-circle.result (map section_of c.as_slice-2.result.now) c.in_ok-nodes.nodes.items c.circle_of-circle.ensures
+    (ap (map section_of) c.as_slice-2.ensures.value ∙ c.in_ok-tables.ensures) c.in_ok-nodes.ensures.value in
     rw (c.as_slice-6.ensures.value, own) (keys_fit c.number_at-profile.result (number_at key.Bits top) top keys).nodes
 
 pub assembled-requires-clause-profile : goal.assembled-requires-clause-profile
 assembled-requires-clause-profile c =
     let top = table_view c.args.top.now in
-    let keys = keys_sound top c.number_at-profile.result c.number_at-bits.result (map section_of c.as_slice.result.now) (ap (map section_of) c.as_slice.ensures.value ∙ c.in_ok-tables.ensures) c.number_at-bits.ensures (sym c.key_fault.ensures ∙ c.in_default.is) in
+    let keys = keys_sound top c.number_at-profile.result c.number_at-bits.result (map section_of c.as_slice.result.now)
+    (ap (map section_of) c.as_slice.ensures.value ∙ c.in_ok-tables.ensures) c.number_at-bits.ensures (sym c.key_fault.ensures ∙ c.in_default.is) in
     (keys_fit c.number_at-profile.result (number_at key.Bits top) top keys).profile
 
 pub assembled-requires-clause-in_range : goal.assembled-requires-clause-in_range
@@ -71,13 +79,17 @@ assembled-requires-clause-in_range c =
     let rows = rows_of c.args.csv.now in
     let tables = c.in_ok-tables.ensures in
     let linked = c.in_ok-linked.ensures in
-    let keys = keys_sound top c.number_at-profile.result c.number_at-bits.result (map section_of c.as_slice.result.now) (ap (map section_of) c.as_slice.ensures.value ∙ tables) c.number_at-bits.ensures (sym c.key_fault.ensures ∙ c.in_default.is) in
-    let own = own_nodes top c.circle_of-circle.result (map section_of c.as_slice-2.result.now) c.in_ok-nodes.nodes.items c.circle_of-circle.ensures (ap (map section_of) c.as_slice-2.ensures.value ∙ tables) c.in_ok-nodes.ensures.value in
-    let asked = nodes_sound top (map section_of c.as_slice-3.result.now) c.as_slice-4.result.now (ap (map section_of) c.as_slice-3.ensures.value ∙ tables) (c.as_slice-4.ensures.value ∙ own) (sym c.in_ok-fault.ensures ∙ c.in_default-2.is) in
+    let keys = keys_sound top c.number_at-profile.result c.number_at-bits.result (map section_of c.as_slice.result.now)
+    (ap (map section_of) c.as_slice.ensures.value ∙ tables) c.number_at-bits.ensures (sym c.key_fault.ensures ∙ c.in_default.is) in
+    let own = own_nodes top c.circle_of-circle.result (map section_of c.as_slice-2.result.now) c.in_ok-nodes.nodes.items c.circle_of-circle.ensures
+    (ap (map section_of) c.as_slice-2.ensures.value ∙ tables) c.in_ok-nodes.ensures.value in
+    let asked = nodes_sound top (map section_of c.as_slice-3.result.now) c.as_slice-4.result.now
+    (ap (map section_of) c.as_slice-3.ensures.value ∙ tables) (c.as_slice-4.ensures.value ∙ own) (sym c.in_ok-fault.ensures ∙ c.in_default-2.is) in
     let last = ap (map section_of) c.as_slice-5.ensures.value ∙ tables in
     let lent = c.as_slice-6.ensures.value ∙ own in
     let late = late_sound top (map section_of c.as_slice-5.result.now) c.as_slice-6.result.now rows last lent linked.sound in
-    let commands = own_commands top c.circle_of-circle.result (map section_of c.as_slice-5.result.now) c.as_slice-6.result.now c.in_ok-linked.linked.commands.items c.circle_of-circle.ensures last lent linked.commands in
+    let commands = own_commands top c.circle_of-circle.result (map section_of c.as_slice-5.result.now) c.as_slice-6.result.now
+    c.in_ok-linked.linked.commands.items c.circle_of-circle.ensures last lent linked.commands in
     let cells = c.in_ok-linked.linked.cells.items in
     let square = subst (λ n. HasLatencies n rows cells) lent linked.square in
     let on_circle : All (λ n. n.ident < 2 ^ number_at key.Bits top) (nodes_in top) = rw (← own, ← c.circle_of-circle.ensures) c.in_ok-nodes.ensures.on_circle in
@@ -89,11 +101,14 @@ returns-clause-values c =
     let rows = rows_of c.args.csv.now in
     let tables = c.in_ok-tables.ensures in
     let linked = c.in_ok-linked.ensures in
-    let own = own_nodes top c.circle_of-circle.result (map section_of c.as_slice-2.result.now) c.in_ok-nodes.nodes.items c.circle_of-circle.ensures (ap (map section_of) c.as_slice-2.ensures.value ∙ tables) c.in_ok-nodes.ensures.value in
-    let asked = nodes_sound top (map section_of c.as_slice-3.result.now) c.as_slice-4.result.now (ap (map section_of) c.as_slice-3.ensures.value ∙ tables) (c.as_slice-4.ensures.value ∙ own) (sym c.in_ok-fault.ensures ∙ c.in_default-2.is) in
+    let own = own_nodes top c.circle_of-circle.result (map section_of c.as_slice-2.result.now) c.in_ok-nodes.nodes.items c.circle_of-circle.ensures
+    (ap (map section_of) c.as_slice-2.ensures.value ∙ tables) c.in_ok-nodes.ensures.value in
+    let asked = nodes_sound top (map section_of c.as_slice-3.result.now) c.as_slice-4.result.now
+    (ap (map section_of) c.as_slice-3.ensures.value ∙ tables) (c.as_slice-4.ensures.value ∙ own) (sym c.in_ok-fault.ensures ∙ c.in_default-2.is) in
     let last = ap (map section_of) c.as_slice-5.ensures.value ∙ tables in
     let lent = c.as_slice-6.ensures.value ∙ own in
-    let commands = own_commands top c.circle_of-circle.result (map section_of c.as_slice-5.result.now) c.as_slice-6.result.now c.in_ok-linked.linked.commands.items c.circle_of-circle.ensures last lent linked.commands in
+    let commands = own_commands top c.circle_of-circle.result (map section_of c.as_slice-5.result.now) c.as_slice-6.result.now
+    c.in_ok-linked.linked.commands.items c.circle_of-circle.ensures last lent linked.commands in
     let cells = c.in_ok-linked.linked.cells.items in
     let square = subst (λ n. HasLatencies n rows cells) lent linked.square in
     let distinct = node_questions-distinct (sections top) (nodes_in top) asked in

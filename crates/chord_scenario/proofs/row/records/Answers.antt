@@ -35,10 +35,12 @@ loop-row-preserved c =
     let keep = kept_link c.args.names.now.nodes.now in
     let pushed : is_ok c.push.result ≡ true = search rules in
     let more =
-    rows-more (λ (s : Bor (List ℕ)). Some s.now) c.loop-row.row-iterator.rdr c.next.new.self.rdr row default_config st.StartRecord (strip_bom c.args.text.now) before.unread before.read before.usual before.source before.reached step.0 in
+    rows-more (λ (s : Bor (List ℕ)). Some s.now) c.loop-row.row-iterator.rdr c.next.new.self.rdr row default_config st.StartRecord
+    (strip_bom c.args.text.now) before.unread before.read before.usual before.source before.reached step.0 in
     record {
       read = before.read ++ row ∷ [];
-      kept = rw pushed at c.push.ensures.items ∙ ap (λ l. l ++ c.kept_link.result ∷ []) before.kept ∙ ap (λ k. map keep before.read ++ k ∷ []) c.kept_link.ensures
+      kept = rw pushed at c.push.ensures.items ∙ ap (λ l. l ++ c.kept_link.result ∷ []) before.kept
+          ∙ ap (λ k. map keep before.read ++ k ∷ []) c.kept_link.ensures
           ∙ sym (map-append keep before.read (row ∷ []));
       unread = more.0;
       source = more.1;
@@ -60,7 +62,8 @@ returns c =
         c.loop-row.row-iterator.rdr.state,
         before.unread,
         before.reached,
-        rows-end (λ (s : Bor (List ℕ)). Some s.now) c.loop-row.row-iterator.rdr c.next.new.self.rdr [] default_config before.unread before.usual before.source end,
+        rows-end (λ (s : Bor (List ℕ)). Some s.now) c.loop-row.row-iterator.rdr c.next.new.self.rdr [] default_config before.unread before.usual
+            before.source end,
       );
       are_kept = before.kept;
     }

@@ -8,7 +8,8 @@ use Rattle.chord_trace.proofs.Ranks.{counted-split}
 use Rattle.chord_trace.proofs.found_lookups.nth_least.Goals as goal
 
 -- an entry at which the times passed come to n
-reached : (es before rest left : List (ℕ × ℕ)) (us count passed n : ℕ) → IsStrictlySortedBy nat_cmp (keys_of es) → es ≡ before ++ left → left ≡ (us, count) ∷ rest
+reached : (es before rest left : List (ℕ × ℕ)) (us count passed n : ℕ) → IsStrictlySortedBy nat_cmp (keys_of es) → es ≡ before ++ left
+    → left ≡ (us, count) ∷ rest
     → passed ≡ counted (λ _. true) before → passed < n → n ≤ passed + count
     → (counted (λ time. nat_lt time us) es < n) × (n ≤ counted (λ time. nat_le time us) es)
 reached es before rest left us count passed n sorted parts next is few many =
@@ -28,12 +29,14 @@ overflow_add-passed c =
 pub returns-then-n-passed-clause-below : goal.returns-then-n-passed-clause-below
 returns-then-n-passed-clause-below c =
     let i = c.loop-us.invariant in
-    (reached _ i.1.0 _ _ c.in-Some.us.now c.in-Some.count.now _ _ c.into_iter-us-iterator.ensures.into_iter_gives.5 i.1.1 c.in-Some.ensures.steps i.1.2 i.0 c.if-n-passed.true).0
+    (reached _ i.1.0 _ _ c.in-Some.us.now c.in-Some.count.now _ _ c.into_iter-us-iterator.ensures.into_iter_gives.5 i.1.1 c.in-Some.ensures.steps
+    i.1.2 i.0 c.if-n-passed.true).0
 
 pub returns-then-n-passed-clause-up_to : goal.returns-then-n-passed-clause-up_to
 returns-then-n-passed-clause-up_to c =
     let i = c.loop-us.invariant in
-    (reached _ i.1.0 _ _ c.in-Some.us.now c.in-Some.count.now _ _ c.into_iter-us-iterator.ensures.into_iter_gives.5 i.1.1 c.in-Some.ensures.steps i.1.2 i.0 c.if-n-passed.true).1
+    (reached _ i.1.0 _ _ c.in-Some.us.now c.in-Some.count.now _ _ c.into_iter-us-iterator.ensures.into_iter_gives.5 i.1.1 c.in-Some.ensures.steps
+    i.1.2 i.0 c.if-n-passed.true).1
 
 pub loop-us-preserved : goal.loop-us-preserved
 loop-us-preserved c =

@@ -11,13 +11,20 @@ merge_lists-requires c = can_merge_filtered c.args.lists.items _ (filter_same _ 
 pub returns-then-len-gt1 : goal.returns-then-len-gt1
 returns-then-len-gt1 c =
     let kept = filter_same _ has_some _ (λ x b f h. search rules) _ _ c.retain.ensures.filtered in
-    IfOk-weaker c.merge_lists.result (λ blocks. IsMerged c.retain.new.self.items blocks.items) (λ blocks. IsMerged c.args.lists.items blocks.items) (λ blocks m. merged_filtered c.args.lists.items _ blocks.items kept m) c.merge_lists.ensures
+    IfOk-weaker c.merge_lists.result (λ blocks. IsMerged c.retain.new.self.items blocks.items) (λ blocks. IsMerged c.args.lists.items blocks.items)
+    (λ blocks m. merged_filtered c.args.lists.items _ blocks.items kept m) c.merge_lists.ensures
 
 pub returns-in-Some : goal.returns-in-Some
 returns-in-Some c =
     let kept = filter_same _ has_some _ (λ x b f h. search rules) _ _ c.retain.ensures.filtered in
     merged_filtered c.args.lists.items _ _ kept
-    (one_merged _ _ c.in-Some.blocks c.in-Some.ensures.items (omega (arith, c.in-Some.ensures.cases, c.if-len-gt1.false, c.len.ensures, c.pop.new.self.ok.0)) (can_merge_filtered c.args.lists.items _ kept c.requires))
+    (one_merged _ _ c.in-Some.blocks c.in-Some.ensures.items (omega (
+      arith,
+      c.in-Some.ensures.cases,
+      c.if-len-gt1.false,
+      c.len.ensures,
+      c.pop.new.self.ok.0,
+    )) (can_merge_filtered c.args.lists.items _ kept c.requires))
 
 pub returns : goal.returns
 returns c =

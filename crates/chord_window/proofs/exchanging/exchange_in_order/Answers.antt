@@ -10,7 +10,8 @@ use Rattle.chord_window.proofs.NextWorld.{exchange_delivers, exchange_names, exc
 use Rattle.chord_window.proofs.exchanging.exchange_in_order.Goals as goal
 
 pub gather-requires : goal.gather-requires
-gather-requires c = exchange_names c.args.scenario.now c.recall_range.ensures c.args.world.now c.requires.world c.requires.done.0 c.args.dones.items c.requires.done.1
+gather-requires c = exchange_names c.args.scenario.now c.recall_range.ensures c.args.world.now c.requires.world c.requires.done.0 c.args.dones.items
+    c.requires.done.1
 
 pub returns-in-Err-clause-over : goal.returns-in-Err-clause-over
 returns-in-Err-clause-over c = λ same.
@@ -29,9 +30,16 @@ deliver-requires-clause-each c =
 
 pub returns-clause-world : goal.returns-clause-world
 returns-clause-world c =
-    let after : World = record { count = c.args.world.now.count + c.in-Ok.gathered.events; division = c.args.world.now.division; states = c.gather.new.states; parts = c.open_window.new.parts; opening = c.in_ok-world.field-0 } in
+    let after : World = record {
+      count = c.args.world.now.count + c.in-Ok.gathered.events;
+      division = c.args.world.now.division;
+      states = c.gather.new.states;
+      parts = c.open_window.new.parts;
+      opening = c.in_ok-world.field-0;
+    } in
     let e : PartEvents = record { due = c.in-Ok.gathered.mail; later = [] } in
     world_next c.args.scenario.now c.recall_range.ensures c.args.world.now c.requires.world c.requires.done.0 c.args.dones.items c.requires.done.1
-    c.deliver.new.parts.items (subst (λ (l : List (Event Body)). HasDelivered c.args.world.now.division c.args.world.now.parts.items c.deliver.new.parts.items l []) c.in-Ok.ensures.mail c.in_ok-deliver.ensures)
+    c.deliver.new.parts.items (subst (λ (l : List (Event Body)). HasDelivered c.args.world.now.division c.args.world.now.parts.items
+    c.deliver.new.parts.items l []) c.in-Ok.ensures.mail c.in_ok-deliver.ensures)
     e after (ap (λ k. c.args.world.now.count + k) c.in-Ok.ensures.events.0)
     (omega (arith, c.in-Ok.ensures.events.0, c.in-Ok.ensures.events.1, c.max_events.ensures)) refl c.in-Ok.ensures.states c.in_ok-world.ensures

@@ -15,7 +15,8 @@ loop-opening-init g c = record {
   workers = c.in_ok-picked.ensures.workers;
   idle = c.in_ok-picked.ensures.idle;
   inside = omega arith;
-  come = come_first c.args.scenario.now c.args.division.now c.args.workers c.args.picks.now c.in_ok-engine.engine.world.count c.new-taken.result.items c.in_ok-engine.ensures.count c.new-taken.ensures.items;
+  come = come_first c.args.scenario.now c.args.division.now c.args.workers c.args.picks.now c.in_ok-engine.engine.world.count c.new-taken.result.items
+      c.in_ok-engine.ensures.count c.new-taken.ensures.items;
 }
 
 pub run-requires-clause-horizon : goal.run-requires-clause-horizon
@@ -34,15 +35,24 @@ loop-opening-preserved g c =
       workers = c.in_ok-dones.ensures.workers ∙ inv.workers;
       idle = c.in_ok-dones.ensures.idle;
       inside = c.in_ok-dones.ensures.next;
-      come = come_on c.args.scenario.now c.loop-opening.engine.world inv.at.world c.args.division.now c.args.workers c.args.picks.now (drop c.loop-opening.next c.args.picks.now) c.loop-opening.taken.items inv.come
-          c.in-Some.opening (sym c.opening.ensures ∙ c.in-Some.is) (drop c.run.new.next c.args.picks.now) c.run.new.taken.items (events_in c.in_ok-dones.dones.items) c.put_window.new.self.world.count
-          (subst (λ (d : ADivision). HasStepped c.args.scenario.now d c.args.workers c.loop-opening.engine.world.count c.in-Some.opening.horizon (drop c.loop-opening.next c.args.picks.now) (drop c.run.new.next c.args.picks.now) c.loop-opening.taken.items c.run.new.taken.items (events_in c.in_ok-dones.dones.items)) inv.division
-          (subst (λ n. HasStepped c.args.scenario.now c.loop-opening.engine.world.division n c.loop-opening.engine.world.count c.in-Some.opening.horizon (drop c.loop-opening.next c.args.picks.now) (drop c.run.new.next c.args.picks.now) c.loop-opening.taken.items c.run.new.taken.items (events_in c.in_ok-dones.dones.items)) inv.workers
-          (subst (λ (w : World). HasStepped c.args.scenario.now w.division (length c.loop-opening.picked.workers.items) w.count c.in-Some.opening.horizon (drop c.loop-opening.next c.args.picks.now) (drop c.run.new.next c.args.picks.now) c.loop-opening.taken.items c.run.new.taken.items (events_in c.in_ok-dones.dones.items)) c.world-world.ensures c.in_ok-dones.ensures.steps)))
+      come = come_on c.args.scenario.now c.loop-opening.engine.world inv.at.world c.args.division.now c.args.workers c.args.picks.now
+          (drop c.loop-opening.next c.args.picks.now) c.loop-opening.taken.items inv.come
+          c.in-Some.opening (sym c.opening.ensures ∙ c.in-Some.is) (drop c.run.new.next c.args.picks.now) c.run.new.taken.items
+          (events_in c.in_ok-dones.dones.items) c.put_window.new.self.world.count
+          (subst (λ (d : ADivision). HasStepped c.args.scenario.now d c.args.workers c.loop-opening.engine.world.count c.in-Some.opening.horizon
+          (drop c.loop-opening.next c.args.picks.now) (drop c.run.new.next c.args.picks.now) c.loop-opening.taken.items c.run.new.taken.items
+          (events_in c.in_ok-dones.dones.items)) inv.division
+          (subst (λ n. HasStepped c.args.scenario.now c.loop-opening.engine.world.division n c.loop-opening.engine.world.count
+          c.in-Some.opening.horizon (drop c.loop-opening.next c.args.picks.now) (drop c.run.new.next c.args.picks.now) c.loop-opening.taken.items
+          c.run.new.taken.items (events_in c.in_ok-dones.dones.items)) inv.workers
+          (subst (λ (w : World). HasStepped c.args.scenario.now w.division (length c.loop-opening.picked.workers.items) w.count
+          c.in-Some.opening.horizon (drop c.loop-opening.next c.args.picks.now) (drop c.run.new.next c.args.picks.now) c.loop-opening.taken.items
+          c.run.new.taken.items (events_in c.in_ok-dones.dones.items)) c.world-world.ensures c.in_ok-dones.ensures.steps)))
           c.in_ok-put_window.ensures.count;
     }
 
 pub returns-clause-steps : goal.returns-clause-steps
 returns-clause-steps g c =
     let inv = c.loop-opening.invariant in
-    all_steps c.args.scenario.now c.loop-opening.engine.world inv.at.world c.args.division.now c.args.workers c.args.picks.now (drop c.loop-opening.next c.args.picks.now) c.loop-opening.taken.items inv.come (sym c.opening.ensures ∙ c.in_default.is)
+    all_steps c.args.scenario.now c.loop-opening.engine.world inv.at.world c.args.division.now c.args.workers c.args.picks.now
+    (drop c.loop-opening.next c.args.picks.now) c.loop-opening.taken.items inv.come (sym c.opening.ensures ∙ c.in_default.is)

@@ -11,19 +11,24 @@ pub join-requires : goal.join-requires
 join-requires c =
     let share = c.requires.room.0 in
     let are = c.requires.room.1 in
-    let turn = in_turn c.loop-tally.yielded (into_iter_items c.loop-tally.tally-iterator) c.args.tallies.items c.in-Some.tally (into_iter_items c.next.new.self) c.loop-tally.invariant.whole c.in-Some.ensures.steps.0 in
+    let turn = in_turn c.loop-tally.yielded (into_iter_items c.loop-tally.tally-iterator) c.args.tallies.items c.in-Some.tally
+    (into_iter_items c.next.new.self) c.loop-tally.invariant.whole c.in-Some.ensures.steps.0 in
     let mine = c.loop-tally.invariant.joined share are in
-    let more = subst (λ (z : Tally). IsTallyOf (share (length c.loop-tally.yielded)) z) (turn.1 c.in-Some.tally) (are (length c.loop-tally.yielded) c.in-Some.tally turn.0) in
+    let more = subst (λ (z : Tally). IsTallyOf (share (length c.loop-tally.yielded)) z) (turn.1 c.in-Some.tally)
+    (are (length c.loop-tally.yielded) c.in-Some.tally turn.0) in
     omega (arith, mine.size, more.size, shares_up share (length c.loop-tally.yielded) (length c.args.tallies.items) turn.0, c.requires.room.2)
 
 pub loop-tally-preserved : goal.loop-tally-preserved
 loop-tally-preserved c =
-    let turn = in_turn c.loop-tally.yielded (into_iter_items c.loop-tally.tally-iterator) c.args.tallies.items c.in-Some.tally (into_iter_items c.next.new.self) c.loop-tally.invariant.whole c.in-Some.ensures.steps.0 in
+    let turn = in_turn c.loop-tally.yielded (into_iter_items c.loop-tally.tally-iterator) c.args.tallies.items c.in-Some.tally
+    (into_iter_items c.next.new.self) c.loop-tally.invariant.whole c.in-Some.ensures.steps.0 in
     record {
       can_next = tt;
       is_finite = tt;
-      whole = append_assoc c.loop-tally.yielded (c.in-Some.tally ∷ []) (into_iter_items c.next.new.self) ∙ ap (λ l. c.loop-tally.yielded ++ l) (sym c.in-Some.ensures.steps.0) ∙ c.loop-tally.invariant.whole;
-      joined = λ share are. joined_more share c.loop-tally.yielded c.args.tallies.items c.in-Some.tally c.loop-tally.joined c.in_ok-joined.joined are turn.0 turn.1 c.in_ok-joined.ensures.pieces (c.loop-tally.invariant.joined share are);
+      whole = append_assoc c.loop-tally.yielded (c.in-Some.tally ∷ []) (into_iter_items c.next.new.self)
+          ∙ ap (λ l. c.loop-tally.yielded ++ l) (sym c.in-Some.ensures.steps.0) ∙ c.loop-tally.invariant.whole;
+      joined = λ share are. joined_more share c.loop-tally.yielded c.args.tallies.items c.in-Some.tally c.loop-tally.joined c.in_ok-joined.joined are
+          turn.0 turn.1 c.in_ok-joined.ensures.pieces (c.loop-tally.invariant.joined share are);
     }
 
 pub returns : goal.returns

@@ -10,5 +10,6 @@ pub returns : goal.returns
 returns c =
     let text = one_text (found_of c.args.matches.now) c.args.id.now in
     c.unwrap_or.ensures
-    ∙ read_count (λ t x. ParsesUnsigned 32 10 t x × ExplainsUnsignedError 10 t x × HasUnsignedDigitsIfOk t x) text c.get_one.result (λ t x given. given.0) c.get_one.ensures.none c.get_one.ensures.value c.requires
+    ∙ read_count (λ t x. ParsesUnsigned 32 10 t x × ExplainsUnsignedError 10 t x × HasUnsignedDigitsIfOk t x) text c.get_one.result
+    (λ t x given. given.0) c.get_one.ensures.none c.get_one.ensures.value c.requires
     ∙ ap count_or_one (one_text-rows (found_of c.args.matches.now) c.args.id.now)

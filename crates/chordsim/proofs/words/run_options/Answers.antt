@@ -26,7 +26,8 @@ plan_in-plan-requires-clause-parts c =
 pub returns-clause-order : goal.returns-clause-order
 returns-clause-order c =
     let app = c.in_ok-command.ensures in
-    let rows = (c.in_ok-matches.ensures.matches (ap is_simple app.2 ∙ run_is_simple app.0)).0 ∙ ap (λ a. matches_of a (map string_bytes c.args.words.now)) app.2 in (
+    let rows = (c.in_ok-matches.ensures.matches (ap is_simple app.2 ∙ run_is_simple app.0)).0
+    ∙ ap (λ a. matches_of a (map string_bytes c.args.words.now)) app.2 in (
       app.0,
       app.1,
       ap (λ a. fault_of a (map string_bytes c.args.words.now)) (sym app.2) ∙ c.in_ok-matches.ensures.kinds (ap is_simple_and_free app.2 ∙ run_is_free app.0),

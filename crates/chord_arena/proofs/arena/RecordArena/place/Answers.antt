@@ -26,7 +26,12 @@ invariant_of-self g c =
     let cs' : List (List g.row.T.Denot) = set cs (n / 256) c.push.new.self in
     let packed : IsPacked cs' (n + 1) = subst (λ (l : List g.row.T.Denot). IsPacked (set cs (n / 256) l) (n + 1)) chunk done.packed in
     let long : length cs' ≡ length cs = length-set cs (n / 256) c.push.new.self in
-    record { packed = packed; counted = sym (length-joined cs' (n + 1) packed); fits = packed_fits cs' (n + 1) packed; small = omega (arith, long, c.self.invariant.small) }
+    record {
+      packed = packed;
+      counted = sym (length-joined cs' (n + 1) packed);
+      fits = packed_fits cs' (n + 1) packed;
+      small = omega (arith, long, c.self.invariant.small);
+    }
 
 pub returns-clause-ok : goal.returns-clause-ok
 returns-clause-ok g c =

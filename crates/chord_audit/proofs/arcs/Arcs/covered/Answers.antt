@@ -13,5 +13,6 @@ loop-rank-preserved c =
           ∙ ap (λ (l : List Bool). l ++ reaches first far rank ∷ []) c.loop-rank.invariant.marks
           ∙ sym (map-range_with_len_more (reaches first far) 0 rank rank (zero-add rank));
       top = λ k.
-          reached_more k rank far c.deref-end-items.result.now first c.loop-rank.top c.max-top.result c.deref-end-items.ensures.value (omega arith) (c.loop-rank.invariant.top k) c.max-top.ensures;
+          reached_more k rank far c.deref-end-items.result.now first c.loop-rank.top c.max-top.result c.deref-end-items.ensures.value (omega arith)
+          (c.loop-rank.invariant.top k) c.max-top.ensures;
     }

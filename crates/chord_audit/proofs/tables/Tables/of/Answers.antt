@@ -26,4 +26,5 @@ skipped_ranks-requires-clause-lead c =
 
 pub passed_ranks-requires-clause-ranks : goal.passed_ranks-requires-clause-ranks
 passed_ranks-requires-clause-ranks c =
-    subst (λ (l : List ℕ). All (λ rank. rank < length l) l) (sym c.deref-6.ensures.value) (ranks_below c.args.scenario.now c.in_ok-ranks.ranks.items c.in_ok-ranks.ensures)
+    subst (λ (l : List ℕ). All (λ rank. rank < length l) l) (sym c.deref-6.ensures.value)
+    (ranks_below c.args.scenario.now c.in_ok-ranks.ranks.items c.in_ok-ranks.ensures)

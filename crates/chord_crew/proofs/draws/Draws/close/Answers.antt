@@ -17,12 +17,17 @@ returns-clause-kept c =
     let seats : ℕ = c.self.inside.table.shared.key.seats in
     let kept : IsKept c.self.inside.parts seats word views = subst (λ (n : ℕ). IsKept n seats word views) c.self.invariant.same_parts last.1.0.2 in
     let v : View = c.seat.inside.token.me.0 in
-    let same : v ≡ record { numbers = v.numbers; allowance = v.allowance; met_end = c.seat.inside.met_end } = ap (λ b. record { numbers = v.numbers; allowance = v.allowance; met_end = b }) c.seat.invariant.same_end in (
+    let same : v ≡ record {
+      numbers = v.numbers;
+      allowance = v.allowance;
+      met_end = c.seat.inside.met_end;
+    } = ap (λ b. record { numbers = v.numbers; allowance = v.allowance; met_end = b }) c.seat.invariant.same_end in (
       word,
       views,
       record {
         kept = subst (λ (d : Counter). IsKept d.parts d.seats word views) c.self.view_is kept;
-        has_view = slice_get-from_get_elem views c.args.seat.place (view_of c.args.seat) (subst (λ (s : SeatState). get_elem? views s.place ≡ some (view_of s)) c.seat.view_is (last.1.1 ∙ ap some same));
+        has_view = slice_get-from_get_elem views c.args.seat.place (view_of c.args.seat)
+            (subst (λ (s : SeatState). get_elem? views s.place ≡ some (view_of s)) c.seat.view_is (last.1.1 ∙ ap some same));
       },
     )
 

@@ -12,7 +12,8 @@ after : (c : goal.In-Ok) → let t = get c.insert_reserved-place.new.self in let
 after c =
     let s = c.reserve-else-is_err.new.self in let ws = heap_items c.reserve.new.self in let place = c.insert_reserved-place.ensures in
     let kept = kept_by c.self.inside s ws c.self.invariant c.reserve.ensures.items (λ i. (c.reserve-else-is_err.ensures.rest_kept i).slots) in
-    inserted (get s) (get c.insert_reserved-place.new.self) ws (heap_items c.push.new.self) c.args.self.now _ c.args.event kept.0 (kept.1 ∙ c.self.view_is) c.requires refl
+    inserted (get s) (get c.insert_reserved-place.new.self) ws (heap_items c.push.new.self) c.args.self.now _ c.args.event kept.0
+    (kept.1 ∙ c.self.view_is) c.requires refl
     place.was_vacant (changes_by s c.insert_reserved-place.new.self _ _ place.updates) c.in-Ok.ensures.permutation
 
 pub invariant_of-self-2 : goal.invariant_of-self-2

@@ -13,14 +13,16 @@ empty (x ∷ es) e = absurd (omega (arith, e))
 
 pub insert-requires : goal.insert-requires
 insert-requires c =
-    last_new c.in-Some.event c.loop-event.self c.pop.new.self.items (subst (λ es. AreApart (c.loop-event.self ++ es)) c.in-Some.ensures.items c.loop-event.invariant.apart)
+    last_new c.in-Some.event c.loop-event.self c.pop.new.self.items (subst (λ es. AreApart (c.loop-event.self ++ es)) c.in-Some.ensures.items
+    c.loop-event.invariant.apart)
 
 pub loop-event-preserved : goal.loop-event-preserved
 loop-event-preserved c =
     let all = subst (λ es. AreApart (c.loop-event.self ++ es)) c.in-Some.ensures.items c.loop-event.invariant.apart in
     let put : List (Event Body) = put_in_order event_key c.in-Some.event c.loop-event.self in
     let whole : List (Event Body) → Type 0 = λ es. (x : Event Body) → Contains es x ↔ Contains (c.args.self.now ++ c.args.events.items) x in
-    let before : whole (c.loop-event.self ++ (c.pop.new.self.items ++ c.in-Some.event ∷ [])) = subst (λ es. whole (c.loop-event.self ++ es)) c.in-Some.ensures.items c.loop-event.invariant.same in
+    let before : whole (c.loop-event.self ++ (c.pop.new.self.items ++ c.in-Some.event ∷ [])) = subst (λ es. whole (c.loop-event.self ++ es))
+    c.in-Some.ensures.items c.loop-event.invariant.same in
     rw c.in_default-insert.ensures.ok (record {
       apart = last_apart c.in-Some.event c.loop-event.self c.pop.new.self.items all c.recall_order.ensures;
       same = λ x.
@@ -31,4 +33,5 @@ loop-event-preserved c =
 pub returns-clause-same : goal.returns-clause-same
 returns-clause-same c =
     let none : c.loop-event.events.items ≡ [] = empty c.loop-event.events.items (omega (arith, c.in_default.ensures.cases.0, c.loop-event.events.ok.0)) in
-    subst (λ es. (x : Event Body) → Contains es x ↔ Contains (c.args.self.now ++ c.args.events.items) x) (ap (λ es. c.loop-event.self ++ es) none ∙ append-nil c.loop-event.self) c.loop-event.invariant.same
+    subst (λ es. (x : Event Body) → Contains es x ↔ Contains (c.args.self.now ++ c.args.events.items) x)
+    (ap (λ es. c.loop-event.self ++ es) none ∙ append-nil c.loop-event.self) c.loop-event.invariant.same

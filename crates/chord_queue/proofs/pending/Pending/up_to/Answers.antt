@@ -18,7 +18,8 @@ loop-waiting-init c =
     let first = held_due s (heap_items p.heap) h held in let moved = c.in_ok-due.ensures.same in
     let same = order_permuted s (filter (is_due h) (heap_items p.heap)) due moved first in record {
       due = record { held = held_permuted s (filter (is_due h) (heap_items p.heap)) due moved first; sorted = c.in_ok-due.ensures.sorted };
-      whole = ap (λ l. l ++ in_key_order (events_at s due)) c.new-copies.ensures.items ∙ sym same ∙ due_events s (heap_items p.heap) h held ∙ ap (before event_key h) c.self.view_is;
+      whole = ap (λ l. l ++ in_key_order (events_at s due)) c.new-copies.ensures.items ∙ sym same ∙ due_events s (heap_items p.heap) h held
+          ∙ ap (before event_key h) c.self.view_is;
     }
 
 pub index-requires : goal.index-requires
@@ -28,11 +29,14 @@ index-requires c =
 
 pub loop-waiting-preserved : goal.loop-waiting-preserved
 loop-waiting-preserved c =
-    let s = get c.self.inside.events in let rest = c.pop.new.self.items in let w = c.in-Some.waiting in let ys = c.loop-waiting.copies.items in let e = c.index.result.now in
+    let s = get c.self.inside.events in let rest = c.pop.new.self.items in let w = c.in-Some.waiting in let ys = c.loop-waiting.copies.items
+    in let e = c.index.result.now in
     let out = last_out s rest w e (subst (Due s) c.in-Some.ensures.items c.loop-waiting.invariant.due) c.index.ensures in
     let later = in_key_order (events_at s rest) in
-    let more : c.push.new.self.items ≡ ys ++ e ∷ [] = ◌∙◌ {A = List (Event Body)} c.in_ok-push.ensures.items (ap (λ (x : Event Body). ys ++ x ∷ []) c.in_ok-try_clone.ensures) in
-    let front : in_key_order (events_at s c.loop-waiting.due.items) ≡ e ∷ later = ap (λ l. in_key_order (events_at s l)) c.in-Some.ensures.items ∙ out.1 in record {
+    let more : c.push.new.self.items ≡ ys ++ e ∷ [] = ◌∙◌ {A = List (Event Body)} c.in_ok-push.ensures.items
+    (ap (λ (x : Event Body). ys ++ x ∷ []) c.in_ok-try_clone.ensures) in
+    let front : in_key_order (events_at s c.loop-waiting.due.items) ≡ e ∷ later = ap (λ l. in_key_order (events_at s l)) c.in-Some.ensures.items
+    ∙ out.1 in record {
       due = out.0;
       whole = ap (λ l. l ++ later) more ∙ append_assoc ys (e ∷ []) later ∙ ap (λ l. ys ++ l) (sym front) ∙ c.loop-waiting.invariant.whole;
     }

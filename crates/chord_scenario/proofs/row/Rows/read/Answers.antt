@@ -9,4 +9,6 @@ pub invariant_of-result : goal.invariant_of-result
 unfolding rows_of
 invariant_of-result c =
     let are = c.in_ok-links.ensures in
-    record { kept = are.are_kept ∙ sym (ap (map (kept_link c.args.names.nodes.now)) (records-all default_config (strip_bom c.args.text.now) are.rows are.are_rows)) }
+    record {
+      kept = are.are_kept ∙ sym (ap (map (kept_link c.args.names.nodes.now)) (records-all default_config (strip_bom c.args.text.now) are.rows are.are_rows));
+    }

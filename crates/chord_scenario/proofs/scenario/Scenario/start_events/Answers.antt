@@ -26,7 +26,10 @@ loop-node-preserved c =
     let within : at < node_count sc = rw (← c.nodes-node-end.ensures) c.loop-node-test.true in
     elim c.if-initial.branch [
       | then-initial+in_ok-push_first_timers w ↦
-          pass (first_timers sc) (is_initial sc) c.loop-node.events.items at (node_count sc) within c.if-initial.events.items (start_events sc) (sym c.initial.ensures ∙ w.if-initial.true) (ap (λ (v : Vec (Event Body) Global). v.items) w.events-is ∙ w.in_ok-push_first_timers.ensures) c.loop-node.invariant
+          pass (first_timers sc) (is_initial sc) c.loop-node.events.items at (node_count sc) within c.if-initial.events.items (start_events sc)
+          (sym c.initial.ensures ∙ w.if-initial.true) (ap (λ (v : Vec (Event Body) Global). v.items) w.events-is
+          ∙ w.in_ok-push_first_timers.ensures) c.loop-node.invariant
       | else-initial w ↦
-          pass_over (first_timers sc) (is_initial sc) c.loop-node.events.items at (node_count sc) within c.if-initial.events.items (start_events sc) (sym c.initial.ensures ∙ w.if-initial.false) (ap (λ (v : Vec (Event Body) Global). v.items) w.events-is) c.loop-node.invariant
+          pass_over (first_timers sc) (is_initial sc) c.loop-node.events.items at (node_count sc) within c.if-initial.events.items (start_events sc)
+          (sym c.initial.ensures ∙ w.if-initial.false) (ap (λ (v : Vec (Event Body) Global). v.items) w.events-is) c.loop-node.invariant
     ]

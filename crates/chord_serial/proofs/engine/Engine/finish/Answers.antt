@@ -24,9 +24,11 @@ returns-in_err-put_audits-clause-front g c = λ old at.
     let sc = c.args.scenario.now in
     let e = c.args.self.now in
     let S = state (chord sc) (history (chord sc) e.count) in
-    let are = subst (λ (ss : List NodeState). AreStates sc ss S) (sym c.as_slice.ensures.value) (are_states sc c.recall_range.ensures e.states.items e.pending e.count at.world) in
+    let are = subst (λ (ss : List NodeState). AreStates sc ss S) (sym c.as_slice.ensures.value)
+    (are_states sc c.recall_range.ensures e.states.items e.pending e.count at.world) in
     begin_end sc c.recall_range.ensures old _ e at c.requires.ended _
-    (subst (λ (d : ℕ). AppendsFront (g.W.Write.contents c.args.writer.now.inner) (g.W.Write.contents c.put_audits.new.writer.inner) (pieces_text sc (audits_at sc S (due d e.clock)))) c.duration.ensures
+    (subst (λ (d : ℕ). AppendsFront (g.W.Write.contents c.args.writer.now.inner) (g.W.Write.contents c.put_audits.new.writer.inner)
+    (pieces_text sc (audits_at sc S (due d e.clock)))) c.duration.ensures
     (c.put_audits.ensures.front S are))
 
 pub returns-clause-whole : goal.returns-clause-whole
@@ -34,9 +36,11 @@ returns-clause-whole g c = λ old at.
     let sc = c.args.scenario.now in
     let e = c.args.self.now in
     let S = state (chord sc) (history (chord sc) e.count) in
-    let are = subst (λ (ss : List NodeState). AreStates sc ss S) (sym c.as_slice.ensures.value) (are_states sc c.recall_range.ensures e.states.items e.pending e.count at.world) in
+    let are = subst (λ (ss : List NodeState). AreStates sc ss S) (sym c.as_slice.ensures.value)
+    (are_states sc c.recall_range.ensures e.states.items e.pending e.count at.world) in
     whole_trace_written sc c.recall_range.ensures old _ e at c.requires.ended _ c.put_audits.new.tally
-    (subst (λ (d : ℕ). Adds sc (g.W.Write.contents c.args.writer.now.inner) (g.W.Write.contents c.put_audits.new.writer.inner) e.tally c.put_audits.new.tally (audits_at sc S (due d e.clock))) c.duration.ensures
+    (subst (λ (d : ℕ). Adds sc (g.W.Write.contents c.args.writer.now.inner) (g.W.Write.contents c.put_audits.new.writer.inner) e.tally
+    c.put_audits.new.tally (audits_at sc S (due d e.clock))) c.duration.ensures
     (c.in_ok-put_audits.ensures.adds S are))
 
 pub returns-clause-report : goal.returns-clause-report
@@ -45,10 +49,13 @@ returns-clause-report g c =
     let e = c.args.self.now in
     let S = state (chord sc) (history (chord sc) e.count) in
     let at = c.requires.at.1 in
-    let are = subst (λ (ss : List NodeState). AreStates sc ss S) (sym c.as_slice.ensures.value) (are_states sc c.recall_range.ensures e.states.items e.pending e.count at.world) in
+    let are = subst (λ (ss : List NodeState). AreStates sc ss S) (sym c.as_slice.ensures.value)
+    (are_states sc c.recall_range.ensures e.states.items e.pending e.count at.world) in
     c.report.ensures (whole_trace sc)
-    (whole_trace_tallied sc c.recall_range.ensures c.requires.at.0 _ e at c.requires.ended (g.W.Write.contents c.put_audits.new.writer.inner) c.put_audits.new.tally
-    (subst (λ (d : ℕ). Adds sc (g.W.Write.contents c.args.writer.now.inner) (g.W.Write.contents c.put_audits.new.writer.inner) e.tally c.put_audits.new.tally (audits_at sc S (due d e.clock))) c.duration.ensures
+    (whole_trace_tallied sc c.recall_range.ensures c.requires.at.0 _ e at c.requires.ended (g.W.Write.contents c.put_audits.new.writer.inner)
+    c.put_audits.new.tally
+    (subst (λ (d : ℕ). Adds sc (g.W.Write.contents c.args.writer.now.inner) (g.W.Write.contents c.put_audits.new.writer.inner) e.tally
+    c.put_audits.new.tally (audits_at sc S (due d e.clock))) c.duration.ensures
     (c.in_ok-put_audits.ensures.adds S are)))
 
 pub returns-clause-within : goal.returns-clause-within
@@ -61,7 +68,9 @@ returns-clause-front g c = λ old at.
     let sc = c.args.scenario.now in
     let e = c.args.self.now in
     let S = state (chord sc) (history (chord sc) e.count) in
-    let are = subst (λ (ss : List NodeState). AreStates sc ss S) (sym c.as_slice.ensures.value) (are_states sc c.recall_range.ensures e.states.items e.pending e.count at.world) in
+    let are = subst (λ (ss : List NodeState). AreStates sc ss S) (sym c.as_slice.ensures.value)
+    (are_states sc c.recall_range.ensures e.states.items e.pending e.count at.world) in
     begin_end sc c.recall_range.ensures old _ e at c.requires.ended _
-    (subst (λ (d : ℕ). AppendsFront (g.W.Write.contents c.args.writer.now.inner) (g.W.Write.contents c.put_audits.new.writer.inner) (pieces_text sc (audits_at sc S (due d e.clock)))) c.duration.ensures
+    (subst (λ (d : ℕ). AppendsFront (g.W.Write.contents c.args.writer.now.inner) (g.W.Write.contents c.put_audits.new.writer.inner)
+    (pieces_text sc (audits_at sc S (due d e.clock)))) c.duration.ensures
     (c.put_audits.ensures.front S are))

@@ -6,7 +6,23 @@ use Rattle.chord_node.specs.declared.state.NodeState.{NodeState}
 use Rattle.chord_node.specs.Invariant.{AllNodes}
 use Rattle.chord_queue.proofs.Inserting.{AreApart}
 use Rattle.std.specs.List.{All}
-use Rattle.chord_serial.proofs.Course.{audits_add, audits_room, begin_audits, begin_front, begin_middle, event_is_in_time, event_is_sound, made_apart, next_at, state_has_room, state_is_sound, taken_known, taken_long, taken_read, target_is_node}
+use Rattle.chord_serial.proofs.Course.{
+  audits_add,
+  audits_room,
+  begin_audits,
+  begin_front,
+  begin_middle,
+  event_is_in_time,
+  event_is_sound,
+  made_apart,
+  next_at,
+  state_has_room,
+  state_is_sound,
+  taken_known,
+  taken_long,
+  taken_read,
+  target_is_node,
+}
 use Rattle.chord_serial.proofs.engine.Engine.handle.Goals as goal
 
 pub put_audits-requires-clause-each : goal.put_audits-requires-clause-each

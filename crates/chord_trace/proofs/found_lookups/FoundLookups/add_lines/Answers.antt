@@ -1,4 +1,27 @@
-use Rattle.std.proofs.Common.{◌≡◌, ◌∙◌, ◌+◌, ◌<◌, ℕ, List, [], ◌∷◌, ◌++◌, Option, Some, None, ap, sym, refl, subst, arith, append_assoc, append-nil, get_or, length, take}
+use Rattle.std.proofs.Common.{
+  ◌≡◌,
+  ◌∙◌,
+  ◌+◌,
+  ◌<◌,
+  ℕ,
+  List,
+  [],
+  ◌∷◌,
+  ◌++◌,
+  Option,
+  Some,
+  None,
+  ap,
+  sym,
+  refl,
+  subst,
+  arith,
+  append_assoc,
+  append-nil,
+  get_or,
+  length,
+  take,
+}
 use Rattle.std.specs.Prelude.{option_to_list}
 use Rattle.std.specs.List.{filter_map}
 use Rattle.std.proofs.lemmas.List.{take_more}
@@ -28,12 +51,14 @@ loop-line-preserved c = elim c.match-found_in.branch [
   | in-Some+in_ok-add w ↦ (
     (λ seen t.
         let has = w.in_ok-add.ensures.has _ (c.loop-line.invariant.0 seen t) in
-        subst (HasFound _) (sym w.self-is) (step c.args.lines.now c.loop-line.line-index _ seen (Some (w.in-Some.hops, w.in-Some.us)) _ (omega arith) c.line-item.is w.in-Some.ensures has)),
+        subst (HasFound _) (sym w.self-is) (step c.args.lines.now c.loop-line.line-index _ seen (Some (w.in-Some.hops, w.in-Some.us)) _ (omega arith)
+        c.line-item.is w.in-Some.ensures has)),
     omega (arith, ap found_len w.self-is, w.in_ok-add.ensures.one_more, c.loop-line.invariant.1),
   )
   | in_default w ↦ (
     (λ seen t.
-        subst (HasFound _) (sym w.self-is) (step c.args.lines.now c.loop-line.line-index _ seen None c.loop-line.self (omega arith) c.line-item.is w.in_default.ensures (rw append-nil (c.loop-line.invariant.0 seen t)))),
+        subst (HasFound _) (sym w.self-is) (step c.args.lines.now c.loop-line.line-index _ seen None c.loop-line.self (omega arith) c.line-item.is
+        w.in_default.ensures (rw append-nil (c.loop-line.invariant.0 seen t)))),
     omega (arith, ap found_len w.self-is, c.loop-line.invariant.1),
   )
 ]

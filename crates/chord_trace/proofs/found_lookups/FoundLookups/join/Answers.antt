@@ -17,7 +17,15 @@ returns-clause-has c seen more s t =
       | then-self-eq0 w ↦ w.us_least-is ∙ t.us_least ∙ sym (least_of_second (times_of seen) (times_of more) (mine ∙ w.if-self-eq0.true))
       | else-self-eq0+then-other-eq0 w ↦ w.us_least-is ∙ s.us_least ∙ sym (least_of_first (times_of seen) (times_of more) (others ∙ w.if-other-eq0.true))
       | else-self-eq0+else-other-eq0 w ↦
-          omega (arith, w.us_least-is, w.min.ensures, s.us_least, t.us_least, least_of_both (times_of seen) (times_of more) (λ e. w.if-self-eq0.false (sym mine ∙ e)) (λ e. w.if-other-eq0.false (sym others ∙ e)))
+          omega (
+            arith,
+            w.us_least-is,
+            w.min.ensures,
+            s.us_least,
+            t.us_least,
+            least_of_both (times_of seen) (times_of more)
+                (λ e. w.if-self-eq0.false (sym mine ∙ e)) (λ e. w.if-other-eq0.false (sym others ∙ e)),
+          )
     ] in
     record {
       len = omega (arith, s.len, t.len, length-append seen more);
@@ -26,5 +34,13 @@ returns-clause-has c seen more s t =
       us_sum = omega (arith, s.us_sum, t.us_sum, ap sum times, sum_by-append (λ n. n) (times_of seen) (times_of more));
       us_least = least_time ∙ ap least (sym times);
       us_greatest = omega (arith, c.max-2.ensures, s.us_greatest, t.us_greatest, ap greatest times, greatest-append (times_of seen) (times_of more));
-      counts = λ test. omega (arith, c.in_ok-add_counts.ensures test, s.counts test, t.counts test, ap (count_by test) times, count_by-append test (times_of seen) (times_of more));
+      counts = λ test. omega (
+        arith,
+        c.in_ok-add_counts.ensures test,
+        s.counts test,
+        t.counts test,
+        ap (count_by test) times,
+        count_by-append test
+            (times_of seen) (times_of more),
+      );
     }

@@ -21,7 +21,8 @@ put_audits-requires-clause-succ g c =
     (states_known c.args.scenario.now c.recall_range.ensures c.requires.at.0 _ c.args.self c.requires.at.1)
 
 pub put_audits-requires-clause-room : goal.put_audits-requires-clause-room
-put_audits-requires-clause-room g c = audits_fit c.requires.at.1 c.recall_division.ensures.few.0 c.recall_range.ensures.numbers.max_events_greatest c.index_mut.result.now c.index_mut.ensures.value
+put_audits-requires-clause-room g c = audits_fit c.requires.at.1 c.recall_division.ensures.few.0 c.recall_range.ensures.numbers.max_events_greatest
+    c.index_mut.result.now c.index_mut.ensures.value
 
 pub returns-in_err-put_audits-clause-front : goal.returns-in_err-put_audits-clause-front
 returns-in_err-put_audits-clause-front g c = λ old t.
@@ -30,7 +31,8 @@ returns-in_err-put_audits-clause-front g c = λ old t.
     let e = c.args.self in
     let S = state (chord sc) (history (chord sc) e.world.count) in
     begin_end sc ranges old _ e t c.requires.ended _
-    (subst (λ (d : ℕ). AppendsFront (g.W.Write.contents c.args.writer.now.inner) (g.W.Write.contents c.put_audits.new.writer.inner) (pieces_text sc (audits_at sc S (due d e.clock)))) c.duration.ensures
+    (subst (λ (d : ℕ). AppendsFront (g.W.Write.contents c.args.writer.now.inner) (g.W.Write.contents c.put_audits.new.writer.inner)
+    (pieces_text sc (audits_at sc S (due d e.clock)))) c.duration.ensures
     (c.put_audits.ensures.front S (subst (λ (ss : List NodeState). AreStates sc ss S) (sym c.as_slice.ensures.value) (are_states sc ranges old _ e t))))
 
 pub returns-in_err-tally-clause-front : goal.returns-in_err-tally-clause-front
@@ -40,7 +42,8 @@ returns-in_err-tally-clause-front g c = λ old t.
     let e = c.args.self in
     let S = state (chord sc) (history (chord sc) e.world.count) in
     begin_end sc ranges old _ e t c.requires.ended _
-    (subst (λ (d : ℕ). AppendsFront (g.W.Write.contents c.args.writer.now.inner) (g.W.Write.contents c.put_audits.new.writer.inner) (pieces_text sc (audits_at sc S (due d e.clock)))) c.duration.ensures
+    (subst (λ (d : ℕ). AppendsFront (g.W.Write.contents c.args.writer.now.inner) (g.W.Write.contents c.put_audits.new.writer.inner)
+    (pieces_text sc (audits_at sc S (due d e.clock)))) c.duration.ensures
     (c.put_audits.ensures.front S (subst (λ (ss : List NodeState). AreStates sc ss S) (sym c.as_slice.ensures.value) (are_states sc ranges old _ e t))))
 
 pub returns-clause-front : goal.returns-clause-front
@@ -50,7 +53,8 @@ returns-clause-front g c = λ old t.
     let e = c.args.self in
     let S = state (chord sc) (history (chord sc) e.world.count) in
     begin_end sc ranges old _ e t c.requires.ended _
-    (subst (λ (d : ℕ). AppendsFront (g.W.Write.contents c.args.writer.now.inner) (g.W.Write.contents c.put_audits.new.writer.inner) (pieces_text sc (audits_at sc S (due d e.clock)))) c.duration.ensures
+    (subst (λ (d : ℕ). AppendsFront (g.W.Write.contents c.args.writer.now.inner) (g.W.Write.contents c.put_audits.new.writer.inner)
+    (pieces_text sc (audits_at sc S (due d e.clock)))) c.duration.ensures
     (c.put_audits.ensures.front S (subst (λ (ss : List NodeState). AreStates sc ss S) (sym c.as_slice.ensures.value) (are_states sc ranges old _ e t))))
 
 pub join_all-requires : goal.join_all-requires
@@ -59,13 +63,18 @@ join_all-requires g c =
     let ranges = c.recall_range.ensures in
     let e = c.args.self in
     let S = state (chord sc) (history (chord sc) e.world.count) in
-    let adds = (subst (λ (d : ℕ). Adds sc (g.W.Write.contents c.args.writer.now.inner) (g.W.Write.contents c.put_audits.new.writer.inner) c.index_mut.result.now c.put_audits.new.tally (audits_at sc S (due d e.clock))) c.duration.ensures (c.in_ok-put_audits.ensures.adds S (subst (λ (ss : List NodeState). AreStates sc ss S) (sym c.as_slice.ensures.value) (are_states sc ranges c.requires.at.0 _ e c.requires.at.1)))) in
+    let adds = (subst (λ (d : ℕ). Adds sc (g.W.Write.contents c.args.writer.now.inner) (g.W.Write.contents c.put_audits.new.writer.inner)
+    c.index_mut.result.now c.put_audits.new.tally (audits_at sc S (due d e.clock))) c.duration.ensures
+    (c.in_ok-put_audits.ensures.adds S (subst (λ (ss : List NodeState). AreStates sc ss S) (sym c.as_slice.ensures.value)
+    (are_states sc ranges c.requires.at.0 _ e c.requires.at.1)))) in
     let some = c.recall_division.ensures.few.0 in
     record {
       room = (
         share_of e.world.division (whole_trace sc),
-        whole_trace_shared sc ranges c.requires.at.0 _ e c.requires.at.1 c.requires.ended some c.recall_division.ensures.below c.index_mut.result.now c.put_audits.new.tally c.index_mut.ensures.value adds.tallied,
-        shares_fit sc ranges c.requires.at.0 _ e c.requires.at.1 c.requires.ended some c.recall_division.ensures.below c.index_mut.result.now c.put_audits.new.tally c.index_mut.ensures.value adds.tallied (length c.put_audits.new.clock) c.in_ok-put_audits.ensures.size,
+        whole_trace_shared sc ranges c.requires.at.0 _ e c.requires.at.1 c.requires.ended some c.recall_division.ensures.below c.index_mut.result.now
+            c.put_audits.new.tally c.index_mut.ensures.value adds.tallied,
+        shares_fit sc ranges c.requires.at.0 _ e c.requires.at.1 c.requires.ended some c.recall_division.ensures.below c.index_mut.result.now
+            c.put_audits.new.tally c.index_mut.ensures.value adds.tallied (length c.put_audits.new.clock) c.in_ok-put_audits.ensures.size,
       );
     }
 
@@ -76,7 +85,10 @@ returns-clause-whole g c = λ old t.
     let e = c.args.self in
     let S = state (chord sc) (history (chord sc) e.world.count) in
     whole_trace_written sc ranges old _ e t c.requires.ended _ c.index_mut.result.now c.put_audits.new.tally
-    (subst (λ (d : ℕ). Adds sc (g.W.Write.contents c.args.writer.now.inner) (g.W.Write.contents c.put_audits.new.writer.inner) c.index_mut.result.now c.put_audits.new.tally (audits_at sc S (due d e.clock))) c.duration.ensures (c.in_ok-put_audits.ensures.adds S (subst (λ (ss : List NodeState). AreStates sc ss S) (sym c.as_slice.ensures.value) (are_states sc ranges old _ e t))))
+    (subst (λ (d : ℕ). Adds sc (g.W.Write.contents c.args.writer.now.inner) (g.W.Write.contents c.put_audits.new.writer.inner) c.index_mut.result.now
+    c.put_audits.new.tally (audits_at sc S (due d e.clock))) c.duration.ensures
+    (c.in_ok-put_audits.ensures.adds S (subst (λ (ss : List NodeState). AreStates sc ss S) (sym c.as_slice.ensures.value)
+    (are_states sc ranges old _ e t))))
 
 pub returns-clause-report : goal.returns-clause-report
 returns-clause-report g c =
@@ -84,8 +96,12 @@ returns-clause-report g c =
     let ranges = c.recall_range.ensures in
     let e = c.args.self in
     let S = state (chord sc) (history (chord sc) e.world.count) in
-    let adds = (subst (λ (d : ℕ). Adds sc (g.W.Write.contents c.args.writer.now.inner) (g.W.Write.contents c.put_audits.new.writer.inner) c.index_mut.result.now c.put_audits.new.tally (audits_at sc S (due d e.clock))) c.duration.ensures (c.in_ok-put_audits.ensures.adds S (subst (λ (ss : List NodeState). AreStates sc ss S) (sym c.as_slice.ensures.value) (are_states sc ranges c.requires.at.0 _ e c.requires.at.1)))) in
-    whole_trace_reported sc ranges c.requires.at.0 _ e c.requires.at.1 c.requires.ended c.recall_division.ensures.few.0 c.recall_division.ensures.below c.index_mut.result.now c.put_audits.new.tally c.index_mut.ensures.value adds.tallied
+    let adds = (subst (λ (d : ℕ). Adds sc (g.W.Write.contents c.args.writer.now.inner) (g.W.Write.contents c.put_audits.new.writer.inner)
+    c.index_mut.result.now c.put_audits.new.tally (audits_at sc S (due d e.clock))) c.duration.ensures
+    (c.in_ok-put_audits.ensures.adds S (subst (λ (ss : List NodeState). AreStates sc ss S) (sym c.as_slice.ensures.value)
+    (are_states sc ranges c.requires.at.0 _ e c.requires.at.1)))) in
+    whole_trace_reported sc ranges c.requires.at.0 _ e c.requires.at.1 c.requires.ended c.recall_division.ensures.few.0
+    c.recall_division.ensures.below c.index_mut.result.now c.put_audits.new.tally c.index_mut.ensures.value adds.tallied
     c.in_ok-tally.tally c.report.result c.in_ok-tally.ensures.pieces c.report.ensures
 
 pub returns-clause-within : goal.returns-clause-within

@@ -14,7 +14,8 @@ invariant-loop-lowest l = record {
   same_workers : length l.self.workers.items ≡ length l.initial.self.workers.items;
   steps : List (ℕ × Step Body);
   told : l.taken.items ≡ l.initial.taken.items ++ map shown steps;
-  leads : Leads l.scenario l.world.division (length l.initial.self.workers.items) (opened (history (chord l.scenario) l.world.count) l.horizon) (drop l.initial.next l.picks) steps (λ number. settled (chord l.scenario) (λ _. l.world.division) number window) (drop l.next l.picks);
+  leads : Leads l.scenario l.world.division (length l.initial.self.workers.items) (opened (history (chord l.scenario) l.world.count) l.horizon)
+      (drop l.initial.next l.picks) steps (λ number. settled (chord l.scenario) (λ _. l.world.division) number window) (drop l.next l.picks);
   inside : l.next ≤ length l.picks;
 }
 

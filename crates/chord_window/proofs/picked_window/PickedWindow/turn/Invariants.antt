@@ -4,7 +4,8 @@ use Rattle.chord_window.proofs.picked_window.PickedWindow.turn.Given as goal
 
 abbrev pub invariant-loop-next : goal.invariant-loop-next
 invariant-loop-next l = record {
-  turn : turn_by (can_go l.self) (length l.self.workers.items) (drop l.next l.picks) ≡ turn_by (can_go l.self) (length l.self.workers.items) (drop l.initial.next l.picks);
+  turn : turn_by (can_go l.self) (length l.self.workers.items) (drop l.next l.picks)
+      ≡ turn_by (can_go l.self) (length l.self.workers.items) (drop l.initial.next l.picks);
   inside : l.next ≤ length l.picks;
 }
 
