@@ -86,8 +86,6 @@ pub fn play<T: Threads + Wait + Sync, R: Read, Q: Read, W: Write>(
     ensures only { (e : RunError) → result ≡ Err (PlayFault.Run e) → (e ≡ RunError.Memory) ⊎ (e ≡ RunError.Worker) ⊎ (e ≡ RunError.TooManyEvents) ⊎ (e ≡ RunError.Write) }
 {
     let loaded = load(alloc, scenario, latency)?;
-    match run_planned(rt, alloc, &loaded, plan, writer) {
-        Ok(report) => Ok(report),
-        Err(error) => Err(PlayFault::Run(error)),
-    }
+    let report = run_planned(rt, alloc, &loaded, plan, writer)?;
+    Ok(report)
 }

@@ -33,87 +33,39 @@ fn refused(rt: &(impl AllocGlobal + Abort), line: &str, kind: ErrorKind) -> Resu
 
 #[test]
 fn words_without_a_command(rt: HostRuntime) -> Result<(), Fail> {
-    refused(&rt, "chordsim", ErrorKind::MissingSubcommand)?;
-    refused(&rt, "chordsim walk", ErrorKind::InvalidSubcommand)?;
-    refused(&rt, "chordsim --walk", ErrorKind::UnknownArgument)?;
-    refused(&rt, "chordsim --help", ErrorKind::DisplayHelp)?;
-    refused(&rt, "chordsim run --help", ErrorKind::DisplayHelp)?;
+    for (line, kind) in [
+        ("chordsim", ErrorKind::MissingSubcommand),
+        ("chordsim walk", ErrorKind::InvalidSubcommand),
+        ("chordsim --walk", ErrorKind::UnknownArgument),
+        ("chordsim --help", ErrorKind::DisplayHelp),
+        ("chordsim run --help", ErrorKind::DisplayHelp),
+    ] {
+        refused(&rt, line, kind)?;
+    }
     Ok(())
 }
 
 #[test]
 fn options_that_are_refused(rt: HostRuntime) -> Result<(), Fail> {
-    refused(&rt, "chordsim check", ErrorKind::MissingRequiredArgument)?;
-    refused(
-        &rt,
-        "chordsim ids --latency b",
-        ErrorKind::MissingRequiredArgument,
-    )?;
-    refused(
-        &rt,
-        "chordsim run --serial",
-        ErrorKind::MissingRequiredArgument,
-    )?;
-    refused(
-        &rt,
-        "chordsim check --scenario a --workers 2",
-        ErrorKind::UnknownArgument,
-    )?;
-    refused(
-        &rt,
-        "chordsim run --scenario a b",
-        ErrorKind::UnknownArgument,
-    )?;
-    refused(
-        &rt,
-        "chordsim run --scenario a --serial --serial",
-        ErrorKind::ArgumentConflict,
-    )?;
-    refused(
-        &rt,
-        "chordsim run --scenario a --scenario b",
-        ErrorKind::ArgumentConflict,
-    )?;
-    Ok(())
-}
-
-#[test]
-fn values_that_are_refused(rt: HostRuntime) -> Result<(), Fail> {
-    refused(
-        &rt,
-        "chordsim run --scenario a --workers 0",
-        ErrorKind::ValueValidation,
-    )?;
-    refused(
-        &rt,
-        "chordsim run --scenario a --workers 65",
-        ErrorKind::ValueValidation,
-    )?;
-    refused(
-        &rt,
-        "chordsim run --scenario a --workers x",
-        ErrorKind::ValueValidation,
-    )?;
-    refused(
-        &rt,
-        "chordsim run --scenario a --parts 0",
-        ErrorKind::ValueValidation,
-    )?;
-    refused(
-        &rt,
-        "chordsim run --scenario a --parts 513",
-        ErrorKind::ValueValidation,
-    )?;
-    refused(
-        &rt,
-        "chordsim run --scenario a --split x",
-        ErrorKind::InvalidValue,
-    )?;
-    refused(
-        &rt,
-        "chordsim run --scenario a --trace",
-        ErrorKind::InvalidValue,
-    )?;
+    for (line, kind) in [
+        ("check", ErrorKind::MissingRequiredArgument),
+        ("ids --latency b", ErrorKind::MissingRequiredArgument),
+        ("run --serial", ErrorKind::MissingRequiredArgument),
+        ("check --scenario a --workers 2", ErrorKind::UnknownArgument),
+        ("run --scenario a b", ErrorKind::UnknownArgument),
+        ("run --scenario a --serial --serial", ErrorKind::ArgumentConflict),
+        ("run --scenario a --scenario b", ErrorKind::ArgumentConflict),
+        ("run --scenario a --workers 0", ErrorKind::ValueValidation),
+        ("run --scenario a --workers 65", ErrorKind::ValueValidation),
+        ("run --scenario a --workers x", ErrorKind::ValueValidation),
+        ("run --scenario a --parts 0", ErrorKind::ValueValidation),
+        ("run --scenario a --parts 513", ErrorKind::ValueValidation),
+        ("run --scenario a --split x", ErrorKind::InvalidValue),
+        ("run --scenario a --trace", ErrorKind::InvalidValue),
+    ] {
+        let words = format!(in rt.alloc(); "chordsim {line}")?;
+        refused(&rt, words.as_str(), kind)?;
+    }
     Ok(())
 }
 
@@ -264,23 +216,29 @@ fn failed(
 
 #[test]
 fn faults_of_files(rt: HostRuntime) -> Result<(), Fail> {
-    let fault = PlayFault::Read(Text::Scenario);
-    failed(&rt, fault, "refused: cannot read a.toml", 1)?;
-    let fault = PlayFault::TooLong(Text::Latency);
-    failed(&rt, fault, "refused: too long b.csv", 1)?;
-    let fault = PlayFault::Scenario(ScenarioFault::TooFewInitial);
-    failed(&rt, fault, "refused: S10 TooFewInitial", 1)?;
+    let few = PlayFault::Scenario(ScenarioFault::TooFewInitial);
+    for (fault, text) in [
+        (PlayFault::Read(Text::Scenario), "refused: cannot read a.toml"),
+        (PlayFault::Read(Text::Latency), "refused: cannot read b.csv"),
+        (PlayFault::TooLong(Text::Scenario), "refused: too long a.toml"),
+        (PlayFault::TooLong(Text::Latency), "refused: too long b.csv"),
+        (few, "refused: S10 TooFewInitial"),
+    ] {
+        failed(&rt, fault, text, 1)?;
+    }
     Ok(())
 }
 
 #[test]
 fn faults_of_runs(rt: HostRuntime) -> Result<(), Fail> {
-    failed(&rt, PlayFault::Run(RunError::Memory), "failed: 1 Memory", 3)?;
-    failed(&rt, PlayFault::Run(RunError::Worker), "failed: 2 Worker", 3)?;
-    let fault = PlayFault::Run(RunError::TooManyEvents);
-    failed(&rt, fault, "failed: 3 TooManyEvents", 3)?;
-    failed(&rt, PlayFault::Run(RunError::Write), "failed: 4 Write", 3)?;
-    let fault = PlayFault::Run(RunError::BadDivision);
-    failed(&rt, fault, "failed: 5 BadDivision", 3)?;
+    for (error, text) in [
+        (RunError::Memory, "failed: 1 Memory"),
+        (RunError::Worker, "failed: 2 Worker"),
+        (RunError::TooManyEvents, "failed: 3 TooManyEvents"),
+        (RunError::Write, "failed: 4 Write"),
+        (RunError::BadDivision, "failed: 5 BadDivision"),
+    ] {
+        failed(&rt, PlayFault::Run(error), text, 3)?;
+    }
     Ok(())
 }
