@@ -1,5 +1,5 @@
 -- The comparison that `Key` derives, and the order of keys.
-use Rattle.std.proofs.Common.{◌≡◌, Bool, true, false, refl, sym, subst, arith}
+use Rattle.std.proofs.Common.{◌≡◌, Bool, true, false, refl, subst, arith}
 use Rattle.std.specs.Cmp.{ranked}
 use Rattle.std.specs.Ordering.{nat_cmp, ordering_then}
 use Rattle.std.specs.declared.cmp.Ordering.{Ordering}

@@ -1,42 +1,9 @@
 -- Lists in the order of their keys.
-use Rattle.std.proofs.Common.{
-  ◌≡◌,
-  ◌≢◌,
-  ◌⊎◌,
-  inl,
-  inr,
-  ℕ,
-  ◌<◌,
-  ◌≤◌,
-  Bool,
-  true,
-  false,
-  not,
-  cond,
-  nat_lt,
-  List,
-  [],
-  ◌∷◌,
-  ◌++◌,
-  length,
-  refl,
-  sym,
-  ap,
-  ◌∙◌,
-  subst,
-  arith,
-  lt-ltb,
-  le-ltb,
-  append-nil,
-  Some,
-  None,
-  option_map,
-  slice_get,
-}
+use Rattle.std.proofs.Common.{◌≡◌, ◌≢◌, ◌⊎◌, inl, inr, ℕ, ◌<◌, ◌≤◌, Bool, true, false, not, cond, nat_lt, List, [], ◌∷◌, ◌++◌, refl, sym, ap, ◌∙◌, subst, arith, lt-ltb, le-ltb, append-nil, Some, None, option_map, slice_get}
 use Rattle.std.specs.List.{AllByRecursion}
 use Rattle.std.proofs.lemmas.List.Elements.{filter-append}
 use Rattle.chord_event.specs.declared.key.Key.{Key}
-use Rattle.chord_event.specs.Keys.{IsBefore, IsAtMost, is_before}
+use Rattle.chord_event.specs.Keys.{IsBefore, is_before}
 use Rattle.chord_event.specs.KeyOrder.{InKeyOrder, IsNewKey, put_in_order, before, from_on}
 use Rattle.chord_event.proofs.Order.{before_trans, before_not_same, before_not_after, at_most_from_before, before_from_at_most, is_before-true, is_before-false}
 

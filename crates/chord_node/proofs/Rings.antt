@@ -30,7 +30,7 @@ use Rattle.std.proofs.Common.{
 use Rattle.std.specs.Prelude.{◌==◌, not, ◌-◌, ◌^◌, Some, find, nat_le, option_map, unwrap_or, if◌then◌else◌}
 use Rattle.std.proofs.lemmas.List.{map-append}
 use Rattle.std.proofs.Common.{append-nil, length-append}
-use Rattle.std.specs.List.{All, AllByRecursion, Contains, IsDistinct, filter, range_with_len}
+use Rattle.std.specs.List.{AllByRecursion, Contains, IsDistinct, filter, range_with_len}
 use Rattle.std.proofs.lemmas.Bool.Decides.{nat_tests}
 use Rattle.std.proofs.lemmas.Map.Keys.{IsDistinct-IsPermutation, IsDistinct-tail, apart_from_distinct}
 use Rattle.std.proofs.lemmas.Bool.{ne_eqb}
@@ -38,7 +38,7 @@ use Rattle.std.specs.List.Sorted.{IsNonDecreasingBy, IsPermutation}
 use Rattle.std.proofs.lemmas.List.Elements.{filter-append}
 use Rattle.std.proofs.lemmas.List.Sorted.{Contains-permutation, IsPermutation-sym, IsPermutation-map}
 use Rattle.chord_circle.proofs.Distance.{distance-injective}
-use Rattle.chord_event.proofs.Members.{contains_none, contains_here, contains_there, contains_cons, contains_filter, filter_contains, All_at, All_from}
+use Rattle.chord_event.proofs.Members.{contains_none, contains_here, contains_there, contains_cons, filter_contains}
 use Rattle.chord_scenario.specs.declared.scenario.Scenario.{Scenario}
 use Rattle.chord_scenario.specs.Range.{IsInRange}
 use Rattle.chord_scenario.specs.Start.{initial_nodes, life_timers, timers, traffic_timers}

@@ -1,28 +1,5 @@
 -- The states that a run starts with: the nodes that are members at the start know the ring, all others are down.
-use Rattle.std.specs.Prelude.{
-  ℕ,
-  ◌==◌,
-  ◌+◌,
-  ◌-◌,
-  ◌^◌,
-  not,
-  nat_le,
-  nat_lt,
-  List,
-  [],
-  ◌∷◌,
-  Option,
-  Some,
-  None,
-  filter,
-  find,
-  length,
-  map,
-  slice_get,
-  take,
-  unwrap_or,
-  if◌then◌else◌,
-}
+use Rattle.std.specs.Prelude.{ℕ, ◌==◌, ◌-◌, ◌^◌, not, nat_le, nat_lt, List, [], ◌∷◌, None, filter, find, length, map, slice_get, take, unwrap_or, if◌then◌else◌}
 use Rattle.std.specs.List.{range_with_len}
 use Rattle.chord_circle.specs.Circle.{distance}
 use Rattle.chord_scenario.specs.declared.scenario.Scenario.{Scenario}

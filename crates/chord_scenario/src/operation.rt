@@ -19,14 +19,11 @@ pub(crate) enum Operation {
 pub(crate) fn operation_named(word: &str) -> Option<Operation>
     ensures { result ≡ operation_named word.now }
 {
-    if word == "join" {
-        Some(Operation::Join)
-    } else if word == "crash" {
-        Some(Operation::Crash)
-    } else if word == "lookup" {
-        Some(Operation::Lookup)
-    } else {
-        None
+    match word {
+        "join" => Some(Operation::Join),
+        "crash" => Some(Operation::Crash),
+        "lookup" => Some(Operation::Lookup),
+        _ => None,
     }
 }
 

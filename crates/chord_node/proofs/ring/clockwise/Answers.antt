@@ -1,4 +1,4 @@
-use Rattle.std.proofs.Common.{ℕ, ◌<◌, List, sym, ap, subst}
+use Rattle.std.proofs.Common.{ℕ, ◌<◌, List, sym, subst}
 use Rattle.std.specs.List.{All}
 use Rattle.std.specs.List.Sorted.{IsPermutation}
 use Rattle.chord_event.proofs.Members.{All_from}

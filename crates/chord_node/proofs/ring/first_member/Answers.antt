@@ -1,4 +1,4 @@
-use Rattle.std.proofs.Common.{◌≡◌, ◌∙◌, ◌==◌, ◌-◌, ℕ, List, [], None, not, option_copied, refl, ap, filter, length, map, slice_get, take}
+use Rattle.std.proofs.Common.{◌≡◌, ◌∙◌, ◌-◌, ℕ, List, None, ap, length, map, slice_get, take}
 use Rattle.chord_node.specs.declared.ring.Met.{Met}
 use Rattle.chord_node.specs.declared.state.Status.TheVariants as status
 use Rattle.chord_node.specs.Ring.{clockwise, first_member, others}

@@ -1,4 +1,4 @@
-use Rattle.std.proofs.Common.{arith, ap, rules}
+use Rattle.std.proofs.Common.{arith}
 use Rattle.std.proofs.lemmas.Grind.{common_steps}
 use Rattle.chord_node.proofs.Rings.{timers-long}
 use Rattle.chord_node.proofs.ring.timer_count.Goals as goal

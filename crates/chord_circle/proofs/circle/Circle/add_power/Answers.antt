@@ -1,5 +1,4 @@
 use Rattle.std.proofs.Common.{arith, ℕ, ◌^◌, ◌-◌, ◌%◌, ◌*◌, ◌+◌, ◌≡◌, ◌<◌, ◌≤◌, ◌∙◌, subst, sym}
-use Rattle.chord_circle.specs.Circle.{finger_start}
 use Rattle.chord_circle.proofs.Powers.{way_within, way_shifted, finger-ahead, finger-past, finger-within}
 use Rattle.chord_circle.proofs.circle.Circle.add_power.Goals as goal
 
