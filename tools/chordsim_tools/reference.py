@@ -13,7 +13,7 @@ from chordsim_tools.state import KINDS
 
 HELP = """\
 Runs a scenario by the rules of docs/rules.md, one event at a time, and prints the trace and then the report: the
-bytes that `chordsim run --scenario SCENARIO --serial` prints. It is slow: about 40,000 events each second."""
+bytes that `chordsim run --scenario SCENARIO --serial` prints. It is slow: about 50,000 events each second."""
 EXAMPLES = """\
 examples:
   tools/reference examples/ring.toml                       trace and report
