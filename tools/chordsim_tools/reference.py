@@ -2,7 +2,7 @@
 
 import argparse
 import sys
-from collections.abc import Iterable
+from collections.abc import Iterable, Iterator
 from itertools import zip_longest
 from typing import TextIO
 
@@ -13,7 +13,7 @@ from chordsim_tools.state import KINDS
 
 HELP = """\
 Runs a scenario by the rules of docs/rules.md, one event at a time, and prints the trace and then the report: the
-bytes that `chordsim run --scenario SCENARIO --serial` prints. It is slow: about 40,000 events each second."""
+bytes that `chordsim run --scenario SCENARIO --serial` prints. It is slow: about 50,000 events each second."""
 EXAMPLES = """\
 examples:
   tools/reference examples/ring.toml                       trace and report
@@ -24,7 +24,7 @@ examples:
   tools/reference examples/churn64.toml --report --messages
                                                            the report, and how many messages of each kind were sent
 
-status: 0 all was done; 1 a file is refused, or the traces part; 2 the words are wrong; 3 more events than max_events"""
+status: 0 all was done; 1 a file is refused, or the traces part; 2 the words are wrong; 3 the run failed"""
 
 
 def words(arguments: list[str]) -> argparse.Namespace:
@@ -52,6 +52,15 @@ def read_file(name: str) -> bytes:
     if len(content) > GREATEST_SIZE:
         raise Refused(f"too long {name}")
     return content
+
+
+def lines_of(name: str) -> Iterator[str]:
+    """The lines of a trace file."""
+    try:
+        with open(name, encoding="utf-8", errors="replace", newline="\n") as file:
+            yield from (line.removesuffix("\n") for line in file)
+    except OSError:
+        raise Refused(f"cannot read {name}") from None
 
 
 def run(scenario: Scenario, trace: TextIO | None, messages: bool) -> None:
@@ -86,8 +95,7 @@ def obey(args: argparse.Namespace) -> int:
     latency = read_file(args.latency) if args.latency is not None else b""
     scenario = read_scenario(read_file(args.scenario), latency)
     if args.compare is not None:
-        with open(args.compare, encoding="utf-8", newline="\n") as file:
-            return compare(Simulation(scenario).lines(), (line.removesuffix("\n") for line in file))
+        return compare(Simulation(scenario).lines(), lines_of(args.compare))
     if args.trace is not None:
         with open(args.trace, "w", encoding="utf-8") as file:
             run(scenario, file, args.messages)
@@ -106,4 +114,7 @@ def main(arguments: list[str]) -> int:
         return 1
     except TooManyEvents:
         print("failed: 3 TooManyEvents", file=sys.stderr)
+        return 3
+    except OSError:
+        print("failed: 4 Write", file=sys.stderr)
         return 3

@@ -42,47 +42,52 @@ class Rules(Procedures):
     def stabilize_tick(self, body: StabilizeTick) -> None:
         """StabilizeTick."""
         if body.epoch != self.n.epoch or self.n.status == Status.DOWN:
-            return
-        self.arm_stabilize()
-        if self.n.status == Status.JOINING or self.has_call(Purpose.STATE) or self.has_call(Purpose.LIST):
-            return
-        self.call(GetState, self.n.succ[0], Purpose.STATE)
+            pass
+        elif self.n.status == Status.JOINING or self.has_call(Purpose.STATE) or self.has_call(Purpose.LIST):
+            self.arm_stabilize()
+        else:
+            self.arm_stabilize()
+            self.call(GetState, self.n.succ[0], Purpose.STATE)
 
     def finger_tick(self, body: FingerTick) -> None:
         """FingerTick."""
         if body.epoch != self.n.epoch or self.n.status == Status.DOWN:
-            return
-        self.arm_finger()
-        if self.n.status == Status.JOINING or any(lookup.finger is not None for lookup in self.n.lookups):
-            return
-        circle = self.world.circle
-        i = self.n.next_finger
-        self.n.next_finger = 2 if i == circle.bits else i + 1
-        start = circle.finger_start(self.world.idents[self.n.me], i)
-        self.begin_lookup(Lookup(start, i, self.t))
+            pass
+        elif self.n.status == Status.JOINING or any(lookup.finger is not None for lookup in self.n.lookups):
+            self.arm_finger()
+        else:
+            self.arm_finger()
+            circle = self.world.circle
+            i = self.n.next_finger
+            self.n.next_finger = 2 if i == circle.bits else i + 1
+            start = circle.finger_start(self.world.idents[self.n.me], i)
+            self.begin_lookup(Lookup(start, i, self.t))
 
     def traffic_tick(self, body: TrafficTick) -> None:
         """TrafficTick."""
         if body.epoch != self.n.epoch or self.n.status == Status.DOWN or self.world.scenario.lookups is None:
-            return
-        self.arm_traffic()
-        if self.n.status == Status.JOINING:
-            return
-        self.user_lookup(self.random_key())
+            pass
+        elif self.n.status == Status.JOINING:
+            self.arm_traffic()
+        else:
+            self.arm_traffic()
+            self.user_lookup(self.random_key())
 
     def life_end(self, body: LifeEnd) -> None:
         """LifeEnd."""
         if body.epoch != self.n.epoch or self.n.status == Status.DOWN or not self.is_churn():
-            return
-        self.line("crash")
-        self.down()
-        self.set_rise()
+            pass
+        else:
+            self.line("crash")
+            self.down()
+            self.set_rise()
 
     def rise(self, body: Rise) -> None:
         """Rise."""
         if body.epoch != self.n.epoch or self.n.status != Status.DOWN or self.n.via is None:
-            return
-        self.up_through(self.n.via)
+            pass
+        else:
+            self.up_through(self.n.via)
 
     def timeout(self, body: Timeout) -> None:
         """Timeout, with the number of a call."""

@@ -2,6 +2,7 @@
 
 import csv
 import io
+import math
 import re
 import tomllib
 from dataclasses import dataclass
@@ -155,14 +156,22 @@ def read_scenario(scenario_file: bytes, latency_file: bytes) -> Scenario:
 
 
 def parse_toml(file: bytes) -> dict[str, Any]:
-    """S1. (tomllib reads TOML 1.0: what only TOML 1.1 has is refused here, and chordsim reads it.)"""
+    """S1. (tomllib reads TOML 1.0: what TOML 1.1 adds is refused here. Depth is not looked at: chordsim refuses 81.)"""
     try:
-        top = tomllib.loads(file.decode("utf-8").removeprefix("\ufeff"))
+        top = tomllib.loads(file.decode("utf-8").removeprefix("\ufeff"), parse_float=float_of)
     except (UnicodeDecodeError, tomllib.TOMLDecodeError, RecursionError):
         raise Refused("S1 NotToml") from None
     if has_great_integer(top):
         raise Refused("S1 NotToml")
     return top
+
+
+def float_of(text: str) -> float:
+    """The value of a float. One that is too large for 64 bits is no TOML."""
+    value = float(text)
+    if math.isinf(value) and "inf" not in text:
+        raise Refused("S1 NotToml")
+    return value
 
 
 def has_great_integer(value: Any) -> bool:

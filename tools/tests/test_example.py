@@ -32,7 +32,8 @@ def test_start() -> None:
     assert [node.succ for node in nodes] == [[1, 2], [2, 0], [0, 1]]
     assert [node.prdc for node in nodes] == [2, 0, 1]
     assert [node.fingers for node in nodes] == [{2: 2, 3: 0}, {2: 2, 3: 0}, {2: 0, 3: 0}]
-    assert [(node.count, node.place, node.epoch, node.via) for node in nodes] == [(2, 2, 1, 1), (2, 2, 1, 0), (2, 2, 1, 0)]
+    rest = [(node.count, node.place, node.epoch, node.via) for node in nodes]
+    assert rest == [(2, 2, 1, 1), (2, 2, 1, 0), (2, 2, 1, 0)]
 
 
 def test_events() -> None:
