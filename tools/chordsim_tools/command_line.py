@@ -6,6 +6,7 @@ import os
 import sys
 import time
 from collections.abc import Callable
+from contextlib import suppress
 from typing import NoReturn
 
 from chordsim_tools.scenario import Refused
@@ -47,8 +48,15 @@ def status_of(prog: str, obey: Callable[[], None]) -> int:
 
 def ended(status: int, line: str) -> int:
     """Says why the command has ended."""
-    print(line, file=sys.stderr)
+    say(line + "\n")
     return status
+
+
+def say(text: str) -> None:
+    """Writes to standard error, where there is one."""
+    if sys.stderr is not None:
+        with suppress(OSError):
+            print(text, end="", file=sys.stderr, flush=True)
 
 
 def put(text: str, name: str | None) -> None:
@@ -103,12 +111,12 @@ class Progress:
 
     def at(self, done: int, total: int) -> None:
         """So much is done."""
-        if time.monotonic() >= self.next and sys.stderr.isatty():
+        if time.monotonic() >= self.next and sys.stderr is not None and sys.stderr.isatty():
             self.next = time.monotonic() + 0.2
             self.said = True
-            print(f"\r{self.what}: {done} of {total}\x1b[K", end="", file=sys.stderr, flush=True)
+            say(f"\r{self.what}: {done} of {total}\x1b[K")
 
     def end(self) -> None:
         """Takes the line away."""
         if self.said:
-            print("\r\x1b[K", end="", file=sys.stderr, flush=True)
+            say("\r\x1b[K")

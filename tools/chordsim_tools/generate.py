@@ -29,7 +29,8 @@ Nodes that are not initial join by a command at a time of the span --arrive, and
 
 Lookups in two forms, also together:
   by itself    --lookup-gap: each member looks up a random key, and again after a gap of the span.
-  by commands  --lookups: each node looks up at the times of a Poisson process, while it is up by the commands.
+  by commands  --lookups: each node looks up at the times of a Poisson process, while it is up by the commands. (A node
+               that churns by itself gets its lookups also while it is down: the trace has lines `ignored lookup`.)
                --keys zipf:S:COUNT draws COUNT keys once; the one at place k is looked up in proportion to 1/k^S.
 Lives, joins, lookups and identifiers are drawn from streams of their own, for each node: other lookups do not change
 the lives, and more nodes do not change what is drawn for the others (but for the nodes that they join through).

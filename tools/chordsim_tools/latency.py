@@ -2,10 +2,9 @@
 
 import math
 import re
-import sys
 from argparse import Namespace
 
-from chordsim_tools.command_line import BadWords, Parser, put, status_of
+from chordsim_tools.command_line import BadWords, Parser, put, say, status_of
 from chordsim_tools.draws import Draws
 from chordsim_tools.latency_measured import UNITS, Latencies, latencies_of, read_lines, read_matrix
 from chordsim_tools.options import Words
@@ -137,7 +136,7 @@ def facts(count: int, result: Latencies) -> str:
     times = [micros for _, _, micros in result.micros]
     return (
         f"hosts {count}, gaps filled {result.filled}, least {min(times)} us, median {median(times)} us, "
-        f"greatest {max(times)} us; window_us may be at most {min(times)}"
+        f"greatest {max(times)} us; window_us may be at most {min(times)}\n"
     )
 
 
@@ -148,7 +147,7 @@ def obey(args: Namespace) -> None:
     names = nodes_of(given)
     result = latencies(given, args.measured, len(names))
     put("".join(f"{names[a]},{names[b]},{micros}\n" for a, b, micros in result.micros), args.file)
-    print(facts(len(names), result), file=sys.stderr)
+    say(facts(len(names), result))
 
 
 def main(arguments: list[str]) -> int:

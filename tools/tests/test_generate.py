@@ -5,6 +5,7 @@ import subprocess
 import tempfile
 from pathlib import Path
 from random import Random
+from unittest import mock
 
 from chordsim_tools.circle import Circle
 from chordsim_tools.generate import main
@@ -13,6 +14,7 @@ from chordsim_tools.scenario import Churn, Command, Lookups, Scenario, read_scen
 from .functions import suite_of
 from .programs import checked, ended, program
 
+TOOL = Path(__file__).resolve().parents[1] / "generate"
 REFUSED = [
     ("--nodes 1", "--nodes: 2 to 512"),
     ("--nodes 513 --bits 64", "--nodes: 2 to 512"),
@@ -216,10 +218,9 @@ def test_streams_of_their_own() -> None:
 def test_same_words_same_bytes() -> None:
     """In another process, with other hashes; another seed gives another file."""
     words = "--nodes 20 --initial 5 --lifetime pareto:1.5:5s --lookups 0.5 --keys zipf:0.9:50"
-    tool = Path(__file__).resolve().parents[1] / "generate"
     for seed in ("1", "2"):
         hashes = os.environ | {"PYTHONHASHSEED": seed}
-        there = subprocess.run([tool, *words.split()], env=hashes, capture_output=True, text=True, check=True)
+        there = subprocess.run([TOOL, *words.split()], env=hashes, capture_output=True, text=True, check=True)
         assert there.stdout == text_of(words)
     assert text_of(words + " --seed 2") != text_of(words)
 
@@ -257,6 +258,31 @@ def test_files_that_cannot_be_written() -> None:
         (Path(folder) / "x.toml").mkdir()
         assert ended(main, "-o", f"{folder}/x.toml")[0] == 3
         assert list(Path(folder).iterdir()) == [Path(folder) / "x.toml"]
+
+
+def test_disk_that_fills_up() -> None:
+    """Only 512 or 1024 bytes fit in a file: status 3, and of the part that was written nothing is left."""
+    with tempfile.TemporaryDirectory() as folder:
+        words = f"ulimit -f 1; exec {TOOL} --nodes 512 -o {folder}/x.toml"
+        there = subprocess.run(["sh", "-c", words], capture_output=True, text=True, check=False)
+        assert (there.returncode, there.stdout) == (3, "")
+        assert there.stderr == f"failed: {folder}/x.toml: File too large\n"
+        assert list(Path(folder).iterdir()) == []
+
+
+def test_interrupted() -> None:
+    """Ctrl-C before the file has its name: one line, status 130, and nothing is left."""
+    with tempfile.TemporaryDirectory() as folder, mock.patch("os.replace", side_effect=KeyboardInterrupt):
+        assert ended(main, "-o", f"{folder}/x.toml") == (130, "", "interrupted\n")
+        assert list(Path(folder).iterdir()) == []
+
+
+def test_closed_streams() -> None:
+    """Without standard output status 3; without standard error the same bytes as ever."""
+    there = subprocess.run(f"{TOOL} >&-", shell=True, stderr=subprocess.PIPE, text=True, check=False)
+    assert (there.returncode, there.stderr) == (3, "failed: standard output: Bad file descriptor\n")
+    there = subprocess.run(f"{TOOL} 2>&-", shell=True, stdout=subprocess.PIPE, text=True, check=False)
+    assert (there.returncode, there.stdout) == (0, text_of(""))
 
 
 def random_words(random: Random) -> list[str]:
@@ -313,4 +339,5 @@ def test_most_commands() -> None:
         assert ended(main, *words, str(name)) == (0, "", "")
         assert checked(name) == "ok nodes=50 commands=99450\n"
         assert ended(main, *words, str(name), "--lookups", "0.02")[0] == 2
+        assert ended(main, *words, str(name), "--nodes", "51")[0] == 2
         assert checked(name) == "ok nodes=50 commands=99450\n"
