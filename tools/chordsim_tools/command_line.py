@@ -116,7 +116,11 @@ class Progress:
             self.said = True
             say(f"\r{self.what}: {done} of {total}\x1b[K")
 
-    def end(self) -> None:
+    def __enter__(self) -> "Progress":
+        """The work itself."""
+        return self
+
+    def __exit__(self, *_: object) -> None:
         """Takes the line away."""
         if self.said:
             say("\r\x1b[K")

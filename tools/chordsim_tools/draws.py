@@ -11,6 +11,7 @@ from decimal import ROUND_HALF_EVEN, Context, Decimal
 from itertools import accumulate
 from random import Random
 
+from chordsim_tools.command_line import Progress
 from chordsim_tools.quantities import decimal_of, span_of, time_of
 
 TWENTY_DIGITS = Context(prec=20, rounding=ROUND_HALF_EVEN)
@@ -144,13 +145,23 @@ class Keys:
         while len(drawn) < law.count:
             drawn[draws.key(bits)] = None
         self.popular = list(drawn)
-        self.sums = list(accumulate(weight(place, law.exponent) for place in range(1, law.count + 1)))
+        self.sums = list(accumulate(weights(law)))
 
     def draw(self, draws: Draws) -> int:
         """A key."""
         if not self.popular:
             return draws.key(self.bits)
         return self.popular[bisect_right(self.sums, draws.word() * self.sums[-1] >> 53)]
+
+
+def weights(law: Zipf) -> list[int]:
+    """The weights of all keys, in their order."""
+    made: list[int] = []
+    with Progress("keys whose shares are reckoned") as progress:
+        for place in range(1, law.count + 1):
+            made.append(weight(place, law.exponent))
+            progress.at(place, law.count)
+    return made
 
 
 def weight(place: int, exponent: Decimal) -> int:

@@ -33,14 +33,17 @@ Lookups in two forms, also together:
                that churns by itself gets its lookups also while it is down: the trace has lines `ignored lookup`.)
                --keys zipf:S:COUNT draws COUNT keys once; the one at place k is looked up in proportion to 1/k^S.
 Lives, joins, lookups and identifiers are drawn from streams of their own, for each node: other lookups do not change
-the lives, and more nodes do not change what is drawn for the others (but for the nodes that they join through).
+the lives; more nodes do not change what is drawn for the others (but for the nodes that they join through); and a
+longer run begins as the shorter one (where --arrive is given).
 
 examples:
   tools/generate -o ring.toml                                   a ring without churn
   tools/generate --nodes 128 --bits 64 --churn-uniform 20s..60s 5s..15s --stay 2 --seed 11
   tools/generate --nodes 256 --lifetime pareto:1.5:20s --down exp:10s --duration 5m -o heavy.toml
   tools/generate --initial 8 --arrive 5s..5055ms --duration 1m  a storm of joins
-  tools/generate --lookups 0.5 --keys zipf:0.9:1000 --lookup-gap none
+  tools/generate --lookups 0.5 --keys zipf:0.9:1000 --seed 3
+A scenario that is run with a latency file wants a --window of at most the file's least latency and a --timeout above
+twice its greatest one; tools/latency says both when it writes the file.
 
 status: 0 the scenario is written; 2 the words are wrong, or ask for more than 100,000 commands; 3 the file could not be
 written. 130 interrupted. A file is whole or not there."""
@@ -67,7 +70,7 @@ OPTIONS = (
     ("stay", "N", "how many nodes, the first ones, do not churn: 0 to NODES - 1 (2)"),
     ("via", "WHICH", "the node to join through: random or first (random)"),
     ("arrive", "SPAN", "when the nodes that are not initial join (the first half of the duration)"),
-    ("lookup-gap", "SPAN", "gaps of lookups: 1us to 1000s each, or none (500ms..1500ms; with --lookups none)"),
+    ("lookup-gap", "SPAN", "gaps of lookups: 1us to 1000s each, or none (500ms..1500ms, but none with --lookups)"),
     ("lookups", "RATE", f"lookups by commands, for each node and second: {RATES}"),
     ("keys", "LAW", "their keys: uniform, or zipf:S:COUNT, S 0 to 10, COUNT 1 to 100000 and at most 2^BITS (uniform)"),
 )

@@ -55,13 +55,15 @@ def lives_of(plan: Plan, streams: Streams) -> list[list[Life]]:
     """For each node the times in which it is up, as far as commands say: a node that churns by itself stays up."""
     lives: list[list[Life]] = []
     room = GREATEST_COUNT
-    for node in range(plan.nodes):
-        arrives = 0 if node < plan.initial else streams.arrive[node].between(*plan.arrive)
-        if plan.lifetime is not None and node >= plan.stay:
-            lives.append(drawn_lives(plan, arrives, streams.churn[node], room))
-        else:
-            lives.append([Life(arrives, plan.top["duration_us"])])
-        room -= len(lives[-1])
+    with Progress("nodes whose lives are drawn") as progress:
+        for node in range(plan.nodes):
+            arrives = 0 if node < plan.initial else streams.arrive[node].between(*plan.arrive)
+            if plan.lifetime is not None and node >= plan.stay:
+                lives.append(drawn_lives(plan, arrives, streams.churn[node], room))
+            else:
+                lives.append([Life(arrives, plan.top["duration_us"])])
+            room -= len(lives[-1])
+            progress.at(node + 1, plan.nodes)
     return lives
 
 
@@ -147,18 +149,17 @@ def drawn_lookups(plan: Plan, lives: list[list[Life]], streams: Streams, most: i
     if plan.rate * plan.nodes * seconds > 10 * GREATEST_COUNT:
         raise BadWords(too_many("--lookups"))
     keys = Keys(plan.top["bits"], plan.keys, streams.keys)
-    progress = Progress("nodes whose lookups are drawn")
     lookups: list[Command] = []
-    for node, spans in enumerate(lives):
-        begins = [life.begin for life in spans]
-        for at_us, key in lookups_of_node(plan, keys, streams.lookups[node]):
-            place = bisect_right(begins, at_us) - 1
-            if place >= 0 and at_us < spans[place].end:
-                lookups.append(Command(at_us, LOOKUP, node, key))
-            if len(lookups) > most:
-                raise BadWords(too_many("--lookups"))
-        progress.at(node + 1, plan.nodes)
-    progress.end()
+    with Progress("nodes whose lookups are drawn") as progress:
+        for node, spans in enumerate(lives):
+            begins = [life.begin for life in spans]
+            for at_us, key in lookups_of_node(plan, keys, streams.lookups[node]):
+                place = bisect_right(begins, at_us) - 1
+                if place >= 0 and at_us < spans[place].end:
+                    lookups.append(Command(at_us, LOOKUP, node, key))
+                if len(lookups) > most:
+                    raise BadWords(too_many("--lookups"))
+            progress.at(node + 1, plan.nodes)
     return lookups
 
 

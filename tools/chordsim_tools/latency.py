@@ -41,6 +41,9 @@ examples:
   tools/latency king.txt --nodes 128 --seed 3 -o king.csv
   tools/latency pings.txt --form lines --unit ms --gaps refuse --names base.toml -o pings.csv
   tools/latency --plane 100ms --floor 5ms --nodes 128 -o plane.csv
+  tools/generate --nodes 128 --window 5ms --timeout 400ms -o ring.toml    a scenario for it: the window is at most the
+                                                           least latency, the timeout above twice the greatest one
+  chordsim run --scenario ring.toml --latency plane.csv --serial
 
 status: 0 the file is written; 1 a file is refused; 2 the words are wrong; 3 the file could not be written; 130
 interrupted. A file is whole or not there."""

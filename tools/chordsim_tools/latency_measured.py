@@ -68,17 +68,16 @@ def trip_of(text: str, unit: int) -> int:
 def read_matrix(file: str, unit: int) -> RoundTrips:
     """A square matrix, one row a line. Hosts are called by their rows, from 1."""
     rows: list["array[int]"] = []
-    progress = Progress(f"rows of {file}")
-    for number, values in lines_of(file):
-        width = len(rows[0]) if rows else len(values)
-        if len(values) != width:
-            raise Refused(f"{file}: line {number}: {len(values)} values, where the first row has {width}")
-        check_hosts(file, width)
-        rows.append(trips_of(values, unit, f"{file}: line {number}"))
-        progress.at(len(rows), width)
-        if len(rows) > width:
-            break
-    progress.end()
+    with Progress(f"rows of {file}") as progress:
+        for number, values in lines_of(file):
+            width = len(rows[0]) if rows else len(values)
+            if len(values) != width:
+                raise Refused(f"{file}: line {number}: {len(values)} values, where the first row has {width}")
+            check_hosts(file, width)
+            rows.append(trips_of(values, unit, f"{file}: line {number}"))
+            progress.at(len(rows), width)
+            if len(rows) > width:
+                break
     if not rows or len(rows) != len(rows[0]):
         raise Refused(f"{file}: no square matrix: {len(rows[0]) if rows else 0} values a row, and not as many rows")
     return RoundTrips(file, [str(i + 1) for i in range(len(rows))], rows)

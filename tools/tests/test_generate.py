@@ -215,6 +215,14 @@ def test_streams_of_their_own() -> None:
     assert quiet.commands == [command for command in few.commands if command.do != "lookup"]
 
 
+def test_longer_run_begins_as_the_shorter() -> None:
+    """The commands of a minute are those of the first minute of two."""
+    words = "--nodes 20 --initial 9 --arrive 0..50s --lifetime exp:20s --down exp:5s --lookups 0.1 --duration"
+    short, long = made(f"{words} 60s"), made(f"{words} 120s")
+    assert short.commands == [command for command in long.commands if command.at_us < 60_000_000]
+    assert len(long.commands) > len(short.commands) > 50
+
+
 def test_same_words_same_bytes() -> None:
     """In another process, with other hashes; another seed gives another file."""
     words = "--nodes 20 --initial 5 --lifetime pareto:1.5:5s --lookups 0.5 --keys zipf:0.9:50"
@@ -283,6 +291,17 @@ def test_closed_streams() -> None:
     assert (there.returncode, there.stderr) == (3, "failed: standard output: Bad file descriptor\n")
     there = subprocess.run(f"{TOOL} 2>&-", shell=True, stdout=subprocess.PIPE, text=True, check=False)
     assert (there.returncode, there.stdout) == (0, text_of(""))
+    there = subprocess.run(f"{TOOL} -o /dev/full 2>/dev/full", shell=True, check=False)
+    assert there.returncode == 3
+
+
+def test_link() -> None:
+    """The file that a link names is written, and the link stays."""
+    with tempfile.TemporaryDirectory() as folder:
+        file, link = Path(folder) / "x.toml", Path(folder) / "link.toml"
+        link.symlink_to("x.toml")
+        assert ended(main, "-o", str(link)) == (0, "", "")
+        assert link.is_symlink() and not file.is_symlink() and file.read_text() == text_of("")
 
 
 def random_words(random: Random) -> list[str]:
