@@ -16,13 +16,26 @@ class BadWords(Exception):
     """The words of a command are wrong. The text names the option and its range."""
 
 
+class Once(argparse.Action):
+    """Keeps the value of an option that is given once."""
+
+    def __call__(
+        self, parser: argparse.ArgumentParser, names: argparse.Namespace, value: object, option: str | None = None
+    ) -> None:
+        """Keeps it, or refuses the second one."""
+        if getattr(names, self.dest) is not None:
+            parser.error(f"{option}: given twice")
+        setattr(names, self.dest, value)
+
+
 class Parser(argparse.ArgumentParser):
-    """A parser that takes no shortened options and says what is wrong in one line."""
+    """A parser that takes each option once, none shortened, and says what is wrong in one line."""
 
     def __init__(self, prog: str, description: str, epilog: str) -> None:
         """A parser whose help keeps its own line breaks."""
         style = argparse.RawDescriptionHelpFormatter
         super().__init__(prog, description=description, epilog=epilog, formatter_class=style, allow_abbrev=False)
+        self.register("action", None, Once)
 
     def error(self, message: str) -> NoReturn:
         """Ends with status 2."""

@@ -55,6 +55,8 @@ REFUSED = [
     ("--lifetime uniform:1..1 --down uniform:1..1", "--lifetime: more than 100000 commands"),
     ("--nodes", "--nodes: expected one argument"),
     ("--node 8", "unrecognized arguments"),
+    ("--seed 1 --seed 1", "--seed: given twice"),
+    ("-o x", "-o: given twice"),
 ]
 
 

@@ -194,6 +194,7 @@ def test_refused_words() -> None:
         ("king --unit ns", "--unit: us or ms or s"),
         ("king --form square", "--form: matrix or lines"),
         ("king --gaps keep", "--gaps: fill or refuse"),
+        ("king queen", "unrecognized arguments: queen"),
     ]:
         status, out, err = ended(main, *words.split())
         assert (status, out) == (2, ""), words
