@@ -135,9 +135,19 @@ fn fourteen_crashes(alloc: Global) -> Result<String, AllocError> {
     Ok(text)
 }
 
-/// n0 has the fingers n1, n1, n1, n2, n4, n8 and n16. It asks the farthest ahead of the key, and then its first
-/// successor that is not to be avoided.
-const ASKED: [u32; 9] = [8, 4, 2, 1, 3, 5, 6, 7, 9];
+/// Nodes that n0 asks, when each drops the request, and when n0 has waited long enough. n0 has the fingers n1, n1, n1,
+/// n2, n4, n8 and n16. It asks the farthest ahead of the key, and then its first successor that is not to be avoided.
+const ASKED: [(u32, u32, u32); 9] = [
+    (8, 110, 140),
+    (4, 150, 180),
+    (2, 190, 220),
+    (1, 230, 260),
+    (3, 270, 300),
+    (5, 310, 340),
+    (6, 350, 380),
+    (7, 390, 420),
+    (9, 430, 460),
+];
 
 /// The ninth node that is silent ends the lookup.
 #[test]
@@ -149,9 +159,7 @@ fn a_lookup_of_nine_timeouts(rt: HostRuntime) -> Result<(), Fail> {
         writeln!(trace, "50 n{node} crash")?;
     }
     trace.push_str("100 n0 lookup 115\n")?;
-    for (time, node) in (100u32..).step_by(40).zip(&ASKED) {
-        let dropped = time + 10;
-        let silent = time + 40;
+    for (node, dropped, silent) in &ASKED {
         writeln!(
             trace,
             "{dropped} n{node} drop step n0\n{silent} n0 timeout n{node}"
@@ -242,6 +250,7 @@ fn a_latency_for_each_pair(rt: HostRuntime) -> Result<(), Fail> {
         (256, 0, 266),
         (7, 7, 1),
     ] {
+        assert!(rt; from < scenario.nodes() && to < scenario.nodes());
         assert!(rt; scenario.latency(from, to) == latency, "{from} to {to}");
     }
     Ok(())
