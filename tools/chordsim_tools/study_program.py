@@ -28,9 +28,9 @@ def find_program() -> Path:
             return Path(found).resolve()
     if not WRAPPER.is_file():
         raise Stop(3, f"the program is missing: no {WRAPPER}, and CHORDSIM is not set")
-    told = subprocess.run([WRAPPER, "--help"], stdout=subprocess.DEVNULL, stderr=subprocess.PIPE, check=False)
-    if told.returncode == 125 or not BUILT.is_file():
-        raise Stop(3, f"the program is missing: {one_line(told.stderr)}")
+    words = [WRAPPER, "check", "--scenario", TOP / "examples" / "ring.toml"]
+    if subprocess.run(words, stdout=subprocess.DEVNULL, check=False).returncode != 0 or not BUILT.is_file():
+        raise Stop(3, f"the program is missing: {WRAPPER} does not start")
     return BUILT
 
 
