@@ -90,7 +90,8 @@ def test_warmup() -> None:
     one = reader(
         "90 a lookup 15", "99 a lookup 16", "100 " + audit, "100 a lookup 17",
         "110 a found 15 b hops=1 timeouts=0 us=20", "120 a lost 16 hops=1 timeouts=0 us=21",
-        "130 a found 17 b hops=4 timeouts=0 us=30", "140 a lookup 5", "150 a lost 5 hops=1 timeouts=0 us=10", "200 " + audit, warmup_us=100,
+        "130 a found 17 b hops=4 timeouts=0 us=30", "140 a lookup 5",
+        "150 a lost 5 hops=1 timeouts=0 us=10", "200 " + audit, warmup_us=100,
     )
     numbers = one.numbers()
     words = ("judged-lookups", "judged-found", "judged-lost", "right", "us-p99", "hops-p50", "judged-audits")
