@@ -1,6 +1,8 @@
-"""Files of a study: read whole, written whole, and their sums."""
+"""Files of a study: read whole, written whole, and their sums; and a line on how far the work is."""
 
 import hashlib
+import sys
+import time
 from pathlib import Path
 
 
@@ -61,3 +63,25 @@ def make_folder(path: Path) -> None:
 def sum_of(content: str | bytes) -> str:
     """The SHA-256 digest of a content, in hexadecimal."""
     return hashlib.sha256(content.encode() if isinstance(content, str) else content).hexdigest()
+
+
+class Progress:
+    """A line on standard error, where that is a terminal and the work takes longer than two seconds."""
+
+    def __init__(self, what: str, total: int, done: int = 0) -> None:
+        """So many of them, and so many done before."""
+        self.what, self.total, self.done = what, total, done
+        self.began = time.monotonic()
+        self.told = False
+
+    def one_more(self) -> None:
+        """One more is done."""
+        self.done += 1
+        if sys.stderr.isatty() and time.monotonic() - self.began > 2:
+            self.told = True
+            print(f"\r{self.done} of {self.total} {self.what}", end="", file=sys.stderr, flush=True)
+
+    def end(self) -> None:
+        """No more is said."""
+        if self.told:
+            print(file=sys.stderr)

@@ -101,12 +101,15 @@ def summary(tables: Tables, keys: list[str], values: tuple[str, ...], rows: list
     nodes, duration = tables.manifest["nodes"], tables.manifest.get("duration_us")
 
     def cost(cells: Cells) -> float:
+        """Events per node and second."""
         return int(cells["events"]) / nodes / (int(cells.get("duration_us", duration)) / 1e6)
 
     def of(take: Callable[[Cells], float | None]) -> Interval:
+        """The interval of a number of each seed."""
         return interval(take(cells) for cells in rows)
 
     def share(holds: Callable[[Cells], bool]) -> float:
+        """The share of seeds of which this holds."""
         return sum(holds(cells) for cells in rows) / len(rows)
 
     return Summary(

@@ -52,6 +52,7 @@ def varied_keys() -> set[str]:
     """The keys of a scenario that can be varied."""
 
     def names(keys: list[Key]) -> list[str]:
+        """The integers among these keys."""
         return [key.name for key in keys if key.kind == "integer"]
 
     tables = {f"{table}.{name}" for table, keys in (("churn", CHURN), ("lookups", LOOKUPS)) for name in names(keys)}

@@ -6,7 +6,7 @@ from pathlib import Path
 from types import ModuleType
 from typing import Any
 
-from chordsim_tools.study_files import Stop, write_whole
+from chordsim_tools.study_files import Progress, Stop, write_whole
 from chordsim_tools.study_numbers import Cells, Interval, Summary, groups, interval, lower_hull, summaries
 from chordsim_tools.study_tables import Tables, read_tables
 
@@ -47,14 +47,17 @@ def write_plots(folder: Path) -> None:
     pyplot = drawing()
     found = summaries(tables)
     looks = looks_of(found)
+    progress = Progress("plots", 6)
     for name, figure in (
         ("times", times_figure(pyplot, found)),
         ("right", right_figure(pyplot, tables, found, looks)),
         ("cost", cost_figure(pyplot, found, looks)),
     ):
-        write_whole(folder / f"{name}.png", rendered(figure, "png", {"Software": None}))
-        write_whole(folder / f"{name}.svg", rendered(figure, "svg", {"Date": None}))
+        for form, metadata in (("png", {"Software": None}), ("svg", {"Date": None})):
+            write_whole(folder / f"{name}.{form}", rendered(figure, form, metadata))
+            progress.one_more()
         pyplot.close(figure)
+    progress.end()
 
 
 def rendered(figure: Any, form: str, metadata: dict[str, None]) -> bytes:

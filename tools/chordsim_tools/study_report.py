@@ -16,7 +16,7 @@ COLUMNS = (
     "audits with a whole ring, %", "seeds whose ring broke", "... was torn", "... was lost",
 )
 WORDS = """\
-Each value is the mean over {seeds} seeds with its 95% interval (Student's t).{warmup}
+Means over the seeds ({seeds}) with 95% intervals (Student's t).{warmup}
 
 - **found**: of the lookups begun, those that were answered, rightly or not.
 - **right**: of the answers, those that name the first member at or after the key, clockwise, at the time of the answer.
@@ -73,7 +73,7 @@ def page(tables: Tables) -> str:
     manifest = tables.manifest
     found = summaries(tables)
     warmup = manifest["warmup_us"]
-    said = f" Lookups begun in the first {warmup / 1e6:g} s, and audits made till then, are left out." if warmup else ""
+    said = f" Lookups begun in the first {warmup / 1e6:g} s, and audits till then, are left out." if warmup else ""
     head = "| " + " | ".join(COLUMNS) + " |\n|" + "---|" * len(COLUMNS) + "\n"
     links = "".join(f"![{title}]({name}.png)\n\n[{title} (SVG)]({name}.svg)\n\n" for name, title in PLOTS)
     return (

@@ -5,14 +5,13 @@ import json
 import multiprocessing
 import signal
 import sys
-import time
 from dataclasses import dataclass
 from multiprocessing import connection
 from multiprocessing.process import BaseProcess
 from pathlib import Path
 from typing import Any
 
-from chordsim_tools.study_files import Stop, make_folder, part_of, read_bytes, sum_of, write_whole
+from chordsim_tools.study_files import Progress, Stop, make_folder, part_of, read_bytes, sum_of, write_whole
 from chordsim_tools.study_plan import Setting, Study, label, scenario_text, value_of
 from chordsim_tools.study_program import Program, find_program
 from chordsim_tools.study_tables import write_tables
@@ -151,7 +150,7 @@ def run_all(runs: list[Run], total: int, jobs: int) -> None:
     """Does these runs, so many side by side. The first one that stops, stops all."""
     waiting = list(reversed(runs))
     going: dict[int, tuple[BaseProcess, connection.Connection, Run]] = {}
-    progress = Progress(total, total - len(runs))
+    progress = Progress("runs", total, total - len(runs))
     try:
         while waiting or going:
             while waiting and len(going) < jobs:
@@ -191,25 +190,3 @@ def finish(process: BaseProcess, pipe: connection.Connection, run: Run) -> None:
     pipe.close()
     if process.exitcode != 0:
         raise Stop(status, f"{run.name()}: {text}")
-
-
-class Progress:
-    """A line on standard error, where that is a terminal and the work takes longer than two seconds."""
-
-    def __init__(self, total: int, done: int) -> None:
-        """So many runs, and so many done before."""
-        self.total, self.done = total, done
-        self.began = time.monotonic()
-        self.told = False
-
-    def one_more(self) -> None:
-        """One more run is done."""
-        self.done += 1
-        if sys.stderr.isatty() and time.monotonic() - self.began > 2:
-            self.told = True
-            print(f"\r{self.done} of {self.total} runs", end="", file=sys.stderr, flush=True)
-
-    def end(self) -> None:
-        """No more is said."""
-        if self.told:
-            print(file=sys.stderr)

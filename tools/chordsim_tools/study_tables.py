@@ -59,7 +59,9 @@ def series_text(study: Study, rows: list[Row]) -> str:
 
 def commit_of(folder: Path, *names: str) -> str | None:
     """The last commit that changed these files, with `+` where they have changed since; none where there is none."""
+
     def git(*words: str) -> str:
+        """What git says of these files."""
         told = subprocess.run(["git", *words, "--", *names], cwd=folder, capture_output=True, text=True, check=False)
         return told.stdout.strip() if told.returncode == 0 else ""
 

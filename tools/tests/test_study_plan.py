@@ -3,6 +3,7 @@
 import tempfile
 import tomllib
 from pathlib import Path
+from typing import Any
 
 from chordsim_tools.scenario import read_scenario
 from chordsim_tools.study_files import Stop
@@ -22,7 +23,7 @@ def load_tests(*_: object) -> object:
     return suite_of(globals())
 
 
-def in_folder(text: str, base: str = BASE) -> object:
+def in_folder(text: str, base: str = BASE) -> Any:
     """The study of this text, or why it is refused."""
     with tempfile.TemporaryDirectory() as name:
         folder = Path(name)

@@ -290,14 +290,17 @@ def test_two_by_two_with_the_program() -> None:
             assert row["us-p50"] == report["us-median"]
             wrong += int(row["wrong"])
             audits = [line.split(" ")[2] for line in trace if line.split(" ")[1] == "audit"]
-            assert [f"members={line}" for line in members_over_time(folder, row)] == audits
+            steps = steps_of(folder, row)
+            assert [f"members={step['members']}" for step in steps] == audits
+            for word in ("lookups", "found", "right"):
+                assert sum(int(step[word]) for step in steps) == int(row[word])
         assert wrong > 0
 
 
-def members_over_time(folder: Path, row: dict[str, str]) -> list[str]:
-    """The members at the ends of steps, which are the times of audits."""
+def steps_of(folder: Path, row: dict[str, str]) -> list[dict[str, str]]:
+    """The steps of a run; they end at the times of audits."""
     keys = ("list", "stabilize_us", "seed")
-    return [line["members"] for line in table(folder, "series.csv") if all(line[key] == row[key] for key in keys)]
+    return [line for line in table(folder, "series.csv") if all(line[key] == row[key] for key in keys)]
 
 
 def test_setting_that_the_program_refuses() -> None:
