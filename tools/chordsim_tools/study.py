@@ -19,7 +19,7 @@ Runs chordsim with many settings and seeds, and makes tables, plots and a page o
   latency = "plane.csv"    may be left out
   seeds = [1, 2, 3]        or "1-10"
   window_us = 1000000      may be left out: the step of numbers over time (else audit_us of the base)
-  warmup_us = 30000000     may be left out (0): what begins before it is not judged (see below)
+  warmup_us = 30000000     may be left out (0): what begins before it is not judged (see `tools/study run --help`)
   [vary]                   every combination is a setting
   list = [2, 4, 8]         keys of the scenario's top table that are integers,
   "churn.life_min_us" = [30000000]    or of [churn] and [lookups]
@@ -48,7 +48,8 @@ Runs `chordsim run --serial` for each setting and seed and writes into FOLDER:
                  whole-rings      ... with a ring of all members that goes once around
                  torn-rings       ... with a member that has no living successor, no ring, or one that is out of order
   series.csv     one line a run and step of window_us: lookups begun, answers found, right ones, members at its end
-  manifest.json  digests of all that it was made of; no times, no names of machines: the same study gives the same bytes
+  manifest.json  what it was made of, with digests and versions; no times and no names of machines, so that the same
+                 study gives the same bytes
   done/          each run's scenario and result. What is there is not run again, unless study, files or program changed:
                  so the same words go on after an interruption.
 
@@ -56,9 +57,21 @@ The trace is read from the program while it runs and is kept nowhere. A run that
 PLOT_HELP = """\
 Writes three plots as PNG and SVG into FOLDER: times (percentiles of lookup time by setting), right (share of right
 answers over time, and members), cost (events per node and second against the 99th percentile of lookup time, with the
-lower convex hull). Means over seeds with 95% intervals. The same tables give the same bytes. Settings in which a seed's
-ring was lost (an audit with ring=0) are hollow in the plot of costs and left out of the hull: a dead ring is cheap.
-It needs Debian's packages python3-numpy and python3-matplotlib."""
+lower convex hull). Means over seeds with 95% intervals; a seed counts where it has the number, so not in steps in which
+it found nothing. The same tables give the same bytes. Settings in which a seed's ring was lost (an audit with ring=0)
+are hollow in the plot of costs and left out of the hull: a dead ring is cheap.
+
+The hull goes from the cheapest setting to the fastest one; what lies above it costs more than a mix of two on it, or is
+slower. Costs are all events of the whole run (timers, messages, lookups), by all nodes of the scenario, up or down, and
+by its duration; they are no bytes.
+
+It needs Debian's packages python3-numpy and python3-matplotlib, and Debian's Python: where another one comes first on
+PATH, `/usr/bin/python3 tools/study plot FOLDER`."""
+
+REPORT_HELP = """\
+Writes the page FOLDER/report.md: the question; a line a setting with shares of found and right, times, cost, and what
+befell the rings; links to the plots, which `tools/study plot` draws; the commands and digests. The page says what each
+number is."""
 
 
 def words(arguments: list[str]) -> argparse.Namespace:
@@ -73,7 +86,7 @@ def words(arguments: list[str]) -> argparse.Namespace:
     run.add_argument("--jobs", metavar="N", type=positive, help="so many runs side by side (default: all processors)")
     run.add_argument("-o", dest="folder", metavar="FOLDER", type=Path, help="the folder (default: STUDY without .toml)")
     plot = commands.add_parser("plot", help="draw plots of a run study", description=PLOT_HELP, epilog=EPILOG, **form)
-    report = commands.add_parser("report", help="write the page report.md", epilog=EPILOG, **form)
+    report = commands.add_parser("report", help="write a page", description=REPORT_HELP, epilog=EPILOG, **form)
     for command in (plot, report):
         command.add_argument("folder", metavar="FOLDER", type=Path, help="the folder of a study that was run")
     return parser.parse_args(arguments)

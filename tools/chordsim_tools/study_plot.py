@@ -91,7 +91,7 @@ def note(found: list[Summary]) -> str:
 
 def times_figure(pyplot: ModuleType, found: list[Summary]) -> Any:
     """Percentiles of lookup time by setting."""
-    figure, axes = pyplot.subplots(figsize=(max(5.0, 1.5 + 0.75 * len(found)), 4.5))
+    figure, axes = pyplot.subplots(figsize=(min(40.0, max(5.0, 1.5 + 0.75 * len(found))), 4.5))
     for number, (share, marker) in enumerate(((50, "o"), (90, "s"), (99, "^"))):
         drawn = [(place, one.times[share]) for place, one in enumerate(found) if one.times[share].mean is not None]
         axes.errorbar(
@@ -116,9 +116,8 @@ def right_figure(
     keys = list(tables.manifest["vary"])
     firsts = list(dict.fromkeys(summary.values[:1] for summary in found))
     lines = groups(tables.series, keys)
-    figure, axes = pyplot.subplots(
-        2, len(firsts), figsize=(3.2 * len(firsts) + 1.5, 5), sharex=True, sharey="row", squeeze=False
-    )
+    size = (min(3.2 * len(firsts) + 1.5, 24), 5)
+    figure, axes = pyplot.subplots(2, len(firsts), figsize=size, sharex=True, sharey="row", squeeze=False)
     colours = list(dict.fromkeys(look.marker for look in looks.values()))
     for column, first in enumerate(firsts):
         for one in (one for one in found if one.values[:1] == first):
