@@ -1,6 +1,7 @@
 """Whole studies: with a program of the test's own, and with chordsim."""
 
 import csv
+import hashlib
 import io
 import json
 import os
@@ -319,3 +320,13 @@ def test_same_bytes_by_any_number_of_jobs() -> None:
         call(folder, "-o", str(folder / "four"), "--jobs", "4", program=program)
         for name in ("runs.csv", "series.csv", "manifest.json"):
             assert (folder / "one" / name).read_bytes() == (folder / "four" / name).read_bytes()
+
+
+def test_files_of_the_example() -> None:
+    """What examples/study keeps is what its manifest names."""
+    folder = TOP / "examples" / "study"
+    manifest = json.loads((folder / "manifest.json").read_text())
+    assert set(manifest["sha256"]) == {"study.toml", "base.toml", "plane.csv", "runs.csv", "series.csv"}
+    for name, digest in manifest["sha256"].items():
+        assert hashlib.sha256((folder / name).read_bytes()).hexdigest() == digest, name
+    assert len(table(TOP / "examples", "runs.csv")) == 120
