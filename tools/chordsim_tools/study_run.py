@@ -11,7 +11,7 @@ from multiprocessing.process import BaseProcess
 from pathlib import Path
 from typing import Any
 
-from chordsim_tools.study_files import Progress, Stop, make_folder, part_of, read_bytes, sum_of, write_whole
+from chordsim_tools.study_files import Progress, Stop, make_folder, read_bytes, sum_of, write_whole
 from chordsim_tools.study_plan import Setting, Study, label, scenario_text, value_of
 from chordsim_tools.study_program import Program, find_program
 from chordsim_tools.study_tables import write_tables
@@ -64,23 +64,26 @@ def run_study(study: Study, folder: Path, jobs: int) -> None:
     program = find_program()
     program_sum = sum_of(read_bytes(program))
     make_folder(folder / "done")
-    for left in (folder / "done").glob("*.part"):
-        left.unlink(missing_ok=True)
+    remove_parts(folder / "done")
     runs = runs_of(study, folder / "done", program, program_sum)
     left = [run for run in runs if run.read_result() is None]
     check_settings(left)
     try:
         run_all(left, len(runs), jobs)
     finally:
-        for run in left:
-            for file in (run.scenario(), run.result()):
-                with contextlib.suppress(OSError):
-                    part_of(file).unlink(missing_ok=True)
+        remove_parts(folder / "done")
     rows = [(run.setting, run.seed, run.read_result()) for run in runs]
     for run, (_, _, result) in zip(runs, rows, strict=True):
         if result is None:
             raise Stop(3, f"{run.result()} is not there any more")
     write_tables(study, folder, program, program_sum, rows)
+
+
+def remove_parts(done: Path) -> None:
+    """Removes what a process that was ended had begun to write."""
+    for part in done.glob("*.part"):
+        with contextlib.suppress(OSError):
+            part.unlink()
 
 
 def runs_of(study: Study, done: Path, program: Path, program_sum: str) -> list[Run]:
