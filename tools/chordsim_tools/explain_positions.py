@@ -30,7 +30,7 @@ class Position:
 
 
 class Positions:
-    """Where each table, key and value of a text begins, by its path: ("node", 3, "id") is the key id of the third node."""
+    """Where tables, keys and values of a text begin, by path: ("node", 3, "id") is the key id of the third node."""
 
     def __init__(self, text: str) -> None:
         """Scans the text as far as it can."""

@@ -88,8 +88,8 @@ def whole_scenario(document: Document) -> Scenario:
     """The scenario, from tables that have no fault."""
     top = document.top.table
     nodes = [
-        NodeSpec(node.table["name"], document.ident(node), node.table.get("initial", False), node.table.get("churn", False))
-        for node in document.nodes
+        NodeSpec(n.table["name"], document.ident(n), n.table.get("initial", False), n.table.get("churn", False))
+        for n in document.nodes
     ]
     commands = [command_of(place.table, document.numbers) for place in document.commands]
     plain = {key.name: top[key.name] for key in TOP if key.kind == "integer" and key.required and key.name != "profile"}
