@@ -101,7 +101,7 @@ def explanations(scenario: bytes, latency: bytes, names: tuple[str, str]) -> tup
     try:
         document = Document(parse_toml(scenario), rows)
     except NotToml as fault:
-        first = explained_toml(fault, names[0], scenario.decode("utf-8", "replace"))
+        first = explained_toml(fault, names[0], scenario)
         document = Document(None, rows)
         files = Files(*names, document, Positions(""))
         return document, (one for part in ([first], in_words(document, files)) for one in part)

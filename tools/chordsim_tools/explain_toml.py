@@ -11,15 +11,16 @@ AT = re.compile(r" \(at (?:line (\d+), column (\d+)|end of document)\)$")
 WORD = re.compile(r"[A-Za-z_][A-Za-z0-9_. -]*")
 
 
-def explained_toml(fault: NotToml, file: str, text: str) -> Explanation:
+def explained_toml(fault: NotToml, file: str, content: bytes) -> Explanation:
     """S1 in words: the line and column and reason of the parser, and what was likely meant."""
+    text = content.decode("utf-8", "replace").removeprefix("\ufeff")
     positions = Positions(text)
-    reason, position = place_of(fault, text, positions)
-    line = line_of(text, position.line) if position is not None else ""
-    likely = meant(reason, line, positions)
+    reason, position = place_of(fault, content, positions)
+    line = line_of(text, position.line)
+    likely = [] if fault.literal or fault.offset is not None else meant(reason, line, positions)
     return Explanation(
-        str(fault), file, None if position is None else position.line, None if position is None else position.column,
-        position is not None and position.near, "", "", reason, shown(line.strip(), 100), allowed(fault), likely,
+        str(fault), file, position.line, position.column, position.near, "", "", reason, shown(line.strip(), 100),
+        allowed(fault), likely,
     )
 
 
@@ -27,27 +28,30 @@ def allowed(fault: NotToml) -> str:
     """What is allowed there."""
     if fault.literal:
         return "a number of 64 bits"
+    if fault.offset is not None:
+        return "a text in UTF-8"
     return "a TOML document: lines KEY = VALUE, headings [churn], [lookups], [[node]], [[command]], and # comments"
 
 
 def line_of(text: str, number: int) -> str:
     """A line of the text."""
-    lines = text.removeprefix("\ufeff").split("\n")
+    lines = text.split("\n")
     return lines[number - 1].removesuffix("\r") if number <= len(lines) else ""
 
 
-def place_of(fault: NotToml, text: str, positions: Positions) -> tuple[str, Position | None]:
-    """The reason without its place, and the place where it is known."""
+def place_of(fault: NotToml, content: bytes, positions: Positions) -> tuple[str, Position]:
+    """The reason without its place, and the place."""
     found = AT.search(fault.reason)
     if found is not None and found[1] is not None:
         return fault.reason[: found.start()], Position(int(found[1]), int(found[2]))
-    if found is not None:
-        lines = text.removeprefix("\ufeff").rstrip().count("\n") + 1
-        return fault.reason[: found.start()] + " at the end of the file", Position(lines, near=True)
+    if fault.offset is not None:
+        before = content[: fault.offset].decode("utf-8").removeprefix("\ufeff")
+        return fault.reason, Position(before.count("\n") + 1, len(before) - before.rfind("\n"))
     path = positions.of_literal(fault.literal) if fault.literal else None
     if path is not None:
         return fault.reason, positions.of_value(path)
-    return fault.reason, Position(text.count("\n") + 1, near=True) if "UTF-8" in fault.reason else None
+    last = Position(positions.text.rstrip().count("\n") + 1, near=True)
+    return AT.sub(" at the end of the file", fault.reason), last
 
 
 def meant(reason: str, line: str, positions: Positions) -> list[str]:

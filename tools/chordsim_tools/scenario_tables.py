@@ -19,13 +19,14 @@ class Refused(Exception):
 
 
 class NotToml(Refused):
-    """S1, with the reason, and the text at fault where it is an integer or float that is too large."""
+    """S1, with the reason; with the number that is too large, or the offset of the byte that is no UTF-8."""
 
-    def __init__(self, reason: str, literal: str = "") -> None:
+    def __init__(self, reason: str, literal: str = "", offset: int | None = None) -> None:
         """The text is that of formats.md."""
         super().__init__("S1 NotToml")
         self.reason = reason
         self.literal = literal
+        self.offset = offset
 
 
 @dataclass
@@ -108,7 +109,7 @@ def parse_toml(file: bytes) -> dict[str, Any]:
     try:
         top = tomllib.loads(file.decode("utf-8").removeprefix("\ufeff"), parse_float=float_of)
     except UnicodeDecodeError as error:
-        raise NotToml(f"the byte {file[error.start]:#04x} at offset {error.start} is no UTF-8") from None
+        raise NotToml(f"the byte {file[error.start]:#04x} is no UTF-8", offset=error.start) from None
     except tomllib.TOMLDecodeError as error:
         raise NotToml(str(error)) from None
     except RecursionError:
