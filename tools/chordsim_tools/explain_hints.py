@@ -38,9 +38,9 @@ def close_to(word: str, words: Iterable[str]) -> str | None:
 def of_unknown_key(name: str, place: str, table: dict[str, Any]) -> list[str]:
     """A key that is like it, or the table that has it."""
     kind = place.split()[0]
-    meant = close_to(name, (key.name for key in TABLES[kind] if key.name not in table))
+    meant = close_to(name, (key.name for key in TABLES[kind] if key.name not in table or key.name in HEADINGS))
     if meant is not None:
-        return [f"did you mean `{meant}`?"]
+        return [f"did you mean {HEADINGS[meant] if kind == 'top' and meant in HEADINGS else f'`{meant}`'}?"]
     owners = [other for other, keys in TABLES.items() if other != kind and name in {key.name for key in keys}]
     if "top" in owners:
         return [f"`{name}` is a key of the top: put it above the first heading"]
@@ -49,8 +49,7 @@ def of_unknown_key(name: str, place: str, table: dict[str, Any]) -> list[str]:
     present = close_to(name, (key.name for key in TABLES[kind]))
     if present is not None:
         return [f"`{present}` is there already: take `{name}` away"]
-    plain = {"nodes": "[[node]]", "commands": "[[command]]", "lookup": "[lookups]"}
-    return [f"did you mean {plain[name]}?"] if name in plain and kind == "top" else []
+    return []
 
 
 def of_missing_key(key: str, place: str, table: dict[str, Any]) -> list[str]:
@@ -168,9 +167,11 @@ def of_unknown_name(name: str, names: Iterable[str]) -> list[str]:
 
 
 def is_heading(row: Row, names: Iterable[str]) -> bool:
-    """Whether a row is likely a heading: the first one, with no name of a node in it and no number."""
+    """Whether a row is likely a heading: the first one, without a node's name in it, and no number at its end."""
     known = set(names)
-    return row.number == 1 and not any(field in known or re.search(r"[0-9]{2}", field) for field in row.fields)
+    parts = re.split(r"[,;|\t]", ",".join(row.fields))
+    digits = re.search("[0-9]", parts[-1] if known else "".join(parts))
+    return row.number == 1 and len(parts) > 1 and digits is None and not any(part.strip() in known for part in parts)
 
 
 def of_bad_row(row: Row, names: Iterable[str]) -> list[str]:

@@ -145,6 +145,21 @@ def test_misspelled_key() -> None:
     assert missing.hints == ["`stabilise_us` stands there and is no key: did you mean `stabilize_us` by it?"]
 
 
+def test_misspelled_heading() -> None:
+    """[[nodes]] beside [[node]], and in its place."""
+    (found,) = faults(changed(("[[command]]", '[[nodes]]\nname = "x"\n[[command]]')))
+    assert (found.fault, found.line, found.hints) == ("S2 UnknownKey top", 29, ["did you mean [[node]]?"])
+    unknown, missing = faults(WORLD.replace("[[node]]", "[[nodes]]"))
+    assert (unknown.line, unknown.hints, missing.fault) == (17, ["did you mean [[node]]?"], "S3 MissingKey top node")
+
+
+def test_rows_that_are_no_heading() -> None:
+    """A first row with a name or a number is none."""
+    for rows in ("n0;n1;10", "n0,n1", "x,y,5.5"):
+        assert not any("heading" in hint for one in faults(WORLD, rows) for hint in one.hints), rows
+    assert all("heading" in one.hints[0] for one in faults(WORLD, "node1;node2;us"))
+
+
 def test_key_below_the_wrong_heading() -> None:
     """A key of the top that stands in [churn]."""
     unknown, missing = faults(changed(("seed = 1\n", ""), ("[churn]\n", "[churn]\nseed = 1\n")))
@@ -210,7 +225,8 @@ def test_texts_and_statuses() -> None:
     assert (status, err, lines[0], lines[1]) == (1, "", "refused: S4 WrongType top bits", "4 faults:")
     assert lines[3] == "1. S4 WrongType top bits"
     assert lines[4].endswith("world.toml, line 2, column 8: `bits` has a value of another type")
-    assert lines[5:8] == ['   there:   "3"', "   allowed: an integer from 3 to 64", "   hint:    without quotes: bits = 3"]
+    assert lines[5:7] == ['   there:   "3"', "   allowed: an integer from 3 to 64"]
+    assert lines[7] == "   hint:    without quotes: bits = 3"
     assert lines[-1] == "and 1 more of S12 BadLatencyRow"
 
 
@@ -220,7 +236,8 @@ def test_json() -> None:
     said = json.loads(out)
     assert (status, said["answer"], said["accepted"]) == (1, "refused: S5 OutOfRange top list", False)
     (fault,) = said["faults"]
-    assert (fault["number"], fault["fault"], fault["place"], fault["key"]) == (1, "S5 OutOfRange top list", "top", "list")
+    assert (fault["number"], fault["fault"]) == (1, "S5 OutOfRange top list")
+    assert (fault["place"], fault["key"]) == ("top", "list")
     assert (fault["line"], fault["column"], fault["near"], fault["found"]) == (3, 8, False, "17")
     assert fault["allowed"] == "an integer from 1 to 16"
     assert json.loads(told(WORLD, "", "--json")[1])["accepted"] is True
