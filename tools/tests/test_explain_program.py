@@ -1,0 +1,77 @@
+"""The first fault is the program's: on 150 spoiled files, and where the tool knows another one."""
+
+import os
+import shutil
+from unittest import SkipTest
+
+from chordsim_tools.explain import explanations
+from chordsim_tools.explain_program import BUILT, answer_of
+
+from .functions import suite_of
+from .spoiled import good_world, spoiled
+from .test_explain import WORLD, told
+
+SEEDS = range(150)
+
+
+def load_tests(*_: object) -> object:
+    """For unittest."""
+    return suite_of(globals())
+
+
+def program() -> str:
+    """The program, by CHORDSIM or where it is built; a test that needs it is skipped where there is none."""
+    found = shutil.which(os.environ.get("CHORDSIM") or str(BUILT))
+    if found is None:
+        raise SkipTest("no chordsim: neither CHORDSIM nor crates/chordsim/out/chordsim is there")
+    return found
+
+
+def answer(scenario: bytes, latency: bytes) -> str:
+    """What the tool itself answers."""
+    document, faults = explanations(scenario, latency, ("world.toml", "links.csv"))
+    first = next(faults, None)
+    accepted = f"accepted: {len(document.nodes)} nodes, {len(document.commands)} commands"
+    return accepted if first is None else f"refused: {first.fault}"
+
+
+def test_the_good_world_is_accepted() -> None:
+    """Else the spoiled files would say nothing."""
+    files = good_world().scenario().encode(), good_world().latency().encode()
+    assert answer(*files) == answer_of(program(), *files) == "accepted: 5 nodes, 4 commands"
+
+
+def test_spoiled_files() -> None:
+    """The tool's first fault is the program's, and most of the fifteen kinds are among them."""
+    kinds = set()
+    for seed in SEEDS:
+        files = spoiled(seed)
+        said = answer_of(program(), *files)
+        assert answer(*files) == said, seed
+        kinds.add(said.split()[1])
+    assert len(kinds) >= 12, kinds
+
+
+def test_forms_of_toml_1_1() -> None:
+    """The program accepts them; that is said first, then that the tool cannot explain it."""
+    text = WORLD.replace('node = "n0"', 'node = "\\x6e0"')
+    assert text != WORLD
+    status, out, _ = told(text, "", program=program())
+    lines = out.splitlines()
+    assert (status, lines[0]) == (0, "accepted: 3 nodes, 1 commands")
+    assert "cannot explain" in lines[1] and lines[1].endswith("refused: S1 NotToml")
+    assert "TOML 1.1" in lines[2]
+
+
+def test_deep_nesting() -> None:
+    """The program refuses 81 as no TOML."""
+    status, out, _ = told("x = " + "[" * 81 + "]" * 81 + "\n" + WORLD, "", program=program())
+    lines = out.splitlines()
+    assert (status, lines[0]) == (1, "refused: S1 NotToml")
+    assert lines[1].endswith("refused: S2 UnknownKey top") and "80" in lines[2]
+
+
+def test_program_that_fails() -> None:
+    """A program without an answer is told with its status."""
+    status, out, err = told(WORLD, "", program=shutil.which("false"))
+    assert (status, out) == (3, "") and err.endswith("false: status 1: nothing\n")
