@@ -173,12 +173,12 @@ def test_interrupted_and_gone_on() -> None:
         (folder / "sleep").write_text("list = 2")
         environment = os.environ | {"CHORDSIM": str(folder / "fake")}
         tool = subprocess.Popen(words_of(folder), env=environment, stderr=subprocess.PIPE, text=True)
-        for _ in range(400):
+        for _ in range(3000):
             if (folder / "pid").exists() and (folder / "pid").read_text():
                 break
             time.sleep(0.02)
         tool.send_signal(signal.SIGINT)
-        _, told = tool.communicate(timeout=10)
+        _, told = tool.communicate(timeout=60)
         assert (tool.returncode, told) == (130, "interrupted: the same words go on\n")
         assert not Path("/proc", (folder / "pid").read_text().strip()).exists()
         assert not (folder / "study" / "runs.csv").exists() and not left_overs(folder)
