@@ -36,9 +36,10 @@ def close_to(word: str, words: Iterable[str]) -> str | None:
 def of_unknown_key(name: str, place: str, table: dict[str, Any]) -> list[str]:
     """A key that is like it, or the table that has it."""
     kind = place.split()[0]
-    meant = close_to(name, (key.name for key in TABLES[kind] if key.name not in table or key.name in HEADINGS))
+    headings = HEADINGS if kind == "top" else {}
+    meant = close_to(name, (key.name for key in TABLES[kind] if key.name not in table or key.name in headings))
     if meant is not None:
-        return [f"did you mean {HEADINGS[meant] if kind == 'top' and meant in HEADINGS else f'`{meant}`'}?"]
+        return [f"did you mean {headings.get(meant, f'`{meant}`')}?"]
     owners = [other for other, keys in TABLES.items() if other != kind and name in {key.name for key in keys}]
     if "top" in owners:
         return [f"`{name}` is a key of the top: put it above the first heading"]
