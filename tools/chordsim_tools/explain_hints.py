@@ -5,14 +5,12 @@ from collections.abc import Iterable
 from difflib import get_close_matches
 from typing import Any
 
+from chordsim_tools.quantities import time_of
 from chordsim_tools.scenario_tables import BILLION, CHURN, COMMAND, LOOKUPS, NODE, TOP, Key, Row, has_type
 
 HEADINGS = {"top": "the top", "churn": "[churn]", "lookups": "[lookups]", "node": "[[node]]", "command": "[[command]]"}
 TABLES = {"top": TOP, "churn": CHURN, "lookups": LOOKUPS, "node": NODE, "command": COMMAND}
-UNITS = {"us": 1, "µs": 1, "ms": 1000, "s": 1_000_000, "sec": 1_000_000, "m": 60_000_000, "min": 60_000_000}
-UNITS |= {"h": 3_600_000_000}
 SEPARATORS = {";": "semicolons", "\t": "tabs", "|": "bars", ":": "colons", " ": "blanks"}
-MEASURE = re.compile(r"([0-9][0-9_]*(?:\.[0-9]+)?)\s*([a-zµ]+)", re.IGNORECASE)
 
 
 def heading_of(place: str) -> str:
@@ -38,9 +36,10 @@ def close_to(word: str, words: Iterable[str]) -> str | None:
 def of_unknown_key(name: str, place: str, table: dict[str, Any]) -> list[str]:
     """A key that is like it, or the table that has it."""
     kind = place.split()[0]
-    meant = close_to(name, (key.name for key in TABLES[kind] if key.name not in table or key.name in HEADINGS))
+    headings = HEADINGS if kind == "top" else {}
+    meant = close_to(name, (key.name for key in TABLES[kind] if key.name not in table or key.name in headings))
     if meant is not None:
-        return [f"did you mean {HEADINGS[meant] if kind == 'top' and meant in HEADINGS else f'`{meant}`'}?"]
+        return [f"did you mean {headings.get(meant, f'`{meant}`')}?"]
     owners = [other for other, keys in TABLES.items() if other != kind and name in {key.name for key in keys}]
     if "top" in owners:
         return [f"`{name}` is a key of the top: put it above the first heading"]
@@ -109,11 +108,11 @@ def of_float(value: float, raw: str | None) -> list[str]:
 
 def of_measure(text: str, key: Key | None = None) -> list[str]:
     """The microseconds of a text such as 10ms."""
-    found = MEASURE.fullmatch(text.strip())
-    if found is None or found[2].lower() not in UNITS or (key is not None and not key.name.endswith("_us")):
+    word = re.sub("[ _]", "", text.lower()).replace("µs", "us")
+    micros = time_of(word) if word[-1:] in ("s", "m") else None
+    if micros is None or (key is not None and not key.name.endswith("_us")):
         return []
-    micros = float(found[1].replace("_", "")) * UNITS[found[2].lower()]
-    return [f"in microseconds: {round(micros)}"]
+    return [f"in microseconds: {micros}"]
 
 
 def of_id(value: int | str, bits: int | None) -> list[str]:

@@ -1,13 +1,12 @@
 """The first fault is the program's: on 150 spoiled files, and where the tool knows another one."""
 
-import os
 import shutil
-from unittest import SkipTest
 
 from chordsim_tools.explain import explanations
-from chordsim_tools.explain_program import BUILT, answer_of
+from chordsim_tools.explain_program import answer_of
 
 from .functions import suite_of
+from .programs import program
 from .spoiled import good_world, spoiled
 from .test_explain import WORLD, told
 
@@ -17,14 +16,6 @@ SEEDS = range(150)
 def load_tests(*_: object) -> object:
     """For unittest."""
     return suite_of(globals())
-
-
-def program() -> str:
-    """The program, by CHORDSIM or where it is built; a test that needs it is skipped where there is none."""
-    found = shutil.which(os.environ.get("CHORDSIM") or str(BUILT))
-    if found is None:
-        raise SkipTest("no chordsim: neither CHORDSIM nor crates/chordsim/out/chordsim is there")
-    return found
 
 
 def answer(scenario: bytes, latency: bytes) -> str:
