@@ -1,1 +1,1 @@
-"""A second reading of docs/rules.md and docs/formats.md: slow, plain, and written from the two pages alone."""
+"""What the tools beside chordsim have in common, and the tools themselves."""
