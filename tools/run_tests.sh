@@ -15,4 +15,4 @@ if ! "$python" -c 'import matplotlib, numpy' 2> /dev/null; then
     { apt-get update && apt-get install --yes python3-matplotlib python3-numpy; } > /dev/null 2>&1 ||
         echo "tools: numpy and matplotlib are not there and cannot be installed: plots are not tested" >&2
 fi
-cd "$top" && exec "$python" -m unittest discover --buffer -s tools -t tools
+cd "$top" && exec "$python" -W ignore::ResourceWarning -m unittest discover --buffer -s tools -t tools

@@ -6,7 +6,6 @@ import os
 import sys
 import time
 from collections.abc import Callable
-from contextlib import suppress
 from typing import NoReturn
 
 from chordsim_tools.scenario import Refused
@@ -66,10 +65,13 @@ def ended(status: int, line: str) -> int:
 
 
 def say(text: str) -> None:
-    """Writes to standard error, where there is one."""
-    if sys.stderr is not None:
-        with suppress(OSError):
-            print(text, end="", file=sys.stderr, flush=True)
+    """Writes to standard error, where there is one and it takes something."""
+    if sys.stderr is None:
+        return
+    try:
+        print(text, end="", file=sys.stderr, flush=True)
+    except OSError:
+        os.dup2(os.open(os.devnull, os.O_WRONLY), 2)  # what is left in the buffer goes nowhere when Python ends
 
 
 def put(text: str, name: str | None) -> None:

@@ -167,12 +167,23 @@ def test_changed_study_runs_only_what_is_new() -> None:
         assert call(folder) == (0, "") and runs_called(folder) == 13
 
 
+def heed_interrupts() -> None:
+    """Undoes that whoever started the tests ignores SIGINT, as a shell does for what runs in the background."""
+    signal.signal(signal.SIGINT, signal.SIG_DFL)
+
+
 def test_interrupted_and_gone_on() -> None:
     """SIGINT in the third run, at the tool alone: one line, status 130, no process is left; then it goes on."""
     with study_folder() as folder:
         (folder / "sleep").write_text("list = 2")
         environment = os.environ | {"CHORDSIM": str(folder / "fake")}
-        tool = subprocess.Popen(words_of(folder), env=environment, stderr=subprocess.PIPE, text=True)
+        tool = subprocess.Popen(
+            words_of(folder),
+            env=environment,
+            stderr=subprocess.PIPE,
+            text=True,
+            preexec_fn=heed_interrupts,
+        )
         for _ in range(3000):
             if (folder / "pid").exists() and (folder / "pid").read_text():
                 break
