@@ -53,7 +53,10 @@ fn options_that_are_refused(rt: HostRuntime) -> Result<(), Fail> {
         ("run --serial", ErrorKind::MissingRequiredArgument),
         ("check --scenario a --workers 2", ErrorKind::UnknownArgument),
         ("run --scenario a b", ErrorKind::UnknownArgument),
-        ("run --scenario a --serial --serial", ErrorKind::ArgumentConflict),
+        (
+            "run --scenario a --serial --serial",
+            ErrorKind::ArgumentConflict,
+        ),
         ("run --scenario a --scenario b", ErrorKind::ArgumentConflict),
         ("run --scenario a --workers 0", ErrorKind::ValueValidation),
         ("run --scenario a --workers 65", ErrorKind::ValueValidation),
@@ -218,9 +221,15 @@ fn failed(
 fn faults_of_files(rt: HostRuntime) -> Result<(), Fail> {
     let few = PlayFault::Scenario(ScenarioFault::TooFewInitial);
     for (fault, text) in [
-        (PlayFault::Read(Text::Scenario), "refused: cannot read a.toml"),
+        (
+            PlayFault::Read(Text::Scenario),
+            "refused: cannot read a.toml",
+        ),
         (PlayFault::Read(Text::Latency), "refused: cannot read b.csv"),
-        (PlayFault::TooLong(Text::Scenario), "refused: too long a.toml"),
+        (
+            PlayFault::TooLong(Text::Scenario),
+            "refused: too long a.toml",
+        ),
         (PlayFault::TooLong(Text::Latency), "refused: too long b.csv"),
         (few, "refused: S10 TooFewInitial"),
     ] {
