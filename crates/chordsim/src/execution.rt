@@ -1,5 +1,6 @@
 //! What the program does with an order: opens its files, hands them on, and says how it went.
-ghost use Rattle.std.specs.Prelude.{◌≡◌, ◌⊎◌, false, IfOk};
+ghost use Rattle.std.specs.Prelude.{◌≡◌, ◌⊎◌, false, IfErr, IfOk};
+ghost use Rattle.std.specs.Io.Buffered.{writer_inner};
 ghost use Rattle.std.specs.Process.{exit_status};
 ghost use Rattle.chord_trace.specs.Watched.{has_failed};
 
@@ -10,6 +11,7 @@ use crate::status::conclude;
 use chord_event::RunError;
 use chord_play::{Plan, PlayFault, Text};
 use chord_trace::Watched;
+use std::alloc::Global;
 use std::io::{BufWriter, Read, Write};
 use std::process::ExitCode;
 use std::rt::Files as FileSystem;
@@ -18,34 +20,39 @@ use std::thread::Threads;
 use std::{fs, io};
 
 /// Carries out the order, and answers the status of the program: 0 where all is done, 1 where a file is
-/// refused, 3 where the run failed.
-pub fn carry_out<T: FileSystem + Print + Eprint + AllocGlobal + Threads + Wait + Sync>(
+/// refused, 3 where the run failed. What is printed goes to the console.
+pub fn carry_out<T: FileSystem + AllocGlobal + Threads + Wait + Sync, C: Print + Eprint>(
     rt: &T,
+    console: &C,
     order: Order,
 ) -> ExitCode
     ensures { (exit_status result ≡ 0) ⊎ (exit_status result ≡ 1) ⊎ (exit_status result ≡ 3) }
 {
-    let outcome = perform(rt, &order);
-    conclude(rt, order.files(), outcome)
+    let outcome = perform(rt, console, &order);
+    conclude(console, order.files(), outcome)
 }
 
 /// Carries out the order, and answers why not. The files are opened in this order: the scenario's, the
-/// latency file, and the file of the trace, which is made anew. What is printed goes to standard output.
-pub fn perform<T: FileSystem + Print + AllocGlobal + Threads + Wait + Sync>(
+/// latency file, and the file of the trace, which is made anew. What is printed goes to the console.
+pub fn perform<T: FileSystem + AllocGlobal + Threads + Wait + Sync, C: Print>(
     rt: &T,
+    console: &C,
     order: &Order,
 ) -> Result<(), PlayFault> {
     let (mut scenario, mut latency) = open(rt, order.files())?;
-    let mut output = Watched::new(io::writer(rt));
+    let mut output = Watched::new(io::writer(console));
     match order {
         Order::Check(_) => check(rt.alloc(), &mut scenario, &mut latency, &mut output),
         Order::Ids(_) => ids(rt.alloc(), &mut scenario, &mut latency, &mut output),
         Order::Run { plan, trace, .. } => match trace {
             Some(name) => {
                 let file = or_write_fault(fs::create(rt, name.as_str()))?;
-                run_to(rt, &mut scenario, &mut latency, plan, file)
+                run_to(rt, &mut scenario, &mut latency, plan, file, &mut output)
             }
-            None => run_to(rt, &mut scenario, &mut latency, plan, io::writer(rt)),
+            None => {
+                let trace = io::writer(console);
+                run_to(rt, &mut scenario, &mut latency, plan, trace, &mut output)
+            }
         },
     }
 }
@@ -70,22 +77,28 @@ fn open<T: FileSystem>(rt: &T, files: &Files) -> Result<Texts<T::File>, PlayFaul
     Ok((Watched::new(scenario), Watched::new(latency)))
 }
 
-/// Runs with a buffer in front of the writer of the trace, and the report to standard output. Where the
-/// run fails, the buffer is emptied as it is dropped.
-fn run_to<T: Print + AllocGlobal + Threads + Wait + Sync, R: Read, Q: Read, V: Write + Drop>(
+/// Runs with a buffer in front of the writer of the trace. Where the run fails, the buffer is emptied as it is
+/// dropped.
+fn run_to<T: AllocGlobal + Threads + Wait + Sync, R: Read, Q: Read, V: Write + Drop, W: Write>(
     rt: &T,
     scenario: &mut Watched<R>,
     latency: &mut Watched<Q>,
     plan: &Plan,
     writer: V,
+    output: &mut Watched<W>,
 ) -> Result<(), PlayFault>
     requires scenario_sound { has_failed scenario.old ≡ false }
     requires latency_sound { has_failed latency.old ≡ false }
+    requires output_sound { has_failed output.old ≡ false }
 {
-    let Ok(buffered) = BufWriter::new(rt.alloc(), writer) else {
-        return Err(PlayFault::Run(RunError::Memory));
-    };
-    let mut trace = Watched::new(buffered);
-    let mut output = Watched::new(io::writer(rt));
-    run(rt, scenario, latency, plan, &mut trace, &mut output)
+    let mut trace = Watched::new(buffered(rt.alloc(), writer)?);
+    run(rt, scenario, latency, plan, &mut trace, output)
+}
+
+/// A buffer in front of a writer. It can only be refused for want of memory.
+fn buffered<V: Write + Drop>(alloc: Global, writer: V) -> Result<BufWriter<V>, PlayFault>
+    ensures memory { IfErr result (λ fault. fault ≡ PlayFault.Run RunError.Memory) }
+    ensures inner { IfOk result (λ buffer. writer_inner buffer ≡ writer) }
+{
+    BufWriter::new(alloc, writer).map_err(|_| PlayFault::Run(RunError::Memory))
 }

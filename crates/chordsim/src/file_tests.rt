@@ -86,7 +86,7 @@ fn run_to<T: FileSystem + Print + AllocGlobal + Threads + Wait + Sync>(
     trace: &str,
 ) -> Result<Result<(), PlayFault>, Fail> {
     let trace = Some(String::from_str(rt.alloc(), trace)?);
-    Ok(perform(rt, &Order::Run { files, plan, trace }))
+    Ok(perform(rt, rt, &Order::Run { files, plan, trace }))
 }
 
 /// What the file held before is gone.
@@ -166,17 +166,17 @@ fn a_refused_scenario_leaves_an_empty_trace(rt: HostRuntime) -> Result<(), Fail>
 #[test]
 fn statuses_of_orders(rt: HostRuntime) -> Result<(), Fail> {
     fs::write(&rt, "status.toml", RING)?;
-    let checked = carry_out(&rt, Order::Check(files_of(&rt, "status.toml", None)?));
+    let checked = carry_out(&rt, &rt, Order::Check(files_of(&rt, "status.toml", None)?));
     assert!(rt; checked == ExitCode::SUCCESS);
-    let listed = carry_out(&rt, Order::Ids(files_of(&rt, "status.toml", None)?));
+    let listed = carry_out(&rt, &rt, Order::Ids(files_of(&rt, "status.toml", None)?));
     assert!(rt; listed == ExitCode::SUCCESS);
-    let missing = carry_out(&rt, Order::Check(files_of(&rt, "missing.toml", None)?));
+    let missing = carry_out(&rt, &rt, Order::Check(files_of(&rt, "missing.toml", None)?));
     assert!(rt; missing == ExitCode::from(1));
     let unmade = Order::Run {
         files: files_of(&rt, "status.toml", None)?,
         plan: SERIAL,
         trace: Some(String::from_str(rt.alloc(), "missing/status.trace")?),
     };
-    assert!(rt; carry_out(&rt, unmade) == ExitCode::from(3));
+    assert!(rt; carry_out(&rt, &rt, unmade) == ExitCode::from(3));
     remove(&rt, &["status.toml"])
 }

@@ -1,141 +1,71 @@
-//! A runtime for tests that keeps what is printed.
-use std::alloc::{Alloc, Allocator, Global};
+//! A console for tests that keeps what is printed.
+use std::alloc::Global;
+use std::cell::RefCell;
 use std::fmt::Display;
-use std::fs::{self, Metadata, OpenOptions};
-use std::io::{self, ErrorKind, Write};
-use std::rt::Files as FileSystem;
-use std::sync::Wait;
-use std::test::Fail;
-use std::thread::Threads;
+use std::io::{self, ErrorKind};
 
-/// The host's files, memory and threads; what is printed goes to two files in place of the standard streams.
+/// What was printed on the two standard streams.
 #[derive(Drop)]
-pub struct Heard<'a, R> {
-    rt: &'a R,
-    output: &'a str,
-    error: &'a str,
+pub struct Heard {
+    alloc: Global,
+    output: RefCell<Vec<u8>>,
+    error: RefCell<Vec<u8>>,
     /// Whether standard output refuses all that is written.
     is_closed: bool,
 }
 
-impl<'a, R: FileSystem + AllocGlobal> Heard<'a, R> {
+impl Heard {
     /// Nothing is printed yet.
-    pub fn new(
-        rt: &'a R,
-        output: &'a str,
-        error: &'a str,
-        is_closed: bool,
-    ) -> Result<Heard<'a, R>, Fail> {
-        fs::write(rt, output, "")?;
-        fs::write(rt, error, "")?;
-        Ok(Heard {
-            rt,
-            output,
-            error,
+    pub fn new(alloc: Global, is_closed: bool) -> Heard {
+        Heard {
+            alloc,
+            output: RefCell::new(Vec::new(alloc)),
+            error: RefCell::new(Vec::new(alloc)),
             is_closed,
-        })
+        }
     }
 
-    /// What was printed since the last call, on standard output and on standard error.
-    pub fn take(&self) -> Result<(String, String), Fail> {
-        let output = fs::read_to_string(self.rt, self.output)?;
-        let error = fs::read_to_string(self.rt, self.error)?;
-        fs::write(self.rt, self.output, "")?;
-        fs::write(self.rt, self.error, "")?;
-        Ok((output, error))
-    }
-
-    fn put(&self, stream: &str, bytes: &[u8]) -> io::Result<()> {
-        let mut file = OpenOptions::new().append(true).open(self.rt, stream)?;
-        file.write_all(bytes)
+    /// What stands on standard output and on standard error.
+    pub fn into_texts(self) -> (Vec<u8>, Vec<u8>) {
+        (self.output.into_inner(), self.error.into_inner())
     }
 }
 
-impl<R: Threads> Threads for Heard<'_, R> {}
-
-impl<R: Wait> Wait for Heard<'_, R> {}
-
-impl<R: AllocGlobal> Alloc for Heard<'_, R> {
-    type A = Global;
-
-    fn alloc(&self) -> Global {
-        self.rt.alloc()
-    }
+fn append(stream: &RefCell<Vec<u8>>, bytes: &[u8]) -> io::Result<()> {
+    let Ok(mut printed) = stream.try_borrow_mut() else {
+        return Err(io::Error::from(ErrorKind::Other));
+    };
+    printed.extend_from_slice(bytes)?;
+    Ok(())
 }
 
-impl<R: FileSystem + AllocGlobal> Print for Heard<'_, R> {
-    fn print<D: Display + Drop>(&self, value: D) -> io::Result<()> {
-        let text = format!(in self.rt.alloc(); "{value}")?;
+impl Print for Heard {
+    fn print<D: Display + Drop>(&self, text: D) -> io::Result<()> {
+        let text = format!(in self.alloc; "{text}")?;
         self.write_all(text.as_str().as_bytes())
     }
 
-    fn println<D: Display + Drop>(&self, value: D) -> io::Result<()> {
-        let text = format!(in self.rt.alloc(); "{value}\n")?;
-        self.write_all(text.as_str().as_bytes())
+    fn println<D: Display + Drop>(&self, text: D) -> io::Result<()> {
+        self.print(text)?;
+        self.write_all(b"\n")
     }
 
     fn write_all(&self, bytes: &[u8]) -> io::Result<()> {
         if self.is_closed {
             return Err(io::Error::from(ErrorKind::BrokenPipe));
         }
-        self.put(self.output, bytes)
+        append(&self.output, bytes)
     }
 }
 
-impl<R: FileSystem + AllocGlobal> Eprint for Heard<'_, R> {
-    fn eprint<D: Display + Drop>(&self, value: D) -> io::Result<()> {
-        let text = format!(in self.rt.alloc(); "{value}")?;
-        self.put(self.error, text.as_str().as_bytes())
+impl Eprint for Heard {
+    fn eprint<D: Display + Drop>(&self, text: D) -> io::Result<()> {
+        let text = format!(in self.alloc; "{text}")?;
+        append(&self.error, text.as_str().as_bytes())
     }
 
-    fn eprintln<D: Display + Drop>(&self, value: D) -> io::Result<()> {
-        let text = format!(in self.rt.alloc(); "{value}\n")?;
-        self.put(self.error, text.as_str().as_bytes())
-    }
-}
-
-impl<R: FileSystem> FileSystem for Heard<'_, R> {
-    type File = R::File;
-
-    type Dir = R::Dir;
-
-    fn open_file(&self, how: &OpenOptions, path: &str) -> io::Result<Self::File> {
-        self.rt.open_file(how, path)
-    }
-
-    fn open_dir(&self, path: &str) -> io::Result<Self::Dir> {
-        self.rt.open_dir(path)
-    }
-
-    fn metadata(&self, path: &str) -> io::Result<Metadata> {
-        self.rt.metadata(path)
-    }
-
-    fn symlink_metadata(&self, path: &str) -> io::Result<Metadata> {
-        self.rt.symlink_metadata(path)
-    }
-
-    fn copy(&self, from: &str, to: &str) -> io::Result<u64> {
-        self.rt.copy(from, to)
-    }
-
-    fn rename(&self, from: &str, to: &str) -> io::Result<()> {
-        self.rt.rename(from, to)
-    }
-
-    fn remove_file(&self, path: &str) -> io::Result<()> {
-        self.rt.remove_file(path)
-    }
-
-    fn create_dir(&self, path: &str) -> io::Result<()> {
-        self.rt.create_dir(path)
-    }
-
-    fn remove_dir(&self, path: &str) -> io::Result<()> {
-        self.rt.remove_dir(path)
-    }
-
-    fn remove_dir_all<B: Allocator>(&self, alloc: B, path: &str) -> io::Result<()> {
-        self.rt.remove_dir_all(alloc, path)
+    fn eprintln<D: Display + Drop>(&self, text: D) -> io::Result<()> {
+        self.eprint(text)?;
+        append(&self.error, b"\n")
     }
 }

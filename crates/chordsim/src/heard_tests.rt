@@ -3,10 +3,11 @@ use crate::file_tests::{RING, SERIAL, TRACE, files_of, remove};
 use crate::heard::Heard;
 use crate::order::Order;
 use crate::status::refuse;
-use crate::words::{WordFault, read_words};
+use crate::tests::read;
+use crate::words::WordFault;
+use std::alloc::Global;
 use std::fs;
 use std::process::{Abort, ExitCode};
-use std::rt::Files as FileSystem;
 use std::test::Fail;
 
 /// The report of the ring of three: the command, the request, its reply and its timeout are its events.
@@ -36,16 +37,16 @@ unordered 0
 insufficient 0
 "#;
 
-/// Asserts what was printed on the two streams since the last call, and the status of the program.
-fn told<R: FileSystem + AllocGlobal>(
-    rt: &impl Abort,
-    heard: &Heard<'_, R>,
+/// Asserts what was printed on the two streams, and the status of the program.
+fn told(
+    rt: &(impl AllocGlobal + Abort),
+    heard: Heard,
     status: ExitCode,
     wanted: u8,
     output: &str,
     error: &str,
 ) -> Result<(), Fail> {
-    let (said, complained) = heard.take()?;
+    let (said, complained) = texts(rt.alloc(), heard)?;
     assert!(rt; said.as_str() == output, "standard output: {said}");
     assert!(rt;
         complained.as_str() == error,
@@ -53,6 +54,14 @@ fn told<R: FileSystem + AllocGlobal>(
     );
     assert!(rt; status == ExitCode::from(wanted), "{error}");
     Ok(())
+}
+
+/// What was printed on the two streams.
+fn texts(alloc: Global, heard: Heard) -> Result<(String, String), Fail> {
+    let (output, error) = heard.into_texts();
+    let said = String::from_utf8_lossy(alloc, output.as_slice())?;
+    let complained = String::from_utf8_lossy(alloc, error.as_slice())?;
+    Ok((said, complained))
 }
 
 fn check(rt: &impl AllocGlobal, scenario: &str) -> Result<Order, Fail> {
@@ -78,75 +87,72 @@ fn run(rt: &impl AllocGlobal, scenario: &str, trace: Option<&str>) -> Result<Ord
 #[test]
 fn orders_that_are_carried_out(rt: HostRuntime) -> Result<(), Fail> {
     fs::write(&rt, "said.toml", RING)?;
-    let heard = Heard::new(&rt, "said.out", "said.err", false)?;
-    let checked = "ok nodes=3 commands=1\n";
-    let status = carry_out(&heard, check(&rt, "said.toml")?);
-    told(&rt, &heard, status, 0, checked, "")?;
-    let listed = "n0 0\nn1 1\nn3 3\n";
-    let status = carry_out(&heard, ids(&rt, "said.toml")?);
-    told(&rt, &heard, status, 0, listed, "")?;
     let both = format!(in rt.alloc(); "{TRACE}{REPORT}")?;
-    let status = carry_out(&heard, run(&rt, "said.toml", None)?);
-    told(&rt, &heard, status, 0, both.as_str(), "")?;
-    let status = carry_out(&heard, run(&rt, "said.toml", Some("said.trace"))?);
-    told(&rt, &heard, status, 0, REPORT, "")?;
+    for (order, output) in [
+        (check(&rt, "said.toml")?, "ok nodes=3 commands=1\n"),
+        (ids(&rt, "said.toml")?, "n0 0\nn1 1\nn3 3\n"),
+        (run(&rt, "said.toml", None)?, both.as_str()),
+        (run(&rt, "said.toml", Some("said.trace"))?, REPORT),
+    ] {
+        let heard = Heard::new(rt.alloc(), false);
+        let status = carry_out(&rt, &heard, order);
+        told(&rt, heard, status, 0, output, "")?;
+    }
     let trace = fs::read_to_string(&rt, "said.trace")?;
     assert!(rt; trace.as_str() == TRACE, "{trace}");
-    drop(heard);
-    remove(&rt, &["said.toml", "said.trace", "said.out", "said.err"])
+    remove(&rt, &["said.toml", "said.trace"])
 }
 
 #[test]
 fn orders_that_are_refused(rt: HostRuntime) -> Result<(), Fail> {
-    let heard = Heard::new(&rt, "refused.out", "refused.err", false)?;
     for order in [
         check(&rt, "no.toml")?,
         ids(&rt, "no.toml")?,
         run(&rt, "no.toml", None)?,
     ] {
-        let status = carry_out(&heard, order);
-        told(&rt, &heard, status, 1, "", "refused: cannot read no.toml\n")?;
+        let heard = Heard::new(rt.alloc(), false);
+        let status = carry_out(&rt, &heard, order);
+        told(&rt, heard, status, 1, "", "refused: cannot read no.toml\n")?;
     }
-    drop(heard);
-    remove(&rt, &["refused.out", "refused.err"])
+    Ok(())
 }
 
-/// Nothing goes to an output that is closed, and no more than its beginning to a disk that is full. Where
-/// the run itself fails, that is what is told.
+/// Nothing goes to an output that is closed.
 #[test]
-fn outputs_that_fail(rt: HostRuntime) -> Result<(), Fail> {
+fn outputs_that_are_closed(rt: HostRuntime) -> Result<(), Fail> {
     fs::write(&rt, "lost.toml", RING)?;
-    let closed = Heard::new(&rt, "lost.out", "lost.err", true)?;
     for order in [
         check(&rt, "lost.toml")?,
         ids(&rt, "lost.toml")?,
         run(&rt, "lost.toml", None)?,
         run(&rt, "lost.toml", Some("lost.trace"))?,
     ] {
-        let status = carry_out(&closed, order);
-        told(&rt, &closed, status, 3, "", "failed: 4 Write\n")?;
+        let closed = Heard::new(rt.alloc(), true);
+        let status = carry_out(&rt, &closed, order);
+        told(&rt, closed, status, 3, "", "failed: 4 Write\n")?;
     }
-    drop(closed);
-    let heard = Heard::new(&rt, "lost.out", "lost.err", false)?;
-    let full = run(&rt, "lost.toml", Some("/dev/full"))?;
-    let status = carry_out(&heard, full);
-    told(&rt, &heard, status, 3, "", "failed: 4 Write\n")?;
+    remove(&rt, &["lost.toml", "lost.trace"])
+}
+
+/// A disk that is full fails the run. Where the run itself fails, that is what is told.
+#[test]
+fn disks_that_are_full(rt: HostRuntime) -> Result<(), Fail> {
     let limited = format!(in rt.alloc(); "max_events = 1\n{RING}")?;
-    fs::write(&rt, "lost.toml", limited.as_str())?;
-    let over = run(&rt, "lost.toml", Some("/dev/full"))?;
-    let status = carry_out(&heard, over);
-    told(&rt, &heard, status, 3, "", "failed: 3 TooManyEvents\n")?;
-    drop(heard);
-    remove(&rt, &["lost.toml", "lost.trace", "lost.out", "lost.err"])
+    for (text, error) in [
+        (RING, "failed: 4 Write\n"),
+        (limited.as_str(), "failed: 3 TooManyEvents\n"),
+    ] {
+        fs::write(&rt, "full.toml", text)?;
+        let heard = Heard::new(rt.alloc(), false);
+        let status = carry_out(&rt, &heard, run(&rt, "full.toml", Some("/dev/full"))?);
+        told(&rt, heard, status, 3, "", error)?;
+    }
+    remove(&rt, &["full.toml"])
 }
 
 /// What the words of this line are refused with.
 fn refusal(rt: &(impl AllocGlobal + Abort), line: &str) -> Result<WordFault, Fail> {
-    let mut words = Vec::new(rt.alloc());
-    for word in line.split(' ') {
-        words.push(String::from_str(rt.alloc(), word)?)?;
-    }
-    match read_words(rt.alloc(), words) {
+    match read(rt, line)? {
         Ok(_) => {
             assert!(rt; false, "taken: {line}");
             Ok(WordFault::Memory)
@@ -156,19 +162,15 @@ fn refusal(rt: &(impl AllocGlobal + Abort), line: &str) -> Result<WordFault, Fai
 }
 
 #[test]
-fn words_that_are_refused(rt: HostRuntime) -> Result<(), Fail> {
-    let heard = Heard::new(&rt, "words.out", "words.err", false)?;
-    let status = refuse(&heard, WordFault::Memory);
-    let (said, complained) = heard.take()?;
-    assert!(rt; status == ExitCode::from(3) && said.is_empty());
-    assert!(rt; complained.as_str() == "failed: 1 Memory\n", "{complained}");
-    let status = refuse(&heard, WordFault::NotText);
-    let (said, complained) = heard.take()?;
-    assert!(rt; status == ExitCode::from(2) && said.is_empty());
-    assert!(rt;
-        complained.as_str() == "a word is no UTF-8 text\n",
-        "{complained}"
-    );
+fn words_that_are_no_order(rt: HostRuntime) -> Result<(), Fail> {
+    for (fault, wanted, error) in [
+        (WordFault::Memory, 3, "failed: 1 Memory\n"),
+        (WordFault::NotText, 2, "a word is no UTF-8 text\n"),
+    ] {
+        let heard = Heard::new(rt.alloc(), false);
+        let status = refuse(&heard, fault);
+        told(&rt, heard, status, wanted, "", error)?;
+    }
     for (line, part) in [
         ("chordsim --help", "\n  check "),
         ("chordsim --help", "\n  ids "),
@@ -179,11 +181,11 @@ fn words_that_are_refused(rt: HostRuntime) -> Result<(), Fail> {
         ("chordsim run --help", "what it held is lost"),
         ("chordsim", "requires a subcommand but one was not provided"),
     ] {
+        let heard = Heard::new(rt.alloc(), false);
         let status = refuse(&heard, refusal(&rt, line)?);
-        let (said, complained) = heard.take()?;
+        let (said, complained) = texts(rt.alloc(), heard)?;
         assert!(rt; status == ExitCode::from(2) && said.is_empty(), "{line}");
         assert!(rt; complained.contains(part), "{line}: {complained}");
     }
-    drop(heard);
-    remove(&rt, &["words.out", "words.err"])
+    Ok(())
 }

@@ -24,7 +24,7 @@ use std::process::ExitCode;
 
 fn main(rt: HostRuntime) -> ExitCode {
     match process::read_process(&rt) {
-        Ok(order) => execution::carry_out(&rt, order),
+        Ok(order) => execution::carry_out(&rt, &rt, order),
         Err(fault) => status::refuse(&rt, fault),
     }
 }

@@ -10,7 +10,7 @@ use std::process::Abort;
 use std::test::Fail;
 
 /// What the words of this line give.
-fn read(rt: &(impl AllocGlobal + Abort), line: &str) -> Result<Result<Order, WordFault>, Fail> {
+pub fn read(rt: &(impl AllocGlobal + Abort), line: &str) -> Result<Result<Order, WordFault>, Fail> {
     let alloc = rt.alloc();
     let mut words = Vec::new(alloc);
     for word in line.split(' ') {
