@@ -12,7 +12,10 @@ use Rattle.chord_play.specs.Texts.{Gives}
 use Rattle.chord_scenario.specs.declared.scenario.Scenario.{Scenario}
 use Rattle.chord_scenario.specs.World.{ident_of, name_of as node_name, node_count}
 use Rattle.chord_trace.specs.ReportText.{report_text}
+use Rattle.chord_trace.specs.Writing.{AppendsFront}
 use Rattle.chord_trace.specs.declared.report.Report.{Report}
+use Rattle.chordsim.specs.declared.answers.Question.{Question}
+use Rattle.chordsim.specs.declared.answers.Question.TheVariants as question
 use Rattle.chordsim.specs.declared.order.Files.{Files}
 use Rattle.chordsim.specs.declared.order.Order.{Order}
 use Rattle.chordsim.specs.declared.order.Order.TheVariants as order
@@ -33,11 +36,22 @@ ident_line sc node = node_name sc node ++ codes " " ++ decimal (ident_of sc node
 abbrev pub ids_text : Scenario → List ℕ
 ids_text sc = flat_map (ident_line sc) (range_with_len 0 (node_count sc))
 
+-- what is said of a scenario
+abbrev pub told : Question → Scenario → List ℕ
+told question.Counts = check_text
+told question.Idents = ids_text
+
 -- the text of the scenario that the two files give went out
 pub record IsAnswered (text : Scenario → List ℕ) (scenario latency old new : Option (List ℕ)) : Type 0 where
   pub setup : Scenario
   pub given : Gives scenario latency setup
   pub out : Appends old new (text setup)
+
+-- its first bytes went out
+pub record HasAnswered (text : Scenario → List ℕ) (scenario latency old new : Option (List ℕ)) : Type 0 where
+  pub setup : Scenario
+  pub given : Gives scenario latency setup
+  pub front : AppendsFront old new (text setup)
 
 -- the report of the scenario that the two files give went out
 pub record IsReported (scenario latency old new : Option (List ℕ)) : Type 0 where
@@ -46,6 +60,14 @@ pub record IsReported (scenario latency old new : Option (List ℕ)) : Type 0 wh
   pub report : Report
   pub right : IsReport setup report
   pub out : Appends old new (report_text report)
+
+-- its first bytes went out
+pub record HasReported (scenario latency old new : Option (List ℕ)) : Type 0 where
+  pub setup : Scenario
+  pub given : Gives scenario latency setup
+  pub report : Report
+  pub right : IsReport setup report
+  pub front : AppendsFront old new (report_text report)
 
 -- What an order that is not carried out ends with
 

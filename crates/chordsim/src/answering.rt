@@ -1,11 +1,14 @@
-//! The three commands, from the readers of their files to the writers of what they print.
-ghost use Rattle.std.specs.Prelude.{◌≡◌, false, true, Err, Ok, IfErr, IfOk, OnOk};
+//! The commands, from the readers of their files to the writers of what they print.
+ghost use Rattle.std.specs.Io.KnownBytes.{Keeps};
+ghost use Rattle.std.specs.Prelude.{◌≡◌, ◌⊎◌, false, true, Err, Ok, IfErr, IfOk, OnOk};
 ghost use Rattle.chord_machine.specs.Run.{trace_text};
 ghost use Rattle.chord_play.specs.Faults.{is_of_run};
+ghost use Rattle.chord_play.specs.Played.{HasBegun, IsOver};
 ghost use Rattle.chord_trace.specs.Watched.{wrapped, has_failed};
-ghost use Rattle.chordsim.specs.Answers.{IsAnswered, IsReported, check_text, ids_text};
+ghost use Rattle.chordsim.specs.Answers.{HasAnswered, HasReported, IsAnswered, IsReported, told};
+ghost use Rattle.chordsim.specs.Readings.{IsFaultOf, reading};
 
-use crate::answers::{check_answer, ids_answer};
+use crate::answers::{Question, answer};
 use chord_event::RunError;
 use chord_play::{Plan, PlayFault, load, play};
 use chord_trace::{Watched, write_text};
@@ -14,9 +17,10 @@ use std::io::{self, Read, Write};
 use std::sync::Wait;
 use std::thread::Threads;
 
-/// Reads the two files, and prints how many nodes and commands their scenario has.
-pub fn check<R: Read, Q: Read, W: Write>(
+/// Reads the two files, and prints the answer to a question about their scenario.
+pub fn tell<R: Read, Q: Read, W: Write>(
     alloc: Global,
+    question: Question,
     scenario: &mut Watched<R>,
     latency: &mut Watched<Q>,
     output: &mut Watched<W>,
@@ -24,35 +28,18 @@ pub fn check<R: Read, Q: Read, W: Write>(
     requires scenario_sound { has_failed scenario.old ≡ false }
     requires latency_sound { has_failed latency.old ≡ false }
     requires output_sound { has_failed output.old ≡ false }
-    ensures answered { OnOk result (IsAnswered check_text (R.remaining (wrapped scenario.old)) (Q.remaining (wrapped latency.old)) (W.contents (wrapped output.old)) (W.contents (wrapped output.new))) }
+    ensures answered { OnOk result (IsAnswered (told question) (R.remaining (wrapped scenario.old)) (Q.remaining (wrapped latency.old)) (W.contents (wrapped output.old)) (W.contents (wrapped output.new))) }
+    ensures beginning { (output.new ≡ output.old) ⊎ HasAnswered (told question) (R.remaining (wrapped scenario.old)) (Q.remaining (wrapped latency.old)) (W.contents (wrapped output.old)) (W.contents (wrapped output.new)) }
+    ensures faults { IfErr result (IsFaultOf (reading R.remaining scenario.old scenario.new) (reading Q.remaining latency.old latency.new)) }
     ensures refused { IfErr result (λ e. is_of_run e ≡ false → output.new ≡ output.old) }
     ensures sound { OnOk result (has_failed output.new ≡ false) }
     ensures failed { result ≡ Err (PlayFault.Run RunError.Write) → has_failed output.new ≡ true }
+    ensures memory { result ≡ Err (PlayFault.Run RunError.Memory) → output.new ≡ output.old }
+    ensures only { (e : RunError) → result ≡ Err (PlayFault.Run e) → (e ≡ RunError.Memory) ⊎ (e ≡ RunError.Write) }
 {
     let scenario = load(alloc, scenario, latency)?;
-    let answer = check_answer(alloc, &scenario)?;
-    write_text(answer.as_bytes(), output)?;
-    Ok(())
-}
-
-/// Reads the two files, and prints the name and the identifier of each node of their scenario.
-pub fn ids<R: Read, Q: Read, W: Write>(
-    alloc: Global,
-    scenario: &mut Watched<R>,
-    latency: &mut Watched<Q>,
-    output: &mut Watched<W>,
-) -> Result<(), PlayFault>
-    requires scenario_sound { has_failed scenario.old ≡ false }
-    requires latency_sound { has_failed latency.old ≡ false }
-    requires output_sound { has_failed output.old ≡ false }
-    ensures answered { OnOk result (IsAnswered ids_text (R.remaining (wrapped scenario.old)) (Q.remaining (wrapped latency.old)) (W.contents (wrapped output.old)) (W.contents (wrapped output.new))) }
-    ensures refused { IfErr result (λ e. is_of_run e ≡ false → output.new ≡ output.old) }
-    ensures sound { OnOk result (has_failed output.new ≡ false) }
-    ensures failed { result ≡ Err (PlayFault.Run RunError.Write) → has_failed output.new ≡ true }
-{
-    let scenario = load(alloc, scenario, latency)?;
-    let answer = ids_answer(alloc, &scenario)?;
-    write_text(answer.as_bytes(), output)?;
+    let text = answer(alloc, question, &scenario)?;
+    write_text(text.as_bytes(), output)?;
     Ok(())
 }
 
@@ -72,9 +59,17 @@ pub fn run<T: AllocGlobal + Threads + Wait + Sync, R: Read, Q: Read, V: Write, W
     requires output_sound { has_failed output.old ≡ false }
     ensures traced { OnOk result (IsAnswered trace_text (R.remaining (wrapped scenario.old)) (Q.remaining (wrapped latency.old)) (V.contents (wrapped trace.old)) (V.contents (wrapped trace.new))) }
     ensures reported { OnOk result (IsReported (R.remaining (wrapped scenario.old)) (Q.remaining (wrapped latency.old)) (W.contents (wrapped output.old)) (W.contents (wrapped output.new))) }
+    ensures beginning { Keeps (V.contents (wrapped trace.old)) (V.contents (wrapped trace.new)) ⊎ HasBegun (R.remaining (wrapped scenario.old)) (Q.remaining (wrapped latency.old)) (V.contents (wrapped trace.old)) (V.contents (wrapped trace.new)) }
+    ensures report_beginning { (output.new ≡ output.old) ⊎ HasReported (R.remaining (wrapped scenario.old)) (Q.remaining (wrapped latency.old)) (W.contents (wrapped output.old)) (W.contents (wrapped output.new)) }
+    ensures faults { IfErr result (IsFaultOf (reading R.remaining scenario.old scenario.new) (reading Q.remaining latency.old latency.new)) }
     ensures refused { IfErr result (λ e. is_of_run e ≡ false → (trace.new ≡ trace.old) × (output.new ≡ output.old)) }
     ensures trace_sound { OnOk result (has_failed trace.new ≡ false) }
     ensures output_sound { OnOk result (has_failed output.new ≡ false) }
+    ensures over { result ≡ Err (PlayFault.Run RunError.TooManyEvents) → IsOver (R.remaining (wrapped scenario.old)) (Q.remaining (wrapped latency.old)) }
+    ensures failed { result ≡ Err (PlayFault.Run RunError.Write) → (has_failed trace.new ≡ true) ⊎ (has_failed output.new ≡ true) }
+    ensures memory { result ≡ Err (PlayFault.Run RunError.Memory) → (has_failed trace.new ≡ false) × (has_failed output.new ≡ false) }
+    ensures worker { result ≡ Err (PlayFault.Run RunError.Worker) → plan.now.serial ≡ false }
+    ensures only { (e : RunError) → result ≡ Err (PlayFault.Run e) → (e ≡ RunError.Memory) ⊎ (e ≡ RunError.Worker) ⊎ (e ≡ RunError.TooManyEvents) ⊎ (e ≡ RunError.Write) }
 {
     let report = play(rt, rt.alloc(), scenario, latency, plan, trace)?;
     or_write_fault(trace.flush())?;

@@ -1,13 +1,32 @@
 //! What `check` and `ids` print.
 ghost use Rattle.std.specs.Prelude.{◌≡◌, ◌++◌, ◌<◌, ℕ, IfOk, OnOk, string_bytes};
 ghost use Rattle.chord_scenario.specs.World.{node_count};
-ghost use Rattle.chordsim.specs.Answers.{check_text, ident_line, ids_text};
+ghost use Rattle.chordsim.specs.Answers.{check_text, ident_line, ids_text, told};
 
 use chord_scenario::Scenario;
 use std::alloc::{AllocError, Global};
 
+/// What is asked of an accepted scenario.
+#[derive(Clone, Copy, Debug, PartialEq, Eq, Drop)]
+pub enum Question {
+    /// How many nodes and commands it has (`check`).
+    Counts,
+    /// The name and the identifier of each node (`ids`).
+    Idents,
+}
+
+/// The answer to a question.
+pub fn answer(alloc: Global, question: Question, scenario: &Scenario) -> Result<String, AllocError>
+    ensures { IfOk result (λ answer. string_bytes answer ≡ told question scenario.now) }
+{
+    match question {
+        Question::Counts => check_answer(alloc, scenario),
+        Question::Idents => ids_answer(alloc, scenario),
+    }
+}
+
 /// How many nodes and commands an accepted scenario has.
-pub fn check_answer(alloc: Global, scenario: &Scenario) -> Result<String, AllocError>
+fn check_answer(alloc: Global, scenario: &Scenario) -> Result<String, AllocError>
     ensures { IfOk result (λ answer. string_bytes answer ≡ check_text scenario.now) }
 {
     let nodes = scenario.nodes();
@@ -18,7 +37,7 @@ pub fn check_answer(alloc: Global, scenario: &Scenario) -> Result<String, AllocE
 }
 
 /// The name and the identifier of each node, in decimal, in the order of the file.
-pub fn ids_answer(alloc: Global, scenario: &Scenario) -> Result<String, AllocError>
+fn ids_answer(alloc: Global, scenario: &Scenario) -> Result<String, AllocError>
     ensures { IfOk result (λ answer. string_bytes answer ≡ ids_text scenario.now) }
 {
     let mut answer = String::new(alloc);

@@ -4,7 +4,8 @@ ghost use Rattle.std.specs.Io.Buffered.{writer_inner};
 ghost use Rattle.std.specs.Process.{exit_status};
 ghost use Rattle.chord_trace.specs.Watched.{has_failed};
 
-use crate::answering::{check, ids, or_write_fault, run};
+use crate::answering::{or_write_fault, run, tell};
+use crate::answers::Question;
 use crate::latency_file::LatencyFile;
 use crate::order::{Files, Order};
 use crate::status::conclude;
@@ -42,8 +43,14 @@ pub fn perform<T: FileSystem + AllocGlobal + Threads + Wait + Sync, C: Print>(
     let (mut scenario, mut latency) = open(rt, order.files())?;
     let mut output = Watched::new(io::writer(console));
     match order {
-        Order::Check(_) => check(rt.alloc(), &mut scenario, &mut latency, &mut output),
-        Order::Ids(_) => ids(rt.alloc(), &mut scenario, &mut latency, &mut output),
+        Order::Check(_) => {
+            let asked = Question::Counts;
+            tell(rt.alloc(), asked, &mut scenario, &mut latency, &mut output)
+        }
+        Order::Ids(_) => {
+            let asked = Question::Idents;
+            tell(rt.alloc(), asked, &mut scenario, &mut latency, &mut output)
+        }
         Order::Run { plan, trace, .. } => match trace {
             Some(name) => {
                 let file = or_write_fault(fs::create(rt, name.as_str()))?;

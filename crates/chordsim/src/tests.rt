@@ -1,4 +1,4 @@
-use crate::answers::{check_answer, ids_answer};
+use crate::answers::{Question, answer};
 use crate::failure::Failure;
 use crate::order::{Files, Order};
 use crate::words::{WordFault, read_words};
@@ -189,9 +189,9 @@ fn answers(rt: HostRuntime) -> Result<(), Fail> {
         assert!(rt; false, "the scenario is refused");
         return Ok(());
     };
-    let checked = check_answer(rt.alloc(), &scenario)?;
+    let checked = answer(rt.alloc(), Question::Counts, &scenario)?;
     assert!(rt; checked.as_str() == "ok nodes=3 commands=1\n", "{checked}");
-    let ids = ids_answer(rt.alloc(), &scenario)?;
+    let ids = answer(rt.alloc(), Question::Idents, &scenario)?;
     assert!(rt; ids.as_str() == "n0 255\na 134\nc 132\n", "{ids}");
     Ok(())
 }
