@@ -26,11 +26,7 @@ use Rattle.std.proofs.Common.{
 }
 use Rattle.std.proofs.lemmas.Option.{none-some}
 use Rattle.std.specs.Io.KnownBytes.{Appends}
-use Rattle.std.specs.List.{All}
-use Rattle.std.specs.List.Sorted.{IsPermutation}
-use Rattle.std.proofs.lemmas.List.{length-set}
 use Rattle.std.proofs.lemmas.List.Sorted.{IsPermutation-sym, length_permutation}
-use Rattle.chord_audit.specs.Audit.{audit_facts}
 use Rattle.std.proofs.KnownBytes.{Appends-nil, Appends-trans}
 use Rattle.chord_event.specs.declared.body.Body.{Body}
 use Rattle.chord_event.specs.declared.event.Event.{Event}
@@ -60,22 +56,21 @@ use Rattle.chord_trace.specs.Writing.{AppendsFront}
 use Rattle.chord_window.specs.declared.engine.Engine.{Engine}
 use Rattle.chord_window.specs.declared.opening.Opening.{Opening}
 use Rattle.chord_window.specs.Engine.{IsAt}
-use Rattle.chord_window.specs.Tallies.{AreTalliesOf, share_of, shares_to}
+use Rattle.chord_window.specs.Tallies.{AreTalliesOf, HaveTallied, shares_to}
 use Rattle.chord_window.specs.Worlds.{IsWorldOf}
 use Rattle.chord_window.proofs.EngineCourse.{few_audits, middle_tallied}
-use Rattle.chord_window.proofs.Shares.{inside_parts, shares_are_all, with_audits}
 
 module _ (sc : Scenario) (ranges : IsInRange sc) where
   pub start_at : (now : Option (List ℕ)) (e : Engine) → IsWorldOf sc e.world → e.world.count ≡ 0 → e.clock ≡ audit_times sc
-      → length e.tallies.items ≡ e.world.division.parts → AreTalliesOf (λ part. []) e.tallies.items → IsAt sc now now e
-  start_at now e world count_is clock_is each none_tallied =
+      → e.world.division.parts ≤ length e.tallies.items → HaveTallied [] e.tallies.items → IsAt sc now now e
+  start_at now e world count_is clock_is each nothing =
       let none : history (chord sc) e.world.count ≡ [] = ap (history (chord sc)) count_is in
       record {
         world = world;
         audits = clock_is ∙ sym (audits_at_start sc ranges) ∙ ap (open_audits (chord sc)) (sym none);
         written = subst (λ h. Appends now now (pieces_text sc (output (chord sc) h))) (sym none) (Appends-nil now);
         each = each;
-        tallied = subst (λ h. AreTalliesOf (share_of e.world.division (output (chord sc) h)) e.tallies.items) (sym none) none_tallied;
+        tallied = subst (λ h. HaveTallied (output (chord sc) h) e.tallies.items) (sym none) nothing;
         room = omega (arith, ap (λ h. length (output (chord sc) h)) none, ap length clock_is, audits-few sc ranges, count_is);
       }
 
@@ -118,30 +113,18 @@ module _ (sc : Scenario) (ranges : IsInRange sc) where
         (subst (λ text. Appends old x text) (sym (texts-append sc (output (chord sc) (past)) rest))
         (Appends-trans old now x (pieces_text sc (output (chord sc) (past))) (pieces_text sc rest) at.written adds.written))
 
-    module _ (some : 0 < e.world.division.parts) (below : All (λ p. p < e.world.division.parts) e.world.division.of_node) (before after : Tally)
-        (first_is : before ≡ get_or e.tallies.items 0 before)
+    module _ (some : 0 < e.world.division.parts) (before after : Tally) (first_is : before ≡ get_or e.tallies.items 0 before)
         (adds : (earlier : List Piece) → IsTallyOf earlier before → IsTallyOf (earlier ++ rest) after) where
-      -- the tallies have the shares of the whole trace
-      pub whole_trace_shared : AreTalliesOf (share_of e.world.division (whole_trace sc)) (set e.tallies.items 0 after)
-      whole_trace_shared part t l = subst (λ ps. IsTallyOf ps (get_or (set e.tallies.items 0 after) part t))
-          (with_audits e.world.division (audit_facts sc (state (chord sc) past)) (output (chord sc) past) (due sc.duration e.clock) part
-          ∙ ap (λ ps. share_of e.world.division ps part) trace_is)
-          (middle_tallied at rest before after first_is adds part t l)
+      pub whole_trace_tallied : HaveTallied (whole_trace sc) (set e.tallies.items 0 after)
+      whole_trace_tallied = subst (λ ps. HaveTallied ps (set e.tallies.items 0 after)) trace_is (middle_tallied at some rest before after first_is adds)
 
-      abbrev many : ℕ
-      many = length (set e.tallies.items 0 after)
+      abbrev all_shares : List Piece
+      all_shares = shares_to whole_trace_tallied.share (length (set e.tallies.items 0 after))
 
-      -- which are all its pieces
-      all_shares : IsPermutation (whole_trace sc) (shares_to (share_of e.world.division (whole_trace sc)) many)
-      all_shares = subst (λ n. IsPermutation (whole_trace sc) (shares_to (share_of e.world.division (whole_trace sc)) n))
-          (sym (length-set e.tallies.items 0 after ∙ at.each))
-          (shares_are_all e.world.division (whole_trace sc) e.world.division.parts (inside_parts e.world.division some below))
-
-      pub shares_fit : (left : ℕ) → taken after + left ≡ taken before + length e.clock
-          → length (shares_to (share_of e.world.division (whole_trace sc)) many) ≤ 2 ^ 40
+      pub shares_fit : (left : ℕ) → taken after + left ≡ taken before + length e.clock → length all_shares ≤ 2 ^ 40
       shares_fit left size = omega (
         arith,
-        length_permutation (whole_trace sc) (shares_to (share_of e.world.division (whole_trace sc)) many) all_shares,
+        length_permutation (whole_trace sc) all_shares whole_trace_tallied.all,
         ap length (sym trace_is),
         length-append (output (chord sc) past) rest,
         few_audits at some rest before after first_is adds left size,
@@ -151,12 +134,11 @@ module _ (sc : Scenario) (ranges : IsInRange sc) where
       )
 
       pub whole_trace_reported : (joined : Tally) (report : Report) → ((share : ℕ → List Piece) → AreTalliesOf share (set e.tallies.items 0 after)
-          → IsTallyOf (shares_to share many) joined)
+          → IsTallyOf (shares_to share (length (set e.tallies.items 0 after))) joined)
           → ((pieces : List Piece) → IsTallyOf pieces joined → IsReportOf pieces report) → IsReportOf (whole_trace sc) report
       whole_trace_reported joined report joins reports =
-          let share = share_of e.world.division (whole_trace sc) in
-          reordered (shares_to share many) (whole_trace sc) report (IsPermutation-sym (whole_trace sc) (shares_to share many) all_shares)
-          (reports (shares_to share many) (joins share whole_trace_shared))
+          reordered all_shares (whole_trace sc) report (IsPermutation-sym (whole_trace sc) all_shares whole_trace_tallied.all)
+          (reports all_shares (joins whole_trace_tallied.share whole_trace_tallied.each))
 
     pub begin_end : (x : Option (List ℕ)) → AppendsFront now x (pieces_text sc rest) → IsBeginning sc old x
     begin_end x front = (

@@ -9,7 +9,6 @@ use Rattle.std.proofs.Common.{
   ◌<◌,
   ◌≤◌,
   ◌^◌,
-  ◌==◌,
   List,
   [],
   ◌∷◌,
@@ -32,12 +31,11 @@ use Rattle.std.proofs.Common.{
   ⊎_elim,
 }
 use Rattle.std.proofs.lemmas.List.{length-map, length-reverse, length-set}
-use Rattle.std.proofs.lemmas.List.Sums.{length-filter, count_by-le-length}
 use Rattle.std.specs.Prelude.{nat_lt}
 use Rattle.std.specs.Io.KnownBytes.{Appends}
 use Rattle.std.specs.List.{All, Contains, cons_option, filter, flat_map}
 use Rattle.std.proofs.KnownBytes.{Appends-trans}
-use Rattle.chord_audit.specs.Audit.{AreStates, audit_facts}
+use Rattle.chord_audit.specs.Audit.{AreStates}
 use Rattle.chord_event.specs.declared.block.Block.{Block}
 use Rattle.chord_event.specs.declared.body.Body.{Body}
 use Rattle.chord_event.specs.declared.event.Event.{Event}
@@ -73,12 +71,11 @@ use Rattle.chord_window.specs.Engine.{IsAt}
 use Rattle.chord_window.specs.Exchanges.{AreDone, AreDoneFrom, block_lists, events_in}
 use Rattle.chord_trace.specs.Merging.{IsMerged, all_blocks}
 use Rattle.chord_window.specs.PartRuns.{IsDone, IsShortBlock, ran_by}
-use Rattle.chord_window.specs.Tallies.{AreTalliesOf, blocks_at, share_of, tally_part}
+use Rattle.chord_window.specs.Tallies.{AreTalliesOf, HaveTallied, blocks_at}
 use Rattle.chord_window.specs.Worlds.{IsWorldOf}
 use Rattle.chord_window.proofs.Openings.{OpensWith, opens_with}
-use Rattle.chord_window.proofs.Shares.{own_blocks, share-append, share_events, with_audits}
-use Rattle.chord_window.proofs.Tallied.{first_added, with_first}
-use Rattle.chord_window.proofs.WindowOutput.{can_merge, merged_length, of_own_parts, window_adds, window_leaves_open}
+use Rattle.chord_window.proofs.Shares.{blocks_tallied, first_tallied, tallied_shorter}
+use Rattle.chord_window.proofs.WindowOutput.{can_merge, merged_length, window_adds, window_leaves_open}
 
 pub nowhere : Block
 nowhere = record { key = record { time = 0; origin = 0; number = 0 }; target = 0; lines = [] }
@@ -95,6 +92,20 @@ begin_at sc old now e at = (
 pub at_spared : (sc : Scenario) (old now : Option (List ℕ)) (e : Engine) (s : Spares) → IsAt sc old now e → IsAt sc old now (record e { spares = s })
 at_spared sc old now e s at = record { world = at.world; audits = at.audits; written = at.written; each = at.each; tallied = at.tallied; room = at.room }
 
+-- nor does the division, nor do tallies that are still empty
+pub at_divided : (sc : Scenario) (old now : Option (List ℕ)) (e f : Engine) → IsWorldOf sc f.world → f.world.count ≡ e.world.count → f.clock ≡ e.clock
+    → f.world.division.parts ≤ length f.tallies.items → ((pieces : List Piece) → HaveTallied pieces e.tallies.items → HaveTallied pieces f.tallies.items)
+    → IsAt sc old now e → IsAt sc old now f
+at_divided sc old now e f world count clock each more at = record {
+  world = world;
+  audits = clock ∙ at.audits ∙ ap (λ k. open_audits (chord sc) (history (chord sc) k)) (sym count);
+  written = subst (λ k. Appends old now (pieces_text sc (output (chord sc) (history (chord sc) k)))) (sym count) at.written;
+  each = each;
+  tallied = subst (λ k. HaveTallied (output (chord sc) (history (chord sc) k)) f.tallies.items) (sym count)
+      (more (output (chord sc) (history (chord sc) e.world.count)) at.tallied);
+  room = omega (arith, at.room, ap (λ k. length (output (chord sc) (history (chord sc) k))) count, ap length clock, count);
+}
+
 short_lists : (sc : Scenario) (world : World) (horizon k : ℕ) (xs : List Done) → AreDoneFrom sc world horizon k xs → (b : Block)
     → Contains (all_blocks (block_lists xs)) b → IsShortBlock sc b
 short_lists sc world horizon k [] each b c = absurd (contains_none b c)
@@ -106,23 +117,16 @@ blocks_text : (sc : Scenario) (bs : List Block) → pieces_text sc (map piece.Of
 blocks_text sc [] = refl
 blocks_text sc (b ∷ bs) = ap (λ l. block_text sc b ++ l) (blocks_text sc bs)
 
-pub share_shorter : (d : Division) (pieces : List Piece) (part : ℕ) → length (share_of d pieces part) ≤ length pieces
-share_shorter d pieces part = omega (arith, length-filter (λ p. tally_part d p == part) pieces, count_by-le-length (λ p. tally_part d p == part) pieces)
-
 -- the tallies after audits, which go into the first one
-module _ {sc : Scenario} {old now : Option (List ℕ)} {e : Engine} (at : IsAt sc old now e) where
-  pub first_tally : 0 < e.world.division.parts → (before : Tally) → before ≡ get_or e.tallies.items 0 before
-      → IsTallyOf (share_of e.world.division (output (chord sc) (history (chord sc) e.world.count)) 0) before
-  first_tally some before is = subst (λ t. IsTallyOf (share_of e.world.division (output (chord sc) (history (chord sc) e.world.count)) 0) t) (sym is)
-      (at.tallied 0 before (omega (arith, some, at.each)))
+module _ {sc : Scenario} {old now : Option (List ℕ)} {e : Engine} (at : IsAt sc old now e) (some : 0 < e.world.division.parts) where
+  first_tally : (before : Tally) → before ≡ get_or e.tallies.items 0 before → IsTallyOf (at.tallied.share 0) before
+  first_tally before is = subst (λ t. IsTallyOf (at.tallied.share 0) t) (sym is) (at.tallied.each 0 before (omega (arith, some, at.each)))
 
-  pub audits_fit : 0 < e.world.division.parts → sc.max_events ≤ 50000000 → (before : Tally) → before ≡ get_or e.tallies.items 0 before
-      → taken before + length e.clock ≤ 2 ^ 40
-  audits_fit some few before is = omega (
+  pub audits_fit : sc.max_events ≤ 50000000 → (before : Tally) → before ≡ get_or e.tallies.items 0 before → taken before + length e.clock ≤ 2 ^ 40
+  audits_fit few before is = omega (
     arith,
-    (first_tally some before is).size,
-    share_shorter e.world.division
-        (output (chord sc) (history (chord sc) e.world.count)) 0,
+    (first_tally before is).size,
+    tallied_shorter (output (chord sc) (history (chord sc) e.world.count)) e.tallies.items at.tallied 0 (omega (arith, some, at.each)),
     at.room,
     at.world.within,
     few,
@@ -130,17 +134,16 @@ module _ {sc : Scenario} {old now : Option (List ℕ)} {e : Engine} (at : IsAt s
 
   pub middle_tallied : (audits : List Piece) (before after : Tally) → before ≡ get_or e.tallies.items 0 before
       → ((earlier : List Piece) → IsTallyOf earlier before → IsTallyOf (earlier ++ audits) after)
-      → AreTalliesOf (with_first (share_of e.world.division (output (chord sc) (history (chord sc) e.world.count))) audits) (set e.tallies.items 0 after)
-  middle_tallied audits before after is adds = first_added (share_of e.world.division (output (chord sc) (history (chord sc) e.world.count)))
-      e.tallies.items audits at.tallied before after is adds
+      → HaveTallied (output (chord sc) (history (chord sc) e.world.count) ++ audits) (set e.tallies.items 0 after)
+  middle_tallied audits = first_tallied (output (chord sc) (history (chord sc) e.world.count)) audits e.tallies.items at.tallied
+      (omega (arith, some, at.each))
 
-  pub few_audits : 0 < e.world.division.parts → (audits : List Piece) (before after : Tally) → before ≡ get_or e.tallies.items 0 before
+  pub few_audits : (audits : List Piece) (before after : Tally) → before ≡ get_or e.tallies.items 0 before
       → ((earlier : List Piece) → IsTallyOf earlier before → IsTallyOf (earlier ++ audits) after)
       → (left : ℕ) → taken after + left ≡ taken before + length e.clock → length audits + left ≡ length e.clock
-  few_audits some audits before after is adds left size =
-      let first = first_tally some before is in
-      let more = adds (share_of e.world.division (output (chord sc) (history (chord sc) e.world.count)) 0) first in
-      omega (arith, first.size, more.size, size, length-append (share_of e.world.division (output (chord sc) (history (chord sc) e.world.count)) 0) audits)
+  few_audits audits before after is adds left size =
+      let first = first_tally before is in
+      omega (arith, first.size, (adds (at.tallied.share 0) first).size, size, length-append (at.tallied.share 0) audits)
 
 pieces_long : (sc : Scenario) (h g : List (Event Body)) → length (pieces_since (chord sc) h g) ≡ length g
 pieces_long sc h [] = refl
@@ -227,14 +230,12 @@ module _ (sc : Scenario) (ranges : IsInRange sc) (old now : Option (List ℕ)) (
         → (part : ℕ) (t : Tally) → part < length (set e.tallies.items 0 after)
         → taken (get_or (set e.tallies.items 0 after) part t) + length (blocks_at (block_lists dones) part) ≤ 2 ^ 40
     blocks_fit dones a middle before after some first_is audits left size many part t l =
-        let d = e.world.division in
         let new = audits_at sc (state (chord sc) past) (due o.time e.clock) in
-        let is = middle_tallied at new before after first_is audits.tallied part t l in
+        let has = middle_tallied at some new before after first_is audits.tallied in
         omega (
           arith,
-          is.size,
-          ap length (with_audits d (audit_facts sc (state (chord sc) past)) (output (chord sc) past) (due o.time e.clock) part),
-          share_shorter d (output (chord sc) past ++ new) part,
+          (has.each part t l).size,
+          tallied_shorter (output (chord sc) past ++ new) (set e.tallies.items 0 after) has part l,
           length-append (output (chord sc) past) new,
           few_audits at some new before after first_is audits.tallied left size,
           at.room,
@@ -275,24 +276,6 @@ module _ (sc : Scenario) (ranges : IsInRange sc) (old now : Option (List ℕ)) (
             (subst (λ t. AppendsFront middle x t) (sym text_is) front)))),
       )
 
-      -- what each part's tally has after the audits and the blocks is its share
-      abbrev middle_share : ℕ → List Piece
-      middle_share = with_first (share_of e.world.division (output (chord sc) past)) (audits_at sc (state (chord sc) past) (due o.time e.clock))
-
-      shares_are : (part : ℕ) → middle_share part ++ map piece.OfEvent (blocks_at (block_lists dones) part)
-          ≡ share_of e.world.division (output (chord sc) past ++ put) part
-      shares_are part =
-          let d = e.world.division in
-          let audits = audits_at sc (state (chord sc) past) (due o.time e.clock) in
-          ap (λ l. l ++ map piece.OfEvent (blocks_at (block_lists dones) part))
-          (with_audits d (audit_facts sc (state (chord sc) past)) (output (chord sc) past) (due o.time e.clock) part)
-          ∙ ap (λ l. share_of d (output (chord sc) past ++ audits) part ++ map piece.OfEvent l)
-          (sym (own_blocks d (block_lists dones) bs (can_merge sc ranges e.world at.world o.horizon dones a nowhere)
-          (of_own_parts sc ranges e.world at.world o.horizon dones a nowhere) merged part))
-          ∙ ap (λ l. share_of d (output (chord sc) past ++ audits) part ++ l) (sym (share_events d bs part))
-          ∙ sym (share-append d (output (chord sc) past ++ audits) (map piece.OfEvent bs) part)
-          ∙ ap (λ l. share_of d l part) (append_assoc (output (chord sc) past) audits (map piece.OfEvent bs))
-
       module _ (middle : Option (List ℕ)) (before after : Tally) (some : 0 < e.world.division.parts) (first_is : before ≡ get_or e.tallies.items 0 before)
           (audits : Adds sc now middle before after (audits_at sc (state (chord sc) past) (due o.time e.clock))) (left : ℕ)
           (size : taken after + left ≡ taken before + length e.clock) where
@@ -303,6 +286,7 @@ module _ (sc : Scenario) (ranges : IsInRange sc) (old now : Option (List ℕ)) (
             → ((share : ℕ → List Piece) → AreTalliesOf share (set e.tallies.items 0 after)
             → AreTalliesOf (λ part. share part ++ map piece.OfEvent (blocks_at (block_lists dones) part)) f.tallies.items) → IsAt sc old new f
         next_at f new world count division clock left_is blocks each adds =
+            let new_audits = audits_at sc (state (chord sc) past) (due o.time e.clock) in
             let pieces : output (chord sc) (history (chord sc) f.world.count) ≡ output (chord sc) past
             ++ put = ap (λ k. output (chord sc) (history (chord sc) k)) count ∙ outputs in
             record {
@@ -318,12 +302,12 @@ module _ (sc : Scenario) (ranges : IsInRange sc) (old now : Option (List ℕ)) (
                   (Appends-trans now middle new (pieces_text sc (audits_at sc (state (chord sc) past) (due o.time e.clock)))
                   (pieces_text sc (map piece.OfEvent bs)) audits.written
                   (subst (λ t. Appends middle new t) (sym text_is) blocks)))));
-              each = each ∙ length-set e.tallies.items 0 after ∙ at.each ∙ ap (λ (d : Division). d.parts) (sym division);
-              tallied = λ part t l. subst (λ ps. IsTallyOf ps (get_or f.tallies.items part t))
-                  (shares_are part ∙ ap (λ ps. share_of e.world.division ps part) (sym pieces)
-                  ∙ ap (λ d. share_of d (output (chord sc) (history (chord sc) f.world.count)) part) (sym division))
-                  (adds middle_share (middle_tallied at (audits_at sc (state (chord sc) past) (due o.time e.clock)) before after first_is
-                  audits.tallied) part t l);
+              each = omega (arith, each, length-set e.tallies.items 0 after, at.each, ap (λ (d : Division). d.parts) division);
+              tallied = subst (λ ps. HaveTallied ps f.tallies.items) (append_assoc (output (chord sc) past) new_audits (map piece.OfEvent bs) ∙ sym pieces)
+                  (blocks_tallied (output (chord sc) past ++ new_audits) (block_lists dones) bs (set e.tallies.items 0 after) f.tallies.items
+                  (middle_tallied at some new_audits before after first_is audits.tallied)
+                  (can_merge sc ranges e.world at.world o.horizon dones a nowhere) merged
+                  (omega (arith, length-map dones (λ (done : Done). done.blocks), a.long, at.each, length-set e.tallies.items 0 after)) each adds);
               room = omega (
                 arith,
                 at.room,

@@ -9,6 +9,7 @@ pub mod Finishing
 pub mod Deliveries
 pub mod Ends
 pub mod Exchanged
+pub mod Standing
 pub mod NextWorld
 pub mod Tallied
 pub mod Shares

@@ -1,4 +1,4 @@
--- The shares of the parts: of each window, and of the whole trace.
+-- The shares of the tallies, and what they are together.
 use Rattle.std.proofs.Common.{
   ◌≡◌,
   ◌≢◌,
@@ -6,7 +6,6 @@ use Rattle.std.proofs.Common.{
   ℕ,
   zero,
   suc,
-  ◌+◌,
   ◌<◌,
   ◌≤◌,
   ◌==◌,
@@ -21,197 +20,206 @@ use Rattle.std.proofs.Common.{
   Vec,
   length,
   map,
+  get_or,
+  set,
   ap,
   sym,
   refl,
   subst,
   arith,
+  append_assoc,
   append-nil,
+  length-append,
   ⊎_elim,
   eq-eqb,
-  inl,
-  inr,
 }
-use Rattle.std.specs.Prelude.{⊤}
-use Rattle.std.proofs.lemmas.Bool.{cases_eq, cases_lt, eqb-true, false_from_ne_true}
-use Rattle.std.proofs.lemmas.List.{get_or_past}
-use Rattle.std.proofs.lemmas.List.Elements.{filter-append}
+use Rattle.std.proofs.lemmas.Bool.{cases_eq, cond-true, cond-false, ne_eqb}
+use Rattle.std.proofs.lemmas.List.{get_or_append_left, get_or-append-add, length-set, map-append}
 use Rattle.std.proofs.lemmas.List.Sorted.{
+  Contains-permutation,
+  IsPermutation-append,
+  IsPermutation-append_comm,
   IsPermutation-append_left,
+  IsPermutation-append_right,
   IsPermutation-cons,
+  IsPermutation-map,
   IsPermutation-middle,
   IsPermutation-refl,
   IsPermutation-sym,
   IsPermutation-trans,
+  length_permutation,
 }
 use Rattle.std.specs.Global.{Global}
-use Rattle.std.specs.List.{All, AllByRecursion, filter}
+use Rattle.std.specs.List.{AllPairs}
 use Rattle.std.specs.List.Sorted.{IsPermutation}
-use Rattle.chord_audit.specs.declared.audit_line.AuditLine.{AuditLine}
 use Rattle.chord_event.specs.declared.block.Block.{Block}
-use Rattle.chord_event.specs.KeyOrder.{InKeyOrder}
-use Rattle.chord_event.specs.Keys.{IsBefore}
-use Rattle.chord_event.proofs.KeyLists.{IsIn, all_from, all_in, same_list}
-use Rattle.chord_event.proofs.Members.{contains_filter, filter_contains}
-use Rattle.chord_model.specs.Windows.{Division, part_of}
+use Rattle.chord_event.specs.KeyOrder.{InKeyOrder, put_in_order}
+use Rattle.chord_event.specs.Keys.{is_before}
+use Rattle.chord_event.proofs.KeyLists.{all_from, ordered_put, same_list}
+use Rattle.chord_event.proofs.Members.{AllPairs_at, AllPairs_rest}
 use Rattle.chord_trace.specs.Merging.{CanMerge, IsMerged, all_blocks, block_key}
 use Rattle.chord_trace.specs.declared.piece.Piece.{Piece}
 use Rattle.chord_trace.specs.declared.piece.Piece.TheVariants as piece
+use Rattle.chord_trace.specs.declared.tally.Tally.{Tally}
+use Rattle.chord_trace.specs.Tally.{IsTallyOf}
 use Rattle.chord_trace.proofs.Merges.{contained, is_in}
-use Rattle.chord_window.specs.Tallies.{blocks_at, share_of, shares_to, tally_part}
-use Rattle.chord_window.proofs.Tallied.{with_first}
+use Rattle.chord_window.specs.Tallies.{AreTalliesOf, HaveTallied, blocks_at, shares_to}
+use Rattle.chord_window.proofs.Tallied.{first_added, shares_up, with_first}
 
-not_same : (m n : ℕ) → m ≢ n → (m == n) ≡ false
-not_same m n ne = false_from_ne_true (m == n) (λ e. ne (eqb-true m n e))
+-- Lists in another order
 
-ordered_at : (lists : List (Vec Block Global)) → AllByRecursion (λ (blocks : Vec Block Global). InKeyOrder block_key blocks.items) lists → (part : ℕ)
-    → InKeyOrder block_key (blocks_at lists part)
-ordered_at [] ordered part = tt
-ordered_at (v ∷ vs) ordered zero = ordered.0
-ordered_at (v ∷ vs) ordered (suc part) = ordered_at vs ordered.1 part
+middle_swapped : {A : Type 0} (ws xs ys zs : List A) → IsPermutation ((ws ++ xs) ++ (ys ++ zs)) ((ws ++ ys) ++ (xs ++ zs))
+middle_swapped ws xs ys zs = simp append_assoc (IsPermutation-append_right ws (xs ++ (ys ++ zs)) (ys ++ (xs ++ zs))
+    (simp append_assoc at (IsPermutation-append_left zs (xs ++ ys) (ys ++ xs) (IsPermutation-append_comm xs ys))))
 
-module _ (d : Division) where
-  pub share-append : (xs ys : List Piece) (part : ℕ) → share_of d (xs ++ ys) part ≡ share_of d xs part ++ share_of d ys part
-  share-append xs ys part = filter-append (λ p. tally_part d p == part) xs ys
+put_moves : (x : Block) (ys : List Block) → IsPermutation (x ∷ ys) (put_in_order block_key x ys)
+put_moves x [] = IsPermutation-refl (x ∷ [])
+put_moves x (y ∷ ys) = go (is_before x.key y.key) (put_moves x ys)
+  where
+    go : (b : Bool) → IsPermutation (x ∷ ys) (put_in_order block_key x ys)
+        → IsPermutation (x ∷ (y ∷ ys)) (cond b (x ∷ (y ∷ ys)) (y ∷ put_in_order block_key x ys))
+    go true rest = IsPermutation-refl (x ∷ (y ∷ ys))
+    go false rest = IsPermutation-trans (x ∷ (y ∷ ys)) (y ∷ (x ∷ ys)) (y ∷ put_in_order block_key x ys)
+        (IsPermutation-sym (y ∷ (x ∷ ys)) (x ∷ (y ∷ ys)) (IsPermutation-middle (y ∷ []) x ys))
+        (IsPermutation-cons y (x ∷ ys) (put_in_order block_key x ys) rest)
 
-  -- the audits are of the first part's share
-  module _ (line : ℕ → AuditLine) where
-    audits_first : (times : List ℕ) → share_of d (map (λ t. piece.OfAudit (line t)) times) zero ≡ map (λ t. piece.OfAudit (line t)) times
-    audits_first [] = refl
-    audits_first (t ∷ times) = ap (λ l. piece.OfAudit (line t) ∷ l) (audits_first times)
+-- blocks with keys of their own can be put in order
+in_order : (blocks : List Block) → AllPairs (λ (a b : Block). a.key ≢ b.key) blocks
+    → (ordered : List Block) × InKeyOrder block_key ordered × IsPermutation blocks ordered
+in_order [] apart = ([], tt, IsPermutation-refl [])
+in_order (x ∷ blocks) apart =
+    let rest = in_order blocks (AllPairs_rest (λ (a b : Block). a.key ≢ b.key) x blocks apart) in (
+      put_in_order block_key x rest.0,
+      ordered_put block_key x rest.0 rest.1 (all_from (λ (y : Block). y.key ≢ x.key) rest.0 (λ y h s.
+          AllPairs_at (λ (a b : Block). a.key ≢ b.key) x blocks apart y
+          (Contains-permutation rest.0 blocks y (IsPermutation-sym blocks rest.0 rest.2) (contained rest.0 y h)) (sym s))),
+      IsPermutation-trans (x ∷ blocks) (x ∷ rest.0) (put_in_order block_key x rest.0) (IsPermutation-cons x blocks rest.0 rest.2) (put_moves x rest.0),
+    )
 
-    audits_others : (times : List ℕ) (part : ℕ) → share_of d (map (λ t. piece.OfAudit (line t)) times) (suc part) ≡ []
-    audits_others [] part = refl
-    audits_others (t ∷ times) part =
-        let others = share_of d (map (λ u. piece.OfAudit (line u)) times) (suc part) in
-        ap (λ b. cond b (piece.OfAudit (line t) ∷ others) others) (not_same 0 (suc part) (λ e. omega (arith, e))) ∙ audits_others times part
+-- what is merged is the blocks of all lists
+merged_moves : (lists : List (Vec Block Global)) (blocks : List Block) → CanMerge lists → IsMerged lists blocks → IsPermutation blocks (all_blocks lists)
+merged_moves lists blocks can merged =
+    let sorted = in_order (all_blocks lists) can.apart in
+    let back = IsPermutation-sym (all_blocks lists) sorted.0 sorted.2 in
+    subst (λ bs. IsPermutation bs (all_blocks lists)) (same_list block_key sorted.0 blocks sorted.1 merged.ordered
+    (λ z h. is_in blocks z ((merged.same z).1 (Contains-permutation sorted.0 (all_blocks lists) z back (contained sorted.0 z h))))
+    (λ z h. is_in sorted.0 z (Contains-permutation (all_blocks lists) sorted.0 z sorted.2 ((merged.same z).0 (contained blocks z h)))))
+    back
 
-    pub with_audits : (pieces : List Piece) (times : List ℕ) (part : ℕ)
-        → with_first (share_of d pieces) (map (λ t. piece.OfAudit (line t)) times) part ≡ share_of d (pieces ++ map (λ t. piece.OfAudit (line t)) times) part
-    with_audits pieces times zero = ap (λ l. share_of d pieces zero ++ l) (sym (audits_first times))
-        ∙ sym (share-append pieces (map (λ t. piece.OfAudit (line t)) times) zero)
-    with_audits pieces times (suc part) = sym (append-nil (share_of d pieces (suc part)))
-        ∙ ap (λ l. share_of d pieces (suc part) ++ l) (sym (audits_others times part))
-        ∙ sym (share-append pieces (map (λ t. piece.OfAudit (line t)) times) (suc part))
+-- Shares one after another
 
-  -- the blocks of a part's nodes
-  abbrev pub of_part : ℕ → List Block → List Block
-  of_part part blocks = filter (λ (b : Block). part_of d b.target == part) blocks
+shares_same : (a b : ℕ → List Piece) (n : ℕ) → ((k : ℕ) → k < n → a k ≡ b k) → shares_to a n ≡ shares_to b n
+shares_same a b zero same = refl
+shares_same a b (suc n) same = ap (λ l. l ++ a n) (shares_same a b n (λ k l. same k (omega (arith, l))))
+    ∙ ap (λ l. shares_to b n ++ l) (same n (omega arith))
 
-  pub share_events : (blocks : List Block) (part : ℕ) → share_of d (map piece.OfEvent blocks) part ≡ map piece.OfEvent (of_part part blocks)
-  share_events [] part = refl
-  share_events (b ∷ blocks) part = go (part_of d b.target == part) (share_events blocks part)
-    where
-      go : (t : Bool) → share_of d (map piece.OfEvent blocks) part ≡ map piece.OfEvent (of_part part blocks)
-          → cond t (piece.OfEvent b ∷ share_of d (map piece.OfEvent blocks) part) (share_of d (map piece.OfEvent blocks) part)
-          ≡ map piece.OfEvent (cond t (b ∷ of_part part blocks) (of_part part blocks))
-      go true e = ap (λ l. piece.OfEvent b ∷ l) e
-      go false e = e
+no_shares : (n : ℕ) → shares_to (λ k. []) n ≡ []
+no_shares zero = refl
+no_shares (suc n) = append-nil (shares_to (λ k. []) n) ∙ no_shares n
 
-  all_of_part : (part : ℕ) (blocks : List Block) → ((b : Block) → IsIn b blocks → part_of d b.target ≡ part) → of_part part blocks ≡ blocks
-  all_of_part part [] each = refl
-  all_of_part part (b ∷ blocks) each = ap (λ t. cond t (b ∷ of_part part blocks) (of_part part blocks)) (eq-eqb (part_of d b.target) part (each b (inl refl)))
-      ∙ ap (λ l. b ∷ l) (all_of_part part blocks (λ c h. each c (inr h)))
+shares_front : (share : ℕ → List Piece) (n : ℕ) → shares_to share (suc n) ≡ share 0 ++ shares_to (λ k. share (suc k)) n
+shares_front share zero = sym (append-nil (share 0))
+shares_front share (suc n) = ap (λ l. l ++ share (suc n)) (shares_front share n)
+    ∙ append_assoc (share 0) (shares_to (λ k. share (suc k)) n) (share (suc n))
 
-  none_of_part : (part other : ℕ) (blocks : List Block) → part ≢ other → ((b : Block) → IsIn b blocks → part_of d b.target ≡ other) → of_part part blocks ≡ []
-  none_of_part part other [] ne each = refl
-  none_of_part part other (b ∷ blocks) ne each = ap (λ t. cond t (b ∷ of_part part blocks) (of_part part blocks))
-      (not_same (part_of d b.target) part (λ e. ne (sym e ∙ each b (inl refl))))
-      ∙ none_of_part part other blocks ne (λ c h. each c (inr h))
+shares_both : (a b : ℕ → List Piece) (n : ℕ) → IsPermutation (shares_to a n ++ shares_to b n) (shares_to (λ k. a k ++ b k) n)
+shares_both a b zero = IsPermutation-refl []
+shares_both a b (suc n) = IsPermutation-trans ((shares_to a n ++ a n) ++ (shares_to b n ++ b n)) ((shares_to a n ++ shares_to b n) ++ (a n ++ b n))
+    (shares_to (λ k. a k ++ b k) n ++ (a n ++ b n)) (middle_swapped (shares_to a n) (a n) (shares_to b n) (b n))
+    (IsPermutation-append_left (a n ++ b n) (shares_to a n ++ shares_to b n) (shares_to (λ k. a k ++ b k) n) (shares_both a b n))
 
-  -- each list has blocks of its own part alone, from part k on
-  abbrev pub OfParts : ℕ → List (Vec Block Global) → Type 0
-  OfParts k [] = ⊤
-  OfParts k (blocks ∷ lists) = ((b : Block) → IsIn b blocks.items → part_of d b.target ≡ k) × OfParts (suc k) lists
+first_shared : (share : ℕ → List Piece) (pieces : List Piece) (n : ℕ) → 0 < n
+    → IsPermutation (shares_to share n ++ pieces) (shares_to (with_first share pieces) n)
+first_shared share pieces zero l = absurd (omega (arith, l))
+first_shared share pieces (suc n) l =
+    let others = shares_to (λ k. share (suc k)) n in
+    subst (λ l. IsPermutation (l ++ pieces) (shares_to (with_first share pieces) (suc n))) (sym (shares_front share n))
+    (subst (λ l. IsPermutation ((share 0 ++ others) ++ pieces) l) (sym (shares_front (with_first share pieces) n))
+    (simp append_assoc (IsPermutation-append_right (share 0) (others ++ pieces) (pieces ++ others) (IsPermutation-append_comm others pieces))))
 
-  of_lists_below : (part k : ℕ) (lists : List (Vec Block Global)) → OfParts k lists → part < k → of_part part (all_blocks lists) ≡ []
-  of_lists_below part k [] each l = refl
-  of_lists_below part k (v ∷ vs) each l = filter-append (λ (b : Block). part_of d b.target == part) v.items (all_blocks vs)
-      ∙ ap (λ r. r ++ of_part part (all_blocks vs)) (none_of_part part k v.items (λ e. omega (arith, e, l)) each.0)
-      ∙ of_lists_below part (suc k) vs each.1 (omega (arith, l))
+blocks_shared : (lists : List (Vec Block Global)) (n : ℕ) → length lists ≤ n
+    → shares_to (λ k. map piece.OfEvent (blocks_at lists k)) n ≡ map piece.OfEvent (all_blocks lists)
+blocks_shared [] n l = no_shares n
+blocks_shared (v ∷ vs) zero l = absurd (omega (arith, l))
+blocks_shared (v ∷ vs) (suc n) l = shares_front (λ k. map piece.OfEvent (blocks_at (v ∷ vs) k)) n
+    ∙ ap (λ r. map piece.OfEvent v.items ++ r) (blocks_shared vs n (omega (arith, l))) ∙ sym (map-append piece.OfEvent v.items (all_blocks vs))
 
-  of_lists : (k : ℕ) (lists : List (Vec Block Global)) → OfParts k lists → (j part : ℕ) → part ≡ k + j → of_part part (all_blocks lists) ≡ blocks_at lists j
-  of_lists k [] each j part e = refl
-  of_lists k (v ∷ vs) each zero part e = filter-append (λ (b : Block). part_of d b.target == part) v.items (all_blocks vs)
-      ∙ ap (λ r. r ++ of_part part (all_blocks vs)) (all_of_part part v.items (λ b h. each.0 b h ∙ omega (arith, e)))
-      ∙ ap (λ r. v.items ++ r) (of_lists_below part (suc k) vs each.1 (omega (arith, e)))
-      ∙ append-nil v.items
-  of_lists k (v ∷ vs) each (suc j) part e = filter-append (λ (b : Block). part_of d b.target == part) v.items (all_blocks vs)
-      ∙ ap (λ r. r ++ of_part part (all_blocks vs)) (none_of_part part k v.items (λ s. omega (arith, s, e)) each.0)
-      ∙ of_lists (suc k) vs each.1 j part (omega (arith, e))
+-- What the tallies have
 
-  ordered_of_part : (part : ℕ) (blocks : List Block) → InKeyOrder block_key blocks → InKeyOrder block_key (of_part part blocks)
-  ordered_of_part part [] ordered = tt
-  ordered_of_part part (b ∷ blocks) ordered = go (part_of d b.target == part) (ordered_of_part part blocks ordered.1)
-    where
-      go : (t : Bool) → InKeyOrder block_key (of_part part blocks) → InKeyOrder block_key (cond t (b ∷ of_part part blocks) (of_part part blocks))
-      go false rest = rest
-      go true rest = (
-        all_from (λ (y : Block). IsBefore b.key y.key) (of_part part blocks) (λ y h. all_in (λ (z : Block). IsBefore b.key z.key) blocks ordered.0 y
-            (is_in blocks y (filter_contains (λ (z : Block). part_of d z.target == part) blocks y (contained (of_part part blocks) y h)).0)),
-        rest,
-      )
+pub none_tallied : HaveTallied [] []
+none_tallied = record { share = λ k. []; each = λ k t l. absurd (omega (arith, l)); all = IsPermutation-refl [] }
 
-  -- what is merged has each part's own list
-  pub own_blocks : (lists : List (Vec Block Global)) (blocks : List Block) → CanMerge lists → OfParts 0 lists → IsMerged lists blocks → (part : ℕ)
-      → of_part part blocks ≡ blocks_at lists part
-  own_blocks lists blocks can each merged part = same_list block_key (of_part part blocks) (blocks_at lists part)
-      (ordered_of_part part blocks merged.ordered) (ordered_at lists can.ordered part)
-      (λ z h.
-      let f = filter_contains (λ (b : Block). part_of d b.target == part) blocks z (contained (of_part part blocks) z h) in
-      subst (λ l. IsIn z l) same (is_in (of_part part (all_blocks lists)) z
-      (contains_filter (λ (b : Block). part_of d b.target == part) (all_blocks lists) z ((merged.same z).0 f.0) f.1)))
-      (λ z h.
-      let f = filter_contains (λ (b : Block). part_of d b.target == part) (all_blocks lists) z
-      (contained (of_part part (all_blocks lists)) z (subst (λ l. IsIn z l) (sym same) h)) in
-      is_in (of_part part blocks) z (contains_filter (λ (b : Block). part_of d b.target == part) blocks z ((merged.same z).1 f.0) f.1))
-    where
-      same : of_part part (all_blocks lists) ≡ blocks_at lists part
-      same = of_lists 0 lists each part part (omega arith)
+-- one tally has no more than all
+pub tallied_shorter : (pieces : List Piece) (tallies : List Tally) (h : HaveTallied pieces tallies) (k : ℕ) → k < length tallies
+    → length (h.share k) ≤ length pieces
+tallied_shorter pieces tallies h k l =
+    omega (arith, shares_up h.share k (length tallies) l, length_permutation pieces (shares_to h.share (length tallies)) h.all)
 
-  -- The shares of all parts
+-- one of nothing more
+abbrev without : (ℕ → List Piece) → ℕ → ℕ → List Piece
+without share n k = cond (k == n) [] (share k)
 
-  share_other : (x : Piece) (pieces : List Piece) (part : ℕ) → tally_part d x ≢ part → share_of d (x ∷ pieces) part ≡ share_of d pieces part
-  share_other x pieces part ne = ap (λ t. cond t (x ∷ share_of d pieces part) (share_of d pieces part)) (not_same (tally_part d x) part ne)
+pub one_tallied : (pieces : List Piece) (tallies : List Tally) (new : Tally) → IsTallyOf [] new → HaveTallied pieces tallies
+    → HaveTallied pieces (tallies ++ new ∷ [])
+one_tallied pieces tallies new empty h = record { share = share; each = each; all = all }
+  where
+    share : ℕ → List Piece
+    share = without h.share (length tallies)
 
-  shares_below : (x : Piece) (pieces : List Piece) (n : ℕ) → n ≤ tally_part d x → shares_to (share_of d (x ∷ pieces)) n ≡ shares_to (share_of d pieces) n
-  shares_below x pieces zero l = refl
-  shares_below x pieces (suc n) l = ap (λ r. r ++ share_of d (x ∷ pieces) n) (shares_below x pieces n (omega (arith, l)))
-      ∙ ap (λ r. shares_to (share_of d pieces) n ++ r) (share_other x pieces n (λ e. omega (arith, e, l)))
+    each : AreTalliesOf share (tallies ++ new ∷ [])
+    each k t l = ⊎_elim
+        (λ s. subst (λ z. IsTallyOf (share k) z)
+        (sym (ap (λ i. get_or (tallies ++ new ∷ []) i t) (omega (arith, s)) ∙ get_or-append-add tallies (new ∷ []) 0 t))
+        (subst (λ ps. IsTallyOf ps new) (sym (cond-true (k == length tallies) [] (h.share k) (eq-eqb k (length tallies) s))) empty))
+        (λ ne. let differ : k ≢ length tallies = ne in
+        let inside : k < length tallies = omega (arith, l, differ, length-append tallies (new ∷ [])) in
+        subst (λ z. IsTallyOf (share k) z) (sym (get_or_append_left tallies (new ∷ []) t k inside))
+        (subst (λ ps. IsTallyOf ps (get_or tallies k t)) (sym (cond-false (k == length tallies) [] (h.share k) (ne_eqb k (length tallies) ne)))
+        (h.each k t inside)))
+        (cases_eq k (length tallies))
 
-  module _ (x : Piece) (pieces : List Piece) (n : ℕ) where
-    -- its own part is the last one, or another
-    at_end : tally_part d x ≡ n → IsPermutation (x ∷ (shares_to (share_of d pieces) n ++ share_of d pieces n))
-        (shares_to (share_of d (x ∷ pieces)) n ++ share_of d (x ∷ pieces) n)
-    at_end e = subst (λ r. IsPermutation (x ∷ (shares_to (share_of d pieces) n ++ share_of d pieces n)) (r ++ share_of d (x ∷ pieces) n))
-        (sym (shares_below x pieces n (omega (arith, e))))
-        (subst (λ t. IsPermutation (x ∷ (shares_to (share_of d pieces) n ++ share_of d pieces n))
-        (shares_to (share_of d pieces) n ++ cond t (x ∷ share_of d pieces n) (share_of d pieces n))) (sym (eq-eqb (tally_part d x) n e))
-        (IsPermutation-sym _ _ (IsPermutation-middle (shares_to (share_of d pieces) n) x (share_of d pieces n))))
+    all : IsPermutation pieces (shares_to share (length (tallies ++ new ∷ [])))
+    all = subst (λ n. IsPermutation pieces (shares_to share n)) (sym more) (subst (λ l. IsPermutation pieces l) (sym same) h.all)
+      where
+        more : length (tallies ++ new ∷ []) ≡ suc (length tallies)
+        more = omega (arith, length-append tallies (new ∷ []))
 
-    before_end : tally_part d x ≢ n → IsPermutation (x ∷ shares_to (share_of d pieces) n) (shares_to (share_of d (x ∷ pieces)) n)
-        → IsPermutation (x ∷ (shares_to (share_of d pieces) n ++ share_of d pieces n)) (shares_to (share_of d (x ∷ pieces)) n ++ share_of d (x ∷ pieces) n)
-    before_end ne earlier = subst (λ r. IsPermutation (x ∷ (shares_to (share_of d pieces) n ++ share_of d pieces n))
-        (shares_to (share_of d (x ∷ pieces)) n ++ r)) (sym (share_other x pieces n ne))
-        (IsPermutation-append_left (share_of d pieces n) (x ∷ shares_to (share_of d pieces) n) (shares_to (share_of d (x ∷ pieces)) n) earlier)
+        same : shares_to share (suc (length tallies)) ≡ shares_to h.share (length tallies)
+        same = ap (λ l. shares_to share (length tallies) ++ l) (cond-true (length tallies == length tallies) [] (h.share (length tallies))
+            (eq-eqb (length tallies) (length tallies) refl)) ∙ append-nil (shares_to share (length tallies))
+            ∙ shares_same share h.share (length tallies) (λ k l. cond-false (k == length tallies) [] (h.share k)
+            (ne_eqb k (length tallies) (λ s. omega (arith, s, l))))
 
-  one_more : (x : Piece) (pieces : List Piece) (n : ℕ) → tally_part d x < n
-      → IsPermutation (x ∷ shares_to (share_of d pieces) n) (shares_to (share_of d (x ∷ pieces)) n)
-  one_more x pieces zero l = absurd (omega (arith, l))
-  one_more x pieces (suc n) l = ⊎_elim (λ e. at_end x pieces n e) (λ ne. let differ : tally_part d x ≢ n = ne
-      in before_end x pieces n ne (one_more x pieces n (omega (arith, l, differ)))) (cases_eq (tally_part d x) n)
+-- the first takes more
+pub first_tallied : (pieces more : List Piece) (tallies : List Tally) → HaveTallied pieces tallies → 0 < length tallies → (before after : Tally)
+    → before ≡ get_or tallies 0 before → ((earlier : List Piece) → IsTallyOf earlier before → IsTallyOf (earlier ++ more) after)
+    → HaveTallied (pieces ++ more) (set tallies 0 after)
+first_tallied pieces more tallies h some before after read adds =
+    let shares = shares_to h.share (length tallies) in
+    record {
+      share = with_first h.share more;
+      each = first_added h.share tallies more h.each before after read adds;
+      all = subst (λ n. IsPermutation (pieces ++ more) (shares_to (with_first h.share more) n)) (sym (length-set tallies 0 after))
+          (IsPermutation-trans (pieces ++ more) (shares ++ more) (shares_to (with_first h.share more) (length tallies))
+          (IsPermutation-append_left more pieces shares h.all) (first_shared h.share more (length tallies) some));
+    }
 
-  no_shares : (n : ℕ) → shares_to (share_of d []) n ≡ []
-  no_shares zero = refl
-  no_shares (suc n) = append-nil (shares_to (share_of d []) n) ∙ no_shares n
-
-  -- they are all pieces, in another order
-  pub shares_are_all : (pieces : List Piece) (n : ℕ) → ((x : Piece) → tally_part d x < n) → IsPermutation pieces (shares_to (share_of d pieces) n)
-  shares_are_all [] n inside = subst (λ l. IsPermutation [] l) (sym (no_shares n)) (IsPermutation-refl [])
-  shares_are_all (x ∷ pieces) n inside = IsPermutation-trans (x ∷ pieces) (x ∷ shares_to (share_of d pieces) n) (shares_to (share_of d (x ∷ pieces)) n)
-      (IsPermutation-cons x pieces (shares_to (share_of d pieces) n) (shares_are_all pieces n inside)) (one_more x pieces n (inside x))
-
-  pub inside_parts : 0 < d.parts → All (λ p. p < d.parts) d.of_node → (x : Piece) → tally_part d x < d.parts
-  inside_parts some below (piece.OfAudit audit) = some
-  inside_parts some below (piece.OfEvent block) = ⊎_elim (λ l. below block.target 0 l)
-      (λ l. omega (arith, some, get_or_past d.of_node block.target 0 l)) (cases_lt block.target (length d.of_node))
+-- each takes the blocks of a part
+pub blocks_tallied : (pieces : List Piece) (lists : List (Vec Block Global)) (blocks : List Block) (old now : List Tally) → HaveTallied pieces old
+    → CanMerge lists → IsMerged lists blocks → length lists ≤ length old → length now ≡ length old
+    → ((share : ℕ → List Piece) → AreTalliesOf share old → AreTalliesOf (λ part. share part ++ map piece.OfEvent (blocks_at lists part)) now)
+    → HaveTallied (pieces ++ map piece.OfEvent blocks) now
+blocks_tallied pieces lists blocks old now h can merged within long adds =
+    let shares = shares_to h.share (length old) in
+    let new = shares_to (λ k. map piece.OfEvent (blocks_at lists k)) (length old) in
+    record {
+      share = λ k. h.share k ++ map piece.OfEvent (blocks_at lists k);
+      each = adds h.share h.each;
+      all = subst (λ n. IsPermutation (pieces ++ map piece.OfEvent blocks) (shares_to (λ k. h.share k ++ map piece.OfEvent (blocks_at lists k)) n)) (sym long)
+          (IsPermutation-trans (pieces ++ map piece.OfEvent blocks) (shares ++ new)
+          (shares_to (λ k. h.share k ++ map piece.OfEvent (blocks_at lists k)) (length old))
+          (IsPermutation-append pieces shares (map piece.OfEvent blocks) new h.all
+          (subst (λ l. IsPermutation (map piece.OfEvent blocks) l) (sym (blocks_shared lists (length old) within))
+          (IsPermutation-map piece.OfEvent blocks (all_blocks lists) (merged_moves lists blocks can merged))))
+          (shares_both h.share (λ k. map piece.OfEvent (blocks_at lists k)) (length old)));
+    }

@@ -23,10 +23,11 @@ use Rattle.std.proofs.Common.{
   refl,
   subst,
   arith,
+  append-nil,
   length-append,
   ⊎_elim,
 }
-use Rattle.std.proofs.lemmas.Bool.{cases_eq}
+use Rattle.std.proofs.lemmas.Bool.{cases_eq, cases_lt}
 use Rattle.std.proofs.lemmas.List.{get_or-set_same, get_or-set_other, length-set}
 use Rattle.std.specs.Global.{Global}
 use Rattle.chord_event.specs.declared.block.Block.{Block}
@@ -75,11 +76,23 @@ one_added lists n old now h inside before after read adds = record {
   others = λ k t l. get_or-set_other now n k after t (λ s. omega (arith, s, l)) ∙ h.others k t (omega (arith, l));
 }
 
-pub all_added : (lists : List (Vec Block Global)) (n : ℕ) (old now : List Tally) → HaveAdded lists n old now → length old ≤ n
+-- there is no list past the last one
+blocks_past : (lists : List (Vec Block Global)) (k : ℕ) → length lists ≤ k → blocks_at lists k ≡ []
+blocks_past [] k l = refl
+blocks_past (x ∷ xs) zero l = absurd (omega (arith, l))
+blocks_past (x ∷ xs) (suc k) l = blocks_past xs k (omega (arith, l))
+
+pub all_added : (lists : List (Vec Block Global)) (n : ℕ) (old now : List Tally) → HaveAdded lists n old now → length lists ≤ n
     → (share : ℕ → List Piece) → AreTalliesOf share old
     → AreTalliesOf (λ part. share part ++ map piece.OfEvent (blocks_at lists part)) now
-all_added lists n old now h all share are = λ part t l. h.added part t (share part) (omega (arith, l, all, h.long)) (omega (arith, l, h.long))
-    (are part t (omega (arith, l, h.long)))
+all_added lists n old now h all share are = λ part t l.
+    let before = are part t (omega (arith, l, h.long)) in
+    ⊎_elim
+    (λ inside. h.added part t (share part) inside (omega (arith, l, h.long)) before)
+    (λ past. subst (λ z. IsTallyOf (share part ++ map piece.OfEvent (blocks_at lists part)) z) (sym (h.others part t past))
+    (subst (λ ps. IsTallyOf ps (get_or old part t))
+    (sym (ap (λ (bs : List Block). share part ++ map piece.OfEvent bs) (blocks_past lists part (omega (arith, all, past))) ∙ append-nil (share part))) before))
+    (cases_lt part n)
 
 -- one tally more takes the pieces of the first part
 abbrev pub with_first : (ℕ → List Piece) → List Piece → ℕ → List Piece

@@ -1,11 +1,9 @@
 -- What the tallies of the parts have.
-use Rattle.std.specs.Prelude.{ℕ, zero, suc, ◌<◌, ◌==◌, List, [], ◌∷◌, ◌++◌, length, slice_index_or, Vec}
+use Rattle.std.specs.Prelude.{ℕ, zero, suc, ◌<◌, List, [], ◌∷◌, ◌++◌, length, slice_index_or, Vec}
 use Rattle.std.specs.Global.{Global}
-use Rattle.std.specs.List.{filter}
+use Rattle.std.specs.List.Sorted.{IsPermutation}
 use Rattle.chord_event.specs.declared.block.Block.{Block}
-use Rattle.chord_model.specs.Windows.{Division, part_of}
 use Rattle.chord_trace.specs.declared.piece.Piece.{Piece}
-use Rattle.chord_trace.specs.declared.piece.Piece.TheVariants as piece
 use Rattle.chord_trace.specs.declared.tally.Tally.{Tally}
 use Rattle.chord_trace.specs.Tally.{IsTallyOf}
 
@@ -24,11 +22,8 @@ abbrev pub shares_to : (ℕ → List Piece) → ℕ → List Piece
 shares_to share zero = []
 shares_to share (suc part) = shares_to share part ++ share part
 
--- the part in whose tally a piece goes: the part of the node that an event has come to, and the first one for an audit
-abbrev pub tally_part : Division → Piece → ℕ
-tally_part d (piece.OfEvent block) = part_of d block.target
-tally_part d (piece.OfAudit audit) = 0
-
--- a part's share of these pieces
-abbrev pub share_of : Division → List Piece → ℕ → List Piece
-share_of d pieces part = filter (λ p. tally_part d p == part) pieces
+-- the tallies have these pieces together, each piece in one of them
+pub record HaveTallied (pieces : List Piece) (tallies : List Tally) : Type 0 where
+  pub share : ℕ → List Piece
+  pub each : AreTalliesOf share tallies
+  pub all : IsPermutation pieces (shares_to share (length tallies))

@@ -16,7 +16,7 @@ use crate::exchanging::exchange_in_order;
 use crate::opening::Opening;
 use crate::part_run::Done;
 use crate::spares::Spares;
-use crate::tallies::{join_all, no_tallies, tally_parts};
+use crate::tallies::{add_tallies, join_all, tally_parts};
 use crate::world::World;
 use chord_event::{Block, RunError};
 use chord_machine::AuditClock;
@@ -32,7 +32,7 @@ use std::io::Write;
 pub struct Engine {
     pub(crate) world: World,
     pub(crate) clock: AuditClock,
-    /// The tally of each part. The first has the audits besides.
+    /// A tally for each part of this division and of those before it. The first has the audits besides.
     pub(crate) tallies: Vec<Tally>,
     /// The states that the last window replaced.
     pub(crate) spares: Spares,
@@ -76,12 +76,49 @@ impl Engine {
         scenario.recall_range();
         let world = World::start(alloc, scenario, division)?;
         let clock = AuditClock::start(alloc, scenario)?;
-        let tallies = no_tallies(alloc, division.parts())?;
+        let mut tallies = Vec::new(alloc);
+        add_tallies(alloc, &mut tallies, division.parts())?;
         Ok(Engine {
             world,
             clock,
             tallies,
             spares: Spares::new(alloc),
+        })
+    }
+
+    /// The same run, by another division of the nodes from the next window on. The scenario is the
+    /// one that the run was started from. Where it is refused the run is given up.
+    ///
+    /// # Errors
+    ///
+    /// `BadDivision`, where the division has another number of nodes than the scenario; `Memory`.
+    pub fn redivide(
+        self,
+        alloc: Global,
+        scenario: &Scenario,
+        division: &Division,
+    ) -> Result<Engine, RunError>
+        requires at { (old : Option (List ℕ)) × (now : Option (List ℕ)) × IsAt scenario.now old now self }
+        ensures at { IfOk result (λ engine. (old now : Option (List ℕ)) → IsAt scenario.now old now self → IsAt scenario.now old now engine) }
+        ensures count { IfOk result (λ engine. engine.world.count ≡ self.world.count) }
+        ensures opening { IfOk result (λ engine. engine.world.opening ≡ self.world.opening) }
+        ensures division { IfOk result (λ engine. engine.world.division ≡ division.now) }
+        ensures bad { result ≡ Err RunError.BadDivision → length division.now.of_node ≢ node_count scenario.now }
+        ensures only { IfErr result (λ e. (e ≡ RunError.Memory) ⊎ (e ≡ RunError.BadDivision)) }
+    {
+        let Engine {
+            world,
+            clock,
+            mut tallies,
+            spares,
+        } = self;
+        let world = world.redivide(alloc, scenario, division)?;
+        add_tallies(alloc, &mut tallies, division.parts())?;
+        Ok(Engine {
+            world,
+            clock,
+            tallies,
+            spares,
         })
     }
 

@@ -5,22 +5,21 @@ ghost use Rattle.chord_trace.specs.declared.piece.Piece.{Piece};
 ghost use Rattle.chord_trace.specs.declared.piece.Piece.TheVariants as piece;
 ghost use Rattle.chord_trace.specs.declared.tally.Tally.{Tally as ATally};
 ghost use Rattle.chord_trace.specs.Tally.{IsTallyOf, taken};
-ghost use Rattle.chord_window.specs.Tallies.{AreTalliesOf, blocks_at, shares_to};
+ghost use Rattle.chord_window.specs.Tallies.{AreTalliesOf, HaveTallied, blocks_at, shares_to};
 
 use chord_event::{Block, Memory};
 use chord_trace::Tally;
 use std::alloc::Global;
 
-/// A tally of nothing for each part.
-pub(crate) fn no_tallies(alloc: Global, parts: u32) -> Result<Vec<Tally>, Memory>
-    ensures each { IfOk result (λ tallies. length tallies.items ≡ parts) }
-    ensures empty { IfOk result (λ tallies. AreTalliesOf (λ part. []) tallies.items) }
+/// Adds tallies of nothing, until there is one for each part.
+pub(crate) fn add_tallies(alloc: Global, tallies: &mut Vec<Tally>, parts: u32) -> Result<(), Memory>
+    ensures each { OnOk result (parts ≤ length tallies.new.items) }
+    ensures pieces { OnOk result ((pieces : List Piece) → HaveTallied pieces tallies.old.items → HaveTallied pieces tallies.new.items) }
 {
-    let mut tallies = Vec::new(alloc);
-    for _part in 0..parts {
+    for _part in tallies.len()..parts as usize {
         tallies.push(Tally::new(alloc))?;
     }
-    Ok(tallies)
+    Ok(())
 }
 
 /// Adds blocks to a tally.
@@ -37,7 +36,7 @@ fn tally_blocks(tally: &mut Tally, blocks: &[Block]) -> Result<(), Memory>
 
 /// Adds the blocks of each part to its tally.
 pub(crate) fn tally_parts(tallies: &mut Vec<Tally>, lists: &[Vec<Block>]) -> Result<(), Memory>
-    requires each { length lists.now ≡ length tallies.old.items }
+    requires each { length lists.now ≤ length tallies.old.items }
     requires short { (part : ℕ) → All (λ block. length block.lines ≤ 64) (blocks_at lists.now part) }
     requires room { (part : ℕ) (t : ATally) → part < length tallies.old.items → taken (slice_index_or tallies.old.items part t) + length (blocks_at lists.now part) ≤ 2 ^ 40 }
     ensures each { OnOk result (length tallies.new.items ≡ length tallies.old.items) }

@@ -38,4 +38,4 @@ loop-part-preserved c =
 pub returns-clause-pieces : goal.returns-clause-pieces
 returns-clause-pieces c =
     all_added c.args.lists.now c.loop-part.part c.args.tallies.now.items c.loop-part.tallies.items c.loop-part.invariant
-    (omega (arith, c.loop-part-test.false, c.requires.each))
+    (omega (arith, c.loop-part-test.false))

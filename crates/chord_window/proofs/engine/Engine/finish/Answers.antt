@@ -3,16 +3,14 @@ use Rattle.std.proofs.Common.{ℕ, List, length, sym, subst}
 use Rattle.std.specs.List.{All}
 use Rattle.chord_audit.specs.Audit.{AreStates}
 use Rattle.chord_machine.specs.Chord.{chord}
-use Rattle.chord_machine.specs.Run.{whole_trace}
 use Rattle.chord_model.specs.Histories.{history, state}
 use Rattle.chord_node.specs.declared.state.NodeState.{NodeState}
 use Rattle.chord_node.specs.Invariant.{AllNodes}
 use Rattle.chord_output.specs.Output.{Adds, audits_at, due}
 use Rattle.chord_trace.specs.Texts.{pieces_text}
 use Rattle.chord_trace.specs.Writing.{AppendsFront}
-use Rattle.chord_window.specs.Tallies.{share_of}
 use Rattle.chord_window.proofs.EngineCourse.{are_states, audits_fit, states_known}
-use Rattle.chord_window.proofs.Endings.{begin_end, not_over_limit, shares_fit, whole_trace_reported, whole_trace_shared, whole_trace_written}
+use Rattle.chord_window.proofs.Endings.{begin_end, not_over_limit, shares_fit, whole_trace_reported, whole_trace_tallied, whole_trace_written}
 use Rattle.chord_window.proofs.engine.Engine.finish.Goals as goal
 
 pub put_audits-requires-clause-succ : goal.put_audits-requires-clause-succ
@@ -68,12 +66,13 @@ join_all-requires g c =
     (c.in_ok-put_audits.ensures.adds S (subst (λ (ss : List NodeState). AreStates sc ss S) (sym c.as_slice.ensures.value)
     (are_states sc ranges c.requires.at.0 _ e c.requires.at.1)))) in
     let some = c.recall_division.ensures.few.0 in
+    let tallied = whole_trace_tallied sc ranges c.requires.at.0 _ e c.requires.at.1 c.requires.ended some c.index_mut.result.now
+    c.put_audits.new.tally c.index_mut.ensures.value adds.tallied in
     record {
       room = (
-        share_of e.world.division (whole_trace sc),
-        whole_trace_shared sc ranges c.requires.at.0 _ e c.requires.at.1 c.requires.ended some c.recall_division.ensures.below c.index_mut.result.now
-            c.put_audits.new.tally c.index_mut.ensures.value adds.tallied,
-        shares_fit sc ranges c.requires.at.0 _ e c.requires.at.1 c.requires.ended some c.recall_division.ensures.below c.index_mut.result.now
+        tallied.share,
+        tallied.each,
+        shares_fit sc ranges c.requires.at.0 _ e c.requires.at.1 c.requires.ended some c.index_mut.result.now
             c.put_audits.new.tally c.index_mut.ensures.value adds.tallied (length c.put_audits.new.clock) c.in_ok-put_audits.ensures.size,
       );
     }
@@ -101,7 +100,7 @@ returns-clause-report g c =
     (c.in_ok-put_audits.ensures.adds S (subst (λ (ss : List NodeState). AreStates sc ss S) (sym c.as_slice.ensures.value)
     (are_states sc ranges c.requires.at.0 _ e c.requires.at.1)))) in
     whole_trace_reported sc ranges c.requires.at.0 _ e c.requires.at.1 c.requires.ended c.recall_division.ensures.few.0
-    c.recall_division.ensures.below c.index_mut.result.now c.put_audits.new.tally c.index_mut.ensures.value adds.tallied
+    c.index_mut.result.now c.put_audits.new.tally c.index_mut.ensures.value adds.tallied
     c.in_ok-tally.tally c.report.result c.in_ok-tally.ensures.pieces c.report.ensures
 
 pub returns-clause-within : goal.returns-clause-within

@@ -1,0 +1,10 @@
+use Rattle.std.proofs.Common.{◌≡◌, List, length}
+use Rattle.chord_trace.specs.declared.piece.Piece.{Piece}
+use Rattle.chord_window.specs.Tallies.{HaveTallied}
+use Rattle.chord_window.proofs.tallies.add_tallies.Given as goal
+
+abbrev pub invariant-loop-part : goal.invariant-loop-part
+invariant-loop-part l = record {
+  long : length l.tallies.items ≡ l._part;
+  pieces : (pieces : List Piece) → HaveTallied pieces l.initial.tallies.items → HaveTallied pieces l.tallies.items;
+}

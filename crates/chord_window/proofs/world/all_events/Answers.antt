@@ -1,0 +1,17 @@
+use Rattle.std.proofs.Common.{◌++◌, List, ap, sym, ◌∙◌, append_assoc}
+use Rattle.std.specs.List.{flat_map}
+use Rattle.std.specs.Vec.Iter.{into_iter_items}
+use Rattle.chord_event.specs.declared.body.Body.{Body}
+use Rattle.chord_event.specs.declared.event.Event.{Event}
+use Rattle.chord_window.specs.Worlds.{events_of}
+use Rattle.chord_window.proofs.world.all_events.Goals as goal
+
+pub loop-part-preserved : goal.loop-part-preserved
+loop-part-preserved c =
+    let rest : List (Event Body) = flat_map events_of (into_iter_items c.next.new.self) in
+    record {
+      can_next = tt;
+      is_finite = tt;
+      whole = ap (λ l. l ++ rest) c.in_ok-move_to.ensures ∙ append_assoc c.loop-part.list.items (events_of c.in-Some.part) rest
+          ∙ ap (λ l. c.loop-part.list.items ++ l) (sym (ap (flat_map events_of) c.in-Some.ensures.steps.0)) ∙ c.loop-part.invariant.whole;
+    }
