@@ -4,3 +4,5 @@ pub mod Steps
 pub mod Knowledge
 pub mod Results
 pub mod Gathering
+pub mod EventCounts
+pub mod Dealing

@@ -3,3 +3,4 @@ pub mod Seats
 pub mod Inside
 pub mod Shifts
 pub mod Windows
+pub mod Loads

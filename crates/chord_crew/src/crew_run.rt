@@ -11,6 +11,7 @@ ghost use Rattle.chord_window.specs.Worlds.{IsWorldOf};
 use crate::draws::{Draws, MOST_SEATS};
 use crate::gate::Gate;
 use crate::gathered::Gathered;
+use crate::starter::{AllStart, Starter};
 use crate::window_run::WindowRun;
 use crate::workers::run_workers;
 use chord_event::RunError;
@@ -25,13 +26,14 @@ use std::thread::Threads;
 /// Lets so many workers run the parts of the world's next window. The answer is what the parts
 /// leave, in their order. Where several faults meet it is a refused thread, else memory, else too
 /// many events.
-fn run_parts<R: Threads + Wait + Sync, G: Gate + Sync>(
+pub(crate) fn run_parts<R: Threads + Wait + Sync, S: Starter, G: Gate + Sync>(
     rt: &R,
     alloc: Global,
     scenario: &Scenario,
     world: &World,
     horizon: u64,
     workers: u32,
+    starter: &mut S,
     gate: &G,
 ) -> Result<Vec<Done>, RunError>
     requires world { IsWorldOf scenario.now world.now }
@@ -52,7 +54,7 @@ fn run_parts<R: Threads + Wait + Sync, G: Gate + Sync>(
         draws: &draws,
         gate,
     };
-    let Gathered { seat, done } = match run_workers(rt, &run, seat, 0, workers) {
+    let Gathered { seat, done } = match run_workers(rt, &run, seat, 0, workers, starter) {
         Ok(gathered) => gathered,
         Err(fault) => return Err(fault),
     };
@@ -94,12 +96,54 @@ pub fn run_crew<R: Threads + Wait + Sync, G: Gate + Sync, W: Write>(
     ensures over { result ≡ Err RunError.TooManyEvents → (HasTooManyEvents scenario.now) × (has_failed writer.new ≡ false) }
     ensures bad { result ≡ Err RunError.BadDivision → (length division.now.of_node ≢ node_count scenario.now) × (writer.new ≡ writer.old) }
 {
+    run_crew_started(
+        rt,
+        alloc,
+        scenario,
+        division,
+        workers,
+        &mut AllStart,
+        gate,
+        writer,
+    )
+}
+
+/// Runs a scenario as `run_crew`, where a starter is asked before the start of each worker's thread.
+/// After a no it is not asked again.
+///
+/// # Errors
+///
+/// `Worker`, where the starter said no or the start of a thread is refused; the others as
+/// `run_crew`.
+pub fn run_crew_started<R: Threads + Wait + Sync, S: Starter, G: Gate + Sync, W: Write>(
+    rt: &R,
+    alloc: Global,
+    scenario: &Scenario,
+    division: &Division,
+    workers: u32,
+    starter: &mut S,
+    gate: &G,
+    writer: &mut Watched<W>,
+) -> Result<Report, RunError>
+    requires workers { (0 < workers) × (workers ≤ MOST_SEATS) }
+    requires sound { has_failed writer.old ≡ false }
+    ensures trace { OnOk result (Appends (W.contents (wrapped writer.old)) (W.contents (wrapped writer.new)) (trace_text scenario.now)) }
+    ensures report { IfOk result (λ report. IsReport scenario.now report) }
+    ensures within { OnOk result (HasTooManyEvents scenario.now → ⊥) }
+    ensures beginning { IsBeginning scenario.now (W.contents (wrapped writer.old)) (W.contents (wrapped writer.new)) }
+    ensures sound { OnOk result (has_failed writer.new ≡ false) }
+    ensures failed { result ≡ Err RunError.Write → has_failed writer.new ≡ true }
+    ensures memory { result ≡ Err RunError.Memory → has_failed writer.new ≡ false }
+    ensures worker { result ≡ Err RunError.Worker → has_failed writer.new ≡ false }
+    ensures over { result ≡ Err RunError.TooManyEvents → (HasTooManyEvents scenario.now) × (has_failed writer.new ≡ false) }
+    ensures bad { result ≡ Err RunError.BadDivision → (length division.now.of_node ≢ node_count scenario.now) × (writer.new ≡ writer.old) }
+{
     scenario.recall_range();
     let mut engine = Engine::start(alloc, scenario, division)?;
     while let Some(opening) = engine.opening() {
         let horizon = opening.horizon;
         let world = engine.world();
-        let dones = run_parts(rt, alloc, scenario, world, horizon, workers, gate)?;
+        let dones = run_parts(rt, alloc, scenario, world, horizon, workers, starter, gate)?;
         engine.put_window(alloc, scenario, opening, dones, writer)?;
     }
     engine.finish(alloc, scenario, writer)

@@ -1,19 +1,28 @@
 //! The crew: workers that draw the parts of a window and run them, each in a thread of its own.
 #![tactic(auto)]
 
+mod balanced;
 mod crew_run;
+mod dealer;
+mod dealt_run;
 mod draw_rule;
 mod draws;
 mod faults;
 mod gate;
 mod gathered;
+mod loads;
 mod seat;
 mod shift;
+mod starter;
 mod window_run;
 mod workers;
 
-pub use crew_run::run_crew;
+pub use balanced::Balanced;
+pub use crew_run::{run_crew, run_crew_started};
+pub use dealer::Dealer;
+pub use dealt_run::run_crew_dealt;
 pub use draws::{Draws, MOST_SEATS};
 pub use gate::{Gate, OpenGate};
 pub use seat::Seat;
 pub use shift::{Shift, work};
+pub use starter::{AllStart, Starter};

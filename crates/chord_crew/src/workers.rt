@@ -8,6 +8,7 @@ use crate::gate::Gate;
 use crate::gathered::{Gathered, alone, gather};
 use crate::seat::Seat;
 use crate::shift::{Shift, work};
+use crate::starter::Starter;
 use crate::window_run::{ShiftOf, WindowRun};
 use chord_event::RunError;
 use std::snapshot::Snapshot;
@@ -15,12 +16,13 @@ use std::sync::Wait;
 use std::thread;
 use std::thread::{PromisedHandle, Scope, Threads};
 
-/// Starts a worker's thread, whose result is the shift of the seat that it is given.
-fn start_worker<'s, E, G: Gate + Sync>(
+/// Starts a worker's thread, if it may start. Its result is the shift of the seat that it is given.
+fn start_worker<'s, E, S: Starter, G: Gate + Sync>(
     scope: &Scope<'s, E>,
     run: &WindowRun<'s, G>,
     seat: Seat,
     worker: u32,
+    starter: &mut S,
 ) -> Result<PromisedHandle<Shift, ShiftOf<'s>>, RunError>
     requires run { IsWindowOf run.now.scenario.now run.now.world.now run.now.horizon run.now.draws.now }
     requires of { seat.table ≡ run.now.draws.now.table }
@@ -31,6 +33,9 @@ fn start_worker<'s, E, G: Gate + Sync>(
     ensures seat { IfOk result (λ child. child.promise.seat.value ≡ seat) }
     ensures refused { IfErr result (λ e. e ≡ RunError.Worker) }
 {
+    if !starter.may_start(worker) {
+        return Err(RunError::Worker);
+    }
     let &WindowRun {
         alloc,
         scenario,
@@ -58,12 +63,13 @@ fn start_worker<'s, E, G: Gate + Sync>(
 /// Starts a thread for each of the workers that are left, from this worker on, joins them, and puts
 /// together what they hand on. The seat has 1 of the allowance for each of them.
 #[cycle(workers)]
-pub(crate) fn run_workers<R: Threads + Wait + Sync, G: Gate + Sync>(
+pub(crate) fn run_workers<R: Threads + Wait + Sync, S: Starter, G: Gate + Sync>(
     rt: &R,
     run: &WindowRun<'_, G>,
     seat: Seat,
     worker: u32,
     left: u32,
+    starter: &mut S,
 ) -> Result<Gathered, RunError>
     requires run { IsWindowOf run.now.scenario.now run.now.world.now run.now.horizon run.now.draws.now }
     requires of { seat.table ≡ run.now.draws.now.table }
@@ -75,7 +81,7 @@ pub(crate) fn run_workers<R: Threads + Wait + Sync, G: Gate + Sync>(
     ensures fault { IfErr result (IsWindowFault run.now.scenario.now) }
 {
     if left == 1 {
-        return run_last(rt, run, seat, worker);
+        return run_last(rt, run, seat, worker, starter);
     }
     let mut seat = seat;
     let mine = run.draws.split(&mut seat);
@@ -109,19 +115,20 @@ pub(crate) fn run_workers<R: Threads + Wait + Sync, G: Gate + Sync>(
                 draws,
                 gate,
             };
-            let child = start_worker(scope, &run, mine, worker)?;
-            let others = run_workers(rt, &run, seat, worker + 1, left - 1);
+            let child = start_worker(scope, &run, mine, worker, starter)?;
+            let others = run_workers(rt, &run, seat, worker + 1, left - 1, starter);
             gather(draws, others, child.join(rt))
         },
     )
 }
 
 /// Runs the last worker, who takes the seat that is left.
-fn run_last<R: Threads + Wait + Sync, G: Gate + Sync>(
+fn run_last<R: Threads + Wait + Sync, S: Starter, G: Gate + Sync>(
     rt: &R,
     run: &WindowRun<'_, G>,
     seat: Seat,
     worker: u32,
+    starter: &mut S,
 ) -> Result<Gathered, RunError>
     requires run { IsWindowOf run.now.scenario.now run.now.world.now run.now.horizon run.now.draws.now }
     requires of { seat.table ≡ run.now.draws.now.table }
@@ -156,7 +163,7 @@ fn run_last<R: Threads + Wait + Sync, G: Gate + Sync>(
                 draws,
                 gate,
             };
-            let child = start_worker(scope, &run, seat, worker)?;
+            let child = start_worker(scope, &run, seat, worker, starter)?;
             alone(child.join(rt))
         },
     )

@@ -1,7 +1,7 @@
 use Rattle.std.proofs.Common.{◌∙◌, ap, sym}
 use Rattle.chord_window.specs.declared.world.World.{World}
 use Rattle.chord_window.proofs.EngineCourse.{begin_at}
-use Rattle.chord_crew.proofs.crew_run.run_crew.Goals as goal
+use Rattle.chord_crew.proofs.crew_run.run_crew_started.Goals as goal
 
 pub loop-opening-init : goal.loop-opening-init
 loop-opening-init g c = record { at = c.in_ok-engine.ensures.at _; sound = c.requires.sound }

@@ -1,7 +1,7 @@
 use Rattle.std.proofs.Common.{◌≡◌, ◌-◌, false}
 use Rattle.chord_trace.specs.Watched.{wrapped, has_failed}
 use Rattle.chord_window.specs.Engine.{IsAt}
-use Rattle.chord_crew.proofs.crew_run.run_crew.Given as goal
+use Rattle.chord_crew.proofs.crew_run.run_crew_started.Given as goal
 
 abbrev pub invariant-loop-opening : goal.invariant-loop-opening
 invariant-loop-opening g l = record {

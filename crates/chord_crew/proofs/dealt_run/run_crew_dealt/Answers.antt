@@ -1,0 +1,76 @@
+use Rattle.std.proofs.Common.{◌≡◌, ◌≢◌, rules, ℕ, ◌≤◌, ◌∙◌, length, get_or, ap, arith, sym}
+use Rattle.std.proofs.lemmas.List.FromFn.{length-map-range_with_len}
+use Rattle.chord_model.specs.Windows.{Division}
+use Rattle.chord_scenario.specs.World.{node_count}
+use Rattle.chord_window.specs.declared.world.World.{World}
+use Rattle.chord_window.specs.Divisions.{dealt_part}
+use Rattle.chord_window.proofs.EngineCourse.{begin_at}
+use Rattle.chord_crew.proofs.EventCounts.{all_nought, as_long, loads_fit, still_few, targets_fit}
+use Rattle.chord_crew.proofs.dealt_run.run_crew_dealt.Goals as goal
+
+pub returns-in_err-engine-clause-bad : goal.returns-in_err-engine-clause-bad
+returns-in_err-engine-clause-bad g c is =
+    let long : length c.in_ok-whole.whole.of_node ≡ node_count c.args.scenario.now = ap (λ (d : Division). length d.of_node) c.in_ok-whole.ensures
+    ∙ (length-map-range_with_len (dealt_part 1) 0 c.nodes.result ∙ c.nodes.ensures) in
+    let other : length c.in_ok-whole.whole.of_node ≢ node_count c.args.scenario.now = search (rules, c.in_err-engine.ensures.bad) in
+    absurd (other long)
+
+pub loop-opening-init : goal.loop-opening-init
+loop-opening-init g c =
+    let noughts = c.in_ok-loads.ensures.items_if_clones_equal (λ _ e. e) in
+    record {
+      at = c.in_ok-engine.ensures.at _;
+      sound = c.requires.sound;
+      long = as_long c.nodes-2.result c.in_ok-loads.loads.items noughts ∙ c.nodes-2.ensures;
+      few = λ node. omega (arith, all_nought c.nodes-2.result node c.in_ok-loads.loads.items noughts);
+    }
+
+pub returns-in_err-division-clause-beginning : goal.returns-in_err-division-clause-beginning
+returns-in_err-division-clause-beginning g c = begin_at c.args.scenario.now _ _ c.loop-opening.engine c.loop-opening.invariant.at
+
+pub returns-in_err-engine-2-clause-beginning : goal.returns-in_err-engine-2-clause-beginning
+returns-in_err-engine-2-clause-beginning g c = begin_at c.args.scenario.now _ _ c.loop-opening.engine c.loop-opening.invariant.at
+
+pub returns-in_err-dones-clause-beginning : goal.returns-in_err-dones-clause-beginning
+returns-in_err-dones-clause-beginning g c = begin_at c.args.scenario.now _ _ c.loop-opening.engine c.loop-opening.invariant.at
+
+pub run_parts-requires-clause-horizon : goal.run_parts-requires-clause-horizon
+run_parts-requires-clause-horizon g c _ _ = (
+  c.in-Some.opening.time,
+  ap (λ (w : World). w.opening) c.world-world.ensures ∙ (c.in_ok-engine-2.ensures.opening ∙ (sym c.opening.ensures ∙ c.in-Some.is)),
+)
+
+pub count_events-requires-clause-targets : goal.count_events-requires-clause-targets
+count_events-requires-clause-targets g c =
+    targets_fit c.args.scenario.now c.world-world.result.now c.in-Some.opening.horizon c.in_ok-dones.dones.items c.as_slice-in-Some.result.now
+    c.loop-opening.loads.items c.in_ok-dones.ensures.done c.as_slice-in-Some.ensures.value c.loop-opening.invariant.long
+
+pub count_events-requires-clause-room : goal.count_events-requires-clause-room
+count_events-requires-clause-room g c =
+    let world = c.world-world.result.now in
+    let count : world.count ≡ c.loop-opening.engine.world.count = ap (λ (w : World). w.count) c.world-world.ensures ∙ c.in_ok-engine-2.ensures.count in
+    let few : (node : ℕ) → get_or c.loop-opening.loads.items node 0 ≤ world.count = λ node. omega (arith, count, c.loop-opening.invariant.few node) in
+    let parts : world.division.parts ≤ 512 = omega (
+      arith,
+      ap (λ (w : World). w.division.parts) c.world-world.ensures,
+      ap (λ (d : Division). d.parts) c.in_ok-engine-2.ensures.division,
+      ap (λ (d : Division). d.parts) c.division.view_is,
+      c.division.invariant.few,
+    ) in
+    loads_fit c.args.scenario.now world c.in-Some.opening.horizon c.in_ok-dones.dones.items c.as_slice-in-Some.result.now c.loop-opening.loads.items
+    c.in_ok-dones.ensures.done c.as_slice-in-Some.ensures.value few (omega (arith, count, c.loop-opening.invariant.at.world.within))
+    c.recall_range.ensures.numbers.max_events_greatest parts
+
+pub loop-opening-preserved : goal.loop-opening-preserved
+loop-opening-preserved g c =
+    let world = c.world-world.result.now in
+    let count : world.count ≡ c.loop-opening.engine.world.count = ap (λ (w : World). w.count) c.world-world.ensures ∙ c.in_ok-engine-2.ensures.count in
+    let few : (node : ℕ) → get_or c.loop-opening.loads.items node 0 ≤ world.count = λ node. omega (arith, count, c.loop-opening.invariant.few node) in
+    record {
+      at = c.in_ok-put_window.ensures.at _ (c.in_ok-engine-2.ensures.at _ _ c.loop-opening.invariant.at);
+      sound = c.in_ok-put_window.ensures.sound;
+      long = c.count_events.ensures.long ∙ c.loop-opening.invariant.long;
+      few = still_few c.args.scenario.now world c.in-Some.opening.horizon _ c.in_ok-dones.dones.items c.as_slice-in-Some.result.now
+          c.loop-opening.loads.items _ c.in_ok-dones.ensures.done c.as_slice-in-Some.ensures.value few c.count_events.ensures.counted
+          (omega (arith, c.in_ok-put_window.ensures.count, count, c.in_ok-engine-2.ensures.count));
+    }

@@ -1,0 +1,76 @@
+ghost use Rattle.std.specs.Prelude.{◌≡◌, ◌≢◌, ◌<◌, ◌≤◌, true, false, length, OnOk, IfOk, Err};
+ghost use Rattle.std.specs.Io.KnownBytes.{Appends};
+ghost use Rattle.chord_machine.specs.Run.{HasTooManyEvents, IsReport, trace_text};
+ghost use Rattle.chord_model.specs.Windows.{Division as ADivision};
+ghost use Rattle.chord_output.specs.Beginning.{IsBeginning};
+ghost use Rattle.chord_scenario.specs.World.{node_count};
+ghost use Rattle.chord_trace.specs.Watched.{wrapped, has_failed};
+
+use crate::crew_run::run_parts;
+use crate::dealer::Dealer;
+use crate::draws::MOST_SEATS;
+use crate::gate::Gate;
+use crate::loads::count_events;
+use crate::starter::AllStart;
+use chord_event::RunError;
+use chord_scenario::Scenario;
+use chord_trace::{Report, Watched};
+use chord_window::{Division, Engine};
+use std::alloc::Global;
+use std::io::Write;
+use std::sync::Wait;
+use std::thread::Threads;
+
+/// Runs a scenario as `run_crew`, where a dealer divides the nodes anew before each window, by the
+/// number of events that each node has handled so far. It is asked once for each window.
+///
+/// # Errors
+///
+/// `BadDivision`, where the dealer names a division of another number of nodes than the scenario
+/// has; `Memory`, where the dealer's memory is refused too; the others as `run_crew`.
+pub fn run_crew_dealt<R: Threads + Wait + Sync, D: Dealer, G: Gate + Sync, W: Write>(
+    rt: &R,
+    alloc: Global,
+    scenario: &Scenario,
+    workers: u32,
+    dealer: &mut D,
+    gate: &G,
+    writer: &mut Watched<W>,
+) -> Result<Report, RunError>
+    requires workers { (0 < workers) × (workers ≤ MOST_SEATS) }
+    requires sound { has_failed writer.old ≡ false }
+    ensures trace { OnOk result (Appends (W.contents (wrapped writer.old)) (W.contents (wrapped writer.new)) (trace_text scenario.now)) }
+    ensures report { IfOk result (λ report. IsReport scenario.now report) }
+    ensures within { OnOk result (HasTooManyEvents scenario.now → ⊥) }
+    ensures beginning { IsBeginning scenario.now (W.contents (wrapped writer.old)) (W.contents (wrapped writer.new)) }
+    ensures sound { OnOk result (has_failed writer.new ≡ false) }
+    ensures failed { result ≡ Err RunError.Write → has_failed writer.new ≡ true }
+    ensures memory { result ≡ Err RunError.Memory → has_failed writer.new ≡ false }
+    ensures worker { result ≡ Err RunError.Worker → has_failed writer.new ≡ false }
+    ensures over { result ≡ Err RunError.TooManyEvents → (HasTooManyEvents scenario.now) × (has_failed writer.new ≡ false) }
+    ensures bad { result ≡ Err RunError.BadDivision → (has_failed writer.new ≡ false) × ((d : ADivision) × D.can_name (node_count scenario.now) d × (length d.of_node ≢ node_count scenario.now)) }
+{
+    scenario.recall_range();
+    let whole = Division::dealt(alloc, scenario.nodes(), 1)?;
+    let mut engine = Engine::start(alloc, scenario, &whole)?;
+    let mut loads = vec![in alloc; 0u64; scenario.nodes() as usize]?;
+    while let Some(opening) = engine.opening() {
+        let division = dealer.deal(loads.as_slice())?;
+        engine = engine.redivide(alloc, scenario, &division)?;
+        let world = engine.world();
+        let horizon = opening.horizon;
+        let dones = run_parts(
+            rt,
+            alloc,
+            scenario,
+            world,
+            horizon,
+            workers,
+            &mut AllStart,
+            gate,
+        )?;
+        count_events(&mut loads, dones.as_slice());
+        engine.put_window(alloc, scenario, opening, dones, writer)?;
+    }
+    engine.finish(alloc, scenario, writer)
+}
