@@ -376,6 +376,52 @@ fn parts_put_together(rt: HostRuntime) -> Result<(), Fail> {
     Ok(())
 }
 
+/// A world that is divided anew has the count, the states and the next window that it had, and one part
+/// with all nodes has what two parts had. A division of four nodes is refused.
+#[test]
+fn a_world_divided_anew(rt: HostRuntime) -> Result<(), Fail> {
+    let alloc = rt.alloc();
+    let text = text_of(alloc, SETTINGS, THREE, TWO_LOOKUPS)?;
+    let Ok(scenario) = read_scenario(alloc, text.as_str().as_bytes(), b"") else {
+        assert!(rt; false, "the lookups are refused");
+        return Ok(());
+    };
+    let dealt = Division::dealt(alloc, 3, 2)?;
+    let blocks = Division::blocks(alloc, 3, 2)?;
+    let whole = Division::dealt(alloc, 3, 1)?;
+    let of_four = Division::dealt(alloc, 4, 2)?;
+    let Ok(world) = World::start(alloc, &scenario, &dealt) else {
+        assert!(rt; false, "no start");
+        return Ok(());
+    };
+    let Ok(world) = world.redivide(alloc, &scenario, &blocks) else {
+        assert!(rt; false, "no blocks");
+        return Ok(());
+    };
+    assert!(rt; world.count == 0 && world.states.len() == 3 && world.parts.len() == 2);
+    assert!(rt; world.division.part_of(1) == 0 && world.division.part_of(2) == 1);
+    assert!(rt; world.horizon(&scenario) == Some(110));
+    let Ok(world) = world.redivide(alloc, &scenario, &whole) else {
+        assert!(rt; false, "no single part");
+        return Ok(());
+    };
+    assert!(rt; world.count == 0 && world.states.len() == 3 && world.parts.len() == 1);
+    let Some(horizon) = world.horizon(&scenario) else {
+        assert!(rt; false, "no window");
+        return Ok(());
+    };
+    assert!(rt; horizon == 110);
+    let mut queue = WindowQueue::new(alloc);
+    let Ok(done) = run_part(alloc, &scenario, &world, 0, horizon, &mut queue) else {
+        assert!(rt; false, "the part does not end");
+        return Ok(());
+    };
+    assert!(rt; done.events == 2 && done.nodes.len() == 2 && done.mail.len() == 4);
+    let refused = world.redivide(alloc, &scenario, &of_four);
+    assert!(rt; matches!(refused, Err(RunError::BadDivision)));
+    Ok(())
+}
+
 /// What goes out before a writer fails is the beginning of the trace, whatever the writer takes.
 #[test]
 fn writers_that_fail_by_windows(rt: HostRuntime) -> Result<(), Fail> {
