@@ -1,4 +1,4 @@
--- What the parts of a window add to the loads of the nodes.
+-- What the loads of the nodes are before the first window, and what the parts of a window add to them.
 use Rattle.std.proofs.Common.{◌≡◌, ℕ, suc, ◌+◌, ◌*◌, ◌^◌, ◌<◌, ◌≤◌, List, [], ◌∷◌, length, map, drop, get_or, zero, refl, ap, sym, subst, ◌∙◌, arith}
 use Rattle.std.specs.List.{All}
 use Rattle.std.proofs.lemmas.List.{length-map, length-replicate, length-reverse}
@@ -61,7 +61,7 @@ few_events sc w horizon part [] each = omega arith
 few_events sc w horizon part (done ∷ dones) each = omega (arith, (each.0).within, few_events sc w horizon (suc part) dones each.1)
 
 -- the events are of the scenario's nodes
-pub targets_known : (sc : Scenario) (w : World) (horizon part : ℕ) (dones : List Done) → AreDoneFrom sc w horizon part dones
+targets_known : (sc : Scenario) (w : World) (horizon part : ℕ) (dones : List Done) → AreDoneFrom sc w horizon part dones
     → All (λ (done : Done). All (λ (block : Block). block.target < node_count sc) done.blocks.items) dones
 targets_known sc w horizon part [] each = λ i d l. absurd (omega (arith, l))
 targets_known sc w horizon part (done ∷ dones) each = All-cons
@@ -104,11 +104,6 @@ still_few sc w horizon count dones list before after a same few counted more nod
   more,
 )
 
-noughts : (n node : ℕ) → get_or (replicate n 0) node 0 ≤ 0
-noughts zero node = omega arith
-noughts (suc n) zero = omega arith
-noughts (suc n) (suc node) = noughts n node
-
 -- the target of the next block has one event more to come than none
 pub counts_its_target : (blocks : List Block) (i : ℕ) (block : Block) → i < length blocks → block ≡ get_or blocks i block
     → 0 < events_of block.target (drop i blocks)
@@ -116,6 +111,11 @@ counts_its_target blocks i block inside is =
     let next = drop-cons blocks i block inside in
     let here : drop i blocks ≡ block ∷ drop (suc i) blocks = next ∙ ap (λ b. b ∷ drop (suc i) blocks) (sym is) in
     subst (λ list. 0 < events_of block.target list) (sym here) (omega (arith, counts_itself block.target))
+
+noughts : (n node : ℕ) → get_or (replicate n 0) node 0 ≤ 0
+noughts zero node = omega arith
+noughts (suc n) zero = omega arith
+noughts (suc n) (suc node) = noughts n node
 
 -- a list of noughts has no other number
 pub all_nought : (n node : ℕ) (list : List ℕ) → list ≡ replicate n 0 → get_or list node 0 ≤ 0

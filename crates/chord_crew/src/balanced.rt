@@ -11,9 +11,9 @@ use std::collections::BinaryHeap;
 use std::marker::Model;
 
 /// A dealer that evens out the parts by what their nodes have handled so far: it puts the nodes,
-/// the one with the greatest load first, each onto the part that has the least load by then. Among
-/// equal ones the node, and the part, with the lowest number comes first. Contracts see its number
-/// of parts.
+/// the one with the greatest load first, each onto the part that has the least load by then, and
+/// among such parts the fewest nodes. Among equal ones the node, and the part, with the lowest
+/// number comes first. Contracts see its number of parts.
 #[derive(Drop)]
 pub struct Balanced {
     alloc: Global,
@@ -38,10 +38,11 @@ struct NodeLoad {
     node: usize,
 }
 
-/// A part with its load.
+/// A part with the load of its nodes, and their number.
 #[derive(Clone, Copy, PartialEq, Eq, PartialOrd, Ord)]
 struct PartLoad {
     load: u64,
+    nodes: u32,
     part: u32,
 }
 
@@ -68,23 +69,35 @@ fn empty_parts(alloc: Global, parts: u32) -> Result<BinaryHeap<Reverse<PartLoad>
 {
     let mut heap = BinaryHeap::new(alloc);
     for part in 0..parts {
-        heap.push(Reverse(PartLoad { load: 0, part }))?;
+        heap.push(Reverse(PartLoad {
+            load: 0,
+            nodes: 0,
+            part,
+        }))?;
     }
     Ok(heap)
 }
 
-/// Puts a load onto the part that has the least. The answer is this part.
+/// Puts a node with its load onto the part that has the least. The answer is this part.
 fn put_load(least: &mut BinaryHeap<Reverse<PartLoad>>, load: u64) -> Result<u32, Memory>
     requires some { 0 < heap_len least.old }
     ensures many { OnOk result (heap_len least.new ≡ heap_len least.old) }
     ensures part { IfOk result (λ part. (parts : ℕ) → All (λ p. p.0.part < parts) (heap_items least.old) → part < parts) }
     ensures below { OnOk result ((parts : ℕ) → All (λ p. p.0.part < parts) (heap_items least.old) → All (λ p. p.0.part < parts) (heap_items least.new)) }
 {
-    let Some(Reverse(PartLoad { load: before, part })) = least.pop() else {
+    let Some(Reverse(least_part)) = least.pop() else {
         unreachable!();
     };
-    let load = before.saturating_add(load);
-    least.push(Reverse(PartLoad { load, part }))?;
+    let PartLoad {
+        load: before,
+        nodes,
+        part,
+    } = least_part;
+    least.push(Reverse(PartLoad {
+        load: before.saturating_add(load),
+        nodes: nodes.saturating_add(1),
+        part,
+    }))?;
     Ok(part)
 }
 
