@@ -23,9 +23,9 @@ use std::thread::Threads;
 
 /// What a crew left: the text of its trace, and its report, or why it did not end.
 #[derive(Drop)]
-struct Ran {
-    trace: Vec<u8>,
-    outcome: Result<Report, RunError>,
+pub struct Ran {
+    pub trace: Vec<u8>,
+    pub outcome: Result<Report, RunError>,
 }
 
 /// Runs a scenario by so many workers.
@@ -48,7 +48,7 @@ fn run_by<T: AllocGlobal + Threads + Wait + Sync, G: Gate + Sync>(
 }
 
 /// Two lookups at one time, of a run that allows so many events.
-fn two_lookups(alloc: Global, allowed: u32) -> Result<Scenario, Fail> {
+pub fn two_lookups(alloc: Global, allowed: u32) -> Result<Scenario, Fail> {
     let settings = format!(in alloc; "{SETTINGS}max_events = {allowed}\n")?;
     let text = text_of(alloc, settings.as_str(), THREE, TWO_LOOKUPS)?;
     let scenario = read_scenario(alloc, text.as_str().as_bytes(), b"")

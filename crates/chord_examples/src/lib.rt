@@ -9,6 +9,8 @@ mod branches;
 #[cfg(test)]
 mod crews;
 #[cfg(test)]
+mod dealers;
+#[cfg(test)]
 mod divisions;
 #[cfg(test)]
 mod examples;

@@ -1,0 +1,313 @@
+//! Crews whose nodes are divided anew before each window, or whose threads may not all start.
+ghost use Rattle.std.specs.Prelude.{◌≡◌, ◌<◌, ◌≤◌, length};
+
+use crate::crews::{Ran, two_lookups};
+use crate::failures::TRACE;
+use crate::gates::SizeGate;
+use crate::playing::{SETTINGS, text_of};
+use chord_crew::{
+    Balanced, Dealer, Gate, MOST_SEATS, OpenGate, Starter, run_crew_dealt, run_crew_started,
+};
+use chord_event::{Memory, RunError};
+use chord_scenario::{Scenario, read_scenario};
+use chord_serial::run_serial;
+use chord_trace::Watched;
+use chord_window::Division;
+use std::alloc::Global;
+use std::sync::Wait;
+use std::sync::atomic::{AtomicU64, Ordering};
+use std::test::Fail;
+use std::thread::Threads;
+
+/// What a dealer answers, of a ring of three nodes.
+#[derive(Clone, Copy)]
+enum Answer {
+    ByTurns,
+    ByBlocks,
+    InOnePart,
+    EachAlone,
+    OfFourNodes,
+    Refused,
+}
+
+fn answered(alloc: Global, answer: Answer) -> Result<Division, Memory> {
+    match answer {
+        Answer::ByTurns => Division::dealt(alloc, 3, 2),
+        Answer::ByBlocks => Division::blocks(alloc, 3, 2),
+        Answer::InOnePart => Division::dealt(alloc, 3, 1),
+        Answer::EachAlone => Division::dealt(alloc, 3, 3),
+        Answer::OfFourNodes => Division::dealt(alloc, 4, 2),
+        Answer::Refused => Err(Memory),
+    }
+}
+
+/// A dealer with two answers in turn. It notes the loads that it is told.
+#[derive(Drop)]
+struct InTurn {
+    alloc: Global,
+    first: Answer,
+    second: Answer,
+    calls: u32,
+    loads: Vec<u64>,
+}
+
+impl InTurn {
+    fn new(alloc: Global, first: Answer, second: Answer) -> InTurn {
+        InTurn {
+            alloc,
+            first,
+            second,
+            calls: 0,
+            loads: Vec::new(alloc),
+        }
+    }
+}
+
+impl Dealer for InTurn {
+    ghost can_name = { λ _ _. Unit {0} };
+
+    fn deal(&mut self, loads: &[u64]) -> Result<Division, Memory> {
+        self.loads.extend_from_slice(loads)?;
+        let answer = if self.calls % 2 == 0 {
+            self.first
+        } else {
+            self.second
+        };
+        self.calls = self.calls.saturating_add(1);
+        answered(self.alloc, answer)
+    }
+}
+
+/// Runs a scenario by so many workers, with the divisions of a dealer.
+fn run_dealt<T: AllocGlobal + Threads + Wait + Sync, D: Dealer, G: Gate + Sync>(
+    rt: &T,
+    scenario: &Scenario,
+    workers: u32,
+    dealer: &mut D,
+    gate: &G,
+) -> Ran
+    requires { (0 < workers) × (workers ≤ MOST_SEATS) }
+{
+    let alloc = rt.alloc();
+    let mut writer = Watched::new(Vec::new(alloc));
+    let outcome = run_crew_dealt(rt, alloc, scenario, workers, dealer, gate, &mut writer);
+    Ran {
+        trace: writer.into_inner(),
+        outcome,
+    }
+}
+
+/// Whether a trace is so many bytes of that of the two lookups.
+fn is_beginning(trace: &[u8], taken: usize) -> bool {
+    trace.len() == taken && TRACE.as_bytes().starts_with(trace)
+}
+
+/// The dealer is asked before each of the four windows, and told what each node has handled by then.
+#[test]
+fn a_dealer_is_told_the_loads(rt: HostRuntime) -> Result<(), Fail> {
+    let scenario = two_lookups(rt.alloc(), 50)?;
+    let mut dealer = InTurn::new(rt.alloc(), Answer::ByTurns, Answer::ByBlocks);
+    let ran = run_dealt(&rt, &scenario, 2, &mut dealer, &OpenGate);
+    assert!(rt; ran.outcome.is_ok());
+    assert!(rt; ran.trace.as_slice() == TRACE.as_bytes());
+    assert!(rt; dealer.calls == 4);
+    assert!(rt; dealer.loads.as_slice() == [0, 0, 0, 1, 0, 1, 2, 0, 2, 3, 0, 3].as_slice());
+    Ok(())
+}
+
+/// A division that does not fit the ring ends the run, and so does one that memory refuses. What was put out before
+/// stays.
+#[test]
+fn a_dealer_without_a_division_ends_the_run(rt: HostRuntime) -> Result<(), Fail> {
+    let scenario = two_lookups(rt.alloc(), 50)?;
+    for (first, second, error, taken) in [
+        (
+            Answer::OfFourNodes,
+            Answer::ByTurns,
+            RunError::BadDivision,
+            0,
+        ),
+        (
+            Answer::ByTurns,
+            Answer::OfFourNodes,
+            RunError::BadDivision,
+            32,
+        ),
+        (Answer::Refused, Answer::ByTurns, RunError::Memory, 0),
+        (Answer::ByTurns, Answer::Refused, RunError::Memory, 32),
+    ] {
+        let mut dealer = InTurn::new(rt.alloc(), first, second);
+        let ran = run_dealt(&rt, &scenario, 2, &mut dealer, &OpenGate);
+        assert!(rt; ran.outcome.err() == Some(error), "after {taken}");
+        assert!(rt; is_beginning(ran.trace.as_slice(), taken), "after {taken}");
+    }
+    Ok(())
+}
+
+/// Whether the gate was passed for part 0, and then for parts 0 to 2 in any order.
+fn is_one_then_three(passes: &[AtomicU64]) -> bool {
+    let [one, three @ ..] = passes else {
+        return false;
+    };
+    one.load(Ordering::SeqCst) == 0
+        && (0..3u64).all(|part| three.iter().any(|pass| pass.load(Ordering::SeqCst) == part))
+}
+
+/// Each window has the parts of its own division.
+#[test]
+fn each_window_has_its_own_parts(rt: HostRuntime) -> Result<(), Fail> {
+    let scenario = two_lookups(rt.alloc(), 50)?;
+    let mut dealer = InTurn::new(rt.alloc(), Answer::InOnePart, Answer::EachAlone);
+    let taken = AtomicU64::new(0);
+    let gate = SizeGate::new(&taken);
+    let ran = run_dealt(&rt, &scenario, 2, &mut dealer, &gate);
+    assert!(rt; ran.trace.as_slice() == TRACE.as_bytes());
+    assert!(rt; gate.passes.load(Ordering::SeqCst) == 8);
+    assert!(rt; is_one_then_three(&gate.parts[..4]) && is_one_then_three(&gate.parts[4..]));
+    Ok(())
+}
+
+/// Refuses one start, the first being number 1.
+#[derive(Drop)]
+struct RefusesStart {
+    refused: u32,
+    asked: u32,
+}
+
+impl Starter for RefusesStart {
+    fn may_start(&mut self, _worker: u32) -> bool {
+        self.asked = self.asked.saturating_add(1);
+        self.asked != self.refused
+    }
+}
+
+/// The four windows have two starts each. A refused one ends the run: what the windows before left stays, and no
+/// other start is asked for.
+#[test]
+fn a_refused_start_ends_the_run(rt: HostRuntime) -> Result<(), Fail> {
+    let alloc = rt.alloc();
+    let scenario = two_lookups(alloc, 50)?;
+    let division = Division::blocks(alloc, 3, 2)?;
+    for (refused, taken) in [
+        (1, 0),
+        (2, 0),
+        (3, 32),
+        (4, 32),
+        (5, 32),
+        (6, 32),
+        (7, 116),
+        (8, 116),
+        (9, 190),
+    ] {
+        let mut starter = RefusesStart { refused, asked: 0 };
+        let mut writer = Watched::new(Vec::new(alloc));
+        let outcome = run_crew_started(
+            &rt,
+            alloc,
+            &scenario,
+            &division,
+            2,
+            &mut starter,
+            &OpenGate,
+            &mut writer,
+        );
+        let is_refused = matches!(outcome, Err(RunError::Worker));
+        assert!(rt;
+            is_refused == (refused < 9) && outcome.is_ok() == (refused == 9),
+            "{refused}"
+        );
+        assert!(rt; starter.asked == refused.min(8), "{refused}");
+        let trace = writer.into_inner();
+        assert!(rt; is_beginning(trace.as_slice(), taken), "{refused}");
+    }
+    Ok(())
+}
+
+/// The node with the greatest load goes first, each to the part with the least load by then.
+#[test]
+fn loads_are_evened_out(rt: HostRuntime) -> Result<(), Fail> {
+    let mut dealer = Balanced::new(rt.alloc(), 2);
+    let division = dealer.deal(&[7, 5, 4, 3, 1])?;
+    assert!(rt; division.parts() == 2 && division.nodes() == 5);
+    assert!(rt; division.part_of(0) == 0 && division.part_of(1) == 1 && division.part_of(2) == 1);
+    assert!(rt; division.part_of(3) == 0 && division.part_of(4) == 1);
+    let division = dealer.deal(&[0, 0, 0, 0])?;
+    assert!(rt; division.part_of(0) == 0 && division.part_of(1) == 1);
+    assert!(rt; division.part_of(2) == 0 && division.part_of(3) == 1);
+    Ok(())
+}
+
+/// A ring in which the nodes of even number start all lookups.
+const EIGHT: &str = "[[node]]\nname = \"n0\"\nid = 0\ninitial = true\n\
+    [[node]]\nname = \"n1\"\nid = 1\ninitial = true\n\
+    [[node]]\nname = \"n2\"\nid = 2\ninitial = true\n\
+    [[node]]\nname = \"n3\"\nid = 3\ninitial = true\n\
+    [[node]]\nname = \"n4\"\nid = 4\ninitial = true\n\
+    [[node]]\nname = \"n5\"\nid = 5\ninitial = true\n\
+    [[node]]\nname = \"n6\"\nid = 6\ninitial = true\n\
+    [[node]]\nname = \"n7\"\nid = 7\ninitial = true\n";
+
+const EVEN_LOOKUPS: &str = "[[command]]\nat_us = 100\ndo = \"lookup\"\nnode = \"n0\"\nkey = 4\n\
+    [[command]]\nat_us = 100\ndo = \"lookup\"\nnode = \"n2\"\nkey = 7\n\
+    [[command]]\nat_us = 105\ndo = \"lookup\"\nnode = \"n4\"\nkey = 1\n\
+    [[command]]\nat_us = 110\ndo = \"lookup\"\nnode = \"n6\"\nkey = 2\n";
+
+/// A dealer that evens out the parts, and keeps the loads that it was told last.
+#[derive(Drop)]
+struct Keeping {
+    balanced: Balanced,
+    last: Vec<u64>,
+}
+
+impl Dealer for Keeping {
+    ghost use Rattle.std.specs.Prelude.{◌≡◌, length};
+
+    ghost can_name = { λ nodes d. length d.of_node ≡ nodes };
+
+    fn deal(&mut self, loads: &[u64]) -> Result<Division, Memory> {
+        self.last.clear();
+        self.last.extend_from_slice(loads)?;
+        self.balanced.deal(loads)
+    }
+}
+
+/// The load of a part of eight nodes.
+fn load_of(part: u32, division: &Division, loads: &[u64]) -> u64
+    requires nodes { length division.now.of_node ≡ 8 }
+    requires loads { length loads.now ≡ 8 }
+{
+    let mut sum: u64 = 0;
+    for (node, load) in loads.iter().enumerate() {
+        if division.part_of(node as u32) == part {
+            sum = sum.saturating_add(*load);
+        }
+    }
+    sum
+}
+
+/// Dealt in turn, the nodes of even number are one part of two.
+#[test]
+fn parts_of_a_skewed_ring_are_evened_out(rt: HostRuntime) -> Result<(), Fail> {
+    let alloc = rt.alloc();
+    let text = text_of(alloc, SETTINGS, EIGHT, EVEN_LOOKUPS)?;
+    let scenario = read_scenario(alloc, text.as_str().as_bytes(), b"")
+        .ok()
+        .ok_or("the lookups are refused")?;
+    let mut serial = Watched::new(Vec::new(alloc));
+    run_serial(alloc, &scenario, &mut serial)?;
+    let mut dealer = Keeping {
+        balanced: Balanced::new(alloc, 2),
+        last: Vec::new(alloc),
+    };
+    let ran = run_dealt(&rt, &scenario, 2, &mut dealer, &OpenGate);
+    assert!(rt; ran.outcome.is_ok());
+    assert!(rt; ran.trace.as_slice() == serial.into_inner().as_slice());
+    let loads = dealer.last.as_slice();
+    assert!(rt; loads.len() == 8);
+    let even = dealer.balanced.deal(loads)?;
+    let skewed = Division::dealt(alloc, 8, 2)?;
+    let evened_out = load_of(0, &even, loads).max(load_of(1, &even, loads));
+    let in_turn = load_of(0, &skewed, loads).max(load_of(1, &skewed, loads));
+    assert!(rt; evened_out < in_turn, "{evened_out} {in_turn}");
+    Ok(())
+}
