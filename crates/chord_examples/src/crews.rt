@@ -4,10 +4,11 @@ ghost use Rattle.chord_window.specs.Ordering.{ArePartsDone, HasEachOnce};
 ghost use Rattle.chord_window.specs.PartRuns.{IsHorizon};
 ghost use Rattle.chord_window.specs.Worlds.{IsWorldOf};
 
-use crate::failures::{Bounded, TRACE, TWO_LOOKUPS};
+use crate::failures::{TRACE, TWO_LOOKUPS};
 use crate::gates::{CountGate, Counting, PairGate, SizeGate};
-use crate::playing::{SETTINGS, THREE, shown, text_of};
-use crate::windows::{REPORT, divide};
+use crate::own_window::window_by_one;
+use crate::playing::{SETTINGS, THREE, text_of};
+use crate::windows::divide;
 use chord_crew::{Draws, Gate, MOST_SEATS, OpenGate, Seat, run_crew, work};
 use chord_event::{Memory, RunError};
 use chord_play::Split;
@@ -57,67 +58,6 @@ pub fn two_lookups(alloc: Global, allowed: u32) -> Result<Scenario, Fail> {
     Ok(scenario)
 }
 
-/// Neither the parts, empty ones too, nor the workers change what two lookups at one time leave.
-#[test]
-fn two_lookups_by_any_crew(rt: HostRuntime) -> Result<(), Fail> {
-    let alloc = rt.alloc();
-    let scenario = two_lookups(alloc, 50)?;
-    for (split, parts) in [
-        (Split::Blocks, 1),
-        (Split::Blocks, 2),
-        (Split::RoundRobin, 2),
-        (Split::Blocks, 3),
-        (Split::RoundRobin, 5),
-    ] {
-        let division = divide(alloc, &scenario, split, parts)?;
-        for workers in [1, 2, 3, 64] {
-            let ran = run_by(&rt, &scenario, &division, workers, &OpenGate);
-            let trace = String::from_utf8_lossy(alloc, ran.trace.as_slice())?;
-            assert!(rt;
-                trace.as_str() == TRACE,
-                "{parts} parts, {workers} workers: {trace}"
-            );
-            let Ok(report) = ran.outcome else {
-                assert!(rt; false, "{parts} parts, {workers} workers: no end");
-                return Ok(());
-            };
-            let report = shown(alloc, &report)?;
-            assert!(rt;
-                report.as_str() == REPORT,
-                "{parts} parts, {workers} workers: {report}"
-            );
-        }
-    }
-    Ok(())
-}
-
-/// The run has eight events. Where fewer are allowed it fails, and the lines of the windows before are written.
-#[test]
-fn too_many_events_by_crews(rt: HostRuntime) -> Result<(), Fail> {
-    let alloc = rt.alloc();
-    for (allowed, lines) in [(1, 0), (2, 2), (5, 2), (6, 4), (7, 4), (8, 5)] {
-        let scenario = two_lookups(alloc, allowed)?;
-        let division = divide(alloc, &scenario, Split::Blocks, 2)?;
-        let ran = run_by(&rt, &scenario, &division, 2, &OpenGate);
-        let is_over = matches!(ran.outcome, Err(RunError::TooManyEvents));
-        assert!(rt;
-            is_over == (allowed < 8) && ran.outcome.is_ok() == (allowed == 8),
-            "{allowed}"
-        );
-        let trace = String::from_utf8_lossy(alloc, ran.trace.as_slice())?;
-        assert!(rt; TRACE.starts_with(trace.as_str()), "{allowed}: {trace}");
-        assert!(rt;
-            trace.as_str().lines().count() >= lines,
-            "{allowed}: {trace}"
-        );
-        assert!(rt;
-            allowed == 8 || trace.as_str() != TRACE,
-            "{allowed}: {trace}"
-        );
-    }
-    Ok(())
-}
-
 /// A division of four nodes does not fit a ring of three, and nothing is written.
 #[test]
 fn a_crew_with_a_division_of_other_nodes(rt: HostRuntime) -> Result<(), Fail> {
@@ -130,33 +70,6 @@ fn a_crew_with_a_division_of_other_nodes(rt: HostRuntime) -> Result<(), Fail> {
     Ok(())
 }
 
-/// What goes out before a writer fails is the beginning of the trace.
-#[test]
-fn writers_that_fail_by_crews(rt: HostRuntime) -> Result<(), Fail> {
-    let alloc = rt.alloc();
-    let scenario = two_lookups(alloc, 50)?;
-    let division = divide(alloc, &scenario, Split::Blocks, 2)?;
-    for room in 0..TRACE.len() {
-        for takes_nothing in [false, true] {
-            let mut writer = Watched::new(Bounded {
-                taken: Vec::new(alloc),
-                room,
-                takes_nothing,
-            });
-            let outcome = run_crew(&rt, alloc, &scenario, &division, 2, &OpenGate, &mut writer);
-            assert!(rt; matches!(outcome, Err(RunError::Write)), "room {room}");
-            let taken = writer.into_inner().taken;
-            assert!(rt;
-                taken.as_slice() == &TRACE.as_bytes()[..room],
-                "room {room}"
-            );
-        }
-    }
-    Ok(())
-}
-
-/// Each window has two parts. While one worker is held at its part, another one must come to the other part: so two
-/// threads run, in each of the four windows, and neither holds a lock from its draw to the end of its part.
 #[test]
 fn two_workers_pass_in_pairs(rt: HostRuntime) -> Result<(), Fail> {
     let alloc = rt.alloc();
@@ -232,32 +145,6 @@ fn a_gate_may_wait(rt: HostRuntime) -> Result<(), Fail> {
     assert!(rt; ran.trace.as_slice() == TRACE.as_bytes());
     assert!(rt; *gate.passes.lock(&rt) == 12);
     Ok(())
-}
-
-/// A window by one worker, on the thread that calls.
-fn window_by_one(
-    alloc: Global,
-    scenario: &Scenario,
-    world: &World,
-    horizon: u64,
-) -> Result<Vec<Done>, RunError>
-    requires world { IsWorldOf scenario.now world.now }
-    requires horizon { IsHorizon world.now horizon }
-    ensures { IfOk result (λ dones. ArePartsDone scenario.now world.now horizon dones.items) }
-{
-    world.division.recall_division();
-    let parts = world.division.parts();
-    let Ok((draws, seat)) = Draws::start(alloc, parts, 1) else {
-        return Err(RunError::Memory);
-    };
-    let shift = work(alloc, scenario, world, horizon, &draws, seat, 0, &OpenGate);
-    match shift.fault {
-        None => {
-            draws.close(shift.seat);
-            Ok(shift.done)
-        }
-        Some(fault) => Err(fault),
-    }
 }
 
 /// One worker alone draws both parts of the first window, and each runs its one event.

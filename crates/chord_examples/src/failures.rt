@@ -1,10 +1,9 @@
 use crate::playing::{Played, SERIAL, SETTINGS, THREE, play_text, play_texts, text_of};
-use chord_event::RunError;
 use chord_play::{PlayFault, Text, load, play};
 use chord_scenario::ScenarioFault;
 use chord_trace::Watched;
 use std::io;
-use std::io::{ErrorKind, Read, Write};
+use std::io::{ErrorKind, Read};
 use std::sync::Wait;
 use std::test::Fail;
 use std::thread::Threads;
@@ -17,34 +16,6 @@ pub const TRACE: &str = "100 n0 lookup 4\n100 n3 lookup 1\n\
     120 n3 found 1 n1 hops=1 timeouts=0 us=20\n\
     120 n0 found 4 n0 hops=1 timeouts=0 us=20\n\
     200 audit members=3 dead=0 ring=3 ordered=yes principals=3 sufficient=yes\n";
-
-/// A writer with room for some bytes. After that it fails, or takes nothing.
-#[derive(Drop)]
-pub struct Bounded {
-    pub taken: Vec<u8>,
-    pub room: usize,
-    pub takes_nothing: bool,
-}
-
-impl Write for Bounded {
-    fn write(&mut self, buf: &[u8]) -> io::Result<usize> {
-        let count = buf.len().min(self.room);
-        if count == 0 {
-            return if self.takes_nothing {
-                Ok(0)
-            } else {
-                Err(io::Error::from(ErrorKind::Other))
-            };
-        }
-        self.taken.extend_from_slice(&buf[..count])?;
-        self.room -= count;
-        Ok(count)
-    }
-
-    fn flush(&mut self) -> io::Result<()> {
-        Ok(())
-    }
-}
 
 /// A reader that hands a text out byte by byte, and fails where the text is to end.
 #[derive(Drop)]
@@ -69,33 +40,6 @@ impl Read for Halting<'_> {
         self.text = rest;
         Ok(1)
     }
-}
-
-/// What goes out before a writer fails is the beginning of the trace, whatever the writer takes.
-#[test]
-fn writers_that_fail(rt: HostRuntime) -> Result<(), Fail> {
-    let alloc = rt.alloc();
-    let text = text_of(alloc, SETTINGS, THREE, TWO_LOOKUPS)?;
-    for room in 0..TRACE.len() {
-        for takes_nothing in [false, true] {
-            let mut toml = Watched::new(text.as_str().as_bytes());
-            let mut csv = Watched::new(b"".as_slice());
-            let mut writer = Watched::new(Bounded {
-                taken: Vec::new(alloc),
-                room,
-                takes_nothing,
-            });
-            let outcome = play(&rt, alloc, &mut toml, &mut csv, &SERIAL, &mut writer);
-            let is_write = matches!(outcome, Err(PlayFault::Run(RunError::Write)));
-            assert!(rt; is_write, "room {room}");
-            let taken = writer.into_inner().taken;
-            assert!(rt;
-                taken.as_slice() == &TRACE.as_bytes()[..room],
-                "room {room}"
-            );
-        }
-    }
-    Ok(())
 }
 
 /// Plays the two lookups from readers that hand out single bytes, of each text as many as are given.
@@ -230,27 +174,6 @@ fn texts_that_are_too_long(rt: HostRuntime) -> Result<(), Fail> {
     let longer = play_text(&rt, text.as_slice());
     assert!(rt; matches!(longer.outcome, Err(PlayFault::TooLong(Text::Scenario))));
     assert!(rt; longer.trace.is_empty());
-    Ok(())
-}
-
-/// The run has eight events: two lookups begin, two requests come, two replies, and two timeouts that end nothing.
-/// Where fewer are allowed it fails, and what was written are the lines of those that were taken.
-#[test]
-fn too_many_events(rt: HostRuntime) -> Result<(), Fail> {
-    let alloc = rt.alloc();
-    for (allowed, lines) in [(1, 1), (2, 2), (3, 2), (4, 2), (5, 3), (6, 4), (7, 4)] {
-        let settings = format!(in alloc; "{SETTINGS}max_events = {allowed}\n")?;
-        let text = text_of(alloc, settings.as_str(), THREE, TWO_LOOKUPS)?;
-        let played = play_text(&rt, text.as_str().as_bytes());
-        let is_over = matches!(played.outcome, Err(PlayFault::Run(RunError::TooManyEvents)));
-        assert!(rt; is_over, "{allowed}");
-        let trace = String::from_utf8_lossy(alloc, played.trace.as_slice())?;
-        assert!(rt; TRACE.starts_with(trace.as_str()), "{allowed}: {trace}");
-        assert!(rt;
-            trace.as_str().lines().count() == lines,
-            "{allowed}: {trace}"
-        );
-    }
     Ok(())
 }
 

@@ -4,6 +4,16 @@
 //! event at a time, by windows and by crews; and texts of scenarios, each with the first fault that it has.
 #![tactic(auto)]
 
+mod engines;
+mod examples;
+mod own_window;
+mod playing;
+
+pub use engines::{ENGINES, Engine, Shape, run_by};
+pub use examples::{EXAMPLES, Example, TWO_LOOKUPS};
+pub use own_window::window_by_one;
+pub use playing::{shown, text_of};
+
 #[cfg(test)]
 mod branches;
 #[cfg(test)]
@@ -13,7 +23,9 @@ mod dealers;
 #[cfg(test)]
 mod divisions;
 #[cfg(test)]
-mod examples;
+mod engine_tests;
+#[cfg(test)]
+mod example_tests;
 #[cfg(test)]
 mod failures;
 #[cfg(test)]
@@ -22,8 +34,6 @@ mod faults;
 mod gates;
 #[cfg(test)]
 mod plans;
-#[cfg(test)]
-mod playing;
 #[cfg(test)]
 mod random;
 #[cfg(test)]

@@ -1,9 +1,9 @@
+//! Texts of examples, and what a play of them leaves.
+use chord_event::RunError;
 use chord_play::{Plan, PlayFault, Split, play};
 use chord_trace::{Report, Watched};
 use std::alloc::{AllocError, Global};
-use std::fmt::Write as _;
 use std::sync::Wait;
-use std::test::Fail;
 use std::thread::Threads;
 
 /// One event at a time.
@@ -66,14 +66,15 @@ pub fn play_texts<T: AllocGlobal + Threads + Wait + Sync>(
 }
 
 /// The lines of a report whose number is not 0.
-pub fn shown(alloc: Global, report: &Report) -> Result<String, Fail> {
+pub fn shown(alloc: Global, report: &Report) -> Result<String, RunError> {
     let mut writer = Watched::new(Vec::new(alloc));
     report.write(alloc, &mut writer)?;
     let text = String::from_utf8_lossy(alloc, writer.into_inner().as_slice())?;
     let mut lines = String::new(alloc);
     for line in text.as_str().lines() {
         if !line.ends_with(" 0") {
-            writeln!(lines, "{line}")?;
+            lines.push_str(line)?;
+            lines.push_str("\n")?;
         }
     }
     Ok(lines)

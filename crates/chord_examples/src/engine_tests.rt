@@ -1,0 +1,194 @@
+//! What holds of a run by whatever engine it goes.
+use crate::crews::two_lookups;
+use crate::engines::{ENGINES, Engine, Shape, run_by};
+use crate::examples::EXAMPLES;
+use crate::failures::TRACE;
+use crate::playing::shown;
+use chord_crew::MOST_SEATS;
+use chord_event::RunError;
+use chord_scenario::{Scenario, read_scenario};
+use chord_trace::Watched;
+use chord_window::MOST_PARTS;
+use std::alloc::Global;
+use std::io;
+use std::io::{ErrorKind, Write};
+use std::test::Fail;
+
+/// Two parts, and a worker for each.
+const PAIR: Shape = Shape {
+    parts: 2,
+    workers: 2,
+};
+
+/// A writer with room for some bytes, of which it takes at most so many in a call. After that it fails, or takes
+/// nothing.
+#[derive(Drop)]
+struct Bounded {
+    taken: Vec<u8>,
+    room: usize,
+    most: usize,
+    takes_nothing: bool,
+}
+
+impl Write for Bounded {
+    fn write(&mut self, buf: &[u8]) -> io::Result<usize> {
+        let count = buf.len().min(self.room).min(self.most);
+        if count == 0 {
+            return if self.takes_nothing {
+                Ok(0)
+            } else {
+                Err(io::Error::from(ErrorKind::Other))
+            };
+        }
+        self.taken.extend_from_slice(&buf[..count])?;
+        self.room -= count;
+        Ok(count)
+    }
+
+    fn flush(&mut self) -> io::Result<()> {
+        Ok(())
+    }
+}
+
+/// Each example has the trace and the report that it has by the rules, by whatever engine, parts and workers.
+#[test]
+fn examples_by_engines(rt: HostRuntime) -> Result<(), Fail> {
+    let alloc = rt.alloc();
+    for example in &EXAMPLES {
+        let name = example.name;
+        let scenario = example.scenario(alloc).ok().ok_or(name)?;
+        for engine in ENGINES {
+            for (parts, workers) in [(1, 2), (2, 1), (2, 2), (3, 2), (3, 64), (5, 3)] {
+                assert!(rt; 0 < parts && parts <= MOST_PARTS);
+                assert!(rt; 0 < workers && workers <= MOST_SEATS);
+                let shape = Shape { parts, workers };
+                let mut writer = Watched::new(Vec::new(alloc));
+                let report = run_by(&rt, alloc, engine, shape, &scenario, &mut writer)?;
+                let trace = String::from_utf8_lossy(alloc, writer.into_inner().as_slice())?;
+                assert!(rt;
+                    trace.as_str() == example.trace,
+                    "{name}, {engine:?}, {shape:?}: {trace}"
+                );
+                let report = shown(alloc, &report)?;
+                assert!(rt;
+                    report.as_str() == example.report,
+                    "{name}, {engine:?}, {shape:?}: {report}"
+                );
+            }
+        }
+    }
+    Ok(())
+}
+
+/// A writer that takes some bytes, one by one or in whole pieces, and then fails or takes nothing, has taken just that
+/// beginning of the trace; one with room for all of it has it all.
+#[test]
+fn writers_that_fail_by_engines(rt: HostRuntime) -> Result<(), Fail> {
+    let alloc = rt.alloc();
+    let scenario = two_lookups(alloc, 50)?;
+    for engine in ENGINES {
+        for room in 0..=TRACE.len() {
+            for (most, takes_nothing) in [(1, false), (1, true), (190, false), (190, true)] {
+                let mut writer = Watched::new(Bounded {
+                    taken: Vec::new(alloc),
+                    room,
+                    most,
+                    takes_nothing,
+                });
+                let outcome = run_by(&rt, alloc, engine, PAIR, &scenario, &mut writer);
+                let fails = matches!(outcome, Err(RunError::Write));
+                assert!(rt;
+                    fails == (room < TRACE.len()) && outcome.is_ok() == (room == TRACE.len()),
+                    "{engine:?}, room {room}, {most}"
+                );
+                let taken = writer.into_inner().taken;
+                assert!(rt;
+                    taken.as_slice() == &TRACE.as_bytes()[..room],
+                    "{engine:?}, room {room}, {most}"
+                );
+            }
+        }
+    }
+    Ok(())
+}
+
+/// How many lines a run of two lookups has written when it meets the limit. The run has eight events: the lookups begin
+/// in the first window, their requests come in the second, the replies in the third, and the two timeouts, which end
+/// nothing, are the fourth. By windows nothing of the window is written that meets it.
+#[test]
+fn too_many_events_by_engines(rt: HostRuntime) -> Result<(), Fail> {
+    let alloc = rt.alloc();
+    for (allowed, one_at_a_time, by_windows) in [
+        (1, 1, 0),
+        (2, 2, 2),
+        (3, 2, 2),
+        (4, 2, 2),
+        (5, 3, 2),
+        (6, 4, 4),
+        (7, 4, 4),
+        (8, 5, 5),
+    ] {
+        let scenario = two_lookups(alloc, allowed)?;
+        for engine in ENGINES {
+            let mut writer = Watched::new(Vec::new(alloc));
+            let outcome = run_by(&rt, alloc, engine, PAIR, &scenario, &mut writer);
+            let is_over = matches!(outcome, Err(RunError::TooManyEvents));
+            assert!(rt;
+                is_over == (allowed < 8) && outcome.is_ok() == (allowed == 8),
+                "{engine:?}, {allowed}"
+            );
+            let trace = String::from_utf8_lossy(alloc, writer.into_inner().as_slice())?;
+            let lines = if engine == Engine::Serial {
+                one_at_a_time
+            } else {
+                by_windows
+            };
+            assert!(rt;
+                TRACE.starts_with(trace.as_str()) && trace.as_str().lines().count() == lines,
+                "{engine:?}, {allowed}: {trace}"
+            );
+        }
+    }
+    Ok(())
+}
+
+/// A ring of 512 nodes, each with its number for an identifier, in which the first node looks one up.
+fn great_ring(alloc: Global) -> Result<Scenario, Fail> {
+    let mut text = format!(in alloc;
+        "profile = 1\nbits = 9\nseed = 1\nlatency_us = 10\nlist = 16\nduration_us = 200\n\
+         window_us = 10\ntimeout_us = 40\naudit_us = 200\nstabilize_us = 1000\nfinger_us = 1000\n"
+    )?;
+    for node in 0..512u32 {
+        let table = format!(in alloc;
+            "[[node]]\nname = \"n{node}\"\nid = {node}\ninitial = true\n"
+        )?;
+        text.push_str(table.as_str())?;
+    }
+    text.push_str("[[command]]\nat_us = 100\ndo = \"lookup\"\nnode = \"n0\"\nkey = 300\n")?;
+    let scenario = read_scenario(alloc, text.as_str().as_bytes(), b"")
+        .ok()
+        .ok_or("the ring is refused")?;
+    Ok(scenario)
+}
+
+/// As many parts as nodes, and as many workers as there can be, write what one event at a time writes.
+#[test]
+fn a_part_for_each_of_512_nodes(rt: HostRuntime) -> Result<(), Fail> {
+    let alloc = rt.alloc();
+    let scenario = great_ring(alloc)?;
+    let shape = Shape {
+        parts: MOST_PARTS,
+        workers: MOST_SEATS,
+    };
+    let mut serial = Watched::new(Vec::new(alloc));
+    let expected = run_by(&rt, alloc, Engine::Serial, shape, &scenario, &mut serial)?;
+    let serial = serial.into_inner();
+    assert!(rt; serial.as_slice().starts_with(b"100 n0 lookup 300\n"));
+    for engine in [Engine::Picked, Engine::Crew, Engine::Dealt] {
+        let mut writer = Watched::new(Vec::new(alloc));
+        let report = run_by(&rt, alloc, engine, shape, &scenario, &mut writer)?;
+        assert!(rt; report == expected, "{engine:?}");
+        assert!(rt; writer.into_inner() == serial, "{engine:?}");
+    }
+    Ok(())
+}

@@ -1,0 +1,66 @@
+//! Does what takes memory and starts threads: single calls of the library, and whole runs by each engine. A script
+//! refuses each piece of memory in turn, and each start of a thread (`tools/refusals`).
+//!
+//!     chord_refusals [TASK]
+//!     chord_refusals list
+//!
+//! Without a word all tasks are done; `list` prints their names. The status is 0 where all is done; 3 where a growth was refused, or 4 where the
+//! start of a thread was, and all that is promised of it stands; and 1, with a line that says what is wrong, where
+//! something else stands.
+#![tactic(auto)]
+
+mod queues;
+mod runs;
+mod stop;
+mod tasks;
+mod texts;
+mod windows;
+
+use crate::stop::Stop;
+use crate::tasks::{TASKS, do_task};
+use std::env;
+use std::process::ExitCode;
+use std::rt::Env;
+use std::sync::Wait;
+use std::thread::Threads;
+
+/// Prints the names of all tasks.
+fn list_tasks(rt: &impl Print) -> Result<(), Stop> {
+    for name in TASKS {
+        println!(rt; "{name}").map_err(|_error| Stop::Wrong("cannot print"))?;
+    }
+    Ok(())
+}
+
+/// Does the task that the words of the process name, or all.
+fn do_tasks<T: AllocGlobal + Env + Print + Threads + Wait + Sync>(rt: &T) -> Result<(), Stop> {
+    let Ok(words) = env::args(rt) else {
+        return Err(Stop::Memory);
+    };
+    let words: Vec<String> = words.collect(rt.alloc())?;
+    if let Some(name) = words.get(1) {
+        return match name.as_str() {
+            "list" => list_tasks(rt),
+            name => do_task(rt, name),
+        };
+    }
+    for name in TASKS {
+        do_task(rt, name)?;
+    }
+    Ok(())
+}
+
+fn main(rt: HostRuntime) -> ExitCode {
+    match do_tasks(&rt) {
+        Ok(()) => {
+            let _ = println!(&rt; "done");
+            ExitCode::from(0)
+        }
+        Err(Stop::Memory) => ExitCode::from(3),
+        Err(Stop::Worker) => ExitCode::from(4),
+        Err(Stop::Wrong(what)) => {
+            let _ = println!(&rt; "wrong: {what}");
+            ExitCode::from(1)
+        }
+    }
+}

@@ -1,0 +1,53 @@
+//! Runs of examples by engines.
+use crate::stop::{Stop, holds};
+use chord_examples::{EXAMPLES, Engine, Example, Shape, run_by, shown};
+use chord_trace::Watched;
+use std::sync::Wait;
+use std::thread::Threads;
+
+/// The examples that are run: lookups, a crash and a join while one is on its way, and a join that fails.
+const NAMES: [&str; 3] = [
+    "two lookups",
+    "a crash and a join at one instant",
+    "a join that fails eight times",
+];
+
+/// Runs the three examples by an engine.
+pub fn run_examples<T: AllocGlobal + Threads + Wait + Sync>(
+    rt: &T,
+    engine: Engine,
+) -> Result<(), Stop> {
+    for example in &EXAMPLES {
+        if NAMES.contains(&example.name) {
+            run_example(rt, engine, example)?;
+        }
+    }
+    Ok(())
+}
+
+/// Runs an example by an engine, in two parts by two workers, to a writer that has its room ahead. What it took is a
+/// beginning of the trace, whatever the run answers; a run that ends has written the trace, and has its report.
+fn run_example<T: AllocGlobal + Threads + Wait + Sync>(
+    rt: &T,
+    engine: Engine,
+    example: &Example,
+) -> Result<(), Stop> {
+    let alloc = rt.alloc();
+    let shape = Shape {
+        parts: 2,
+        workers: 2,
+    };
+    let expected = example.trace.as_bytes();
+    let scenario = example.scenario(alloc)?;
+    let mut writer = Watched::new(Vec::with_capacity(alloc, expected.len())?);
+    let outcome = run_by(rt, alloc, engine, shape, &scenario, &mut writer);
+    let written = writer.into_inner();
+    holds(
+        expected.starts_with(written.as_slice()),
+        "what was written is no beginning of the trace",
+    )?;
+    let report = outcome?;
+    holds(written.as_slice() == expected, "the trace is another")?;
+    let report = shown(alloc, &report)?;
+    holds(report.as_str() == example.report, "the report is another")
+}

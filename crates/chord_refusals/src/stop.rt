@@ -1,0 +1,67 @@
+use chord_event::{Memory, RunError};
+use chord_play::PlayFault;
+use chord_scenario::ScenarioFault;
+use std::alloc::AllocError;
+
+/// Why a call did not end with its answer.
+#[derive(Clone, Copy, Debug, PartialEq, Eq, Drop)]
+pub enum Stop {
+    /// A growth was refused, and what is promised of it stands.
+    Memory,
+    /// The start of a thread was refused, and what is promised of it stands.
+    Worker,
+    /// It did something else than is promised: what.
+    Wrong(&'static str),
+}
+
+/// Stops with what is wrong, unless a promise holds.
+pub fn holds(promise: bool, wrong: &'static str) -> Result<(), Stop> {
+    if promise {
+        Ok(())
+    } else {
+        Err(Stop::Wrong(wrong))
+    }
+}
+
+impl From<AllocError> for Stop {
+    fn from(_error: AllocError) -> Stop {
+        Stop::Memory
+    }
+}
+
+impl From<Memory> for Stop {
+    fn from(_error: Memory) -> Stop {
+        Stop::Memory
+    }
+}
+
+impl From<RunError> for Stop {
+    fn from(error: RunError) -> Stop {
+        match error {
+            RunError::Memory => Stop::Memory,
+            RunError::Worker => Stop::Worker,
+            RunError::TooManyEvents => Stop::Wrong("too many events"),
+            RunError::Write => Stop::Wrong("the writer failed"),
+            RunError::BadDivision => Stop::Wrong("another number of nodes"),
+        }
+    }
+}
+
+impl From<ScenarioFault> for Stop {
+    fn from(fault: ScenarioFault) -> Stop {
+        match fault {
+            ScenarioFault::Memory => Stop::Memory,
+            _ => Stop::Wrong("the scenario is refused"),
+        }
+    }
+}
+
+impl From<PlayFault> for Stop {
+    fn from(fault: PlayFault) -> Stop {
+        match fault {
+            PlayFault::Run(error) => Stop::from(error),
+            PlayFault::Scenario(fault) => Stop::from(fault),
+            PlayFault::Read(_) | PlayFault::TooLong(_) => Stop::Wrong("a text is not read"),
+        }
+    }
+}

@@ -1,0 +1,45 @@
+//! What can be tried, by its name.
+use crate::queues::{insert_and_copy, push_two, reserve_chunks};
+use crate::runs::run_examples;
+use crate::stop::Stop;
+use crate::texts::{copy_the_start, load_example, play_example};
+use crate::windows::{divide_three, run_by_hand};
+use chord_examples::{Engine, TWO_LOOKUPS};
+use std::sync::Wait;
+use std::thread::Threads;
+
+/// The names of all tasks.
+pub const TASKS: [&str; 12] = [
+    "arena",
+    "pending",
+    "queue",
+    "divisions",
+    "load",
+    "copies",
+    "windows",
+    "play",
+    "serial",
+    "picked",
+    "crew",
+    "dealt",
+];
+
+/// Does the task of this name.
+pub fn do_task<T: AllocGlobal + Threads + Wait + Sync>(rt: &T, name: &str) -> Result<(), Stop> {
+    let alloc = rt.alloc();
+    match name {
+        "arena" => reserve_chunks(alloc),
+        "pending" => insert_and_copy(alloc),
+        "queue" => push_two(alloc),
+        "divisions" => divide_three(alloc),
+        "load" => load_example(alloc, &TWO_LOOKUPS),
+        "copies" => copy_the_start(alloc, &TWO_LOOKUPS.scenario(alloc)?),
+        "windows" => run_by_hand(alloc, &TWO_LOOKUPS.scenario(alloc)?),
+        "play" => play_example(rt, &TWO_LOOKUPS),
+        "serial" => run_examples(rt, Engine::Serial),
+        "picked" => run_examples(rt, Engine::Picked),
+        "crew" => run_examples(rt, Engine::Crew),
+        "dealt" => run_examples(rt, Engine::Dealt),
+        _ => Err(Stop::Wrong("there is no such task")),
+    }
+}

@@ -1,0 +1,67 @@
+//! Calls of the engines by windows.
+ghost use Rattle.std.specs.Prelude.{◌≡◌, ◌<◌};
+ghost use Rattle.chord_window.specs.PartRuns.{IsHorizon};
+ghost use Rattle.chord_window.specs.Worlds.{IsWorldOf};
+
+use crate::stop::{Stop, holds};
+use chord_examples::window_by_one;
+use chord_queue::WindowQueue;
+use chord_scenario::Scenario;
+use chord_window::{Division, World, exchange, run_part};
+use std::alloc::Global;
+
+/// Makes divisions of three nodes.
+pub fn divide_three(alloc: Global) -> Result<(), Stop> {
+    let dealt = Division::dealt(alloc, 3, 2)?;
+    let blocks = Division::blocks(alloc, 3, 2)?;
+    let copy = blocks.try_clone();
+    holds(blocks.part_of(1) == 0, "copying changes a division")?;
+    holds(copy?.part_of(1) == 0, "the copy is another division")?;
+    holds(dealt.part_of(1) == 1, "another division is dealt")
+}
+
+/// Runs one part of a world's first window. After a refusal the world and the queue are as they were, so that the part
+/// can be run again.
+fn run_first(alloc: Global, scenario: &Scenario, world: &World, horizon: u64) -> Result<(), Stop>
+    requires world { IsWorldOf scenario.now world.now }
+    requires horizon { IsHorizon world.now horizon }
+    requires part { 0 < world.now.division.parts }
+{
+    let mut queue = WindowQueue::new(alloc);
+    let first = run_part(alloc, scenario, world, 0, horizon, &mut queue);
+    holds(queue.len() == 0, "an event waits")?;
+    holds(world.count == 0, "the world has gone on")?;
+    if first.is_ok() {
+        return Ok(());
+    }
+    let again = run_part(alloc, scenario, world, 0, horizon, &mut queue)?;
+    holds(again.events == 1, "the part runs something else")?;
+    first?;
+    Ok(())
+}
+
+/// Runs the first window of a scenario by hand: its parts by one worker, then all of them at once, and divides the
+/// world that they leave anew.
+pub fn run_by_hand(alloc: Global, scenario: &Scenario) -> Result<(), Stop> {
+    scenario.recall_range();
+    let blocks = Division::blocks(alloc, scenario.nodes(), 2)?;
+    let mut world = World::start(alloc, scenario, &blocks)?;
+    let Some(horizon) = world.horizon(scenario) else {
+        return Err(Stop::Wrong("there is no window"));
+    };
+    world.division.recall_division();
+    run_first(alloc, scenario, &world, horizon)?;
+    let dones = window_by_one(alloc, scenario, &world, horizon)?;
+    let _blocks = exchange(alloc, scenario, &mut world, dones)?;
+    holds(world.count == 2, "the window has another number of events")?;
+    let dealt = Division::dealt(alloc, scenario.nodes(), 3)?;
+    let world = world.redivide(alloc, scenario, &dealt)?;
+    holds(
+        world.count == 2,
+        "another division, another number of events",
+    )?;
+    holds(
+        world.horizon(scenario) == Some(120),
+        "the next window is another",
+    )
+}

@@ -1,0 +1,105 @@
+/* Refuses a program memory, or the start of a thread: LD_PRELOAD names this library, and the environment says what.
+ *
+ *   REFUSE_MEMORY=N        the Nth piece of memory that is asked for is refused
+ *   REFUSE_MEMORY_FROM=N   so is each one after it
+ *   REFUSE_THREAD=N        the Nth start of a thread is refused
+ *   REFUSE_NOTE=FILE       at its end the program's numbers of pieces and of threads are written to the file
+ */
+#define _GNU_SOURCE
+#include <dlfcn.h>
+#include <errno.h>
+#include <fcntl.h>
+#include <pthread.h>
+#include <stdatomic.h>
+#include <stdio.h>
+#include <stdlib.h>
+#include <unistd.h>
+
+static atomic_long pieces, threads;
+static long refused_piece, refused_from, refused_thread;
+static const char *note;
+
+static long number(const char *name)
+{
+    const char *text = getenv(name);
+    return text ? atol(text) : 0;
+}
+
+__attribute__((constructor)) static void begin(void)
+{
+    note = getenv("REFUSE_NOTE");
+    refused_thread = number("REFUSE_THREAD");
+    refused_from = number("REFUSE_MEMORY_FROM");
+    refused_piece = number("REFUSE_MEMORY");
+    pieces = 0;
+}
+
+__attribute__((destructor)) static void end(void)
+{
+    if (!note)
+        return;
+    int file = open(note, O_WRONLY | O_CREAT | O_TRUNC, 0600);
+    if (file >= 0) {
+        dprintf(file, "%ld %ld\n", atomic_load(&pieces), atomic_load(&threads));
+        close(file);
+    }
+}
+
+/* Whether the piece that is asked for now is refused. */
+static int refuses(void)
+{
+    long count = atomic_fetch_add(&pieces, 1) + 1;
+    if (count != refused_piece && !(refused_from && count >= refused_from))
+        return 0;
+    errno = ENOMEM;
+    return 1;
+}
+
+extern void *__libc_malloc(size_t);
+extern void *__libc_calloc(size_t, size_t);
+extern void *__libc_realloc(void *, size_t);
+extern void *__libc_memalign(size_t, size_t);
+
+void *malloc(size_t size)
+{
+    return refuses() ? NULL : __libc_malloc(size);
+}
+
+void *calloc(size_t count, size_t size)
+{
+    return refuses() ? NULL : __libc_calloc(count, size);
+}
+
+void *realloc(void *old, size_t size)
+{
+    return refuses() ? NULL : __libc_realloc(old, size);
+}
+
+void *memalign(size_t alignment, size_t size)
+{
+    return refuses() ? NULL : __libc_memalign(alignment, size);
+}
+
+void *aligned_alloc(size_t alignment, size_t size)
+{
+    return memalign(alignment, size);
+}
+
+int posix_memalign(void **place, size_t alignment, size_t size)
+{
+    void *piece = memalign(alignment, size);
+    if (!piece)
+        return ENOMEM;
+    *place = piece;
+    return 0;
+}
+
+int pthread_create(pthread_t *thread, const pthread_attr_t *attributes, void *(*start)(void *), void *argument)
+{
+    static int (*create)(pthread_t *, const pthread_attr_t *, void *(*)(void *), void *);
+    if (atomic_fetch_add(&threads, 1) + 1 == refused_thread)
+        return EAGAIN;
+    if (!create)
+        create = (int (*)(pthread_t *, const pthread_attr_t *, void *(*)(void *), void *))dlsym(RTLD_NEXT, "pthread_create");
+    return create(thread, attributes, start, argument);
+}
