@@ -57,7 +57,10 @@ impl Dealer for TurningDealer {
             of_node.push(part)?;
             part = part_after(part, self.parts);
         }
-        Division::new(loads.len() as u32, self.parts, of_node).map_err(|_fault| Memory)
+        let Ok(nodes) = u32::try_from(of_node.len()) else {
+            return Err(Memory);
+        };
+        Division::new(nodes, self.parts, of_node).map_err(|_fault| Memory)
     }
 }
 

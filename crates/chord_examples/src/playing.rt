@@ -67,7 +67,7 @@ pub fn play_texts<T: AllocGlobal + Threads + Wait + Sync>(
 
 /// The lines of a report whose number is not 0.
 pub fn shown(alloc: Global, report: &Report) -> Result<String, RunError> {
-    let mut writer = Watched::new(Vec::new(alloc));
+    let mut writer = Watched::new(Vec::with_capacity(alloc, 1024)?);
     report.write(alloc, &mut writer)?;
     let text = String::from_utf8_lossy(alloc, writer.into_inner().as_slice())?;
     let mut lines = String::new(alloc);

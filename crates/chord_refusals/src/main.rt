@@ -24,26 +24,38 @@ use std::rt::Env;
 use std::sync::Wait;
 use std::thread::Threads;
 
-/// Prints the names of all tasks.
-fn list_tasks(rt: &impl Print) -> Result<(), Stop> {
-    for name in TASKS {
-        println!(rt; "{name}").map_err(|_error| Stop::Wrong("cannot print"))?;
-    }
-    Ok(())
+/// Prints a line.
+fn print_line(rt: &impl Print, line: &str) -> Result<(), Stop> {
+    println!(rt; "{line}").map_err(|_error| Stop::Wrong("cannot print"))
 }
 
-/// Does the task that the words of the process name, or all.
-fn do_tasks<T: AllocGlobal + Env + Print + Threads + Wait + Sync>(rt: &T) -> Result<(), Stop> {
+/// Does the task that the words of the process name, or all; or prints the names of all.
+fn obey<T: AllocGlobal + Env + Print + Threads + Wait + Sync>(rt: &T) -> Result<(), Stop> {
     let Ok(words) = env::args(rt) else {
         return Err(Stop::Memory);
     };
     let words: Vec<String> = words.collect(rt.alloc())?;
-    if let Some(name) = words.get(1) {
-        return match name.as_str() {
-            "list" => list_tasks(rt),
-            name => do_task(rt, name),
-        };
+    let name = words.get(1).map(|word| word.as_str());
+    if name == Some("list") {
+        return list_tasks(rt);
     }
+    match name {
+        Some(name) => do_task(rt, name)?,
+        None => do_all(rt)?,
+    }
+    print_line(rt, "done")
+}
+
+/// Prints the names of all tasks.
+fn list_tasks(rt: &impl Print) -> Result<(), Stop> {
+    for name in TASKS {
+        print_line(rt, name)?;
+    }
+    Ok(())
+}
+
+/// Does all tasks.
+fn do_all<T: AllocGlobal + Threads + Wait + Sync>(rt: &T) -> Result<(), Stop> {
     for name in TASKS {
         do_task(rt, name)?;
     }
@@ -51,11 +63,8 @@ fn do_tasks<T: AllocGlobal + Env + Print + Threads + Wait + Sync>(rt: &T) -> Res
 }
 
 fn main(rt: HostRuntime) -> ExitCode {
-    match do_tasks(&rt) {
-        Ok(()) => {
-            let _ = println!(&rt; "done");
-            ExitCode::from(0)
-        }
+    match obey(&rt) {
+        Ok(()) => ExitCode::from(0),
         Err(Stop::Memory) => ExitCode::from(3),
         Err(Stop::Worker) => ExitCode::from(4),
         Err(Stop::Wrong(what)) => {
