@@ -1,44 +1,20 @@
 -- What the loads of the nodes are before the first window, and what the parts of a window add to them.
-use Rattle.std.proofs.Common.{◌≡◌, ℕ, suc, ◌+◌, ◌*◌, ◌^◌, ◌<◌, ◌≤◌, List, [], ◌∷◌, length, map, drop, get_or, zero, refl, ap, sym, subst, ◌∙◌, arith}
+use Rattle.std.proofs.Common.{◌≡◌, ℕ, suc, ◌+◌, ◌*◌, ◌^◌, ◌<◌, ◌≤◌, List, [], ◌∷◌, length, drop, get_or, zero, ap, sym, subst, ◌∙◌, arith}
 use Rattle.std.specs.List.{All}
-use Rattle.std.proofs.lemmas.List.{length-map, length-replicate, length-reverse}
+use Rattle.std.proofs.lemmas.List.{length-replicate}
 use Rattle.std.proofs.Math.ListN.{replicate}
 use Rattle.std.proofs.Math.Nat.{mul-le-mul_left}
 use Rattle.std.proofs.Math.Seq.{drop-cons}
 use Rattle.std.proofs.lemmas.List.Elements.{All-cons}
 use Rattle.chord_event.specs.declared.block.Block.{Block}
-use Rattle.chord_event.specs.declared.body.Body.{Body}
-use Rattle.chord_event.specs.declared.event.Event.{Event}
-use Rattle.chord_machine.specs.Chord.{chord}
-use Rattle.chord_model.specs.Histories.{history}
-use Rattle.chord_model.specs.Windows.{pieces_since}
 use Rattle.chord_scenario.specs.declared.scenario.Scenario.{Scenario}
 use Rattle.chord_scenario.specs.World.{node_count}
-use Rattle.chord_trace.specs.declared.piece.Piece.TheVariants as piece
 use Rattle.chord_window.specs.declared.part_run.Done.{Done}
 use Rattle.chord_window.specs.declared.world.World.{World}
 use Rattle.chord_window.specs.Exchanges.{AreDone, AreDoneFrom, events_in}
-use Rattle.chord_window.specs.PartRuns.{IsDone, ran_by}
+use Rattle.chord_window.proofs.EngineCourse.{done_length}
 use Rattle.chord_crew.specs.Loads.{events_at, events_of}
 use Rattle.chord_crew.proofs.Counts.{counts_itself}
-
-pieces_long : (sc : Scenario) (h g : List (Event Body)) → length (pieces_since (chord sc) h g) ≡ length g
-pieces_long sc h [] = refl
-pieces_long sc h (e ∷ g) = ap suc (pieces_long sc h g)
-
--- a part has a block for each of its events
-blocks_long : (sc : Scenario) (w : World) (horizon part : ℕ) (done : Done) → IsDone sc w horizon part done → length done.blocks.items ≡ done.events
-blocks_long sc w horizon part done is =
-    let pieces = pieces_since (chord sc) (history (chord sc) w.count) (ran_by sc w horizon done) in
-    omega (
-      arith,
-      length-map done.blocks.items piece.OfEvent,
-      ap length is.pieces_are,
-      length-reverse (map (λ b. b.1) pieces),
-      length-map pieces (λ b. b.1),
-      pieces_long sc (history (chord sc) w.count) (ran_by sc w horizon done),
-      is.long,
-    )
 
 events_of-le : (node : ℕ) (blocks : List Block) → events_of node blocks ≤ length blocks
 events_of-le node [] = omega arith
@@ -51,7 +27,7 @@ events_at-le sc w horizon part node [] each = omega arith
 events_at-le sc w horizon part node (done ∷ dones) each = omega (
   arith,
   events_of-le node done.blocks.items,
-  blocks_long sc w horizon part done each.0,
+  done_length sc w horizon part done each.0,
   events_at-le sc w horizon (suc part) node dones each.1,
 )
 

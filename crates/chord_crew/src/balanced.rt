@@ -13,7 +13,8 @@ use std::marker::Model;
 /// A dealer that evens out the parts by what their nodes have handled so far: it puts the nodes,
 /// the one with the greatest load first, each onto the part that has the least load by then, and
 /// among such parts the fewest nodes. Among equal ones the node, and the part, with the lowest
-/// number comes first. Contracts see its number of parts.
+/// number comes first. Contracts see its number of parts. More nodes than a `u32` counts are
+/// answered with `Memory`.
 #[derive(Drop)]
 pub struct Balanced {
     alloc: Global,

@@ -150,7 +150,7 @@ pieces_long sc h [] = refl
 pieces_long sc h (e ∷ g) = ap suc (pieces_long sc h g)
 
 -- a part has a block for each of its events
-done_length : (sc : Scenario) (world : World) (horizon k : ℕ) (done : Done) → IsDone sc world horizon k done → length done.blocks.items ≡ done.events
+pub done_length : (sc : Scenario) (world : World) (horizon k : ℕ) (done : Done) → IsDone sc world horizon k done → length done.blocks.items ≡ done.events
 done_length sc world horizon k done is =
     let pieces = pieces_since (chord sc) (history (chord sc) world.count) (ran_by sc world horizon done) in
     omega (

@@ -1,4 +1,4 @@
-use Rattle.std.proofs.Common.{◌≡◌, length, sym, arith, rules}
+use Rattle.std.proofs.Common.{◌≡◌, length, rules}
 use Rattle.chord_crew.proofs.Dealing.{no_fault, not_refused}
 use Rattle.chord_crew.proofs.balanced.BalancedDealer.deal.Goals as goal
 
