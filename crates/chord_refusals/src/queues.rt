@@ -23,8 +23,8 @@ fn event_at(time: u64) -> Event
     }
 }
 
-/// Puts two events among the pending ones, and copies the earlier one. One that is refused comes back, and the others
-/// are pending as they were.
+/// Puts two events among the pending ones, and copies the earlier one, which goes among others. One that is refused
+/// comes back, and the others are pending as they were.
 pub fn insert_and_copy(alloc: Global) -> Result<(), Stop> {
     let mut pending = Pending::new(alloc);
     if let Err(back) = pending.insert(event_at(7)) {
@@ -41,7 +41,9 @@ pub fn insert_and_copy(alloc: Global) -> Result<(), Stop> {
     holds(pending.first_time() == Some(5), "copying moves an event")?;
     let copies = copies?;
     holds(copies.len() == 1, "another number of copies")?;
-    holds(copies[0].key.time == 5, "another event is copied")
+    let mut others = Pending::new(alloc);
+    others.insert_all(copies)?;
+    holds(others.first_time() == Some(5), "another event is copied")
 }
 
 /// Puts two events into the queue of a window.

@@ -4,20 +4,23 @@ ghost use Rattle.chord_window.specs.PartRuns.{IsHorizon};
 ghost use Rattle.chord_window.specs.Worlds.{IsWorldOf};
 
 use crate::stop::{Stop, holds};
+use chord_crew::{Balanced, Dealer};
 use chord_examples::window_by_one;
 use chord_queue::WindowQueue;
 use chord_scenario::Scenario;
 use chord_window::{Division, World, exchange, run_part};
 use std::alloc::Global;
 
-/// Makes divisions of three nodes.
+/// Makes divisions of three nodes: by turns, in blocks, a copy, and one that evens loads out.
 pub fn divide_three(alloc: Global) -> Result<(), Stop> {
     let dealt = Division::dealt(alloc, 3, 2)?;
     let blocks = Division::blocks(alloc, 3, 2)?;
     let copy = blocks.try_clone();
     holds(blocks.part_of(1) == 0, "copying changes a division")?;
     holds(copy?.part_of(1) == 0, "the copy is another division")?;
-    holds(dealt.part_of(1) == 1, "another division is dealt")
+    holds(dealt.part_of(1) == 1, "another division is dealt")?;
+    let balanced = Balanced::new(alloc, 2).deal(&[7, 5, 4])?;
+    holds(balanced.part_of(2) == 1, "the loads are not evened out")
 }
 
 /// Runs one part of a world's first window. After a refusal the world and the queue are as they were, so that the part
