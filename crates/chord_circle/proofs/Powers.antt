@@ -10,9 +10,9 @@ pub way_within : (bits i : ℕ) → 1 ≤ i → i ≤ bits → 2 ^ (i - 1) < 2 ^
 way_within bits i first last = let less : i - 1 < bits = omega arith in pow-lt less
 
 -- the machine shifts to it
-pub way_shifted : (bits i : ℕ) → 1 ≤ i → i ≤ bits → bits ≤ 64 → 1 * 2 ^ (i - 1) % 18446744073709551616 ≡ 2 ^ (i - 1)
+pub way_shifted : (bits i : ℕ) → 1 ≤ i → i ≤ bits → bits ≤ 128 → 1 * 2 ^ (i - 1) % 340282366920938463463374607431768211456 ≡ 2 ^ (i - 1)
 way_shifted bits i first last most =
-    let fits : 1 * 2 ^ (i - 1) < 2 ^ 64 = omega (arith, way_within 64 i first (omega arith)) in
+    let fits : 1 * 2 ^ (i - 1) < 2 ^ 128 = omega (arith, way_within 128 i first (omega arith)) in
     mod-eq_of_lt fits ∙ omega arith
 
 -- the finger begins ahead, or past 0
@@ -28,11 +28,11 @@ finger-past bits a i last top at way past =
     sym (ap (λ (n : ℕ). n % 2 ^ bits) whole ∙ add-mod_right rest (2 ^ bits) ∙ mod-eq_of_lt small)
 
 -- the leading bits of a word
-pub leading_within : (bits word : ℕ) → bits ≤ 64 → word < 2 ^ 64 → word / 2 ^ (64 - bits) < 2 ^ bits
+pub leading_within : (bits word : ℕ) → bits ≤ 128 → word < 2 ^ 128 → word / 2 ^ (128 - bits) < 2 ^ bits
 leading_within bits word most fits =
-    let split : bits + (64 - bits) ≡ 64 = omega arith in
-    let bound : word < 2 ^ bits * 2 ^ (64 - bits) = subst (λ (n : ℕ). word < n) (ap (λ (n : ℕ). 2 ^ n) (sym split) ∙ pow-add 2 bits (64 - bits)) fits in
-    (div-lt_iff_lt-mul (pow_pos (64 - bits))).1 bound
+    let split : bits + (128 - bits) ≡ 128 = omega arith in
+    let bound : word < 2 ^ bits * 2 ^ (128 - bits) = subst (λ (n : ℕ). word < n) (ap (λ (n : ℕ). 2 ^ n) (sym split) ∙ pow-add 2 bits (128 - bits)) fits in
+    (div-lt_iff_lt-mul (pow_pos (128 - bits))).1 bound
 
 pub finger-within : (bits a i : ℕ) → finger_start bits a i < 2 ^ bits
 finger-within bits a i = mod-lt (a + 2 ^ (i - 1)) (pow_pos bits)

@@ -7,7 +7,7 @@ use sha1::Sha1;
 use std::marker::Model;
 
 /// The greatest number of bits that an identifier may have.
-pub const MOST_BITS: u32 = 64;
+pub const MOST_BITS: u32 = 128;
 
 /// A circle of `2^bits` identifiers, which contracts see as its number of bits.
 #[derive(Clone, Copy, Debug, PartialEq, Eq, Drop)]
@@ -24,15 +24,15 @@ impl Model for Circle {
 
     ghost view = { λ c. c.bits };
 
-    ghost invariant = { λ c. (3 ≤ c.bits) × (c.bits ≤ 64) × (c.last + 1 ≡ 2 ^ c.bits) };
+    ghost invariant = { λ c. (3 ≤ c.bits) × (c.bits ≤ 128) × (c.last + 1 ≡ 2 ^ c.bits) };
 
     ghost inverse = { λ n. record { bits = n; last = 2 ^ n - 1 } };
 }
 
 impl Circle {
-    /// The circle of identifiers with this many bits, where that is 3 to 64.
+    /// The circle of identifiers with this many bits, where that is 3 to 128.
     pub fn new(bits: u32) -> Option<Circle>
-        ensures accepted { IsSome result ↔ (3 ≤ bits) × (bits ≤ 64) }
+        ensures accepted { IsSome result ↔ (3 ≤ bits) × (bits ≤ MOST_BITS) }
         ensures value { IfSome result (λ circle. circle ≡ bits) }
     {
         if bits < 3 || MOST_BITS < bits {
@@ -50,7 +50,7 @@ impl Circle {
     pub fn bits(&self) -> u32
         ensures value { result ≡ self.now }
         ensures least { 3 ≤ result }
-        ensures greatest { result ≤ 64 }
+        ensures greatest { result ≤ MOST_BITS }
     {
         self.bits
     }
@@ -142,8 +142,8 @@ impl Circle {
         ensures value { result ≡ ident_of_name self.now name.now }
         ensures on_circle { result < 2 ^ self.now }
     {
-        let [a, b, c, d, e, f, g, h, ..] = Sha1::digest(name);
-        let leading = Raw::from_be_bytes([a, b, c, d, e, f, g, h]);
+        let [a, b, c, d, e, f, g, h, i, j, k, l, m, n, o, p, ..] = Sha1::digest(name);
+        let leading = Raw::from_be_bytes([a, b, c, d, e, f, g, h, i, j, k, l, m, n, o, p]);
         Ident::of(leading >> (MOST_BITS - self.bits))
     }
 }

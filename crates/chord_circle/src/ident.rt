@@ -3,7 +3,7 @@ ghost use Rattle.std.specs.Prelude.{◌≡◌};
 use std::marker::Model;
 
 /// The machine number that holds an identifier or a distance.
-pub type Raw = u64;
+pub type Raw = u128;
 
 /// An identifier: a place on a circle, which contracts see as its number.
 #[derive(Clone, Copy, Debug, PartialEq, Eq, PartialOrd, Ord, Drop)]

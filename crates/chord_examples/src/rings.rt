@@ -1,5 +1,5 @@
 use crate::playing::{SETTINGS, THREE, text_of};
-use chord_circle::Circle;
+use chord_circle::{Circle, Raw};
 use chord_node::initial_ring;
 use chord_scenario::read_scenario;
 use std::test::Fail;
@@ -77,5 +77,26 @@ fn between_at_the_ends(rt: HostRuntime) {
     let (six, one, two) = (circle.low_bits(6), circle.low_bits(1), circle.low_bits(2));
     assert!(rt; circle.between(six, one, two) && !circle.between(six, two, two));
     assert!(rt; circle.in_half_open(six, two, two));
-    assert!(rt; Circle::new(2).is_none() && Circle::new(65).is_none());
+    assert!(rt; Circle::new(2).is_none() && Circle::new(129).is_none());
+}
+
+/// On the widest circle the last place stands next to the first.
+#[test]
+fn the_widest_circle(rt: HostRuntime) {
+    let Some(circle) = Circle::new(128) else {
+        assert!(rt; false, "no circle");
+        return;
+    };
+    let (last, zero, one) = (
+        circle.low_bits(Raw::MAX),
+        circle.low_bits(0),
+        circle.low_bits(1),
+    );
+    assert!(rt; last.raw() == Raw::MAX && circle.ident(Raw::MAX) == Some(last));
+    assert!(rt; circle.between(last, zero, one));
+    assert!(rt; circle.distance(one, zero) == Raw::MAX);
+    let half = circle.low_bits(1 << 127);
+    assert!(rt; circle.add_power(half, 128) == zero);
+    let named = circle.ident_of_name(b"a");
+    assert!(rt; named.raw() == 0x86f7_e437_faa5_a7fc_e15d_1ddc_b9ea_eaea);
 }

@@ -2,6 +2,7 @@ ghost use Rattle.std.specs.Prelude.{◌≡◌, true};
 ghost use Rattle.chord_node.specs.Invariant.{AllNodes};
 
 use crate::playing::{SETTINGS, THREE, text_of};
+use chord_circle::Raw;
 use chord_event::Answer;
 use chord_node::initial_ring;
 use chord_ops::{closest_preceding, step_answer};
@@ -9,7 +10,7 @@ use chord_scenario::{Scenario, read_scenario};
 use std::test::Fail;
 
 /// For a node, a key and nodes to avoid: the closest preceding node and the step answer.
-const SEARCHES: [(usize, u64, &[u32], u32, Answer); 27] = [
+const SEARCHES: [(usize, Raw, &[u32], u32, Answer); 27] = [
     (0, 0, &[], 2, Answer::Next(2)),
     (0, 1, &[], 0, Answer::Owner(1)),
     (0, 2, &[], 1, Answer::Next(1)),

@@ -85,7 +85,7 @@ module _ (profile bits : ℕ) (churns : Bool) (top : Members) (s : IsSound profi
   pub numbers_fit : (nodes : List Node) (commands : List Command) (latencies : List ℕ) → NumbersInRange (setup_with top nodes commands latencies)
   numbers_fit nodes commands latencies = record {
     bits_least = bits_fit.low;
-    bits_greatest = bits_fit.high;
+    bits_greatest = omega (arith, bits_fit.high);
     list_least = list_fits.low;
     list_greatest = list_fits.high;
     duration_least = duration_fits.low;

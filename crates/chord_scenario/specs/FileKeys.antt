@@ -87,7 +87,7 @@ lookups_keys = required key.GapMinUs interval ∷ required key.GapMaxUs interval
 abbrev pub node_keys : List Entry
 node_keys =
     required key.Name Text
-    ∷ optional key.Id Identifier
+    ∷ optional key.Id (Identifier 16)
     ∷ optional key.Initial Boolean
     ∷ optional key.Churn Boolean
     ∷ []
@@ -98,7 +98,7 @@ command_keys =
     ∷ required key.Do Operation
     ∷ required key.Node Text
     ∷ record { 0 = key.Via; 1 = Text; 2 = ForJoin }
-    ∷ record { 0 = key.Key; 1 = Identifier; 2 = ForLookup }
+    ∷ record { 0 = key.Key; 1 = Identifier 16; 2 = ForLookup }
     ∷ []
 
 -- the keys of the table at a place, which are the same for every profile so far

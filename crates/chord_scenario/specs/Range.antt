@@ -42,7 +42,7 @@ pub record IsCommandOf (sc : Setup) (command : Command) : Type 0 where
 -- the numbers of a scenario lie in the ranges of the file format
 pub record NumbersInRange (sc : Setup) : Type 0 where
   pub bits_least : 3 ≤ sc.bits
-  pub bits_greatest : sc.bits ≤ 64
+  pub bits_greatest : sc.bits ≤ 128
   pub list_least : 1 ≤ sc.list
   pub list_greatest : sc.list ≤ 16
   pub duration_least : 1 ≤ sc.duration

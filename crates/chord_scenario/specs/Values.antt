@@ -71,7 +71,7 @@ has_type (Whole least greatest) d = is_some (as_integer d)
 has_type Text d = is_some (as_str d)
 has_type Operation d = is_some (as_str d)
 has_type Boolean d = is_some (as_bool d)
-has_type Identifier d = is_some (as_integer d) || is_some (as_str d)
+has_type (Identifier digits) d = is_some (as_integer d) || is_some (as_str d)
 has_type Table d = is_table d
 has_type (Tables least greatest) d = option_map_or are_tables (as_array d) false
 
@@ -79,10 +79,10 @@ has_type (Tables least greatest) d = option_map_or are_tables (as_array d) false
 abbrev pub is_hexadecimal_digit : ℕ → Bool
 is_hexadecimal_digit b = nat_le 48 b && nat_le b 57 || nat_le 97 b && nat_le b 102
 
--- the number that 1 to 16 hexadecimal digits write
+-- the number that 1 to 32 hexadecimal digits write
 unfoldable pub hexadecimal : List ℕ → Option ℕ
 hexadecimal digits =
-    if nat_le 1 (length digits) && nat_le (length digits) 16 && list_all is_hexadecimal_digit digits
+    if nat_le 1 (length digits) && nat_le (length digits) 32 && list_all is_hexadecimal_digit digits
     then Some (digits_value 16 digits) else None
 
 -- the number that an identifier is, whole or in hexadecimal digits
@@ -90,6 +90,10 @@ abbrev pub identifier_of : Data → Option ℕ
 identifier_of (integer (pos n)) = Some n
 identifier_of (string digits) = hexadecimal digits
 identifier_of _ = None
+
+-- the value is no text of more than so many digits
+abbrev pub has_digits : ℕ → Data → Bool
+has_digits most d = option_map_or (λ digits. nat_le (length digits) most) (as_str d) true
 
 abbrev pub is_between : ℕ → ℕ → ℕ → Bool
 is_between least greatest n = nat_le least n && nat_le n greatest
@@ -100,7 +104,7 @@ is_in_range bits (Whole least greatest) d = option_map_or (is_between least grea
 is_in_range bits Text d = true
 is_in_range bits Operation d = option_map_or (λ word. is_some (operation_named word)) (as_str d) false
 is_in_range bits Boolean d = true
-is_in_range bits Identifier d = option_map_or (λ n. nat_lt n (2 ^ bits)) (identifier_of d) false
+is_in_range bits (Identifier digits) d = option_map_or (λ n. has_digits digits d && nat_lt n (2 ^ bits)) (identifier_of d) false
 is_in_range bits Table d = true
 is_in_range bits (Tables least greatest) d = option_map_or (λ ds. is_between least greatest (item_count ds)) (as_array d) false
 

@@ -115,8 +115,8 @@ pub(crate) enum Form {
     /// One of the words `join`, `crash` and `lookup`.
     Operation,
     Boolean,
-    /// A whole number, or a text of hexadecimal digits.
-    Identifier,
+    /// A whole number, or a text of at most so many hexadecimal digits.
+    Identifier(usize),
     Table,
     /// An array of tables, whose number lies from the first to the second.
     Tables(usize, usize),
@@ -225,7 +225,7 @@ static LOOKUPS_KEYS: [Entry; 2] = [
 
 static NODE_KEYS: [Entry; 4] = [
     Entry(FileKey::Name, Form::Text, Presence::Required),
-    Entry(FileKey::Id, Form::Identifier, Presence::Optional),
+    Entry(FileKey::Id, Form::Identifier(16), Presence::Optional),
     Entry(FileKey::Initial, Form::Boolean, Presence::Optional),
     Entry(FileKey::Churn, Form::Boolean, Presence::Optional),
 ];
@@ -239,7 +239,7 @@ static COMMAND_KEYS: [Entry; 5] = [
     Entry(FileKey::Do, Form::Operation, Presence::Required),
     Entry(FileKey::Node, Form::Text, Presence::Required),
     Entry(FileKey::Via, Form::Text, Presence::ForJoin),
-    Entry(FileKey::Key, Form::Identifier, Presence::ForLookup),
+    Entry(FileKey::Key, Form::Identifier(16), Presence::ForLookup),
 ];
 
 /// The keys of the table at a place, in order.

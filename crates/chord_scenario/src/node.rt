@@ -10,12 +10,12 @@ use crate::name::Name;
 use crate::section::PlacedTable;
 use crate::setting::Node;
 use crate::value::{identifier_of, truth_at, value_at};
-use chord_circle::{Circle, Ident};
+use chord_circle::{Circle, Ident, Raw};
 use std::alloc::{AllocError, Global};
 use toml::Table;
 
 /// The number of the identifier at a key, if the key holds one.
-fn identifier_number(table: &Table, key: FileKey) -> Option<u64>
+fn identifier_number(table: &Table, key: FileKey) -> Option<Raw>
     ensures { result ≡ option_and_then identifier_of (data_at key (table_view table.now)) }
 {
     match value_at(table, key) {

@@ -3,10 +3,11 @@
 ghost use Rattle.std.specs.Prelude.{◌≡◌, ◌^◌, nat_lt, option_map, option_copied};
 ghost use Rattle.std.specs.List.{list_all};
 ghost use Rattle.toml.specs.View.{table_view, view, items_view};
-ghost use Rattle.chord_scenario.specs.Values.{data_at, number_at, truth_at, text_at, as_whole, are_tables, has_type, hexadecimal, is_hexadecimal_digit, is_between, identifier_of, is_in_range, agrees};
+ghost use Rattle.chord_scenario.specs.Values.{data_at, number_at, truth_at, text_at, as_whole, are_tables, has_type, hexadecimal, is_hexadecimal_digit, is_between, identifier_of, has_digits, is_in_range, agrees};
 
 use crate::key::{FileKey, Form};
 use crate::operation::operation_named;
+use chord_circle::Raw;
 use toml::{Table, Value};
 
 /// What a table holds at a key.
@@ -77,7 +78,7 @@ pub(crate) fn has_type(form: Form, value: &Value) -> bool
         Form::Whole(_, _) => value.is_integer(),
         Form::Text | Form::Operation => value.is_str(),
         Form::Boolean => value.is_bool(),
-        Form::Identifier => value.is_integer() || value.is_str(),
+        Form::Identifier(_) => value.is_integer() || value.is_str(),
         Form::Table => value.is_table(),
         Form::Tables(_, _) => match value.as_array() {
             Some(items) => are_tables(items),
@@ -100,25 +101,28 @@ fn are_hexadecimal_digits(bytes: &[u8]) -> bool
     bytes.iter().all(|byte| is_hexadecimal_digit(*byte))
 }
 
-/// The number that 1 to 16 hexadecimal digits write.
+/// The most digits that an identifier is written in.
+const MOST_DIGITS: usize = 32;
+
+/// The number that 1 to 32 hexadecimal digits write.
 #[tactic(auto, unfolding(crate::specs::Values::hexadecimal))]
-fn hexadecimal(text: &str) -> Option<u64>
+fn hexadecimal(text: &str) -> Option<Raw>
     ensures { result ≡ hexadecimal text.now }
 {
     let digits = text.as_bytes();
-    if 1 <= digits.len() && digits.len() <= 16 && are_hexadecimal_digits(digits) {
-        u64::from_str_radix(text, 16).ok()
+    if 1 <= digits.len() && digits.len() <= MOST_DIGITS && are_hexadecimal_digits(digits) {
+        Raw::from_str_radix(text, 16).ok()
     } else {
         None
     }
 }
 
 /// The number that an identifier is, whole or in hexadecimal digits.
-pub(crate) fn identifier_of(value: &Value) -> Option<u64>
+pub(crate) fn identifier_of(value: &Value) -> Option<Raw>
     ensures { result ≡ identifier_of (view value.now) }
 {
     match value {
-        Value::Integer(_) => whole(value),
+        Value::Integer(_) => whole(value).map(Raw::from),
         Value::String(text) => hexadecimal(text.as_str()),
         _ => None,
     }
@@ -131,11 +135,21 @@ fn is_between(least: u64, greatest: u64, number: u64) -> bool
     least <= number && number <= greatest
 }
 
+/// Whether a value is no text of more than so many digits.
+fn has_digits(most: usize, value: &Value) -> bool
+    ensures { result ≡ has_digits most (view value.now) }
+{
+    match value.as_str() {
+        Some(text) => text.len() <= most,
+        None => true,
+    }
+}
+
 /// Whether a number is an identifier on a circle of this many bits.
-fn is_on_circle(bits: u64, number: u64) -> bool
+fn is_on_circle(bits: u64, number: Raw) -> bool
     ensures { result ≡ nat_lt number (2 ^ bits) }
 {
-    bits >= 64 || number >> bits == 0
+    bits >= 128 || number >> bits == 0
 }
 
 /// Whether a value is one of those that a form allows, on a circle of this many bits.
@@ -152,8 +166,8 @@ pub(crate) fn is_in_range(bits: u64, form: Form, value: &Value) -> bool
             Some(word) => operation_named(word).is_some(),
             None => false,
         },
-        Form::Identifier => match identifier_of(value) {
-            Some(number) => is_on_circle(bits, number),
+        Form::Identifier(digits) => match identifier_of(value) {
+            Some(number) => has_digits(digits, value) && is_on_circle(bits, number),
             None => false,
         },
         Form::Tables(least, greatest) => match value.as_array() {

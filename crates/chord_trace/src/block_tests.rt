@@ -4,7 +4,7 @@ ghost use Rattle.chord_scenario.specs.Blocks.{IsLineOf};
 ghost use Rattle.chord_trace.specs.Merging.{CanMerge, block_key};
 
 use super::*;
-use chord_circle::{Circle, Ident};
+use chord_circle::{Circle, Ident, Raw};
 use chord_event::{Block, CommandKind, Key, Line, Listed, Memory, MessageKind, RunError};
 use chord_scenario::{Scenario, read_scenario};
 use std::alloc::Global;
@@ -40,7 +40,7 @@ fn is_text(alloc: Global, scenario: &Scenario, line: Line, text: &str) -> Result
     Ok(written.as_slice() == text.as_bytes())
 }
 
-fn ident(rt: &impl Abort, raw: u64) -> Ident {
+fn ident(rt: &impl Abort, raw: Raw) -> Ident {
     let circle = Circle::new(64).expect(rt, "a circle");
     circle.ident(raw).expect(rt, "an identifier")
 }

@@ -17,7 +17,7 @@ pub returns-then-raw-last-clause-value : goal.returns-then-raw-last-clause-value
 returns-then-raw-last-clause-value c =
     let view : c.self.inside.bits ≡ c.args.self.now = c.self.view_is in
     let top : c.self.inside.last + 1 ≡ 2 ^ c.args.self.now = subst (λ (n : ℕ). c.self.inside.last + 1 ≡ 2 ^ n) view c.self.invariant.2 in
-    let way : 1 * 2 ^ (c.args.i - 1) % 18446744073709551616 ≡ 2 ^ (c.args.i - 1) = way_shifted c.args.self.now c.args.i c.requires.first
+    let way : 1 * 2 ^ (c.args.i - 1) % 340282366920938463463374607431768211456 ≡ 2 ^ (c.args.i - 1) = way_shifted c.args.self.now c.args.i c.requires.first
     c.requires.last (omega arith) in
     let inside : 2 ^ (c.args.i - 1) < 2 ^ c.args.self.now = way_within c.args.self.now c.args.i c.requires.first c.requires.last in
     let ahead : c.args.a + 2 ^ (c.args.i - 1) ≤ c.self.inside.last = omega arith in
@@ -32,7 +32,7 @@ pub returns-else-raw-last-clause-value : goal.returns-else-raw-last-clause-value
 returns-else-raw-last-clause-value c =
     let view : c.self.inside.bits ≡ c.args.self.now = c.self.view_is in
     let top : c.self.inside.last + 1 ≡ 2 ^ c.args.self.now = subst (λ (n : ℕ). c.self.inside.last + 1 ≡ 2 ^ n) view c.self.invariant.2 in
-    let way : 1 * 2 ^ (c.args.i - 1) % 18446744073709551616 ≡ 2 ^ (c.args.i - 1) = way_shifted c.args.self.now c.args.i c.requires.first
+    let way : 1 * 2 ^ (c.args.i - 1) % 340282366920938463463374607431768211456 ≡ 2 ^ (c.args.i - 1) = way_shifted c.args.self.now c.args.i c.requires.first
     c.requires.last (omega arith) in
     let inside : 2 ^ (c.args.i - 1) < 2 ^ c.args.self.now = way_within c.args.self.now c.args.i c.requires.first c.requires.last in
     let at : c.args.a ≤ c.self.inside.last = omega arith in
