@@ -1,5 +1,5 @@
 //! Runs of examples by engines.
-use crate::stop::{Stop, holds};
+use crate::stop::{Stop, holds, holds_written};
 use chord_examples::{EXAMPLES, Engine, Example, Shape, run_by, shown};
 use chord_trace::Watched;
 use std::sync::Wait;
@@ -42,12 +42,7 @@ fn run_example<T: AllocGlobal + Threads + Wait + Sync>(
     let mut writer = Watched::new(Vec::with_capacity(alloc, expected.len())?);
     let outcome = run_by(rt, alloc, engine, shape, &scenario, &mut writer);
     let written = writer.into_inner();
-    holds(
-        expected.starts_with(written.as_slice()),
-        "what was written is no beginning of the trace",
-    )?;
-    let report = outcome?;
-    holds(written.as_slice() == expected, "the trace is another")?;
-    let report = shown(alloc, &report)?;
+    holds_written(expected, written.as_slice(), outcome.is_ok())?;
+    let report = shown(alloc, &outcome?)?;
     holds(report.as_str() == example.report, "the report is another")
 }

@@ -23,6 +23,15 @@ pub fn holds(promise: bool, wrong: &'static str) -> Result<(), Stop> {
     }
 }
 
+/// Stops unless what was written is a beginning of a trace, and all of it where the run ended.
+pub fn holds_written(trace: &[u8], written: &[u8], ended: bool) -> Result<(), Stop> {
+    holds(
+        trace.starts_with(written),
+        "what was written is no beginning of the trace",
+    )?;
+    holds(!ended || written == trace, "the trace is another")
+}
+
 impl From<AllocError> for Stop {
     fn from(_error: AllocError) -> Stop {
         Stop::Memory

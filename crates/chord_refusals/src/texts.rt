@@ -1,5 +1,5 @@
 //! Calls that make a scenario of texts, and what a scenario begins with.
-use crate::stop::{Stop, holds};
+use crate::stop::{Stop, holds, holds_written};
 use chord_examples::{Example, text_of};
 use chord_node::initial_ring;
 use chord_play::{Plan, Split, load, play};
@@ -40,12 +40,9 @@ pub fn play_example<T: AllocGlobal + Threads + Wait + Sync>(
     let mut writer = Watched::new(Vec::with_capacity(alloc, expected.len())?);
     let outcome = play(rt, alloc, &mut toml, &mut csv, &plan, &mut writer);
     let written = writer.into_inner();
-    holds(
-        expected.starts_with(written.as_slice()),
-        "what was written is no beginning of the trace",
-    )?;
+    holds_written(expected, written.as_slice(), outcome.is_ok())?;
     outcome?;
-    holds(written.as_slice() == expected, "the trace is another")
+    Ok(())
 }
 
 /// Makes the start events and the ring of a scenario, and copies each of them. What is copied stays as it was.
