@@ -47,6 +47,11 @@ pub enum Line {
     Timeout {
         silent: u32,
     },
+    /// A message of the node's own that the network loses.
+    Lose {
+        kind: MessageKind,
+        receiver: u32,
+    },
     Lookup {
         key: Ident,
     },

@@ -123,7 +123,7 @@ module _ (profile : ℕ) (top : Members) (rows : List Row) (cells : List ℕ)
         numbers = numbers;
         nodes = record {
           least = enough;
-          greatest = few_nodes profile bits churns top sound.top bits;
+          greatest = omega (arith, few_nodes profile bits churns top sound.top bits);
           on_circle = idents_on_circle sc on_circle;
           apart = idents_apart sc none.idents;
           initial = initial;

@@ -100,6 +100,8 @@ module _ (profile bits : ℕ) (churns : Bool) (top : Members) (s : IsSound profi
     jitter = jitter_fits.high;
     max_events_least = max_events_fits.low;
     max_events_greatest = max_events_fits.high;
+    loss = omega arith;
+    spread = omega arith;
   }
 
   -- the file has a churn table where a node churns

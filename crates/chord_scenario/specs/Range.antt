@@ -57,11 +57,13 @@ pub record NumbersInRange (sc : Setup) : Type 0 where
   pub jitter : sc.jitter ≤ 1000000000
   pub max_events_least : 1 ≤ sc.max_events
   pub max_events_greatest : sc.max_events ≤ 50000000
+  pub loss : sc.loss ≤ 1000000
+  pub spread : sc.spread ≤ 1000000000
 
 -- the nodes stand apart on the circle
 pub record NodesInRange (sc : Setup) : Type 0 where
   pub least : 2 ≤ node_count sc
-  pub greatest : node_count sc ≤ 512
+  pub greatest : node_count sc ≤ 4096
   pub on_circle : (i : ℕ) → i < node_count sc → ident_of sc i < 2 ^ sc.bits
   pub apart : (i j : ℕ) → i < node_count sc → j < node_count sc → ident_of sc i ≡ ident_of sc j → i ≡ j
   pub initial : sc.list + 1 ≤ count_by (λ n. n.initial) sc.nodes

@@ -22,6 +22,9 @@ pub record Setup : Type 0 where
   pub finger : ℕ
   pub jitter : ℕ
   pub max_events : ℕ
+  -- in the second profile: how many of a million messages are lost, and how much longer than the latency one may take
+  pub loss : ℕ
+  pub spread : ℕ
   pub churn : Option Churn
   pub lookups : Option Span
   pub nodes : List Node

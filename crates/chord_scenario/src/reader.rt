@@ -190,6 +190,8 @@ fn assembled(circle: Circle, top: &Table, nodes: Vec<Node>, linked: Linked) -> S
         finger: number_at(top, FileKey::FingerUs),
         jitter: number_or(top, FileKey::JitterUs, 0),
         max_events: number_or(top, FileKey::MaxEvents, 50_000_000),
+        loss: 0,
+        spread: 0,
         churn: churn_of(top),
         lookups: lookups_of(top),
         nodes,

@@ -23,6 +23,8 @@ pub struct Scenario {
     pub(crate) finger: u64,
     pub(crate) jitter: u64,
     pub(crate) max_events: u64,
+    pub(crate) loss: u64,
+    pub(crate) spread: u64,
     pub(crate) churn: Option<Churn>,
     pub(crate) lookups: Option<Span>,
     pub(crate) nodes: Vec<Node>,
@@ -140,6 +142,22 @@ impl Scenario {
         ensures { result ≡ self.now.max_events }
     {
         self.max_events
+    }
+
+    /// How many of a million messages between different nodes are lost, which is 0 in the first
+    /// profile.
+    pub fn loss(&self) -> u64
+        ensures { result ≡ self.now.loss }
+    {
+        self.loss
+    }
+
+    /// How much longer than its latency a message between different nodes may take, which is 0 in the
+    /// first profile.
+    pub fn spread(&self) -> u64
+        ensures { result ≡ self.now.spread }
+    {
+        self.spread
     }
 
     /// How long churn nodes live and stay down, where the scenario says so.
