@@ -6,7 +6,7 @@ ghost use Rattle.chord_ops.specs.Rules.{head, head_notified};
 ghost use Rattle.chord_ops.specs.Turns.{CanAct};
 
 use crate::turn::Turn;
-use chord_event::{Body, Listed, Memory};
+use chord_event::{Body, Listed, Memory, MessageKind};
 use chord_node::{Call, NodeState};
 use chord_scenario::Scenario;
 
@@ -47,12 +47,12 @@ impl Turn {
     /// Tells the head that this node stands before it.
     #[tactic(auto, unfolding(crate::specs::Rules::head_notified))]
     pub fn notify_head(&mut self, scenario: &Scenario) -> Result<(), Memory>
-        requires can_act { CanAct scenario.now 1 0 self.old }
+        requires can_act { CanAct scenario.now 1 2 self.old }
         requires successors { AllNodes scenario.now self.old.state.succ }
         ensures value { OnOk result (self.new ≡ head_notified scenario.now self.old) }
     {
         match head_of(&self.state) {
-            Some(head) => self.send(scenario, head, Body::Notify),
+            Some(head) => self.send(scenario, MessageKind::Notify, head, Body::Notify),
             None => Ok(()),
         }
     }
