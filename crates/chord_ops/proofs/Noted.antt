@@ -4,18 +4,24 @@ use Rattle.std.proofs.lemmas.List.{length-drop, length-take}
 use Rattle.std.proofs.lemmas.List.Elements.{All-append, All-cons}
 use Rattle.std.specs.List.{All, cons_option, filter_map, insert, remove}
 use Rattle.std.specs.Prelude.{IfSome, option_to_list, if◌then◌else◌}
+use Rattle.chord_event.specs.declared.body.Body.{Body}
 use Rattle.chord_event.specs.declared.line.Line.{Line}
+use Rattle.chord_event.specs.declared.line.Line.TheVariants as line
+use Rattle.chord_event.specs.declared.line.MessageKind.{MessageKind}
 use Rattle.chord_scenario.specs.declared.scenario.Scenario.{Scenario}
 use Rattle.chord_node.specs.declared.state.Aim.{Aim}
 use Rattle.chord_node.specs.declared.state.Aim.TheVariants as aim
 use Rattle.chord_node.specs.declared.state.Lookup.{Lookup}
 use Rattle.chord_node.specs.declared.state.NodeState.{NodeState}
+use Rattle.chord_node.specs.declared.state.Purpose.{Purpose}
 use Rattle.chord_node.specs.Invariant.{AllNodes}
 use Rattle.chord_scenario.specs.Blocks.{IsLineOf}
 use Rattle.chord_scenario.specs.World.{node_count}
+use Rattle.chord_ops.specs.declared.turn.Request.{Request}
 use Rattle.chord_ops.specs.declared.turn.Turn.{Turn}
 use Rattle.chord_ops.specs.Procedures.{lost_for, lost_line}
-use Rattle.chord_ops.specs.Turns.{noted, when_some}
+use Rattle.chord_ops.specs.Turns.{called, kind_of, noted, sent, when_some}
+use Rattle.chord_ops.proofs.Sending.{called_as, sent_as}
 use Rattle.chord_ops.proofs.KeptRules.{none_of}
 
 -- the lines name nodes of the scenario alone; with the lookups, each of which may yet leave a line, they are so many
@@ -27,22 +33,28 @@ pub record AreNotes (sc : Scenario) (n : ℕ) (lines : List Line) (lookups : Lis
 abbrev pub HasNoted : Scenario → ℕ → Turn → Type 0
 HasNoted sc n turn = AreNotes sc n turn.lines turn.state.lookups
 
--- the nodes that a step answer is taken from are the scenario's
-pub record Knows (sc : Scenario) (me : ℕ) (succ fingers : List ℕ) : Type 0 where
+-- the nodes that a node knows are the scenario's
+pub record Knows (sc : Scenario) (me : ℕ) (via prdc : Option ℕ) (succ fingers : List ℕ) : Type 0 where
   pub own : me < node_count sc
+  pub via_known : IfSome via (λ node. node < node_count sc)
+  pub prdc_known : IfSome prdc (λ node. node < node_count sc)
   pub succ_known : AllNodes sc succ
   pub fingers_known : AllNodes sc fingers
 
 abbrev pub KnowsNodes : Scenario → NodeState → Type 0
-KnowsNodes sc s = Knows sc s.me s.succ s.fingers
+KnowsNodes sc s = Knows sc s.me s.via s.prdc s.succ s.fingers
 
--- Room for one line more, or two
+-- Room for one line more, or two, or three
 
 pub one_more : {lines : List Line} {lookups : List Lookup} (sc : Scenario) (n : ℕ) → AreNotes sc n lines lookups → AreNotes sc (n + 1) lines lookups
 one_more sc n h = record { named = h.named; few = omega (arith, h.few) }
 
 pub two_more : {lines : List Line} {lookups : List Lookup} (sc : Scenario) (n : ℕ) → AreNotes sc n lines lookups → AreNotes sc (n + 1 + 1) lines lookups
 two_more sc n h = one_more sc (n + 1) (one_more sc n h)
+
+pub three_more : {lines : List Line} {lookups : List Lookup} (sc : Scenario) (n : ℕ) → AreNotes sc n lines lookups
+    → AreNotes sc (n + 1 + 1 + 1) lines lookups
+three_more sc n h = one_more sc (n + 1 + 1) (two_more sc n h)
 
 -- Choices
 
@@ -81,6 +93,22 @@ pub noted_line : (sc : Scenario) (n : ℕ) (text : Line) (turn : Turn) → IsLin
 noted_line sc n text turn is h =
     notes_lines sc n 1 turn.lines (text ∷ []) turn.state.lookups
     (All-cons (IsLineOf sc) text [] is (none_of (IsLineOf sc))) (omega arith) h
+
+-- Messages, each of which leaves a line where it is lost
+
+pub noted_sent : (sc : Scenario) (n : ℕ) (k : MessageKind) (to : ℕ) (message : Body) (turn : Turn) → to < node_count sc → HasNoted sc n turn
+    → HasNoted sc (n + 1) (sent sc k to message turn)
+noted_sent sc n k to message turn at h =
+    sent_as (λ out. HasNoted sc (n + 1) out) sc k to message turn
+    (λ delay place late near. one_more sc n h)
+    (λ place near. noted_line sc n (line.Lose k to) turn (one_node sc to at) h)
+
+pub noted_called : (sc : Scenario) (n to : ℕ) (asked : Request) (wanted : Purpose) (turn : Turn) → to < node_count sc → HasNoted sc n turn
+    → HasNoted sc (n + 1) (called sc to asked wanted turn)
+noted_called sc n to asked wanted turn at h =
+    called_as (λ out. HasNoted sc (n + 1) out) sc to asked wanted turn
+    (λ delay place late near. one_more sc n h)
+    (λ place near. noted_line sc n (line.Lose (kind_of asked) to) turn (one_node sc to at) h)
 
 -- the lines of lookups that are given up name no node
 

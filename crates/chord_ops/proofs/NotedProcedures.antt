@@ -1,5 +1,5 @@
 -- Each procedure of the rule table leaves lines of the scenario's nodes, and few of them.
-use Rattle.std.proofs.Common.{◌==◌, ℕ, ◌+◌, ◌<◌, ◌∷◌, length, nat_lt, arith, length-append}
+use Rattle.std.proofs.Common.{◌==◌, ℕ, ◌+◌, ◌<◌, [], ◌∷◌, ◌++◌, length, nat_lt, arith, length-append}
 use Rattle.std.proofs.lemmas.List.Elements.{All-append, All-cons}
 use Rattle.std.specs.List.{count_by, filter_map}
 use Rattle.std.specs.Prelude.{position, slice_get}
@@ -11,12 +11,15 @@ use Rattle.chord_node.specs.declared.state.Aim.{Aim}
 use Rattle.chord_node.specs.declared.state.Aim.TheVariants as aim
 use Rattle.chord_node.specs.declared.state.Attempt.{Attempt}
 use Rattle.chord_node.specs.declared.state.Lookup.{Lookup}
+use Rattle.chord_node.specs.declared.state.Purpose.TheVariants as purpose
 use Rattle.chord_node.specs.Invariant.{is_user}
 use Rattle.chord_scenario.specs.Blocks.{IsLineOf}
 use Rattle.chord_node.specs.Limits.{most_failures, most_steps, most_user_lookups}
 use Rattle.chord_scenario.specs.World.{is_churn_node, node_count}
+use Rattle.chord_ops.specs.declared.turn.Request.TheVariants as request
 use Rattle.chord_ops.specs.declared.turn.Turn.{Turn}
 use Rattle.chord_ops.specs.Procedures.{
+  alone,
   armed,
   asked,
   begun,
@@ -32,13 +35,17 @@ use Rattle.chord_ops.specs.Procedures.{
   join_retried,
   life_armed,
   lost_line,
+  own_step,
   rise_armed,
+  risen,
   stabilize_armed,
   stranded,
+  stranded_lines,
   traffic_armed,
   came_up,
   user_lookup,
   walked,
+  with_attempt,
   with_lookup,
   without_attempt,
   without_lookup,
@@ -54,6 +61,7 @@ use Rattle.chord_ops.proofs.Noted.{
   few_lost,
   knows_when_some,
   no_node,
+  noted_called,
   noted_if,
   noted_line,
   noted_when_some,
@@ -63,6 +71,7 @@ use Rattle.chord_ops.proofs.Noted.{
   notes_removed,
   one_node,
   one_more,
+  two_more,
 }
 
 -- Timers
@@ -110,74 +119,83 @@ noted_finished : (sc : Scenario) (n : ℕ) (lookup : Lookup) (owner : ℕ) (turn
 unfolding finished
 noted_finished sc n lookup owner turn at h = noted_finished_for sc n lookup.aim lookup owner turn at h
 
-noted_asked : (sc : Scenario) (n place : ℕ) (lookup : Lookup) (next : ℕ) (turn : Turn) → HasNoted sc n turn
-    → HasNoted sc (n + 1) (asked sc place lookup next turn)
-unfolding asked called
-noted_asked sc n place lookup next turn h =
-    noted_if sc (n + 1) (nat_lt lookup.steps most_steps) _ (failed lookup turn)
-    (notes_inserted sc n turn.lines turn.state.lookups place _ h) (noted_failed sc n lookup turn h)
+noted_asked : (sc : Scenario) (n place : ℕ) (lookup : Lookup) (next : ℕ) (turn : Turn) → next < node_count sc → HasNoted sc n turn
+    → HasNoted sc (n + 1 + 1) (asked sc place lookup next turn)
+unfolding asked
+noted_asked sc n place lookup next turn at h =
+    let out : Turn = called sc next (request.Step lookup.key lookup.avoid) purpose.Lookup turn in
+    noted_if sc (n + 1 + 1) (nat_lt lookup.steps most_steps) _ (failed lookup turn)
+    (notes_inserted sc (n + 1) out.lines out.state.lookups place _
+    (noted_called sc n next (request.Step lookup.key lookup.avoid) purpose.Lookup turn at h))
+    (one_more sc (n + 1) (noted_failed sc n lookup turn h))
 
 pub noted_followed : (sc : Scenario) (n place : ℕ) (lookup : Lookup) (a : Answer) (turn : Turn) → NamesNode sc a → HasNoted sc n turn
-    → HasNoted sc (n + 1) (followed sc place lookup a turn)
+    → HasNoted sc (n + 1 + 1) (followed sc place lookup a turn)
 unfolding followed
-noted_followed sc n place lookup (answer.Owner owner) turn at h = noted_finished sc n lookup owner turn at h
-noted_followed sc n place lookup (answer.Next next) turn at h = noted_asked sc n place lookup next turn h
-noted_followed sc n place lookup answer.Stuck turn at h = noted_failed sc n lookup turn h
+noted_followed sc n place lookup (answer.Owner owner) turn at h = one_more sc (n + 1) (noted_finished sc n lookup owner turn at h)
+noted_followed sc n place lookup (answer.Next next) turn at h = noted_asked sc n place lookup next turn at h
+noted_followed sc n place lookup answer.Stuck turn at h = one_more sc (n + 1) (noted_failed sc n lookup turn h)
 
 pub noted_walked : (sc : Scenario) (n place : ℕ) (lookup : Lookup) (turn : Turn) → KnowsNodes sc turn.state → HasNoted sc n turn
-    → HasNoted sc (n + 1) (walked sc place lookup turn)
+    → HasNoted sc (n + 1 + 1) (walked sc place lookup turn)
 unfolding walked
 noted_walked sc n place lookup turn knows h =
     noted_followed sc n place lookup (step_answer sc turn.state lookup.key lookup.avoid) turn
     (step_answer_names sc turn.state lookup.key lookup.avoid knows.own knows.succ_known knows.fingers_known) h
 
 pub noted_begun : (sc : Scenario) (n key : ℕ) (wanted : Aim) (turn : Turn) → KnowsNodes sc turn.state → HasNoted sc n turn
-    → HasNoted sc (n + 1) (begun sc key wanted turn)
+    → HasNoted sc (n + 1 + 1) (begun sc key wanted turn)
 unfolding begun
 noted_begun sc n key wanted turn knows h =
     noted_walked sc n (length turn.state.lookups) (fresh_lookup key wanted turn.time) turn knows h
 
 pub noted_user_lookup : (sc : Scenario) (n key : ℕ) (turn : Turn) → KnowsNodes sc turn.state → HasNoted sc n turn
-    → HasNoted sc (n + 1 + 1) (user_lookup sc key turn)
+    → HasNoted sc (n + 1 + 1 + 1) (user_lookup sc key turn)
 unfolding user_lookup
 noted_user_lookup sc n key turn knows h =
-    noted_if sc (n + 1 + 1) (nat_lt (count_by is_user turn.state.lookups) most_user_lookups) _ _
+    noted_if sc (n + 1 + 1 + 1) (nat_lt (count_by is_user turn.state.lookups) most_user_lookups) _ _
     (noted_begun sc (n + 1) key aim.User (noted (line.Lookup key) turn) knows
     (noted_line sc n (line.Lookup key) turn (no_node sc) h))
-    (one_more sc (n + 1) (noted_line sc n (line.Busy key) turn (no_node sc) h))
+    (two_more sc (n + 1) (noted_line sc n (line.Busy key) turn (no_node sc) h))
 
 -- the step with the lookup of a call, which was taken out
 pub noted_with_lookup : (sc : Scenario) (n number : ℕ) (step : ℕ → Lookup → Turn → Turn) (turn : Turn)
     → ((place : ℕ) (lookup : Lookup) → HasNoted sc n (without_lookup place turn)
-    → HasNoted sc (n + 1) (step place lookup (without_lookup place turn))) → HasNoted sc n turn → HasNoted sc (n + 1) (with_lookup number step turn)
+    → HasNoted sc (n + 1 + 1) (step place lookup (without_lookup place turn))) → HasNoted sc n turn
+    → HasNoted sc (n + 1 + 1) (with_lookup number step turn)
 unfolding with_lookup
 noted_with_lookup sc n number step turn noted h =
-    let still : HasNoted sc (n + 1) turn = one_more sc n h in
-    noted_when_some sc (n + 1) (λ _. Unit {0}) (position (λ (lookup : Lookup). lookup.call == number) turn.state.lookups) _ turn (known _) still
-    (λ place _. noted_when_some sc (n + 1) (λ _. Unit {0}) (slice_get turn.state.lookups place) _ turn (known _) still
+    let still : HasNoted sc (n + 1 + 1) turn = two_more sc n h in
+    noted_when_some sc (n + 1 + 1) (λ _. Unit {0}) (position (λ (lookup : Lookup). lookup.call == number) turn.state.lookups) _ turn (known _) still
+    (λ place _. noted_when_some sc (n + 1 + 1) (λ _. Unit {0}) (slice_get turn.state.lookups place) _ turn (known _) still
     (λ lookup _. noted place lookup (notes_removed sc n turn.lines turn.state.lookups place h)))
 
 -- Joins
 
-pub noted_came_up : (sc : Scenario) (n via : ℕ) (turn : Turn) → via < node_count sc → HasNoted sc n turn → HasNoted sc (n + 1) (came_up sc via turn)
-unfolding came_up called
+pub noted_came_up : (sc : Scenario) (n via : ℕ) (turn : Turn) → via < node_count sc → HasNoted sc n turn → HasNoted sc (n + 1 + 1) (came_up sc via turn)
+unfolding came_up
 noted_came_up sc n via turn at h =
-    noted_armed sc (n + 1) _ (noted_line sc n (line.Join via) turn (one_node sc via at) h)
+    let up : Turn = record (noted (line.Join via) turn) { state = risen via turn.state } in
+    noted_called sc (n + 1) via (own_step sc [] turn.state) purpose.JoinStep (armed sc up) at
+    (noted_armed sc (n + 1) up (noted_line sc n (line.Join via) turn (one_node sc via at) h))
 
 pub noted_gone_down : (sc : Scenario) (n : ℕ) (turn : Turn) → HasNoted sc n turn → HasNoted sc n (gone_down turn)
 noted_gone_down sc n turn h = notes_cleared sc n turn.lines turn.state.lookups h
 
-noted_join_retried : (sc : Scenario) (n : ℕ) (attempt : Attempt) (turn : Turn) → HasNoted sc n turn → HasNoted sc n (join_retried sc attempt turn)
-unfolding join_retried called
-noted_join_retried sc n attempt turn h =
-    noted_when_some sc n (λ _. Unit {0}) turn.state.via _ _ (known turn.state.via) h (λ via _. h)
+noted_join_retried : (sc : Scenario) (n : ℕ) (attempt : Attempt) (turn : Turn) → KnowsNodes sc turn.state → HasNoted sc n turn
+    → HasNoted sc (n + 1) (join_retried sc attempt turn)
+unfolding join_retried
+noted_join_retried sc n attempt turn knows h =
+    let kept : Turn = with_attempt (record attempt { steps = 0 }) turn in
+    noted_when_some sc (n + 1) (λ via. via < node_count sc) turn.state.via _ kept knows.via_known (one_more sc n h)
+    (λ via at. noted_called sc n via (own_step sc attempt.avoid turn.state) purpose.JoinStep kept at h)
 
-pub noted_join_failed : (sc : Scenario) (n : ℕ) (attempt : Attempt) (turn : Turn) → HasNoted sc n turn → HasNoted sc (n + 1) (join_failed sc attempt turn)
+pub noted_join_failed : (sc : Scenario) (n : ℕ) (attempt : Attempt) (turn : Turn) → KnowsNodes sc turn.state → HasNoted sc n turn
+    → HasNoted sc (n + 1) (join_failed sc attempt turn)
 unfolding join_failed
-noted_join_failed sc n attempt turn h =
+noted_join_failed sc n attempt turn knows h =
     noted_if sc (n + 1) (nat_lt attempt.failures most_failures) _ _
-    (one_more sc n
-    (noted_join_retried sc n (record attempt { failures = attempt.failures + 1 }) turn h))
+    (noted_join_retried sc n (record attempt { failures = attempt.failures + 1 }) turn knows h)
     (noted_rise_armed sc (n + 1) (gone_down (noted line.JoinFailed turn))
     (noted_gone_down sc (n + 1) (noted line.JoinFailed turn) (noted_line sc n line.JoinFailed turn (no_node sc) h)))
 
@@ -190,10 +208,12 @@ noted_for_attempt sc n step turn noted h =
     (one_more sc n h) (λ attempt _. noted attempt)
 
 -- each lookup that is given up leaves its line
-pub noted_stranded : (sc : Scenario) (n via : ℕ) (turn : Turn) → via < node_count sc → HasNoted sc n turn → HasNoted sc (n + 1) (stranded sc via turn)
-unfolding stranded called
+pub noted_stranded : (sc : Scenario) (n via : ℕ) (turn : Turn) → via < node_count sc → HasNoted sc n turn → HasNoted sc (n + 1 + 1) (stranded sc via turn)
+unfolding stranded
 noted_stranded sc n via turn at h =
-    record {
+    let left : Turn = record turn { state = alone turn.state; lines = turn.lines ++ stranded_lines via turn.time turn.state.lookups } in
+    noted_called sc (n + 1) via (own_step sc [] turn.state) purpose.JoinStep left at
+    (record {
       named =
           All-append (IsLineOf sc) turn.lines _ h.named
           (All-cons (IsLineOf sc) (line.Stranded via) (filter_map (lost_line turn.time) turn.state.lookups)
@@ -205,4 +225,4 @@ noted_stranded sc n via turn at h =
             length-append turn.lines (line.Stranded via ∷ filter_map (lost_line turn.time) turn.state.lookups),
             few_lost turn.time turn.state.lookups,
           );
-    }
+    })

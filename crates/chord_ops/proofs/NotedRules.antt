@@ -1,5 +1,6 @@
 -- Each row of the rule table leaves lines of the scenario's nodes, and no more than a block has room for.
-use Rattle.std.proofs.Common.{◌==◌, ℕ, ◌+◌, ◌-◌, ◌<◌, ◌≤◌, ◌&&◌, ◌||◌, not, List, [], ◌∷◌, length, nat_lt, Option, Some, None, refl, arith}
+use Rattle.std.proofs.Common.{◌==◌, ℕ, ◌+◌, ◌-◌, ◌<◌, ◌≤◌, ◌&&◌, ◌||◌, not, List, [], ◌∷◌, drop, length, nat_lt, Option, Some, None, refl, arith}
+use Rattle.std.proofs.lemmas.List.Elements.{All-cons, All-drop, All-take}
 use Rattle.std.proofs.lemmas.List.Filters.{length-filter_both}
 use Rattle.std.proofs.lemmas.List.Sums.{length-filter}
 use Rattle.std.specs.Prelude.{IfSome, is_some, if◌then◌else◌}
@@ -21,20 +22,23 @@ use Rattle.chord_node.specs.declared.state.Lookup.{Lookup}
 use Rattle.chord_node.specs.declared.state.NodeState.{NodeState}
 use Rattle.chord_node.specs.declared.state.Purpose.{Purpose}
 use Rattle.chord_node.specs.declared.state.Purpose.TheVariants as purpose
-use Rattle.chord_node.specs.Invariant.{AreLookups, IsCall, IsNodeState, is_user}
+use Rattle.chord_node.specs.Invariant.{AllNodes, AreLookups, IsCall, IsNodeState, is_user}
 use Rattle.chord_scenario.specs.Blocks.{IsBlockOf, IsLineOf, most_lines}
 use Rattle.chord_node.specs.Limits.{most_steps, most_timeouts}
 use Rattle.chord_scenario.specs.World.{ident_of, is_churn_node, node_count}
 use Rattle.chord_ops.specs.Asked.{IsBody}
+use Rattle.chord_ops.specs.declared.turn.Request.TheVariants as request
 use Rattle.chord_ops.specs.declared.turn.Turn.{Turn}
 use Rattle.chord_ops.specs.Procedures.{
   call_of,
   gone_down,
   finger_armed,
+  own_step,
   stabilize_armed,
   stranded,
   traffic_armed,
   came_up,
+  with_attempt,
   without_attempt,
   without_call,
   without_lookup,
@@ -105,12 +109,25 @@ use Rattle.chord_ops.specs.Rules.{
 }
 use Rattle.chord_ops.specs.Search.{NamesNode}
 use Rattle.chord_ops.specs.Sound.{IsSoundEvent}
-use Rattle.chord_ops.specs.Turns.{called, noted, timer_made}
+use Rattle.chord_ops.specs.Turns.{after_words, noted, timer_made}
 use Rattle.chord_ops.proofs.Answered.{IfSome-answered_call}
 use Rattle.chord_ops.proofs.Found.{IfSome-find}
 use Rattle.chord_ops.proofs.Growing.{known}
-use Rattle.chord_ops.proofs.KeptRules.{none_of}
-use Rattle.chord_ops.proofs.Noted.{HasNoted, KnowsNodes, no_node, noted_if, noted_line, noted_when_some, one_node, one_more, two_more}
+use Rattle.chord_ops.proofs.KeptRules.{first_known, none_of}
+use Rattle.chord_ops.proofs.Noted.{
+  HasNoted,
+  KnowsNodes,
+  no_node,
+  noted_called,
+  noted_if,
+  noted_line,
+  noted_sent,
+  noted_when_some,
+  one_node,
+  one_more,
+  two_more,
+  three_more,
+}
 use Rattle.chord_ops.proofs.NotedProcedures.{
   knows_traffic_armed,
   noted_begun,
@@ -130,11 +147,11 @@ use Rattle.chord_ops.proofs.NotedProcedures.{
 
 -- Commands
 
-noted_cmd_join : (sc : Scenario) (n via : ℕ) (turn : Turn) → via < node_count sc → HasNoted sc n turn → HasNoted sc (n + 1) (cmd_join sc via turn)
+noted_cmd_join : (sc : Scenario) (n via : ℕ) (turn : Turn) → via < node_count sc → HasNoted sc n turn → HasNoted sc (n + 1 + 1) (cmd_join sc via turn)
 unfolding cmd_join
 noted_cmd_join sc n via turn at h =
-    noted_if sc (n + 1) (not (is_down turn.state)) _ _
-    (noted_line sc n (line.Ignored command.Join) turn (no_node sc) h)
+    noted_if sc (n + 1 + 1) (not (is_down turn.state)) _ _
+    (one_more sc (n + 1) (noted_line sc n (line.Ignored command.Join) turn (no_node sc) h))
     (noted_came_up sc n via turn at h)
 
 noted_cmd_crash : (sc : Scenario) (n : ℕ) (turn : Turn) → HasNoted sc n turn → HasNoted sc (n + 1) (cmd_crash turn)
@@ -144,62 +161,68 @@ noted_cmd_crash sc n turn h =
     (noted_line sc n (line.Ignored command.Crash) turn (no_node sc) h)
     (noted_gone_down sc (n + 1) (noted line.Crash turn) (noted_line sc n line.Crash turn (no_node sc) h))
 
-noted_cmd_lookup : (sc : Scenario) (n key : ℕ) (turn : Turn) → KnowsNodes sc turn.state → HasNoted sc n turn → HasNoted sc (n + 1 + 1) (cmd_lookup sc key turn)
+noted_cmd_lookup : (sc : Scenario) (n key : ℕ) (turn : Turn) → KnowsNodes sc turn.state → HasNoted sc n turn
+    → HasNoted sc (n + 1 + 1 + 1) (cmd_lookup sc key turn)
 unfolding cmd_lookup
 noted_cmd_lookup sc n key turn knows h =
-    noted_if sc (n + 1 + 1) (not (is_member turn.state)) _ _
-    (one_more sc (n + 1)
+    noted_if sc (n + 1 + 1 + 1) (not (is_member turn.state)) _ _
+    (two_more sc (n + 1)
     (noted_line sc n (line.Ignored command.Lookup) turn (no_node sc) h))
     (noted_user_lookup sc n key turn knows h)
 
 -- Timers
 
 noted_rise : (sc : Scenario) (n epoch : ℕ) (turn : Turn) → IfSome turn.state.via (λ via. via < node_count sc) → HasNoted sc n turn
-    → HasNoted sc (n + 1) (rise sc epoch turn)
+    → HasNoted sc (n + 1 + 1) (rise sc epoch turn)
 unfolding rise
 noted_rise sc n epoch turn at h =
-    let still : HasNoted sc (n + 1) turn = one_more sc n h in
-    noted_if sc (n + 1) (not (turn.state.epoch == epoch) || not (is_down turn.state)) turn _ still
-    (noted_when_some sc (n + 1) (λ via. via < node_count sc) turn.state.via (came_up sc) turn at still
+    let still : HasNoted sc (n + 1 + 1) turn = two_more sc n h in
+    noted_if sc (n + 1 + 1) (not (turn.state.epoch == epoch) || not (is_down turn.state)) turn _ still
+    (noted_when_some sc (n + 1 + 1) (λ via. via < node_count sc) turn.state.via (came_up sc) turn at still
     (λ via known. noted_came_up sc n via turn known h))
 
-noted_stabilize_tick : (sc : Scenario) (n epoch : ℕ) (turn : Turn) → HasNoted sc n turn → HasNoted sc n (stabilize_tick sc epoch turn)
-unfolding stabilize_tick stabilize_armed timer_made called
-noted_stabilize_tick sc n epoch turn h =
-    noted_if sc n (is_void epoch turn.state) turn _ h
-    (noted_if sc n (is_joining turn.state || has_repair_call turn.state) _ _ h
-    (noted_when_some sc n (λ _. Unit {0}) (head turn.state) _ (stabilize_armed sc turn) (known (head turn.state)) h (λ first _. h)))
+noted_stabilize_tick : (sc : Scenario) (n epoch : ℕ) (turn : Turn) → KnowsNodes sc turn.state → HasNoted sc n turn
+    → HasNoted sc (n + 1) (stabilize_tick sc epoch turn)
+unfolding stabilize_tick stabilize_armed timer_made
+noted_stabilize_tick sc n epoch turn knows h =
+    let still : HasNoted sc (n + 1) turn = one_more sc n h in
+    noted_if sc (n + 1) (is_void epoch turn.state) turn _ still
+    (noted_if sc (n + 1) (is_joining turn.state || has_repair_call turn.state) _ _ still
+    (noted_when_some sc (n + 1) (λ node. node < node_count sc) (head turn.state) _ (stabilize_armed sc turn)
+    (first_known sc turn.state.succ knows.succ_known) still
+    (λ first at. noted_called sc n first request.GetState purpose.State (stabilize_armed sc turn) at h)))
 
 noted_finger_turned : (sc : Scenario) (n index : ℕ) (turn : Turn) → KnowsNodes sc turn.state → HasNoted sc n turn
-    → HasNoted sc (n + 1) (finger_turned sc index turn)
+    → HasNoted sc (n + 1 + 1) (finger_turned sc index turn)
 unfolding finger_turned
 noted_finger_turned sc n index turn knows h =
     noted_begun sc n (finger_start sc.bits (ident_of sc turn.state.me) index) (aim.Finger index)
     (record turn { state = record turn.state { next_finger = finger_after sc.bits index } }) knows h
 
 noted_finger_tick : (sc : Scenario) (n epoch : ℕ) (turn : Turn) → KnowsNodes sc turn.state → HasNoted sc n turn
-    → HasNoted sc (n + 1) (finger_tick sc epoch turn)
+    → HasNoted sc (n + 1 + 1) (finger_tick sc epoch turn)
 unfolding finger_tick finger_armed timer_made
 noted_finger_tick sc n epoch turn knows h =
-    let still : HasNoted sc (n + 1) turn = one_more sc n h in
-    noted_if sc (n + 1) (is_void epoch turn.state) turn _ still
-    (noted_if sc (n + 1) (is_joining turn.state || has_finger_lookup turn.state) _ _ still
+    let still : HasNoted sc (n + 1 + 1) turn = two_more sc n h in
+    noted_if sc (n + 1 + 1) (is_void epoch turn.state) turn _ still
+    (noted_if sc (n + 1 + 1) (is_joining turn.state || has_finger_lookup turn.state) _ _ still
     (noted_finger_turned sc n turn.state.next_finger (finger_armed sc turn) knows h))
 
-noted_random_lookup : (sc : Scenario) (n : ℕ) (turn : Turn) → KnowsNodes sc turn.state → HasNoted sc n turn → HasNoted sc (n + 1 + 1) (random_lookup sc turn)
+noted_random_lookup : (sc : Scenario) (n : ℕ) (turn : Turn) → KnowsNodes sc turn.state → HasNoted sc n turn
+    → HasNoted sc (n + 1 + 1 + 1) (random_lookup sc turn)
 unfolding random_lookup
 noted_random_lookup sc n turn knows h =
     noted_user_lookup sc n (random_key sc turn.state)
-    (record turn { state = record turn.state { place = turn.state.place + key_words sc.bits } }) knows h
+    (record turn { state = after_words (key_words sc.bits) turn.state }) knows h
 
 noted_traffic_tick : (sc : Scenario) (n epoch : ℕ) (turn : Turn) → KnowsNodes sc turn.state → HasNoted sc n turn
-    → HasNoted sc (n + 1 + 1) (traffic_tick sc epoch turn)
+    → HasNoted sc (n + 1 + 1 + 1) (traffic_tick sc epoch turn)
 unfolding traffic_tick
 noted_traffic_tick sc n epoch turn knows h =
-    let still : HasNoted sc (n + 1 + 1) turn = two_more sc n h in
-    noted_if sc (n + 1 + 1) (is_void epoch turn.state || not (is_some sc.lookups)) turn _ still
-    (noted_if sc (n + 1 + 1) (is_joining turn.state) _ _
-    (noted_traffic_armed sc (n + 1 + 1) turn still)
+    let still : HasNoted sc (n + 1 + 1 + 1) turn = three_more sc n h in
+    noted_if sc (n + 1 + 1 + 1) (is_void epoch turn.state || not (is_some sc.lookups)) turn _ still
+    (noted_if sc (n + 1 + 1 + 1) (is_joining turn.state) _ _
+    (noted_traffic_armed sc (n + 1 + 1 + 1) turn still)
     (noted_random_lookup sc n (traffic_armed sc turn) (knows_traffic_armed sc turn knows) (noted_traffic_armed sc n turn h)))
 
 noted_life_end : (sc : Scenario) (n epoch : ℕ) (turn : Turn) → HasNoted sc n turn → HasNoted sc (n + 1) (life_end sc epoch turn)
@@ -213,108 +236,118 @@ noted_life_end sc n epoch turn h =
 -- Timeouts
 
 noted_lookup_timed_out : (sc : Scenario) (n silent place : ℕ) (lookup : Lookup) (turn : Turn) → KnowsNodes sc turn.state → HasNoted sc n turn
-    → HasNoted sc (n + 1) (lookup_timed_out sc silent place lookup turn)
+    → HasNoted sc (n + 1 + 1) (lookup_timed_out sc silent place lookup turn)
 unfolding lookup_timed_out
 noted_lookup_timed_out sc n silent place lookup turn knows h =
-    noted_if sc (n + 1) (nat_lt lookup.timeouts most_timeouts) _ _
+    noted_if sc (n + 1 + 1) (nat_lt lookup.timeouts most_timeouts) _ _
     (noted_walked sc n place (past silent (once_more lookup)) turn knows h)
-    (noted_failed sc n (once_more lookup) turn h)
+    (one_more sc (n + 1) (noted_failed sc n (once_more lookup) turn h))
 
-noted_join_timed_out : (sc : Scenario) (n silent : ℕ) (turn : Turn) → HasNoted sc n turn → HasNoted sc (n + 1) (join_timed_out sc silent turn)
+noted_join_timed_out : (sc : Scenario) (n silent : ℕ) (turn : Turn) → KnowsNodes sc turn.state → HasNoted sc n turn
+    → HasNoted sc (n + 1) (join_timed_out sc silent turn)
 unfolding join_timed_out
-noted_join_timed_out sc n silent turn h =
+noted_join_timed_out sc n silent turn knows h =
     noted_for_attempt sc n _ turn
-    (λ attempt. noted_join_failed sc n (avoiding silent turn.state attempt) (without_attempt turn) h) h
+    (λ attempt. noted_join_failed sc n (avoiding silent turn.state attempt) (without_attempt turn) knows h) h
 
-noted_head_asked : (sc : Scenario) (n : ℕ) (first : Option ℕ) (turn : Turn) → IfSome turn.state.via (λ via. via < node_count sc) → HasNoted sc n turn
-    → HasNoted sc (n + 1) (head_asked sc first turn)
-unfolding called
-noted_head_asked sc n None turn at h =
-    noted_when_some sc (n + 1) (λ via. via < node_count sc) turn.state.via (stranded sc) turn at
-    (one_more sc n h)
+noted_head_asked : (sc : Scenario) (n : ℕ) (first : Option ℕ) (turn : Turn) → IfSome turn.state.via (λ via. via < node_count sc)
+    → IfSome first (λ node. node < node_count sc) → HasNoted sc n turn → HasNoted sc (n + 1 + 1) (head_asked sc first turn)
+noted_head_asked sc n None turn via_known at h =
+    noted_when_some sc (n + 1 + 1) (λ via. via < node_count sc) turn.state.via (stranded sc) turn via_known
+    (two_more sc n h)
     (λ via known. noted_stranded sc n via turn known h)
-noted_head_asked sc n (Some first) turn at h = one_more sc n h
+noted_head_asked sc n (Some first) turn via_known at h =
+    one_more sc (n + 1) (noted_called sc n first request.GetState purpose.State turn at h)
 
-noted_state_timed_out : (sc : Scenario) (n : ℕ) (turn : Turn) → IfSome turn.state.via (λ via. via < node_count sc) → HasNoted sc n turn
-    → HasNoted sc (n + 1) (state_timed_out sc turn)
+noted_state_timed_out : (sc : Scenario) (n : ℕ) (turn : Turn) → KnowsNodes sc turn.state → HasNoted sc n turn
+    → HasNoted sc (n + 1 + 1) (state_timed_out sc turn)
 unfolding state_timed_out
-noted_state_timed_out sc n turn at h = noted_head_asked sc n (head (without_head turn).state) (without_head turn) at h
+noted_state_timed_out sc n turn knows h =
+    noted_head_asked sc n (head (without_head turn).state) (without_head turn) knows.via_known
+    (first_known sc (drop 1 turn.state.succ) (All-drop (λ node. node < node_count sc) 1 turn.state.succ knows.succ_known)) h
 
-noted_head_notified : (sc : Scenario) (n : ℕ) (turn : Turn) → HasNoted sc n turn → HasNoted sc n (head_notified sc turn)
+noted_head_notified : (sc : Scenario) (n : ℕ) (turn : Turn) → KnowsNodes sc turn.state → HasNoted sc n turn → HasNoted sc (n + 1) (head_notified sc turn)
 unfolding head_notified
-noted_head_notified sc n turn h =
-    noted_when_some sc n (λ _. Unit {0}) (head turn.state) _ turn (known (head turn.state)) h (λ first _. h)
+noted_head_notified sc n turn knows h =
+    noted_when_some sc (n + 1) (λ node. node < node_count sc) (head turn.state) _ turn (first_known sc turn.state.succ knows.succ_known)
+    (one_more sc n h) (λ first at. noted_sent sc n kind.Notify first body.Notify turn at h)
 
 noted_ping_timed_out : (sc : Scenario) (n silent notifier : ℕ) (turn : Turn) → HasNoted sc n turn → HasNoted sc n (ping_timed_out silent notifier turn)
 unfolding ping_timed_out
 noted_ping_timed_out sc n silent notifier turn h = noted_if sc n (holds turn.state.prdc silent) _ turn h h
 
 noted_timed_out : (sc : Scenario) (n number silent : ℕ) (wanted : Purpose) (turn : Turn) → KnowsNodes sc turn.state
-    → IfSome turn.state.via (λ via. via < node_count sc) → HasNoted sc n turn → HasNoted sc (n + 1) (timed_out sc number silent wanted turn)
-noted_timed_out sc n number silent purpose.Lookup turn knows at h =
+    → HasNoted sc n turn → HasNoted sc (n + 1 + 1) (timed_out sc number silent wanted turn)
+noted_timed_out sc n number silent purpose.Lookup turn knows h =
     noted_with_lookup sc n number (lookup_timed_out sc silent) turn
     (λ place lookup g. noted_lookup_timed_out sc n silent place lookup (without_lookup place turn) knows g) h
-noted_timed_out sc n number silent purpose.JoinStep turn knows at h = noted_join_timed_out sc n silent turn h
-noted_timed_out sc n number silent purpose.JoinList turn knows at h = noted_join_timed_out sc n silent turn h
-noted_timed_out sc n number silent purpose.State turn knows at h = noted_state_timed_out sc n turn at h
-noted_timed_out sc n number silent purpose.List turn knows at h =
-    one_more sc n (noted_head_notified sc n turn h)
-noted_timed_out sc n number silent (purpose.Ping notifier) turn knows at h =
-    one_more sc n (noted_ping_timed_out sc n silent notifier turn h)
+noted_timed_out sc n number silent purpose.JoinStep turn knows h = one_more sc (n + 1) (noted_join_timed_out sc n silent turn knows h)
+noted_timed_out sc n number silent purpose.JoinList turn knows h = one_more sc (n + 1) (noted_join_timed_out sc n silent turn knows h)
+noted_timed_out sc n number silent purpose.State turn knows h = noted_state_timed_out sc n turn knows h
+noted_timed_out sc n number silent purpose.List turn knows h =
+    one_more sc (n + 1) (noted_head_notified sc n turn knows h)
+noted_timed_out sc n number silent (purpose.Ping notifier) turn knows h =
+    two_more sc n (noted_ping_timed_out sc n silent notifier turn h)
 
 noted_timeout : (sc : Scenario) (n number : ℕ) (turn : Turn) → IsNodeState sc turn.state → KnowsNodes sc turn.state → HasNoted sc n turn
-    → HasNoted sc (n + 1 + 1) (timeout sc number turn)
+    → HasNoted sc (n + 1 + 1 + 1) (timeout sc number turn)
 unfolding timeout
 noted_timeout sc n number turn is knows h =
-    noted_when_some sc (n + 1 + 1) (IsCall sc) (call_of number turn.state) _ turn
+    noted_when_some sc (n + 1 + 1 + 1) (IsCall sc) (call_of number turn.state) _ turn
     (IfSome-find (IsCall sc) (λ (call : Call). call.number == number) turn.state.calls is.calls.each)
-    (two_more sc n h)
+    (three_more sc n h)
     (λ call out. noted_timed_out sc (n + 1) number call.to call.purpose (noted (line.Timeout call.to) (without_call number turn))
-    knows is.neighbours.via_known
+    knows
     (noted_line sc n (line.Timeout call.to) (without_call number turn) (one_node sc call.to out.to) h))
 
 -- Requests, and notifies
 
 noted_at_member : (sc : Scenario) (n : ℕ) (k : MessageKind) (sender : ℕ) (turn after : Turn) → sender < node_count sc → HasNoted sc n turn
-    → HasNoted sc n after → HasNoted sc (n + 1) (if is_member turn.state then after else noted (line.Drop k sender) turn)
+    → HasNoted sc (n + 1) after → HasNoted sc (n + 1) (if is_member turn.state then after else noted (line.Drop k sender) turn)
 noted_at_member sc n k sender turn after at h g =
-    noted_if sc (n + 1) (is_member turn.state) after _ (one_more sc n g)
+    noted_if sc (n + 1) (is_member turn.state) after _ g
     (noted_line sc n (line.Drop k sender) turn (one_node sc sender at) h)
 
 noted_step_asked : (sc : Scenario) (n sender number key : ℕ) (avoid : List ℕ) (turn : Turn) → sender < node_count sc → HasNoted sc n turn
     → HasNoted sc (n + 1) (step_asked sc sender number key avoid turn)
 unfolding step_asked
-noted_step_asked sc n sender number key avoid turn at h = noted_at_member sc n kind.Step sender turn _ at h h
+noted_step_asked sc n sender number key avoid turn at h =
+    noted_at_member sc n kind.Step sender turn _ at h (noted_sent sc n kind.StepReply sender _ turn at h)
 
 noted_state_asked : (sc : Scenario) (n sender number : ℕ) (turn : Turn) → sender < node_count sc → HasNoted sc n turn
     → HasNoted sc (n + 1) (state_asked sc sender number turn)
 unfolding state_asked
 noted_state_asked sc n sender number turn at h =
     noted_at_member sc n kind.GetState sender turn _ at h
-    (noted_when_some sc n (λ _. Unit {0}) turn.state.prdc _ turn (known turn.state.prdc) h (λ prdc _. h))
+    (noted_when_some sc (n + 1) (λ _. Unit {0}) turn.state.prdc _ turn (known turn.state.prdc) (one_more sc n h)
+    (λ prdc _. noted_sent sc n kind.StateReply sender _ turn at h))
 
 noted_list_asked : (sc : Scenario) (n sender number : ℕ) (turn : Turn) → sender < node_count sc → HasNoted sc n turn
     → HasNoted sc (n + 1) (list_asked sc sender number turn)
 unfolding list_asked
-noted_list_asked sc n sender number turn at h = noted_at_member sc n kind.GetList sender turn _ at h h
+noted_list_asked sc n sender number turn at h =
+    noted_at_member sc n kind.GetList sender turn _ at h (noted_sent sc n kind.ListReply sender _ turn at h)
 
 noted_pinged : (sc : Scenario) (n sender number : ℕ) (turn : Turn) → sender < node_count sc → HasNoted sc n turn
     → HasNoted sc (n + 1) (pinged sc sender number turn)
 unfolding pinged
-noted_pinged sc n sender number turn at h = noted_at_member sc n kind.Ping sender turn _ at h h
+noted_pinged sc n sender number turn at h =
+    noted_at_member sc n kind.Ping sender turn _ at h (noted_sent sc n kind.Pong sender _ turn at h)
 
-noted_predecessor_weighed : (sc : Scenario) (n sender prdc : ℕ) (turn : Turn) → HasNoted sc n turn → HasNoted sc n (predecessor_weighed sc sender prdc turn)
-unfolding called
-noted_predecessor_weighed sc n sender prdc turn h =
-    noted_if sc n (between sc.bits (ident_of sc prdc) (ident_of sc sender) (ident_of sc turn.state.me)) _ _ h
-    (noted_if sc n (not (sender == prdc) && not (has_ping_call turn.state)) _ turn h h)
+noted_predecessor_weighed : (sc : Scenario) (n sender prdc : ℕ) (turn : Turn) → prdc < node_count sc → HasNoted sc n turn
+    → HasNoted sc (n + 1) (predecessor_weighed sc sender prdc turn)
+noted_predecessor_weighed sc n sender prdc turn at h =
+    noted_if sc (n + 1) (between sc.bits (ident_of sc prdc) (ident_of sc sender) (ident_of sc turn.state.me)) _ _ (one_more sc n h)
+    (noted_if sc (n + 1) (not (sender == prdc) && not (has_ping_call turn.state)) _ turn
+    (noted_called sc n prdc request.Ping (purpose.Ping sender) turn at h) (one_more sc n h))
 
-noted_notified : (sc : Scenario) (n sender : ℕ) (turn : Turn) → sender < node_count sc → HasNoted sc n turn → HasNoted sc (n + 1) (notified sc sender turn)
+noted_notified : (sc : Scenario) (n sender : ℕ) (turn : Turn) → sender < node_count sc → KnowsNodes sc turn.state → HasNoted sc n turn
+    → HasNoted sc (n + 1) (notified sc sender turn)
 unfolding notified
-noted_notified sc n sender turn at h =
+noted_notified sc n sender turn at knows h =
     noted_at_member sc n kind.Notify sender turn _ at h
-    (noted_when_some sc n (λ _. Unit {0}) turn.state.prdc _ turn (known turn.state.prdc) h
-    (λ prdc _. noted_predecessor_weighed sc n sender prdc turn h))
+    (noted_when_some sc (n + 1) (λ node. node < node_count sc) turn.state.prdc _ turn knows.prdc_known (one_more sc n h)
+    (λ prdc known. noted_predecessor_weighed sc n sender prdc turn known h))
 
 -- Replies
 
@@ -331,103 +364,125 @@ noted_replied sc n k sender step (Some call) turn at out h noted = noted call ou
 call_answered : (sc : Scenario) (k : MessageKind) (number : ℕ) (s : NodeState) → IsNodeState sc s → IfSome (answered_call k number s) (IsCall sc)
 call_answered sc k number s is = IfSome-answered_call (IsCall sc) k number s is.calls.each
 
-noted_join_asked : (sc : Scenario) (n next : ℕ) (attempt : Attempt) (turn : Turn) → HasNoted sc n turn → HasNoted sc (n + 1) (join_asked sc next attempt turn)
-unfolding join_asked called
-noted_join_asked sc n next attempt turn h =
-    noted_if sc (n + 1) (nat_lt attempt.steps most_steps) _ _ (one_more sc n h)
-    (noted_join_failed sc n attempt turn h)
+noted_join_asked : (sc : Scenario) (n next : ℕ) (attempt : Attempt) (turn : Turn) → next < node_count sc → KnowsNodes sc turn.state
+    → HasNoted sc n turn → HasNoted sc (n + 1) (join_asked sc next attempt turn)
+unfolding join_asked
+noted_join_asked sc n next attempt turn at knows h =
+    noted_if sc (n + 1) (nat_lt attempt.steps most_steps) _ _
+    (noted_called sc n next (own_step sc attempt.avoid turn.state) purpose.JoinStep
+    (with_attempt (record attempt { steps = attempt.steps + 1 }) turn) at h)
+    (noted_join_failed sc n attempt turn knows h)
 
-noted_join_followed : (sc : Scenario) (n to : ℕ) (a : Answer) (attempt : Attempt) (turn : Turn) → HasNoted sc n turn
-    → HasNoted sc (n + 1) (join_followed sc to a attempt turn)
-unfolding join_followed called
-noted_join_followed sc n to (answer.Owner owner) attempt turn h = one_more sc n h
-noted_join_followed sc n to (answer.Next next) attempt turn h = noted_join_asked sc n next attempt turn h
-noted_join_followed sc n to answer.Stuck attempt turn h = noted_join_failed sc n attempt turn h
+noted_join_followed : (sc : Scenario) (n to : ℕ) (a : Answer) (attempt : Attempt) (turn : Turn) → to < node_count sc → NamesNode sc a
+    → KnowsNodes sc turn.state → HasNoted sc n turn → HasNoted sc (n + 1) (join_followed sc to a attempt turn)
+unfolding join_followed
+noted_join_followed sc n to (answer.Owner owner) attempt turn at names knows h =
+    noted_called sc n to request.GetList purpose.JoinList (with_attempt attempt turn) at h
+noted_join_followed sc n to (answer.Next next) attempt turn at names knows h = noted_join_asked sc n next attempt turn names knows h
+noted_join_followed sc n to answer.Stuck attempt turn at names knows h = noted_join_failed sc n attempt turn knows h
 
-noted_join_answered : (sc : Scenario) (n to : ℕ) (a : Answer) (turn : Turn) → HasNoted sc n turn → HasNoted sc (n + 1) (join_answered sc to a turn)
+noted_join_answered : (sc : Scenario) (n to : ℕ) (a : Answer) (turn : Turn) → to < node_count sc → NamesNode sc a → KnowsNodes sc turn.state
+    → HasNoted sc n turn → HasNoted sc (n + 1) (join_answered sc to a turn)
 unfolding join_answered
-noted_join_answered sc n to a turn h =
+noted_join_answered sc n to a turn at names knows h =
     noted_for_attempt sc n (join_followed sc to a) turn
-    (λ attempt. noted_join_followed sc n to a attempt (without_attempt turn) h) h
+    (λ attempt. noted_join_followed sc n to a attempt (without_attempt turn) at names knows h) h
 
 noted_lookup_answered : (sc : Scenario) (n : ℕ) (a : Answer) (place : ℕ) (lookup : Lookup) (turn : Turn) → NamesNode sc a → HasNoted sc n turn
-    → HasNoted sc (n + 1) (lookup_answered sc a place lookup turn)
+    → HasNoted sc (n + 1 + 1) (lookup_answered sc a place lookup turn)
 unfolding lookup_answered
 noted_lookup_answered sc n a place lookup turn names h =
     noted_followed sc n place (record lookup { hops = lookup.hops + 1 }) a turn names h
 
-noted_answered_for : (sc : Scenario) (n : ℕ) (a : Answer) (call : Call) (wanted : Purpose) (turn : Turn) → NamesNode sc a → HasNoted sc n turn
-    → HasNoted sc (n + 1) (answered_for sc a call wanted turn)
-noted_answered_for sc n a call purpose.Lookup turn names h =
+noted_answered_for : (sc : Scenario) (n : ℕ) (a : Answer) (call : Call) (wanted : Purpose) (turn : Turn) → call.to < node_count sc → NamesNode sc a
+    → KnowsNodes sc turn.state → HasNoted sc n turn → HasNoted sc (n + 1 + 1) (answered_for sc a call wanted turn)
+noted_answered_for sc n a call purpose.Lookup turn at names knows h =
     noted_with_lookup sc n call.number (lookup_answered sc a) turn
     (λ place lookup g. noted_lookup_answered sc n a place lookup (without_lookup place turn) names g) h
-noted_answered_for sc n a call purpose.JoinStep turn names h = noted_join_answered sc n call.to a turn h
-noted_answered_for sc n a call purpose.JoinList turn names h = one_more sc n h
-noted_answered_for sc n a call purpose.State turn names h = one_more sc n h
-noted_answered_for sc n a call purpose.List turn names h = one_more sc n h
-noted_answered_for sc n a call (purpose.Ping notifier) turn names h = one_more sc n h
+noted_answered_for sc n a call purpose.JoinStep turn at names knows h =
+    one_more sc (n + 1) (noted_join_answered sc n call.to a turn at names knows h)
+noted_answered_for sc n a call purpose.JoinList turn at names knows h = two_more sc n h
+noted_answered_for sc n a call purpose.State turn at names knows h = two_more sc n h
+noted_answered_for sc n a call purpose.List turn at names knows h = two_more sc n h
+noted_answered_for sc n a call (purpose.Ping notifier) turn at names knows h = two_more sc n h
 
 noted_step_replied : (sc : Scenario) (n sender number : ℕ) (a : Answer) (turn : Turn) → sender < node_count sc → NamesNode sc a
-    → IsNodeState sc turn.state → HasNoted sc n turn → HasNoted sc (n + 1) (step_replied sc sender number a turn)
+    → IsNodeState sc turn.state → KnowsNodes sc turn.state → HasNoted sc n turn → HasNoted sc (n + 1 + 1) (step_replied sc sender number a turn)
 unfolding step_replied
-noted_step_replied sc n sender number a turn at names is h =
-    noted_replied sc n kind.StepReply sender (λ call. answered_for sc a call call.purpose) (answered_call kind.StepReply number turn.state) turn
-    at (call_answered sc kind.StepReply number turn.state is) h
-    (λ call out. noted_answered_for sc n a call call.purpose (without_call call.number turn) names h)
+noted_step_replied sc n sender number a turn at names is knows h =
+    noted_replied sc (n + 1) kind.StepReply sender (λ call. answered_for sc a call call.purpose) (answered_call kind.StepReply number turn.state) turn
+    at (call_answered sc kind.StepReply number turn.state is)
+    (one_more sc n h)
+    (λ call out. noted_answered_for sc n a call call.purpose (without_call call.number turn) out.to names knows h)
 
-noted_state_answered : (sc : Scenario) (n prdc : ℕ) (list : List ℕ) (call : Call) (turn : Turn) → HasNoted sc n turn
-    → HasNoted sc n (state_answered sc prdc list call turn)
-unfolding state_answered called
-noted_state_answered sc n prdc list call turn h =
-    noted_if sc n (between sc.bits (ident_of sc turn.state.me) (ident_of sc prdc) (ident_of sc call.to)) _ _ h
-    (noted_head_notified sc n (successors_taken sc call.to list turn) h)
+-- a node that takes the successors of another knows the scenario's nodes
+knows_successors_taken : (sc : Scenario) (to : ℕ) (list : List ℕ) (turn : Turn) → to < node_count sc → AllNodes sc list → KnowsNodes sc turn.state
+    → KnowsNodes sc (successors_taken sc to list turn).state
+knows_successors_taken sc to list turn at all knows =
+    record {
+      own = knows.own;
+      via_known = knows.via_known;
+      prdc_known = knows.prdc_known;
+      succ_known = All-take (λ node. node < node_count sc) sc.list (to ∷ list) (All-cons (λ node. node < node_count sc) to list at all);
+      fingers_known = knows.fingers_known;
+    }
 
-noted_state_replied : (sc : Scenario) (n sender number prdc : ℕ) (list : List ℕ) (turn : Turn) → sender < node_count sc → IsNodeState sc turn.state
-    → HasNoted sc n turn → HasNoted sc (n + 1) (state_replied sc sender number prdc list turn)
+noted_state_answered : (sc : Scenario) (n prdc : ℕ) (list : List ℕ) (call : Call) (turn : Turn) → prdc < node_count sc → AllNodes sc list
+    → call.to < node_count sc → KnowsNodes sc turn.state → HasNoted sc n turn → HasNoted sc (n + 1) (state_answered sc prdc list call turn)
+unfolding state_answered
+noted_state_answered sc n prdc list call turn at all to_known knows h =
+    let taken : Turn = successors_taken sc call.to list turn in
+    noted_if sc (n + 1) (between sc.bits (ident_of sc turn.state.me) (ident_of sc prdc) (ident_of sc call.to)) _ _
+    (noted_called sc n prdc request.GetList purpose.List taken at h)
+    (noted_head_notified sc n taken (knows_successors_taken sc call.to list turn to_known all knows) h)
+
+noted_state_replied : (sc : Scenario) (n sender number prdc : ℕ) (list : List ℕ) (turn : Turn) → sender < node_count sc → prdc < node_count sc
+    → AllNodes sc list → IsNodeState sc turn.state → KnowsNodes sc turn.state → HasNoted sc n turn
+    → HasNoted sc (n + 1) (state_replied sc sender number prdc list turn)
 unfolding state_replied
-noted_state_replied sc n sender number prdc list turn at is h =
+noted_state_replied sc n sender number prdc list turn at prdc_known all is knows h =
     noted_replied sc n kind.StateReply sender (state_answered sc prdc list) (answered_call kind.StateReply number turn.state) turn
     at (call_answered sc kind.StateReply number turn.state is) h
-    (λ call out. noted_state_answered sc (n + 1) prdc list call (without_call call.number turn)
-    (one_more sc n h))
+    (λ call out. noted_state_answered sc n prdc list call (without_call call.number turn) prdc_known all out.to knows h)
 
-noted_list_answered : (sc : Scenario) (n to : ℕ) (list : List ℕ) (turn : Turn) → HasNoted sc n turn → HasNoted sc n (list_answered sc to list turn)
+noted_list_answered : (sc : Scenario) (n to : ℕ) (list : List ℕ) (turn : Turn) → to < node_count sc → AllNodes sc list → KnowsNodes sc turn.state
+    → HasNoted sc n turn → HasNoted sc (n + 1) (list_answered sc to list turn)
 unfolding list_answered
-noted_list_answered sc n to list turn h = noted_head_notified sc n (successors_taken sc to list turn) h
+noted_list_answered sc n to list turn at all knows h =
+    noted_head_notified sc n (successors_taken sc to list turn) (knows_successors_taken sc to list turn at all knows) h
 
-noted_join_list_taken : (sc : Scenario) (n to : ℕ) (list : List ℕ) (attempt : Attempt) (turn : Turn) → to < node_count sc → HasNoted sc n turn
-    → HasNoted sc (n + 1) (join_list_taken sc to list attempt turn)
+noted_join_list_taken : (sc : Scenario) (n to : ℕ) (list : List ℕ) (attempt : Attempt) (turn : Turn) → to < node_count sc → KnowsNodes sc turn.state
+    → HasNoted sc n turn → HasNoted sc (n + 1) (join_list_taken sc to list attempt turn)
 unfolding join_list_taken
-noted_join_list_taken sc n to [] attempt turn at h = noted_join_failed sc n attempt turn h
-noted_join_list_taken sc n to (first ∷ rest) attempt turn at h =
+noted_join_list_taken sc n to [] attempt turn at knows h = noted_join_failed sc n attempt turn knows h
+noted_join_list_taken sc n to (first ∷ rest) attempt turn at knows h =
     noted_if sc (n + 1) (between sc.bits (ident_of sc to) (ident_of sc turn.state.me) (ident_of sc first)) (joined sc to first (first ∷ rest) turn) _
     (noted_line sc n (line.Member to) turn (one_node sc to at) h)
-    (noted_join_failed sc n attempt turn h)
+    (noted_join_failed sc n attempt turn knows h)
 
-noted_join_list_answered : (sc : Scenario) (n to : ℕ) (list : List ℕ) (turn : Turn) → to < node_count sc → HasNoted sc n turn
+noted_join_list_answered : (sc : Scenario) (n to : ℕ) (list : List ℕ) (turn : Turn) → to < node_count sc → KnowsNodes sc turn.state → HasNoted sc n turn
     → HasNoted sc (n + 1) (join_list_answered sc to list turn)
 unfolding join_list_answered
-noted_join_list_answered sc n to list turn at h =
+noted_join_list_answered sc n to list turn at knows h =
     noted_for_attempt sc n (join_list_taken sc to list) turn
-    (λ attempt. noted_join_list_taken sc n to list attempt (without_attempt turn) at h) h
+    (λ attempt. noted_join_list_taken sc n to list attempt (without_attempt turn) at knows h) h
 
-noted_list_answered_for : (sc : Scenario) (n : ℕ) (list : List ℕ) (to : ℕ) (wanted : Purpose) (turn : Turn) → to < node_count sc → HasNoted sc n turn
-    → HasNoted sc (n + 1) (list_answered_for sc list to wanted turn)
-noted_list_answered_for sc n list to purpose.List turn at h =
-    noted_list_answered sc (n + 1) to list turn (one_more sc n h)
-noted_list_answered_for sc n list to purpose.JoinList turn at h = noted_join_list_answered sc n to list turn at h
-noted_list_answered_for sc n list to purpose.Lookup turn at h = one_more sc n h
-noted_list_answered_for sc n list to purpose.JoinStep turn at h = one_more sc n h
-noted_list_answered_for sc n list to purpose.State turn at h = one_more sc n h
-noted_list_answered_for sc n list to (purpose.Ping notifier) turn at h = one_more sc n h
+noted_list_answered_for : (sc : Scenario) (n : ℕ) (list : List ℕ) (to : ℕ) (wanted : Purpose) (turn : Turn) → to < node_count sc → AllNodes sc list
+    → KnowsNodes sc turn.state → HasNoted sc n turn → HasNoted sc (n + 1) (list_answered_for sc list to wanted turn)
+noted_list_answered_for sc n list to purpose.List turn at all knows h = noted_list_answered sc n to list turn at all knows h
+noted_list_answered_for sc n list to purpose.JoinList turn at all knows h = noted_join_list_answered sc n to list turn at knows h
+noted_list_answered_for sc n list to purpose.Lookup turn at all knows h = one_more sc n h
+noted_list_answered_for sc n list to purpose.JoinStep turn at all knows h = one_more sc n h
+noted_list_answered_for sc n list to purpose.State turn at all knows h = one_more sc n h
+noted_list_answered_for sc n list to (purpose.Ping notifier) turn at all knows h = one_more sc n h
 
-noted_list_replied : (sc : Scenario) (n sender number : ℕ) (list : List ℕ) (turn : Turn) → sender < node_count sc → IsNodeState sc turn.state
-    → HasNoted sc n turn → HasNoted sc (n + 1) (list_replied sc sender number list turn)
+noted_list_replied : (sc : Scenario) (n sender number : ℕ) (list : List ℕ) (turn : Turn) → sender < node_count sc → AllNodes sc list
+    → IsNodeState sc turn.state → KnowsNodes sc turn.state → HasNoted sc n turn → HasNoted sc (n + 1) (list_replied sc sender number list turn)
 unfolding list_replied
-noted_list_replied sc n sender number list turn at is h =
+noted_list_replied sc n sender number list turn at all is knows h =
     noted_replied sc n kind.ListReply sender (λ call. list_answered_for sc list call.to call.purpose) (answered_call kind.ListReply number turn.state) turn
     at (call_answered sc kind.ListReply number turn.state is) h
-    (λ call out. noted_list_answered_for sc n list call.to call.purpose (without_call call.number turn) out.to h)
+    (λ call out. noted_list_answered_for sc n list call.to call.purpose (without_call call.number turn) out.to all knows h)
 
 noted_ponged : (sc : Scenario) (n sender number : ℕ) (turn : Turn) → sender < node_count sc → IsNodeState sc turn.state → HasNoted sc n turn
     → HasNoted sc (n + 1) (ponged sender number turn)
@@ -440,40 +495,40 @@ noted_ponged sc n sender number turn at is h =
 -- The whole table
 
 noted_acted : (sc : Scenario) (n sender : ℕ) (message : Body) (turn : Turn) → sender < node_count sc → IsBody sc message → IsNodeState sc turn.state
-    → KnowsNodes sc turn.state → HasNoted sc n turn → HasNoted sc (n + 1 + 1) (acted sc sender message turn)
+    → KnowsNodes sc turn.state → HasNoted sc n turn → HasNoted sc (n + 1 + 1 + 1) (acted sc sender message turn)
 noted_acted sc n sender (body.CmdJoin via) turn at names is knows h =
-    one_more sc (n + 1) (noted_cmd_join sc n via turn names h)
+    one_more sc (n + 1 + 1) (noted_cmd_join sc n via turn names h)
 noted_acted sc n sender body.CmdCrash turn at names is knows h =
-    one_more sc (n + 1) (noted_cmd_crash sc n turn h)
+    two_more sc (n + 1) (noted_cmd_crash sc n turn h)
 noted_acted sc n sender (body.CmdLookup key) turn at names is knows h = noted_cmd_lookup sc n key turn knows h
 noted_acted sc n sender (body.StabilizeTick epoch) turn at names is knows h =
-    two_more sc n (noted_stabilize_tick sc n epoch turn h)
+    two_more sc (n + 1) (noted_stabilize_tick sc n epoch turn knows h)
 noted_acted sc n sender (body.FingerTick epoch) turn at names is knows h =
-    one_more sc (n + 1) (noted_finger_tick sc n epoch turn knows h)
+    one_more sc (n + 1 + 1) (noted_finger_tick sc n epoch turn knows h)
 noted_acted sc n sender (body.TrafficTick epoch) turn at names is knows h = noted_traffic_tick sc n epoch turn knows h
 noted_acted sc n sender (body.LifeEnd epoch) turn at names is knows h =
-    one_more sc (n + 1) (noted_life_end sc n epoch turn h)
+    two_more sc (n + 1) (noted_life_end sc n epoch turn h)
 noted_acted sc n sender (body.Rise epoch) turn at names is knows h =
-    one_more sc (n + 1) (noted_rise sc n epoch turn is.neighbours.via_known h)
+    one_more sc (n + 1 + 1) (noted_rise sc n epoch turn knows.via_known h)
 noted_acted sc n sender (body.Timeout number) turn at names is knows h = noted_timeout sc n number turn is knows h
 noted_acted sc n sender (body.Step number key avoid) turn at names is knows h =
-    one_more sc (n + 1) (noted_step_asked sc n sender number key avoid turn at h)
+    two_more sc (n + 1) (noted_step_asked sc n sender number key avoid turn at h)
 noted_acted sc n sender (body.GetState number) turn at names is knows h =
-    one_more sc (n + 1) (noted_state_asked sc n sender number turn at h)
+    two_more sc (n + 1) (noted_state_asked sc n sender number turn at h)
 noted_acted sc n sender (body.GetList number) turn at names is knows h =
-    one_more sc (n + 1) (noted_list_asked sc n sender number turn at h)
+    two_more sc (n + 1) (noted_list_asked sc n sender number turn at h)
 noted_acted sc n sender (body.Ping number) turn at names is knows h =
-    one_more sc (n + 1) (noted_pinged sc n sender number turn at h)
+    two_more sc (n + 1) (noted_pinged sc n sender number turn at h)
 noted_acted sc n sender body.Notify turn at names is knows h =
-    one_more sc (n + 1) (noted_notified sc n sender turn at h)
+    two_more sc (n + 1) (noted_notified sc n sender turn at knows h)
 noted_acted sc n sender (body.StepReply number a) turn at names is knows h =
-    one_more sc (n + 1) (noted_step_replied sc n sender number a turn at names is h)
+    one_more sc (n + 1 + 1) (noted_step_replied sc n sender number a turn at names is knows h)
 noted_acted sc n sender (body.StateReply number prdc list) turn at names is knows h =
-    one_more sc (n + 1) (noted_state_replied sc n sender number prdc list turn at is h)
+    two_more sc (n + 1) (noted_state_replied sc n sender number prdc list turn at names.0 names.1 is knows h)
 noted_acted sc n sender (body.ListReply number list) turn at names is knows h =
-    one_more sc (n + 1) (noted_list_replied sc n sender number list turn at is h)
+    two_more sc (n + 1) (noted_list_replied sc n sender number list turn at names is knows h)
 noted_acted sc n sender (body.Pong number) turn at names is knows h =
-    one_more sc (n + 1) (noted_ponged sc n sender number turn at is h)
+    two_more sc (n + 1) (noted_ponged sc n sender number turn at is h)
 
 -- a state has at most 60 lookups of users and one of a finger
 lookups_few : (sc : Scenario) (fingers : ℕ) (lookups : List Lookup) → AreLookups sc fingers lookups → length lookups ≤ 61
@@ -487,11 +542,17 @@ lookups_few sc fingers lookups h =
       length-filter_both is_user (λ lookup. not (is_user lookup)) (λ _. refl) lookups,
     )
 
-noted_effect : (sc : Scenario) (s : NodeState) (e : Event Body) → IsNodeState sc s → IsSoundEvent sc e → HasNoted sc (61 + 1 + 1) (effect sc s e)
+noted_effect : (sc : Scenario) (s : NodeState) (e : Event Body) → IsNodeState sc s → IsSoundEvent sc e → HasNoted sc (61 + 1 + 1 + 1) (effect sc s e)
 unfolding effect
 noted_effect sc s e h is =
     noted_acted sc 61 (e.key.origin - 2) e.body (opening s e) (omega (arith, is.origin, h.me)) is.body h
-    (record { own = h.me; succ_known = h.neighbours.succ_known; fingers_known = h.neighbours.fingers_known })
+    (record {
+      own = h.me;
+      via_known = h.neighbours.via_known;
+      prdc_known = h.neighbours.prdc_known;
+      succ_known = h.neighbours.succ_known;
+      fingers_known = h.neighbours.fingers_known;
+    })
     (record { named = none_of (IsLineOf sc); few = omega (arith, lookups_few sc (length s.fingers) s.lookups h.lookups) })
 
 pub block_known : (sc : Scenario) (s : NodeState) (e : Event Body) → IsNodeState sc s → IsSoundEvent sc e → IsBlockOf sc (block_of sc s e)
