@@ -1,6 +1,7 @@
 -- What a sound table holds at its keys: each fact is found by its key, wherever that stands among the keys of the table.
-use Rattle.std.proofs.Common.{◌≡◌, subst, ℕ, Bool, true, false, List, [], ◌∷◌, bytes_eq, find, Option, Some, unwrap_or, inl, inr}
+use Rattle.std.proofs.Common.{◌≡◌, subst, ap, ℕ, ◌==◌, Bool, true, false, List, [], ◌∷◌, bytes_eq, find, Option, Some, unwrap_or, inl, inr}
 use Rattle.std.specs.List.{AllByRecursion}
+use Rattle.std.specs.Option.{option_and_then}
 use Rattle.std.proofs.lemmas.Bool.{cases_Bool}
 use Rattle.std.proofs.lemmas.Option.{same_Some}
 use Rattle.toml.specs.Data.{Data}
@@ -8,15 +9,26 @@ use Rattle.chord_scenario.specs.declared.key.FileKey.{FileKey}
 use Rattle.chord_scenario.specs.declared.key.Entry.{Entry}
 use Rattle.chord_scenario.specs.declared.key.Form.TheVariants.{Whole}
 use Rattle.chord_scenario.specs.FileKeys.{key_name, required, optional, keys_at}
-use Rattle.chord_scenario.specs.KeyFaults.{is_required, is_missing, has_wrong_type, is_out_of_range}
+use Rattle.chord_scenario.specs.declared.key.Place.TheVariants as place
+use Rattle.chord_scenario.specs.KeyFaults.{is_listed, is_required, is_missing, has_wrong_type, is_out_of_range}
 use Rattle.chord_scenario.specs.Sections.{Section}
 use Rattle.chord_scenario.specs.Settings.{number_or}
 use Rattle.chord_scenario.specs.Values.{data_at, number_at, as_whole, has_type, is_in_range, agrees}
+use Rattle.chord_scenario.proofs.KeyFaults.{unlisted-none}
 use Rattle.chord_scenario.proofs.SoundSections.{IsSound, Fits, number_fits, default_fits, number_agrees, there_typed}
 
 -- the entry of a key among those of a table; at a table of the file format it computes
 abbrev pub entry_of : FileKey → List Entry → Option Entry
 entry_of k es = find (λ e. bytes_eq (key_name k) (key_name e.0)) es
+
+-- the entry of a key at top is that of each profile
+pub in_each : (profile : ℕ) {e : Entry} → entry_of e.0 (keys_at 2 place.Top) ≡ Some e → entry_of e.0 (keys_at 1 place.Top) ≡ Some e
+    → entry_of e.0 (keys_at profile place.Top) ≡ Some e
+in_each profile second other =
+    elim (cases_Bool (profile == 2)) [
+      | inl is_second ↦ rw is_second second
+      | inr is_other ↦ rw is_other other
+    ]
 
 -- what holds of every entry holds of one that is found
 of_found : (P : Entry → Type 0) (test : Entry → Bool) (es : List Entry) (e : Entry) → find test es ≡ Some e → AllByRecursion P es → P e
@@ -62,3 +74,9 @@ module _ {profile bits : ℕ} {churns : Bool} {s : Section} (sound : IsSound pro
   -- a value that has to be there is there, and has its type
   pub has_typed : (e : Entry) → Lists e → is_required churns s e.2 ≡ true → (d : Data) × (data_at e.0 s.members ≡ Some d) × (has_type e.1 d ≡ true)
   has_typed e is must = there_typed (has_type e.1) (data_at e.0 s.members) (rw must at (not_missing e is)) (not_wrong e is)
+
+  -- a number at a key that the table does not list is its default
+  pub unlisted_default : (k : FileKey) (default : ℕ) → is_listed profile s.at (key_name k) ≡ false → number_or default k s.members ≡ default
+  unfolding data_at
+  unlisted_default k default other =
+      ap (λ o. unwrap_or (option_and_then as_whole o) default) (unlisted-none profile s.at (key_name k) s.members other sound.known)

@@ -55,10 +55,10 @@ faultless top rows own late =
 
 -- what the questions of keys say
 pub record KeysFit (top : Members) : Type 0 where
-  pub profile : number_at key.Profile top ≤ 1
+  pub profile : number_at key.Profile top ≤ 2
   pub least : 3 ≤ number_at key.Bits top
-  pub greatest : number_at key.Bits top ≤ 64
-  pub nodes : length (nodes_in top) ≤ 512
+  pub greatest : number_at key.Bits top ≤ 128
+  pub nodes : length (nodes_in top) ≤ 4096
 
 pub keys_fit : (profile bits : ℕ) (top : Members) → first_answer (key_questions profile bits (sections top)) ≡ None → KeysFit top
 keys_fit profile bits top h =
@@ -123,7 +123,7 @@ module _ (profile : ℕ) (top : Members) (rows : List Row) (cells : List ℕ)
         numbers = numbers;
         nodes = record {
           least = enough;
-          greatest = omega (arith, few_nodes profile bits churns top sound.top bits);
+          greatest = few_nodes profile bits churns top sound.top bits;
           on_circle = idents_on_circle sc on_circle;
           apart = idents_apart sc none.idents;
           initial = initial;

@@ -9,7 +9,7 @@ use Rattle.chord_scenario.specs.declared.key.FileKey.TheVariants as key
 use Rattle.chord_scenario.specs.declared.key.Group.TheVariants.{Nodes, Commands}
 use Rattle.chord_scenario.specs.declared.key.Entry.{Entry}
 use Rattle.chord_scenario.specs.declared.key.Form.TheVariants.{Whole}
-use Rattle.chord_scenario.specs.declared.fault.ScenarioFault.TheVariants.{MissingKey, WrongType, OutOfRange}
+use Rattle.chord_scenario.specs.declared.fault.ScenarioFault.TheVariants.{UnknownKey, MissingKey, WrongType, OutOfRange}
 use Rattle.chord_scenario.specs.FileKeys.{keys_at}
 use Rattle.chord_scenario.specs.Values.{data_at, as_whole, is_between, is_in_range}
 use Rattle.chord_scenario.specs.Sections.{Section, table_at, tables_of, sections}
@@ -18,6 +18,7 @@ use Rattle.chord_scenario.specs.KeyFaults.{
   key_fault_in,
   is_churn_section,
   is_missing,
+  has_unlisted,
   unknown_key,
   missing_key,
   has_wrong_type,
@@ -30,8 +31,9 @@ use Rattle.chord_scenario.specs.Groups.{key_questions}
 use Rattle.chord_scenario.proofs.FirstRepeat.{mapped_none}
 use Rattle.chord_scenario.proofs.DistinctNames.{or_none}
 
--- no key of the table is missing, of another type or out of range
+-- no key of the table is unlisted, missing, of another type or out of range
 pub record IsSound (profile bits : ℕ) (churns : Bool) (s : Section) : Type 0 where
+  pub known : has_unlisted profile s.at s.members ≡ false
   pub present : AllByRecursion (λ e. is_missing churns s e ≡ false) (keys_at profile s.at)
   pub typed : AllByRecursion (λ e. has_wrong_type s e ≡ false) (keys_at profile s.at)
   pub fitting : AllByRecursion (λ e. is_out_of_range bits s e ≡ false) (keys_at profile s.at)
@@ -44,19 +46,30 @@ find-none-each test (e ∷ es) h =
       | inr other ↦ (other, find-none-each test es (rw other at h))
     ]
 
+known_each : (profile : ℕ) (ss : List Section) → find (λ s. has_unlisted profile s.at s.members) ss ≡ None
+    → AllByRecursion (λ s. has_unlisted profile s.at s.members ≡ false) ss
+known_each profile [] h = tt
+known_each profile (s ∷ ss) h =
+    elim (cases_Bool (has_unlisted profile s.at s.members)) [
+      | inl here ↦ absurd (cc (rw here at h))
+      | inr other ↦ (other, known_each profile ss (rw other at h))
+    ]
+
 sound_each : (profile bits : ℕ) (churns : Bool) (ss : List Section)
+    → AllByRecursion (λ s. has_unlisted profile s.at s.members ≡ false) ss
     → first_some (key_fault_in profile MissingKey (is_missing churns)) ss ≡ None
     → first_some (key_fault_in profile WrongType has_wrong_type) ss ≡ None
     → first_some (key_fault_in profile OutOfRange (is_out_of_range bits)) ss ≡ None
     → AllByRecursion (IsSound profile bits churns) ss
-sound_each profile bits churns [] missing wrong out = tt
-sound_each profile bits churns (s ∷ ss) missing wrong out =
+sound_each profile bits churns [] known missing wrong out = tt
+sound_each profile bits churns (s ∷ ss) known missing wrong out =
     let (m, ms) = or_none (key_fault_in profile MissingKey (is_missing churns) s)
     (first_some (key_fault_in profile MissingKey (is_missing churns)) ss) missing in
     let (w, ws) = or_none (key_fault_in profile WrongType has_wrong_type s) (first_some (key_fault_in profile WrongType has_wrong_type) ss) wrong in
     let (o, os) = or_none (key_fault_in profile OutOfRange (is_out_of_range bits) s)
     (first_some (key_fault_in profile OutOfRange (is_out_of_range bits)) ss) out in (
       record {
+        known = known.0;
         present = find-none-each (is_missing churns s) (keys_at profile s.at)
             (mapped_none (λ (e : Entry). MissingKey s.at e.0) (find (is_missing churns s) (keys_at profile s.at)) m);
         typed = find-none-each (has_wrong_type s) (keys_at profile s.at)
@@ -64,19 +77,21 @@ sound_each profile bits churns (s ∷ ss) missing wrong out =
         fitting = find-none-each (is_out_of_range bits s) (keys_at profile s.at)
             (mapped_none (λ (e : Entry). OutOfRange s.at e.0) (find (is_out_of_range bits s) (keys_at profile s.at)) o);
       },
-      sound_each profile bits churns ss ms ws os,
+      sound_each profile bits churns ss known.1 ms ws os,
     )
 
 -- no question of keys has an answer, so each table is sound
 pub sound_sections : (profile bits : ℕ) (ss : List Section) → first_answer (key_questions profile bits ss) ≡ None
     → AllByRecursion (IsSound profile bits (list_any is_churn_section ss)) ss
-unfolding missing_key wrong_type out_of_range
+unfolding unknown_key missing_key wrong_type out_of_range
 sound_sections profile bits ss h =
-    let known = (or_none (unknown_key profile ss) _ h).1 in
+    let (listed, known) = or_none (unknown_key profile ss)
+    (option_or (missing_key profile ss) (option_or (wrong_type profile ss) (option_or (out_of_range profile bits ss) None))) h in
     let (missing, rest) = or_none (missing_key profile ss) (option_or (wrong_type profile ss) (option_or (out_of_range profile bits ss) None)) known in
     let (wrong, last) = or_none (wrong_type profile ss) (option_or (out_of_range profile bits ss) None) rest in
     let (out, end) = or_none (out_of_range profile bits ss) None last in
-    sound_each profile bits (list_any is_churn_section ss) ss missing wrong out
+    let each = known_each profile ss (mapped_none (λ (s : Section). UnknownKey s.at) (find (λ s. has_unlisted profile s.at s.members) ss) listed) in
+    sound_each profile bits (list_any is_churn_section ss) ss each missing wrong out
 
 pub all-append : {A : Type 0} (P : A → Type 0) (xs ys : List A) → AllByRecursion P (xs ++ ys) → AllByRecursion P xs × AllByRecursion P ys
 all-append P [] ys h = (tt, h)

@@ -21,6 +21,7 @@ use Rattle.std.proofs.Common.{
   length,
   filter,
   nat_le,
+  ◌==◌,
   Option,
   Some,
   None,
@@ -54,61 +55,80 @@ use Rattle.chord_scenario.specs.Settings.{number_or, is_node, is_command, node_o
 use Rattle.chord_scenario.specs.Accepted.{setup_with}
 use Rattle.chord_scenario.specs.Range.{IsSpan, IsChurn, IsInterval, NumbersInRange}
 use Rattle.chord_scenario.proofs.SoundSections.{IsSound, Fits, HoldsInFile}
-use Rattle.chord_scenario.proofs.Entries.{required_fits, required_agrees, optional_fits, has_typed, not_out}
+use Rattle.chord_scenario.proofs.Entries.{in_each, required_fits, required_agrees, optional_fits, unlisted_default, has_typed, not_out}
 
 -- a number of microseconds that is at least 1
 interval : {n : ℕ} → Fits 1 1000000000 n → IsInterval n
 interval f = record { least = f.low; greatest = f.high }
 
 module _ (profile bits : ℕ) (churns : Bool) (top : Members) (s : IsSound profile bits churns (record { at = place.Top; members = top })) where
-  pub profile_fits : Fits 1 1 (number_at key.Profile top)
-  profile_fits = required_fits s key.Profile 1 1 refl
+  pub profile_fits : Fits 1 2 (number_at key.Profile top)
+  profile_fits = required_fits s key.Profile 1 2 (in_each profile refl refl)
 
-  pub bits_fit : Fits 3 64 (number_at key.Bits top)
-  bits_fit = required_fits s key.Bits 3 64 refl
+  pub bits_fit : Fits 3 128 (number_at key.Bits top)
+  bits_fit =
+      elim (cases_Bool (profile == 2)) [
+        | inl is_second ↦ required_fits s key.Bits 3 128 (rw is_second refl)
+        | inr is_other ↦ let fits = required_fits s key.Bits 3 64 (rw is_other refl) in record { low = fits.low; high = omega (arith, fits.high) }
+      ]
 
   list_fits : Fits 1 16 (number_at key.List top)
-  list_fits = required_fits s key.List 1 16 refl
+  list_fits = required_fits s key.List 1 16 (in_each profile refl refl)
 
   duration_fits : Fits 1 1000000000000 (number_at key.DurationUs top)
-  duration_fits = required_fits s key.DurationUs 1 1000000000000 refl
+  duration_fits = required_fits s key.DurationUs 1 1000000000000 (in_each profile refl refl)
 
   audits_fit : number_at key.DurationUs top ≤ 1000000 * number_at key.AuditUs top
-  audits_fit = leb-true _ _ (required_agrees s key.AuditUs 1 1000000000 refl)
+  audits_fit = leb-true _ _ (required_agrees s key.AuditUs 1 1000000000 (in_each profile refl refl))
 
   jitter_fits : Fits 0 1000000000 (number_or 0 key.JitterUs top)
-  jitter_fits = optional_fits s key.JitterUs 0 1000000000 0 refl (record { low = omega arith; high = omega arith })
+  jitter_fits = optional_fits s key.JitterUs 0 1000000000 0 (in_each profile refl refl) (record { low = omega arith; high = omega arith })
 
   max_events_fits : Fits 1 50000000 (number_or 50000000 key.MaxEvents top)
-  max_events_fits = optional_fits s key.MaxEvents 1 50000000 50000000 refl (record { low = omega arith; high = omega arith })
+  max_events_fits = optional_fits s key.MaxEvents 1 50000000 50000000 (in_each profile refl refl) (record { low = omega arith; high = omega arith })
+
+  -- a number that the second profile alone has is 0 in another
+  loss_fits : number_or 0 key.LossPpm top ≤ 1000000
+  loss_fits =
+      elim (cases_Bool (profile == 2)) [
+        | inl is_second ↦ (optional_fits s key.LossPpm 0 1000000 0 (rw is_second refl) (record { low = omega arith; high = omega arith })).high
+        | inr is_other ↦ omega (arith, unlisted_default s key.LossPpm 0 (rw is_other refl))
+      ]
+
+  spread_fits : number_or 0 key.SpreadUs top ≤ 1000000000
+  spread_fits =
+      elim (cases_Bool (profile == 2)) [
+        | inl is_second ↦ (optional_fits s key.SpreadUs 0 1000000000 0 (rw is_second refl) (record { low = omega arith; high = omega arith })).high
+        | inr is_other ↦ omega (arith, unlisted_default s key.SpreadUs 0 (rw is_other refl))
+      ]
 
   pub numbers_fit : (nodes : List Node) (commands : List Command) (latencies : List ℕ) → NumbersInRange (setup_with top nodes commands latencies)
   numbers_fit nodes commands latencies = record {
     bits_least = bits_fit.low;
-    bits_greatest = omega (arith, bits_fit.high);
+    bits_greatest = bits_fit.high;
     list_least = list_fits.low;
     list_greatest = list_fits.high;
     duration_least = duration_fits.low;
     duration_greatest = duration_fits.high;
-    window = interval (required_fits s key.WindowUs 1 1000000000 refl);
-    latency = interval (required_fits s key.LatencyUs 1 1000000000 refl);
-    timeout = interval (required_fits s key.TimeoutUs 1 1000000000 refl);
-    audit = interval (required_fits s key.AuditUs 1 1000000000 refl);
+    window = interval (required_fits s key.WindowUs 1 1000000000 (in_each profile refl refl));
+    latency = interval (required_fits s key.LatencyUs 1 1000000000 (in_each profile refl refl));
+    timeout = interval (required_fits s key.TimeoutUs 1 1000000000 (in_each profile refl refl));
+    audit = interval (required_fits s key.AuditUs 1 1000000000 (in_each profile refl refl));
     audits = audits_fit;
-    stabilize = interval (required_fits s key.StabilizeUs 1 1000000000 refl);
-    finger = interval (required_fits s key.FingerUs 1 1000000000 refl);
+    stabilize = interval (required_fits s key.StabilizeUs 1 1000000000 (in_each profile refl refl));
+    finger = interval (required_fits s key.FingerUs 1 1000000000 (in_each profile refl refl));
     jitter = jitter_fits.high;
     max_events_least = max_events_fits.low;
     max_events_greatest = max_events_fits.high;
-    loss = omega arith;
-    spread = omega arith;
+    loss = loss_fits;
+    spread = spread_fits;
   }
 
   -- the file has a churn table where a node churns
   pub churn_there : churns ≡ true → IsSome (churn_of top)
   unfolding churn_of has_type
   churn_there some =
-      let (d, is, typed) = has_typed s (record { 0 = key.Churn; 1 = Table; 2 = ForChurn }) refl some in
+      let (d, is, typed) = has_typed s (record { 0 = key.Churn; 1 = Table; 2 = ForChurn }) (in_each profile refl refl) some in
       rw is (mapped _ (as_table d) typed)
     where
       mapped : {A B : Type 0} (f : A → B) (o : Option A) → is_some o ≡ true → is_some (option_map f o) ≡ true
@@ -277,7 +297,15 @@ module _ (test : Place → Bool) where
       )
 
 module _ (profile bits : ℕ) (churns : Bool) (top : Members) (s : IsSound profile bits churns (record { at = place.Top; members = top })) where
-  pub few_nodes : (circle : ℕ) → length (nodes_of circle (sections top)) ≤ 512
+  nodes_fit : length (filter (λ s. is_node s.at) (tables_of Nodes (data_at key.Node top))) ≤ 4096
+  nodes_fit =
+      elim (cases_Bool (profile == 2)) [
+        | inl is_second ↦ chosen-most_of is_node Nodes bits 2 4096 _ (data_at key.Node top) (not_out s (required key.Node (Tables 2 4096)) (rw is_second refl))
+        | inr is_other ↦
+            omega (arith, chosen-most_of is_node Nodes bits 2 512 _ (data_at key.Node top) (not_out s (required key.Node (Tables 2 512)) (rw is_other refl)))
+      ]
+
+  pub few_nodes : (circle : ℕ) → length (nodes_of circle (sections top)) ≤ 4096
   unfolding nodes_of
   few_nodes circle =
       let ss = filter (λ s. is_node s.at) (sections top) in
@@ -285,7 +313,7 @@ module _ (profile bits : ℕ) (churns : Bool) (top : Members) (s : IsSound profi
         arith,
         length-map ss (λ s. node_of circle s.members),
         chosen-sections is_node top refl refl refl,
-        chosen-most_of is_node Nodes bits 2 512 _ (data_at key.Node top) (not_out s (required key.Node (Tables 2 512)) refl),
+        nodes_fit,
         chosen-none_of is_node Commands (λ n. refl) (data_at key.Command top),
       )
 
@@ -298,5 +326,5 @@ module _ (profile bits : ℕ) (churns : Bool) (top : Members) (s : IsSound profi
         length-map ss (λ s. command_of circle nodes s.members),
         chosen-sections is_command top refl refl refl,
         chosen-none_of is_command Nodes (λ n. refl) (data_at key.Node top),
-        chosen-most_of is_command Commands bits 0 100000 _ (data_at key.Command top) (not_out s (optional key.Command (Tables 0 100000)) refl),
+        chosen-most_of is_command Commands bits 0 100000 _ (data_at key.Command top) (not_out s (optional key.Command (Tables 0 100000)) (in_each profile refl refl)),
       )

@@ -1,5 +1,5 @@
 -- The tables of a scenario file: the keys of each in order, what each may hold and when it has to be there.
-use Rattle.std.specs.Prelude.{ℕ, List, [], ◌∷◌, codes}
+use Rattle.std.specs.Prelude.{ℕ, List, [], ◌∷◌, ◌++◌, ◌==◌, codes, if◌then◌else◌}
 use Rattle.chord_scenario.specs.declared.key.Place.{Place}
 use Rattle.chord_scenario.specs.declared.key.Place.TheVariants as place
 use Rattle.chord_scenario.specs.declared.key.FileKey.{FileKey}
@@ -24,6 +24,8 @@ key_name key.StabilizeUs = codes "stabilize_us"
 key_name key.FingerUs = codes "finger_us"
 key_name key.JitterUs = codes "jitter_us"
 key_name key.MaxEvents = codes "max_events"
+key_name key.LossPpm = codes "loss_ppm"
+key_name key.SpreadUs = codes "spread_us"
 key_name key.Churn = codes "churn"
 key_name key.Lookups = codes "lookups"
 key_name key.Node = codes "node"
@@ -52,10 +54,11 @@ optional k form = record { 0 = k; 1 = form; 2 = Optional }
 abbrev pub interval : Form
 interval = Whole 1 1000000000
 
-abbrev pub top_keys : List Entry
-top_keys =
-    required key.Profile (Whole 1 1)
-    ∷ required key.Bits (Whole 3 64)
+-- the keys at top, where circles have at most so many bits, files at most so many nodes, and these keys of the profile's own
+abbrev pub top_keys_of : (most_bits most_nodes : ℕ) → (own : List Entry) → List Entry
+top_keys_of most_bits most_nodes own =
+    required key.Profile (Whole 1 2)
+    ∷ required key.Bits (Whole 3 most_bits)
     ∷ required key.List (Whole 1 16)
     ∷ required key.Seed (Whole 0 9223372036854775807)
     ∷ required key.DurationUs (Whole 1 1000000000000)
@@ -67,11 +70,19 @@ top_keys =
     ∷ required key.FingerUs interval
     ∷ optional key.JitterUs (Whole 0 1000000000)
     ∷ optional key.MaxEvents (Whole 1 50000000)
-    ∷ record { 0 = key.Churn; 1 = Table; 2 = ForChurn }
+    ∷ own
+    ++ record { 0 = key.Churn; 1 = Table; 2 = ForChurn }
     ∷ optional key.Lookups Table
-    ∷ required key.Node (Tables 2 512)
+    ∷ required key.Node (Tables 2 most_nodes)
     ∷ optional key.Command (Tables 0 100000)
     ∷ []
+
+-- the keys that the second profile adds
+abbrev pub network_keys : List Entry
+network_keys = optional key.LossPpm (Whole 0 1000000) ∷ optional key.SpreadUs (Whole 0 1000000000) ∷ []
+
+abbrev pub top_keys : (profile : ℕ) → List Entry
+top_keys profile = if profile == 2 then top_keys_of 128 4096 network_keys else top_keys_of 64 512 []
 
 abbrev pub churn_keys : List Entry
 churn_keys =
@@ -84,28 +95,32 @@ churn_keys =
 abbrev pub lookups_keys : List Entry
 lookups_keys = required key.GapMinUs interval ∷ required key.GapMaxUs interval ∷ []
 
-abbrev pub node_keys : List Entry
-node_keys =
+-- the most digits that an identifier is written in
+abbrev pub most_digits : (profile : ℕ) → ℕ
+most_digits profile = if profile == 2 then 32 else 16
+
+abbrev pub node_keys : (profile : ℕ) → List Entry
+node_keys profile =
     required key.Name Text
-    ∷ optional key.Id (Identifier 16)
+    ∷ optional key.Id (Identifier (most_digits profile))
     ∷ optional key.Initial Boolean
     ∷ optional key.Churn Boolean
     ∷ []
 
-abbrev pub command_keys : List Entry
-command_keys =
+abbrev pub command_keys : (profile : ℕ) → List Entry
+command_keys profile =
     required key.AtUs (Whole 0 1000000000000)
     ∷ required key.Do Operation
     ∷ required key.Node Text
     ∷ record { 0 = key.Via; 1 = Text; 2 = ForJoin }
-    ∷ record { 0 = key.Key; 1 = Identifier 16; 2 = ForLookup }
+    ∷ record { 0 = key.Key; 1 = Identifier (most_digits profile); 2 = ForLookup }
     ∷ []
 
--- the keys of the table at a place, which are the same for every profile so far
+-- the keys of the table at a place
 abbrev pub keys_at : (profile : ℕ) → Place → List Entry
-keys_at profile place.Top = top_keys
+keys_at profile place.Top = top_keys profile
 keys_at profile place.Churn = churn_keys
 keys_at profile place.Lookups = lookups_keys
-keys_at profile (place.Node n) = node_keys
-keys_at profile (place.Command n) = command_keys
+keys_at profile (place.Node n) = node_keys profile
+keys_at profile (place.Command n) = command_keys profile
 keys_at profile (place.Row n) = []

@@ -47,6 +47,8 @@ pub enum FileKey {
     FingerUs,
     JitterUs,
     MaxEvents,
+    LossPpm,
+    SpreadUs,
     Churn,
     Lookups,
     Node,
@@ -85,6 +87,8 @@ impl FileKey {
             FileKey::FingerUs => "finger_us",
             FileKey::JitterUs => "jitter_us",
             FileKey::MaxEvents => "max_events",
+            FileKey::LossPpm => "loss_ppm",
+            FileKey::SpreadUs => "spread_us",
             FileKey::Churn => "churn",
             FileKey::Lookups => "lookups",
             FileKey::Node => "node",
@@ -171,44 +175,86 @@ pub(crate) struct Entry(pub FileKey, pub Form, pub Presence);
 /// A number of microseconds that is at least 1.
 const INTERVAL: Form = Form::Whole(1, 1_000_000_000);
 
+const PROFILE: Entry = Entry(FileKey::Profile, Form::Whole(1, 2), Presence::Required);
+
+const BITS: Entry = Entry(FileKey::Bits, Form::Whole(3, 64), Presence::Required);
+
+const WIDE_BITS: Entry = Entry(FileKey::Bits, Form::Whole(3, 128), Presence::Required);
+
+const LIST: Entry = Entry(FileKey::List, Form::Whole(1, 16), Presence::Required);
+
+const SEED: Entry = Entry(
+    FileKey::Seed,
+    Form::Whole(0, 9_223_372_036_854_775_807),
+    Presence::Required,
+);
+
+const DURATION: Entry = Entry(
+    FileKey::DurationUs,
+    Form::Whole(1, 1_000_000_000_000),
+    Presence::Required,
+);
+
+const WINDOW: Entry = Entry(FileKey::WindowUs, INTERVAL, Presence::Required);
+
+const LATENCY: Entry = Entry(FileKey::LatencyUs, INTERVAL, Presence::Required);
+
+const TIMEOUT: Entry = Entry(FileKey::TimeoutUs, INTERVAL, Presence::Required);
+
+const AUDIT: Entry = Entry(FileKey::AuditUs, INTERVAL, Presence::Required);
+
+const STABILIZE: Entry = Entry(FileKey::StabilizeUs, INTERVAL, Presence::Required);
+
+const FINGER: Entry = Entry(FileKey::FingerUs, INTERVAL, Presence::Required);
+
+const JITTER: Entry = Entry(
+    FileKey::JitterUs,
+    Form::Whole(0, 1_000_000_000),
+    Presence::Optional,
+);
+
+const MAX_EVENTS: Entry = Entry(
+    FileKey::MaxEvents,
+    Form::Whole(1, 50_000_000),
+    Presence::Optional,
+);
+
+const LOSS: Entry = Entry(
+    FileKey::LossPpm,
+    Form::Whole(0, 1_000_000),
+    Presence::Optional,
+);
+
+const SPREAD: Entry = Entry(
+    FileKey::SpreadUs,
+    Form::Whole(0, 1_000_000_000),
+    Presence::Optional,
+);
+
+const CHURN: Entry = Entry(FileKey::Churn, Form::Table, Presence::ForChurn);
+
+const LOOKUPS: Entry = Entry(FileKey::Lookups, Form::Table, Presence::Optional);
+
+const NODES: Entry = Entry(FileKey::Node, Form::Tables(2, 512), Presence::Required);
+
+const MANY_NODES: Entry = Entry(FileKey::Node, Form::Tables(2, 4096), Presence::Required);
+
+const COMMANDS: Entry = Entry(
+    FileKey::Command,
+    Form::Tables(0, 100_000),
+    Presence::Optional,
+);
+
+/// The keys at top in the first profile.
 static TOP_KEYS: [Entry; 17] = [
-    Entry(FileKey::Profile, Form::Whole(1, 1), Presence::Required),
-    Entry(FileKey::Bits, Form::Whole(3, 64), Presence::Required),
-    Entry(FileKey::List, Form::Whole(1, 16), Presence::Required),
-    Entry(
-        FileKey::Seed,
-        Form::Whole(0, 9_223_372_036_854_775_807),
-        Presence::Required,
-    ),
-    Entry(
-        FileKey::DurationUs,
-        Form::Whole(1, 1_000_000_000_000),
-        Presence::Required,
-    ),
-    Entry(FileKey::WindowUs, INTERVAL, Presence::Required),
-    Entry(FileKey::LatencyUs, INTERVAL, Presence::Required),
-    Entry(FileKey::TimeoutUs, INTERVAL, Presence::Required),
-    Entry(FileKey::AuditUs, INTERVAL, Presence::Required),
-    Entry(FileKey::StabilizeUs, INTERVAL, Presence::Required),
-    Entry(FileKey::FingerUs, INTERVAL, Presence::Required),
-    Entry(
-        FileKey::JitterUs,
-        Form::Whole(0, 1_000_000_000),
-        Presence::Optional,
-    ),
-    Entry(
-        FileKey::MaxEvents,
-        Form::Whole(1, 50_000_000),
-        Presence::Optional,
-    ),
-    Entry(FileKey::Churn, Form::Table, Presence::ForChurn),
-    Entry(FileKey::Lookups, Form::Table, Presence::Optional),
-    Entry(FileKey::Node, Form::Tables(2, 512), Presence::Required),
-    Entry(
-        FileKey::Command,
-        Form::Tables(0, 100_000),
-        Presence::Optional,
-    ),
+    PROFILE, BITS, LIST, SEED, DURATION, WINDOW, LATENCY, TIMEOUT, AUDIT, STABILIZE, FINGER,
+    JITTER, MAX_EVENTS, CHURN, LOOKUPS, NODES, COMMANDS,
+];
+
+/// The keys at top in the second profile.
+static NETWORK_TOP_KEYS: [Entry; 19] = [
+    PROFILE, WIDE_BITS, LIST, SEED, DURATION, WINDOW, LATENCY, TIMEOUT, AUDIT, STABILIZE, FINGER,
+    JITTER, MAX_EVENTS, LOSS, SPREAD, CHURN, LOOKUPS, MANY_NODES, COMMANDS,
 ];
 
 static CHURN_KEYS: [Entry; 4] = [
@@ -223,34 +269,63 @@ static LOOKUPS_KEYS: [Entry; 2] = [
     Entry(FileKey::GapMaxUs, INTERVAL, Presence::Required),
 ];
 
-static NODE_KEYS: [Entry; 4] = [
-    Entry(FileKey::Name, Form::Text, Presence::Required),
-    Entry(FileKey::Id, Form::Identifier(16), Presence::Optional),
-    Entry(FileKey::Initial, Form::Boolean, Presence::Optional),
-    Entry(FileKey::Churn, Form::Boolean, Presence::Optional),
-];
+/// An identifier of the first profile.
+const IDENTIFIER: Form = Form::Identifier(16);
 
-static COMMAND_KEYS: [Entry; 5] = [
-    Entry(
-        FileKey::AtUs,
-        Form::Whole(0, 1_000_000_000_000),
-        Presence::Required,
-    ),
-    Entry(FileKey::Do, Form::Operation, Presence::Required),
-    Entry(FileKey::Node, Form::Text, Presence::Required),
-    Entry(FileKey::Via, Form::Text, Presence::ForJoin),
-    Entry(FileKey::Key, Form::Identifier(16), Presence::ForLookup),
-];
+/// An identifier of the second profile.
+const LONG_IDENTIFIER: Form = Form::Identifier(32);
 
-/// The keys of the table at a place, in order.
-pub(crate) fn keys_at(_profile: u64, place: Place) -> &'static [Entry]
-    ensures { result.now ≡ keys_at _profile place }
+const NAME: Entry = Entry(FileKey::Name, Form::Text, Presence::Required);
+
+const ID: Entry = Entry(FileKey::Id, IDENTIFIER, Presence::Optional);
+
+const LONG_ID: Entry = Entry(FileKey::Id, LONG_IDENTIFIER, Presence::Optional);
+
+const INITIAL: Entry = Entry(FileKey::Initial, Form::Boolean, Presence::Optional);
+
+const CHURNS: Entry = Entry(FileKey::Churn, Form::Boolean, Presence::Optional);
+
+/// The keys of a node in the first profile.
+static NODE_KEYS: [Entry; 4] = [NAME, ID, INITIAL, CHURNS];
+
+/// The keys of a node in the second profile.
+static LONG_NODE_KEYS: [Entry; 4] = [NAME, LONG_ID, INITIAL, CHURNS];
+
+const AT: Entry = Entry(
+    FileKey::AtUs,
+    Form::Whole(0, 1_000_000_000_000),
+    Presence::Required,
+);
+
+const DO: Entry = Entry(FileKey::Do, Form::Operation, Presence::Required);
+
+const NODE: Entry = Entry(FileKey::Node, Form::Text, Presence::Required);
+
+const VIA: Entry = Entry(FileKey::Via, Form::Text, Presence::ForJoin);
+
+const KEY: Entry = Entry(FileKey::Key, IDENTIFIER, Presence::ForLookup);
+
+const LONG_KEY: Entry = Entry(FileKey::Key, LONG_IDENTIFIER, Presence::ForLookup);
+
+/// The keys of a command in the first profile.
+static COMMAND_KEYS: [Entry; 5] = [AT, DO, NODE, VIA, KEY];
+
+/// The keys of a command in the second profile.
+static LONG_COMMAND_KEYS: [Entry; 5] = [AT, DO, NODE, VIA, LONG_KEY];
+
+/// The keys of the table at a place, in order. A profile that is not the second is taken for the
+/// first.
+pub(crate) fn keys_at(profile: u64, place: Place) -> &'static [Entry]
+    ensures { result.now ≡ keys_at profile place }
 {
     match place {
+        Place::Top if profile == 2 => &NETWORK_TOP_KEYS,
         Place::Top => &TOP_KEYS,
         Place::Churn => &CHURN_KEYS,
         Place::Lookups => &LOOKUPS_KEYS,
+        Place::Node(_) if profile == 2 => &LONG_NODE_KEYS,
         Place::Node(_) => &NODE_KEYS,
+        Place::Command(_) if profile == 2 => &LONG_COMMAND_KEYS,
         Place::Command(_) => &COMMAND_KEYS,
         Place::Row(_) => &[],
     }

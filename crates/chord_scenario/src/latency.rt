@@ -56,7 +56,7 @@ pub(crate) fn cell_of(n: usize, i: usize, j: usize) -> usize
 
 /// The square of latencies that rows give, or the first row that names the pair of an earlier one.
 pub(crate) fn latencies(alloc: Global, rows: &Rows<'_>) -> Result<Vec<u32>, ScenarioFault>
-    requires few { length rows.now.names.nodes.now ≤ 512 }
+    requires few { length rows.now.names.nodes.now ≤ 4096 }
     requires known { row_fault UnknownNode (row_names_unknown rows.now.names.nodes.now) (rows_of rows.now.text.now) ≡ None }
     requires good { bad_latency_row (rows_of rows.now.text.now) ≡ None }
     ensures once { IfOk result (λ _. same_link_twice (rows_of rows.now.text.now) ≡ None) }

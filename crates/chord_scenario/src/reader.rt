@@ -104,7 +104,7 @@ fn link_nodes(
     nodes: &[Node],
     csv: &[u8],
 ) -> Result<Linked, ScenarioFault>
-    requires few { length nodes.now ≤ 512 }
+    requires few { length nodes.now ≤ 4096 }
     requires distinct { same_name nodes.now ≡ None }
     ensures sound { IfOk result (λ _. first_answer (late_questions (table_view top.now) (map section_of tables.now) nodes.now (rows_of csv.now)) ≡ None) }
     ensures good { IfOk result (λ _. bad_latency_row (rows_of csv.now) ≡ None) }
@@ -138,7 +138,7 @@ fn link_nodes(
 /// The circle of a file without faults of keys.
 fn circle_of(top: &Table) -> Circle
     requires least { 3 ≤ number_at key.Bits (table_view top.now) }
-    requires greatest { number_at key.Bits (table_view top.now) ≤ 64 }
+    requires greatest { number_at key.Bits (table_view top.now) ≤ 128 }
     ensures { result ≡ number_at key.Bits (table_view top.now) }
 {
     match Circle::new(small_number_at(top, FileKey::Bits)) {
@@ -172,7 +172,7 @@ fn scenario_of(alloc: Global, top: &Table, csv: &[u8]) -> Result<Scenario, Scena
 /// The scenario of a table, its nodes, and what links them.
 fn assembled(circle: Circle, top: &Table, nodes: Vec<Node>, linked: Linked) -> Scenario
     requires circle { circle ≡ number_at key.Bits (table_view top.now) }
-    requires profile { number_at key.Profile (table_view top.now) ≤ 1 }
+    requires profile { number_at key.Profile (table_view top.now) ≤ 2 }
     requires in_range { IsInRange (setup_with (table_view top.now) nodes.items linked.commands.items linked.cells.items) }
     ensures { result ≡ setup_with (table_view top.now) nodes.items linked.commands.items linked.cells.items }
 {
@@ -190,8 +190,8 @@ fn assembled(circle: Circle, top: &Table, nodes: Vec<Node>, linked: Linked) -> S
         finger: number_at(top, FileKey::FingerUs),
         jitter: number_or(top, FileKey::JitterUs, 0),
         max_events: number_or(top, FileKey::MaxEvents, 50_000_000),
-        loss: 0,
-        spread: 0,
+        loss: number_or(top, FileKey::LossPpm, 0),
+        spread: number_or(top, FileKey::SpreadUs, 0),
         churn: churn_of(top),
         lookups: lookups_of(top),
         nodes,
