@@ -8,6 +8,7 @@ pub mod Records
 pub mod Links
 pub mod Indexes
 pub mod LatencyLemmas
+pub mod NoRows
 pub mod RowScans
 pub mod DistinctNames
 pub mod NearnessLemmas

@@ -1,5 +1,7 @@
 -- What the fields of a scenario say.
+use Rattle.std.specs.Prelude.{length}
 use Rattle.chord_scenario.specs.declared.scenario.Scenario.TheInside.{Inside}
+use Rattle.chord_scenario.specs.Latencies.{square_or_zeros}
 use Rattle.chord_scenario.specs.Setup.{Setup}
 
 abbrev pub setup_of : Inside → Setup
@@ -23,5 +25,5 @@ setup_of s = record {
   lookups = s.lookups;
   nodes = s.nodes.items;
   commands = s.commands.items;
-  latencies = s.latencies.items;
+  latencies = square_or_zeros (length s.nodes.items) s.latencies.items;
 }

@@ -1,6 +1,6 @@
-ghost use Rattle.std.specs.Prelude.{◌≡◌, ◌⊎◌, ◌+◌, ◌*◌, ◌^◌, false, Some, None, IfOk, IfErr, length, ◌<◌, ◌≤◌};
+ghost use Rattle.std.specs.Prelude.{◌≡◌, ◌⊎◌, ◌+◌, ◌*◌, ◌^◌, false, Some, None, IfOk, IfErr, length, slice_index, ◌<◌, ◌≤◌};
 ghost use Rattle.chord_scenario.specs.Rows.{rows_of};
-ghost use Rattle.chord_scenario.specs.Latencies.{HasLatencies, KeepsEnds, keeps_unknown, keeps_bad_row};
+ghost use Rattle.chord_scenario.specs.Latencies.{HasLatencies, square_or_zeros, KeepsEnds, keeps_unknown, keeps_bad_row};
 ghost use Rattle.chord_scenario.specs.declared.fault.ScenarioFault.TheVariants.{UnknownNode};
 ghost use Rattle.chord_scenario.specs.Search.{row_fault};
 ghost use Rattle.chord_scenario.specs.Faults.{row_names_unknown, bad_latency_row, same_link_twice};
@@ -54,15 +54,32 @@ pub(crate) fn cell_of(n: usize, i: usize, j: usize) -> usize
     i * n + j
 }
 
-/// The square of latencies that rows give, or the first row that names the pair of an earlier one.
+/// What a square for n nodes holds for two of them. No cells stand for a square of zeros.
+pub(crate) fn cell_at(cells: &[u32], n: usize, i: usize, j: usize) -> u32
+    requires row { i < n }
+    requires column { j < n }
+    requires square { length (square_or_zeros n cells.now) ≡ n * n }
+    ensures { result ≡ slice_index (square_or_zeros n cells.now) (i * n + j) }
+{
+    if cells.is_empty() {
+        return 0;
+    }
+    cells[cell_of(n, i, j)]
+}
+
+/// The square of latencies that rows give, without cells where there are no rows, or the first row
+/// that names the pair of an earlier one.
 pub(crate) fn latencies(alloc: Global, rows: &Rows<'_>) -> Result<Vec<u32>, ScenarioFault>
     requires few { length rows.now.names.nodes.now ≤ 4096 }
     requires known { row_fault UnknownNode (row_names_unknown rows.now.names.nodes.now) (rows_of rows.now.text.now) ≡ None }
     requires good { bad_latency_row (rows_of rows.now.text.now) ≡ None }
     ensures once { IfOk result (λ _. same_link_twice (rows_of rows.now.text.now) ≡ None) }
-    ensures square { IfOk result (λ v. HasLatencies rows.now.names.nodes.now (rows_of rows.now.text.now) v.items) }
+    ensures square { IfOk result (λ v. HasLatencies rows.now.names.nodes.now (rows_of rows.now.text.now) (square_or_zeros (length rows.now.names.nodes.now) v.items)) }
     ensures refused { IfErr result (λ e. (e ≡ ScenarioFault.Memory) ⊎ (same_link_twice (rows_of rows.now.text.now) ≡ Some e)) }
 {
+    if rows.is_empty() {
+        return Ok(Vec::new(alloc));
+    }
     let n = rows.names.nodes.len();
     let mut cells = vec![in alloc; 0u32; n * n]?;
     for (i, row) in rows.links.iter().enumerate() {

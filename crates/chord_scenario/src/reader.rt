@@ -4,7 +4,7 @@ ghost use Rattle.chord_scenario.specs.Values.{number_at};
 ghost use Rattle.toml.specs.View.{table_view};
 ghost use Rattle.chord_scenario.specs.Rows.{rows_of};
 ghost use Rattle.chord_scenario.specs.Sections.{section_of};
-ghost use Rattle.chord_scenario.specs.Latencies.{HasLatencies};
+ghost use Rattle.chord_scenario.specs.Latencies.{HasLatencies, square_or_zeros};
 ghost use Rattle.chord_scenario.specs.Settings.{commands_of};
 ghost use Rattle.chord_scenario.specs.Faults.{first_answer, same_name, bad_latency_row, file_fault, scenario_fault};
 ghost use Rattle.chord_scenario.specs.Groups.{key_questions, node_questions, link_questions, late_questions};
@@ -88,7 +88,8 @@ fn link_fault(
     self_link(tables, rows)
 }
 
-/// The commands of a scenario, and the square of its latencies.
+/// The commands of a scenario, and the square of its latencies, which has no cells where there are
+/// no rows.
 #[derive(Drop)]
 struct Linked {
     commands: Vec<Command>,
@@ -109,7 +110,7 @@ fn link_nodes(
     ensures sound { IfOk result (λ _. first_answer (late_questions (table_view top.now) (map section_of tables.now) nodes.now (rows_of csv.now)) ≡ None) }
     ensures good { IfOk result (λ _. bad_latency_row (rows_of csv.now) ≡ None) }
     ensures commands { IfOk result (λ l. l.commands.items ≡ commands_of circle nodes.now (map section_of tables.now)) }
-    ensures square { IfOk result (λ l. HasLatencies nodes.now (rows_of csv.now) l.cells.items) }
+    ensures square { IfOk result (λ l. HasLatencies nodes.now (rows_of csv.now) (square_or_zeros (length nodes.now) l.cells.items)) }
     ensures refused { IfErr result (λ e. (e ≡ ScenarioFault.Memory) ⊎ (first_answer (late_questions (table_view top.now) (map section_of tables.now) nodes.now (rows_of csv.now)) ≡ Some e)) }
 {
     let rows = Rows::read(alloc, Names::new(alloc, nodes)?, csv)?;
@@ -173,8 +174,8 @@ fn scenario_of(alloc: Global, top: &Table, csv: &[u8]) -> Result<Scenario, Scena
 fn assembled(circle: Circle, top: &Table, nodes: Vec<Node>, linked: Linked) -> Scenario
     requires circle { circle ≡ number_at key.Bits (table_view top.now) }
     requires profile { number_at key.Profile (table_view top.now) ≤ 2 }
-    requires in_range { IsInRange (setup_with (table_view top.now) nodes.items linked.commands.items linked.cells.items) }
-    ensures { result ≡ setup_with (table_view top.now) nodes.items linked.commands.items linked.cells.items }
+    requires in_range { IsInRange (setup_with (table_view top.now) nodes.items linked.commands.items (square_or_zeros (length nodes.items) linked.cells.items)) }
+    ensures { result ≡ setup_with (table_view top.now) nodes.items linked.commands.items (square_or_zeros (length nodes.items) linked.cells.items) }
 {
     Scenario {
         profile: small_number_at(top, FileKey::Profile),

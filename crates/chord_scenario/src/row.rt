@@ -1,4 +1,4 @@
-ghost use Rattle.std.specs.Prelude.{◌≡◌, true, IfOk, Some, map, option_map};
+ghost use Rattle.std.specs.Prelude.{◌≡◌, ◌==◌, true, IfOk, Some, length, map, option_map};
 ghost use Rattle.csv.specs.Records.{fields_of};
 ghost use Rattle.std.specs.Char.{is_ascii_digit};
 ghost use Rattle.std.specs.List.{list_all};
@@ -69,6 +69,13 @@ impl<'a> Rows<'a> {
     {
         let links = records(alloc, &names, text)?;
         Ok(Rows { names, text, links })
+    }
+
+    /// Whether there are no rows.
+    pub fn is_empty(&self) -> bool
+        ensures { result ≡ (length (rows_of self.now.text.now) == 0) }
+    {
+        self.links.is_empty()
     }
 }
 

@@ -2,6 +2,7 @@ ghost use Rattle.std.specs.Prelude.{◌≡◌, ◌<◌, ◌≤◌, ◌^◌, leng
 ghost use Rattle.chord_scenario.specs.Range.{IsInRange};
 ghost use Rattle.chord_scenario.specs.World.{node_count, name_of, ident_of, is_initial, is_churn_node, latency};
 
+use crate::latency::cell_at;
 use crate::setting::{Churn, Command, Node, Span};
 use chord_circle::{Circle, Ident};
 use std::marker::Model;
@@ -29,7 +30,8 @@ pub struct Scenario {
     pub(crate) lookups: Option<Span>,
     pub(crate) nodes: Vec<Node>,
     pub(crate) commands: Vec<Command>,
-    /// For each node in turn its latency to each node, and 0 where no row names the two.
+    /// For each node in turn its latency to each node, and 0 where no row names the two; without
+    /// cells where there are no rows.
     pub(crate) latencies: Vec<u32>,
 }
 
@@ -251,7 +253,12 @@ impl Scenario {
         if from == to {
             return 1;
         }
-        let given = self.latencies[from as usize * self.nodes.len() + to as usize];
+        let given = cell_at(
+            self.latencies.as_slice(),
+            self.nodes.len(),
+            from as usize,
+            to as usize,
+        );
         if given == 0 {
             self.latency
         } else {

@@ -25,11 +25,12 @@ use Rattle.std.proofs.Common.{
   inr,
   arith,
   false,
+  refl,
 }
 use Rattle.chord_scenario.specs.declared.setting.Node.{Node}
 use Rattle.chord_scenario.specs.declared.latency.Ends.{Ends}
 use Rattle.chord_scenario.specs.declared.row.RowLink.{RowLink}
-use Rattle.std.proofs.lemmas.List.{take_more, length-map, drop_all, get_or-map}
+use Rattle.std.proofs.lemmas.List.{take_more, take_all, length-map, drop_all, get_or-map}
 use Rattle.csv.proofs.ReadFacts.{get-same}
 use Rattle.std.proofs.lemmas.Option.{same_Some, slice_get-get_or}
 use Rattle.chord_scenario.specs.Search.{Repeat, first_repeat}
@@ -41,8 +42,20 @@ use Rattle.chord_scenario.specs.Faults.{row_names_unknown, bad_latency_row, same
 use Rattle.chord_scenario.proofs.FirstRepeat.{first_repeat-found, first_repeat-none}
 use Rattle.chord_scenario.proofs.Kept.{kept_bad, kept_unknown, kept_ends}
 use Rattle.chord_scenario.proofs.LatencyLemmas.{IsEndsOf, index_of-below, latencies-more, unnamed-zero}
+use Rattle.chord_scenario.proofs.NoRows.{no_rows, square-full, zeros_have}
 use Rattle.chord_scenario.proofs.RowScans.{row_fault-none-at, bad_latency_row-none, AreGood-take, earlier-none, earlier-some}
 use Rattle.chord_scenario.proofs.latency.latencies.Goals as goal
+
+pub returns-then-is_empty-clause-once : goal.returns-then-is_empty-clause-once
+unfolding same_link_twice
+returns-then-is_empty-clause-once c =
+    let none = no_rows (rows_of c.args.rows.now.text.now) c.is_empty.result c.is_empty.ensures c.if-is_empty.true in
+    rw none refl
+
+pub returns-then-is_empty-clause-square : goal.returns-then-is_empty-clause-square
+returns-then-is_empty-clause-square c =
+    let none = no_rows (rows_of c.args.rows.now.text.now) c.is_empty.result c.is_empty.ensures c.if-is_empty.true in
+    rw (none, c.new.ensures.items) (zeros_have c.args.rows.now.names.nodes.now)
 
 -- what is kept at a place is of the row there
 record At (nodes : List Node) (rows : List Row) (kept : List (Option RowLink)) (i : ℕ) : Type 0 where
@@ -155,3 +168,13 @@ returns-clause-once c =
     let none : drop c.loop-i.i rows ≡ [] = drop_all c.loop-i.i rows over in
     ap (option_map (λ (r : Repeat Row). SameLinkTwice (place.Row r.second_number)))
     (sym c.loop-i.invariant.first ∙ ap (first_repeat name_one_pair (take c.loop-i.i rows)) none)
+
+pub returns-clause-square : goal.returns-clause-square
+returns-clause-square c =
+    let nodes = c.args.rows.now.names.nodes.now in
+    let rows = rows_of c.args.rows.now.text.now in
+    let kept = c.deref-row-items.ensures.value ∙ c.args.rows.now.kept in
+    let over : length rows ≤ c.loop-i.i = omega (arith, ap length kept, length-map rows (kept_link nodes)) in
+    let all : HasLatencies nodes rows c.loop-i.cells.items =
+    subst (λ l. HasLatencies nodes l c.loop-i.cells.items) (take_all c.loop-i.i rows over) c.loop-i.invariant.has in
+    rw (square-full (length nodes) c.loop-i.cells.items all.size) all

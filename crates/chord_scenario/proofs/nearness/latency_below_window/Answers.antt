@@ -1,10 +1,22 @@
-use Rattle.std.proofs.Common.{◌≡◌, ◌∙◌, sym, ap, nat_lt, option_map, option_copied}
+use Rattle.std.proofs.Common.{◌≡◌, ◌∙◌, sym, ap, nat_lt, Some, option_map, option_copied}
+use Rattle.std.proofs.lemmas.Option.{slice_get-get_or}
 use Rattle.chord_scenario.specs.declared.setting.Node.{Node}
 use Rattle.chord_scenario.specs.declared.fault.ScenarioFault.TheVariants.{LatencyBelowWindow}
 use Rattle.chord_scenario.specs.Rows.{rows_of}
 use Rattle.chord_scenario.specs.Faults.{latency_by_rows, latency_below_window}
 use Rattle.chord_scenario.proofs.NearnessLemmas.{meeting-here}
+use Rattle.chord_scenario.proofs.NoRows.{no_rows, far_by_default}
 use Rattle.chord_scenario.proofs.nearness.latency_below_window.Goals as goal
+
+pub returns-then-window-default : goal.returns-then-window-default
+returns-then-window-default c =
+    let rows = rows_of c.args.rows.now.text.now in
+    let none = no_rows rows c.is_empty.result c.is_empty.ensures c.if-is_empty.true in
+    sym (far_by_default c.args.window c.args.default c.args.nodes.now rows none c.if-window-default.true)
+
+pub near_after-requires-clause-here : goal.near_after-requires-clause-here
+near_after-requires-clause-here c =
+    slice_get-get_or c.args.nodes.now c.loop-i.i c.index-nodes-i.result c.loop-i-test.true ∙ ap Some (sym c.index-nodes-i.is)
 
 pub returns-in-Some : goal.returns-in-Some
 unfolding latency_below_window

@@ -3,6 +3,7 @@ use Rattle.std.proofs.lemmas.Bool.{lt-ltb, le-ltb}
 use Rattle.chord_scenario.specs.declared.setting.Node.{Node}
 use Rattle.chord_scenario.specs.Rows.{rows_of}
 use Rattle.chord_scenario.specs.Faults.{latency_by_rows}
+use Rattle.chord_scenario.specs.Latencies.{square_or_zeros}
 use Rattle.chord_scenario.proofs.NearnessLemmas.{latency_in-between, find-here, find-next, at_place}
 use Rattle.chord_scenario.proofs.nearness.near_after.Goals as goal
 
@@ -11,7 +12,7 @@ returns-then-latency_in-window c =
     let nodes = c.args.nodes.now in
     let y = c.index-nodes-j.result in
     let before : c.args.i < length nodes = omega arith in
-    let same = latency_in-between nodes (rows_of c.args.rows.now.text.now) c.args.cells.now c.args.default c.args.i c.loop-j.j c.args.node.now y
+    let same = latency_in-between nodes (rows_of c.args.rows.now.text.now) (square_or_zeros (length nodes) c.args.cells.now) c.args.default c.args.i c.loop-j.j c.args.node.now y
     c.requires.square c.requires.good c.requires.distinct before c.loop-j-test.true
     (at_place nodes c.args.i c.args.node.now c.requires.here before) c.index-nodes-j.is in
     find-here (λ (z : Node). nat_lt (latency_by_rows c.args.default (rows_of c.args.rows.now.text.now) c.args.node.now z) c.args.window) nodes
@@ -23,7 +24,7 @@ loop-j-preserved c =
     let nodes = c.args.nodes.now in
     let y = c.index-nodes-j.result in
     let before : c.args.i < length nodes = omega arith in
-    let same = latency_in-between nodes (rows_of c.args.rows.now.text.now) c.args.cells.now c.args.default c.args.i c.loop-j.j c.args.node.now y
+    let same = latency_in-between nodes (rows_of c.args.rows.now.text.now) (square_or_zeros (length nodes) c.args.cells.now) c.args.default c.args.i c.loop-j.j c.args.node.now y
     c.requires.square c.requires.good c.requires.distinct before c.loop-j-test.true
     (at_place nodes c.args.i c.args.node.now c.requires.here before) c.index-nodes-j.is in
     find-next (λ (z : Node). nat_lt (latency_by_rows c.args.default (rows_of c.args.rows.now.text.now) c.args.node.now z) c.args.window) nodes

@@ -1,4 +1,4 @@
-use Rattle.std.proofs.Common.{◌≡◌, ◌∙◌, ◌<◌, ◌^◌, List, sym, ap, subst, ℕ, map, None}
+use Rattle.std.proofs.Common.{◌≡◌, ◌∙◌, ◌<◌, ◌^◌, List, sym, ap, subst, ℕ, map, length, None}
 use Rattle.std.specs.List.{All}
 use Rattle.chord_scenario.specs.Rows.{rows_of}
 use Rattle.toml.specs.Data.{Members}
@@ -9,7 +9,7 @@ use Rattle.chord_scenario.specs.declared.setting.Node.{Node}
 use Rattle.chord_scenario.specs.Accepted.{setup_with, nodes_in, commands_in}
 use Rattle.chord_scenario.specs.Faults.{first_answer}
 use Rattle.chord_scenario.specs.Groups.{key_questions, node_questions, late_questions}
-use Rattle.chord_scenario.specs.Latencies.{HasLatencies}
+use Rattle.chord_scenario.specs.Latencies.{HasLatencies, square_or_zeros}
 use Rattle.chord_scenario.specs.Rows.{Row}
 use Rattle.chord_scenario.specs.Sections.{Section, section_of, sections}
 use Rattle.chord_scenario.specs.Settings.{nodes_of, commands_of}
@@ -90,8 +90,8 @@ assembled-requires-clause-in_range c =
     let late = late_sound top (map section_of c.as_slice-5.result.now) c.as_slice-6.result.now rows last lent linked.sound in
     let commands = own_commands top c.circle_of-circle.result (map section_of c.as_slice-5.result.now) c.as_slice-6.result.now
     c.in_ok-linked.linked.commands.items c.circle_of-circle.ensures last lent linked.commands in
-    let cells = c.in_ok-linked.linked.cells.items in
-    let square = subst (λ n. HasLatencies n rows cells) lent linked.square in
+    let cells = square_or_zeros (length (nodes_in top)) c.in_ok-linked.linked.cells.items in
+    let square = subst (λ n. HasLatencies n rows (square_or_zeros (length n) c.in_ok-linked.linked.cells.items)) lent linked.square in
     let on_circle : All (λ n. n.ident < 2 ^ number_at key.Bits top) (nodes_in top) = rw (← own, ← c.circle_of-circle.ensures) c.in_ok-nodes.ensures.on_circle in
     rw (own, commands) (in_range c.number_at-profile.result top rows cells keys asked late square on_circle)
 
@@ -109,8 +109,8 @@ returns-clause-values c =
     let lent = c.as_slice-6.ensures.value ∙ own in
     let commands = own_commands top c.circle_of-circle.result (map section_of c.as_slice-5.result.now) c.as_slice-6.result.now
     c.in_ok-linked.linked.commands.items c.circle_of-circle.ensures last lent linked.commands in
-    let cells = c.in_ok-linked.linked.cells.items in
-    let square = subst (λ n. HasLatencies n rows cells) lent linked.square in
+    let cells = square_or_zeros (length (nodes_in top)) c.in_ok-linked.linked.cells.items in
+    let square = subst (λ n. HasLatencies n rows (square_or_zeros (length n) c.in_ok-linked.linked.cells.items)) lent linked.square in
     let distinct = node_questions-distinct (sections top) (nodes_in top) asked in
     let sc = setup_with top (nodes_in top) (commands_in top) cells in
     let is : c.assembled.result ≡ sc = c.assembled.ensures ∙ rw (own, commands) in
