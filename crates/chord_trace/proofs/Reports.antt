@@ -1,11 +1,11 @@
 -- The report of a trace does not depend on the order of its pieces.
-use Rattle.std.proofs.Common.{◌≡◌, ◌∙◌, ℕ, ◌+◌, ◌-◌, Bool, List, cond, nat_le, nat_lt, arith, count_by, length}
+use Rattle.std.proofs.Common.{◌≡◌, ◌∙◌, ℕ, ◌+◌, ◌-◌, ◌==◌, Bool, List, Some, None, if◌then◌else◌, cond, nat_le, nat_lt, arith, count_by, length}
 use Rattle.std.specs.List.Sorted.{IsPermutation}
 use Rattle.chord_audit.specs.declared.audit_line.AuditLine.{AuditLine}
 use Rattle.chord_event.specs.declared.line.Line.{Line}
 use Rattle.chord_trace.specs.AuditCounts.{audit_counts_in}
 use Rattle.chord_trace.specs.Counts.{counts_in}
-use Rattle.chord_trace.specs.Kinds.{is_lookup, is_found, is_lost}
+use Rattle.chord_trace.specs.Kinds.{is_lookup, is_found, is_lost, is_loss}
 use Rattle.chord_trace.specs.Numbers.{IsMedian, hops_of, times_of}
 use Rattle.chord_trace.specs.Pieces.{lines_of, audits_of}
 use Rattle.chord_trace.specs.Report.{IsReportOf, report_with, found_lookups}
@@ -24,8 +24,9 @@ same_median ns ms m len below up_to is = record {
 }
 
 -- all numbers but the median are those of the other order
-numbers : (pieces others : List Piece) (median : ℕ) → IsPermutation pieces others → report_with pieces median ≡ report_with others median
-numbers pieces others median moved =
+numbers : (profile : ℕ) (pieces others : List Piece) (median : ℕ) → IsPermutation pieces others
+    → report_with profile pieces median ≡ report_with profile others median
+numbers profile pieces others median moved =
     let lines : (p : Line → Bool) → count_by p (lines_of pieces) ≡ count_by p (lines_of others)
     = λ p. same_number _ (lines_by-add p) pieces others moved in
     let faults : (p : AuditLine → Bool) → count_by p (audits_of pieces) ≡ count_by p (audits_of others)
@@ -47,13 +48,15 @@ numbers pieces others median moved =
       us_median = median;
       us_greatest = same_greatest (times_of (found_lookups pieces)) (times_of (found_lookups others)) (λ k. times (λ n. cond (nat_lt k n) 1 0)) i;
       audits = audit_counts i;
+      losses = if profile == 2 then Some (lines is_loss i) else None;
     }
 
-pub reordered : (pieces others : List Piece) (report : Report) → IsPermutation pieces others → IsReportOf pieces report → IsReportOf others report
-reordered pieces others report moved is =
+pub reordered : (profile : ℕ) (pieces others : List Piece) (report : Report) → IsPermutation pieces others → IsReportOf profile pieces report
+    → IsReportOf profile others report
+reordered profile pieces others report moved is =
     let times = λ (f : ℕ → ℕ). same_number _ (times_by-add f) pieces others moved in
     record {
-      numbers = is.numbers ∙ numbers pieces others report.us_median moved;
+      numbers = is.numbers ∙ numbers profile pieces others report.us_median moved;
       us_median = same_median (times_of (found_lookups pieces)) (times_of (found_lookups others)) report.us_median (same_number _ times-add pieces others moved)
           (times (λ n. cond (nat_lt n report.us_median) 1 0)) (times (λ n. cond (nat_le n report.us_median) 1 0)) is.us_median;
     }

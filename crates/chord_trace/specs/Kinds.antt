@@ -31,6 +31,10 @@ abbrev pub is_timeout : Line → Bool
 is_timeout (line.Timeout silent) = true
 is_timeout _ = false
 
+abbrev pub is_loss : Line → Bool
+is_loss (line.Lose kind receiver) = true
+is_loss _ = false
+
 abbrev pub is_lookup : Line → Bool
 is_lookup (line.Lookup key) = true
 is_lookup _ = false

@@ -1,10 +1,11 @@
 -- The report of a trace.
-use Rattle.std.specs.Prelude.{◌≡◌, ℕ, ◌+◌, ◌-◌, List, count_by, length, sum}
+use Rattle.std.specs.Prelude.{◌≡◌, ℕ, ◌+◌, ◌-◌, ◌==◌, List, Option, Some, None, count_by, length, sum, if◌then◌else◌}
 use Rattle.std.specs.List.{filter_map}
+use Rattle.chord_event.specs.declared.line.Line.{Line}
 use Rattle.chord_trace.specs.AuditCounts.{audit_counts_in}
 use Rattle.chord_trace.specs.Counts.{counts_in}
 use Rattle.chord_trace.specs.Numbers.{IsMedian, greatest, least, hops_of, times_of}
-use Rattle.chord_trace.specs.Kinds.{is_lookup, is_found, is_lost, found_in}
+use Rattle.chord_trace.specs.Kinds.{is_lookup, is_found, is_lost, is_loss, found_in}
 use Rattle.chord_trace.specs.Pieces.{blocks_of, lines_of, audits_of}
 use Rattle.chord_trace.specs.declared.piece.Piece.{Piece}
 use Rattle.chord_trace.specs.declared.report.Report.{Report}
@@ -13,9 +14,13 @@ use Rattle.chord_trace.specs.declared.report.Report.{Report}
 abbrev pub found_lookups : List Piece → List (ℕ × ℕ)
 found_lookups pieces = filter_map found_in (lines_of pieces)
 
--- the report of the trace of these pieces, if its median is this
-abbrev pub report_with : List Piece → (median : ℕ) → Report
-report_with pieces median = record {
+-- how many messages were lost, which the second profile alone has
+abbrev pub losses_in : (profile : ℕ) → List Line → Option ℕ
+losses_in profile lines = if profile == 2 then Some (count_by is_loss lines) else None
+
+-- the report of the trace of these pieces in a profile, if its median is this
+abbrev pub report_with : (profile : ℕ) → List Piece → (median : ℕ) → Report
+report_with profile pieces median = record {
   events = length (blocks_of pieces);
   lines = counts_in (lines_of pieces);
   -- the lookups without an end, or 0 where there are more ends than lookups
@@ -27,9 +32,10 @@ report_with pieces median = record {
   us_median = median;
   us_greatest = greatest (times_of (found_lookups pieces));
   audits = audit_counts_in (audits_of pieces);
+  losses = losses_in profile (lines_of pieces);
 }
 
--- the report of the trace of these pieces
-pub record IsReportOf (pieces : List Piece) (report : Report) : Type 0 where
-  pub numbers : report ≡ report_with pieces report.us_median
+-- the report of the trace of these pieces in a profile
+pub record IsReportOf (profile : ℕ) (pieces : List Piece) (report : Report) : Type 0 where
+  pub numbers : report ≡ report_with profile pieces report.us_median
   pub us_median : IsMedian (times_of (found_lookups pieces)) report.us_median

@@ -1,9 +1,9 @@
 -- The text of a report.
-use Rattle.std.specs.Prelude.{ℕ, List, [], ◌∷◌, ◌++◌, codes, decimal}
+use Rattle.std.specs.Prelude.{ℕ, List, [], ◌∷◌, ◌++◌, Option, Some, None, codes, decimal}
 use Rattle.std.specs.List.{flat_map}
 use Rattle.chord_trace.specs.declared.report.Report.{Report}
 
--- the words of a report, each with its number
+-- the words that each report has, with their numbers
 abbrev pub numbers_of : Report → List (List ℕ × ℕ)
 numbers_of r =
     (codes "events", r.events) ∷ (codes "members", r.lines.members) ∷ (codes "join-failed", r.lines.join_failed)
@@ -17,10 +17,15 @@ numbers_of r =
     ∷ (codes "audits", r.audits.audits) ∷ (codes "ringless", r.audits.ringless)
     ∷ (codes "unordered", r.audits.unordered) ∷ (codes "insufficient", r.audits.insufficient) ∷ []
 
+-- the word for the lost messages, with their number where the report has it
+abbrev pub loss_number : Option ℕ → List (List ℕ × ℕ)
+loss_number None = []
+loss_number (Some losses) = (codes "losses", losses) ∷ []
+
 -- a line for each word and its number
 abbrev pub number_text : List (List ℕ × ℕ) → List ℕ
 number_text = flat_map (λ p. p.0 ++ codes " " ++ decimal p.1 ++ codes "\n")
 
 -- the text of a report, a line for each of its numbers
 abbrev pub report_text : Report → List ℕ
-report_text r = number_text (numbers_of r)
+report_text r = number_text (numbers_of r ++ loss_number r.losses)

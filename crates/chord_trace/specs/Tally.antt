@@ -1,8 +1,9 @@
 -- What a tally has of a trace.
-use Rattle.std.specs.Prelude.{◌≡◌, ℕ, ◌+◌, List, length}
+use Rattle.std.specs.Prelude.{◌≡◌, ℕ, ◌+◌, List, count_by, length}
 use Rattle.chord_trace.specs.AuditCounts.{audit_counts_in}
 use Rattle.chord_trace.specs.Counts.{counts_in}
 use Rattle.chord_trace.specs.FoundLookups.{HasFound}
+use Rattle.chord_trace.specs.Kinds.{is_loss}
 use Rattle.chord_trace.specs.Pieces.{blocks_of, lines_of, audits_of}
 use Rattle.chord_trace.specs.Report.{found_lookups}
 use Rattle.chord_trace.specs.declared.piece.Piece.{Piece}
@@ -12,10 +13,12 @@ use Rattle.chord_trace.specs.declared.tally.Tally.{Tally}
 abbrev pub taken : Tally → ℕ
 taken t = t.events + t.audits.audits
 
--- the tally has what the trace of these pieces has
-pub record IsTallyOf (pieces : List Piece) (t : Tally) : Type 0 where
+-- the tally has what the trace of these pieces has, in this profile
+pub record IsTallyOf (profile : ℕ) (pieces : List Piece) (t : Tally) : Type 0 where
+  pub in_profile : t.profile ≡ profile
   pub size : taken t ≡ length pieces
   pub events : t.events ≡ length (blocks_of pieces)
   pub counts : t.counts ≡ counts_in (lines_of pieces)
   pub founds : HasFound (found_lookups pieces) t.founds
+  pub losses : t.losses ≡ count_by is_loss (lines_of pieces)
   pub audits : t.audits ≡ audit_counts_in (audits_of pieces)

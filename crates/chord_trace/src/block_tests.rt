@@ -95,6 +95,7 @@ fn writes_lines_that_name_nodes(rt: HostRuntime) -> Result<(), Fail> {
     for (kind, word) in MESSAGES {
         let drop = format!(in alloc; "100 n0 drop {word} n3\n")?;
         let late = format!(in alloc; "100 n0 late {word} n1\n")?;
+        let lose = format!(in alloc; "100 n0 lose {word} n3\n")?;
         assert!(rt;
             is_text(
                 alloc,
@@ -110,6 +111,15 @@ fn writes_lines_that_name_nodes(rt: HostRuntime) -> Result<(), Fail> {
                 &scenario,
                 Line::Late { kind, sender: 1 },
                 late.as_str()
+            )?,
+            "{word}"
+        );
+        assert!(rt;
+            is_text(
+                alloc,
+                &scenario,
+                Line::Lose { kind, receiver: 2 },
+                lose.as_str()
             )?,
             "{word}"
         );

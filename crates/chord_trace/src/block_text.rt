@@ -88,6 +88,14 @@ fn push_words(text: &mut String, scenario: &Scenario, line: Line) -> Result<(), 
                 scenario.name(sender)
             )
         }
+        Line::Lose { kind, receiver } => {
+            write!(
+                text,
+                "lose {} {}",
+                message_text(kind),
+                scenario.name(receiver)
+            )
+        }
         Line::Timeout { silent } => write!(text, "timeout {}", scenario.name(silent)),
         Line::Lookup { key } => write!(text, "lookup {}", key.raw()),
         Line::Found {

@@ -1,4 +1,4 @@
-ghost use Rattle.std.specs.Prelude.{◌≡◌, ◌⊎◌, ◌++◌, true, false, List, map, OnOk, IfErr, string_bytes, Err};
+ghost use Rattle.std.specs.Prelude.{◌≡◌, ◌⊎◌, ℕ, ◌++◌, true, false, List, map, OnOk, IfErr, string_bytes, Err};
 ghost use Rattle.std.specs.Io.KnownBytes.{Appends};
 ghost use Rattle.std.specs.List.Sorted.{IsPermutation};
 ghost use Rattle.chord_trace.specs.Report.{IsReportOf};
@@ -29,6 +29,8 @@ pub struct Report {
     pub us_median: u64,
     pub us_greatest: u64,
     pub audits: AuditCounts,
+    /// How many messages were lost, in the second profile.
+    pub losses: Option<u64>,
 }
 
 impl Report {
@@ -44,8 +46,18 @@ impl Report {
         ensures only { IfErr result (λ e. (e ≡ RunError.Memory) ⊎ (e ≡ RunError.Write)) }
     {
         let mut text = String::new(alloc);
-        push_numbers(&mut text, &self.numbers())?;
+        self.push(&mut text)?;
         write_text(text.as_bytes(), writer)
+    }
+
+    fn push(&self, text: &mut String) -> Result<(), AllocError>
+        ensures { OnOk result (string_bytes text.new ≡ string_bytes text.old ++ report_text self.now) }
+    {
+        push_numbers(text, &self.numbers())?;
+        if let Some(losses) = self.losses {
+            push_numbers(text, &[("losses", u128::from(losses))])?;
+        }
+        Ok(())
     }
 
     fn numbers(&self) -> [(&'static str, u128); 24]
@@ -91,10 +103,10 @@ fn push_numbers(text: &mut String, numbers: &[(&str, u128)]) -> Result<(), Alloc
 
 /// A trace has one report.
 pub fn reports_are_unique()
-    ensures { (pieces : List Piece) (a b : Report) → IsReportOf pieces a → IsReportOf pieces b → a ≡ b }
+    ensures { (profile : ℕ) (pieces : List Piece) (a b : Report) → IsReportOf profile pieces a → IsReportOf profile pieces b → a ≡ b }
 {}
 
 /// A report does not depend on the order in which the pieces of a trace are gone over.
 pub fn reports_need_no_order()
-    ensures { (pieces others : List Piece) (report : Report) → IsPermutation pieces others → IsReportOf pieces report → IsReportOf others report }
+    ensures { (profile : ℕ) (pieces others : List Piece) (report : Report) → IsPermutation pieces others → IsReportOf profile pieces report → IsReportOf profile others report }
 {}

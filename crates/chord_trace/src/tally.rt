@@ -1,43 +1,49 @@
-ghost use Rattle.std.specs.Prelude.{◌+◌, ◌*◌, ◌≤◌, ◌^◌};
+ghost use Rattle.std.specs.Prelude.{◌≡◌, ◌+◌, ◌*◌, ◌≤◌, ◌^◌, count_by, length};
 ghost use Rattle.chord_trace.specs.AuditCounts.{AreAmong};
 ghost use Rattle.chord_trace.specs.Counts.{AreWithin};
 ghost use Rattle.chord_trace.specs.FoundLookups.{found_len};
+ghost use Rattle.chord_trace.specs.Kinds.{is_loss};
 
 use crate::audit_counts::AuditCounts;
 use crate::found_lookups::FoundLookups;
 use crate::line_counts::LineCounts;
 use crate::report::Report;
 use chord_audit::AuditLine;
-use chord_event::{Block, Memory};
+use chord_event::{Block, Line, Memory};
 use std::alloc::Global;
 
 /// What a report is made of, of the blocks and audits so far.
 #[derive(Drop)]
 pub struct Tally {
+    profile: u32,
     events: u64,
     counts: LineCounts,
     founds: FoundLookups,
+    losses: u64,
     audits: AuditCounts,
     ghost counts_fit: { AreWithin (64 * events) counts },
     ghost founds_fit: { found_len founds ≤ 64 * events },
+    ghost losses_fit: { losses ≤ 64 * events },
     ghost audits_fit: { AreAmong audits },
 }
 
 impl Tally {
-    ghost use Rattle.std.specs.Prelude.{◌≡◌, ◌+◌, ◌^◌, ◌<◌, ◌≤◌, List, [], ◌∷◌, ◌++◌, length, IfOk, OnOk};
+    ghost use Rattle.std.specs.Prelude.{◌≡◌, ℕ, ◌+◌, ◌^◌, ◌<◌, ◌≤◌, List, [], ◌∷◌, ◌++◌, length, IfOk, OnOk};
     ghost use Rattle.chord_trace.specs.Report.{IsReportOf};
     ghost use Rattle.chord_trace.specs.Tally.{IsTallyOf, taken};
     ghost use Rattle.chord_trace.specs.declared.piece.Piece.{Piece};
     ghost use Rattle.chord_trace.specs.declared.piece.Piece.TheVariants as piece;
 
-    /// The tally of an empty trace.
-    pub fn new(alloc: Global) -> Tally
-        ensures { IsTallyOf [] result }
+    /// The tally of an empty trace in a profile.
+    pub fn new(alloc: Global, profile: u32) -> Tally
+        ensures { IsTallyOf profile [] result }
     {
         Tally {
+            profile,
             events: 0,
             counts: LineCounts::default(),
             founds: FoundLookups::new(alloc),
+            losses: 0,
             audits: AuditCounts::default(),
         }
     }
@@ -46,41 +52,46 @@ impl Tally {
     pub fn add(&mut self, block: &Block) -> Result<(), Memory>
         requires room { taken self.old < 2 ^ 40 }
         requires short { length block.now.lines ≤ 64 }
-        ensures piece { OnOk result ((pieces : List Piece) → IsTallyOf pieces self.old → IsTallyOf (pieces ++ piece.OfEvent block.now ∷ []) self.new) }
+        ensures piece { OnOk result ((profile : ℕ) (pieces : List Piece) → IsTallyOf profile pieces self.old → IsTallyOf profile (pieces ++ piece.OfEvent block.now ∷ []) self.new) }
         ensures size { OnOk result (taken self.new ≡ taken self.old + 1) }
     {
+        let lines = block.lines.as_slice();
         self.events += 1;
-        self.counts.add(block.lines.as_slice());
-        self.founds.add_lines(block.lines.as_slice())?;
+        self.counts.add(lines);
+        self.losses += count_losses(lines);
+        self.founds.add_lines(lines)?;
         Ok(())
     }
 
     /// Adds an audit.
     pub fn add_audit(&mut self, audit: &AuditLine)
         requires room { taken self.old < 2 ^ 40 }
-        ensures piece { (pieces : List Piece) → IsTallyOf pieces self.old → IsTallyOf (pieces ++ piece.OfAudit audit.now ∷ []) self.new }
+        ensures piece { (profile : ℕ) (pieces : List Piece) → IsTallyOf profile pieces self.old → IsTallyOf profile (pieces ++ piece.OfAudit audit.now ∷ []) self.new }
         ensures size { taken self.new ≡ taken self.old + 1 }
     {
         self.audits.add(audit);
     }
 
-    /// The tally of what both have. Both are given up where memory is refused.
+    /// The tally of what both have, which are of one profile. Both are given up where memory is refused.
     pub fn join(self, other: Tally) -> Result<Tally, Memory>
         requires room { taken self + taken other ≤ 2 ^ 40 }
-        ensures pieces { IfOk result (λ joined. (mine others : List Piece) → IsTallyOf mine self → IsTallyOf others other → IsTallyOf (mine ++ others) joined) }
+        requires same_profile { self.profile ≡ other.profile }
+        ensures pieces { IfOk result (λ joined. (profile : ℕ) (mine others : List Piece) → IsTallyOf profile mine self → IsTallyOf profile others other → IsTallyOf profile (mine ++ others) joined) }
         ensures size { IfOk result (λ joined. taken joined ≡ taken self + taken other) }
     {
         Ok(Tally {
+            profile: self.profile,
             events: self.events + other.events,
             counts: self.counts.join(other.counts),
             founds: self.founds.join(other.founds)?,
+            losses: self.losses + other.losses,
             audits: self.audits.join(other.audits),
         })
     }
 
     /// The report of the blocks and audits so far.
     pub fn report(&self) -> Report
-        ensures { (pieces : List Piece) → IsTallyOf pieces self.now → IsReportOf pieces result }
+        ensures { (profile : ℕ) (pieces : List Piece) → IsTallyOf profile pieces self.now → IsReportOf profile pieces result }
     {
         let lines = self.counts;
         let LineCounts {
@@ -100,6 +111,19 @@ impl Tally {
             us_median: self.founds.us_median(),
             us_greatest: self.founds.us_greatest,
             audits: self.audits,
+            losses: (self.profile == 2).then_some(self.losses),
         }
     }
+}
+
+/// How many messages the lines say were lost.
+fn count_losses(lines: &[Line]) -> u64
+    requires { length lines.now ≤ 64 }
+    ensures { result ≡ count_by is_loss lines.now }
+{
+    let mut losses = 0;
+    for line in lines {
+        losses += u64::from(matches!(line, Line::Lose { .. }));
+    }
+    losses
 }

@@ -5,7 +5,7 @@ ghost use Rattle.chord_trace.specs.Watched.{has_failed};
 use super::*;
 use chord_audit::AuditLine;
 use chord_circle::Circle;
-use chord_event::{Block, Key, Line, Listed, Memory, RunError};
+use chord_event::{Block, Key, Line, Listed, Memory, MessageKind, RunError};
 use std::alloc::Global;
 use std::io;
 use std::io::{ErrorKind, Read, Write};
@@ -192,13 +192,15 @@ const REPORT: Report = Report {
         unordered: 23,
         insufficient: 24,
     },
+    losses: Some(18446744073709551614),
 };
 
 const TEXT: &str = "200 audit members=4 dead=1 ring=3 ordered=yes principals=2 sufficient=no\n\
     events 1\nmembers 2\njoin-failed 3\ncrashes 4\nstranded 5\ndrops 6\nlate 7\ntimeouts 8\n\
     lookups 9\nfound 10\nlost 11\nbusy 12\nignored 13\nunfinished 14\nhops-sum 15\n\
     hops-greatest 16\nus-sum 340282366920938463463374607431768211455\nus-least 18\nus-median 19\n\
-    us-greatest 18446744073709551615\naudits 21\nringless 22\nunordered 23\ninsufficient 24\n";
+    us-greatest 18446744073709551615\naudits 21\nringless 22\nunordered 23\ninsufficient 24\n\
+    losses 18446744073709551614\n";
 
 fn write_both(alloc: Global, writer: &mut Watched<Bounded>) -> Result<(), RunError>
     requires { has_failed writer.old ≡ false }
@@ -237,15 +239,21 @@ fn writes_the_front_of_the_text(rt: HostRuntime) -> Result<(), Fail> {
     Ok(())
 }
 
-/// The tally of a trace of one block, of lookups found in these times, and of one audit.
-fn tally_of(rt: &impl Abort, alloc: Global, times: &[u64]) -> Result<Tally, Memory>
-    ensures { IfOk result (λ tally. taken tally ≡ 2) }
+/// The tally of a trace of one block, of lookups found in these times and of a lost message, and of
+/// one audit.
+fn tally_of(rt: &impl Abort, alloc: Global, profile: u32, times: &[u64]) -> Result<Tally, Memory>
+    ensures taken { IfOk result (λ tally. taken tally ≡ 2) }
+    ensures same_profile { IfOk result (λ tally. tally.profile ≡ profile) }
 {
     let circle = Circle::new(8).expect(rt, "a circle");
     let key = circle.ident(5).expect(rt, "an identifier");
     let mut lines = Listed::new(alloc);
     lines.push(Line::Lookup { key })?;
     lines.push(Line::Crash)?;
+    lines.push(Line::Lose {
+        kind: MessageKind::Ping,
+        receiver: 1,
+    })?;
     for us in times {
         lines.push(Line::Found {
             key,
@@ -265,7 +273,7 @@ fn tally_of(rt: &impl Abort, alloc: Global, times: &[u64]) -> Result<Tally, Memo
         target: 0,
         lines,
     };
-    let mut tally = Tally::new(alloc);
+    let mut tally = Tally::new(alloc, profile);
     tally.add_audit(&AUDIT);
     tally.add(&block)?;
     Ok(tally)
@@ -281,7 +289,7 @@ fn reports_the_lower_time_in_the_middle(rt: HostRuntime) -> Result<(), Fail> {
         (&[5, 1, 3], 9, 1, 3, 5),
         (&[4, 9, 4, 1, 9, 9], 36, 1, 4, 9),
     ] {
-        let report = tally_of(&rt, rt.alloc(), times)?.report();
+        let report = tally_of(&rt, rt.alloc(), 1, times)?.report();
         let count = times.len() as u64;
         assert_eq!(rt; report.events, 1);
         assert_eq!(rt; report.lines.crashes, 1);
@@ -293,6 +301,7 @@ fn reports_the_lower_time_in_the_middle(rt: HostRuntime) -> Result<(), Fail> {
         assert_eq!(rt; report.us_least, least);
         assert_eq!(rt; report.us_median, median);
         assert_eq!(rt; report.us_greatest, greatest);
+        assert!(rt; report.losses.is_none());
     }
     Ok(())
 }
@@ -308,7 +317,7 @@ fn joins_two_tallies(rt: HostRuntime) -> Result<(), Fail> {
         (&[4, 9], none, 0, 13, 4, 4, 9),
         (&[4, 4], &[9, 4, 9, 9], 0, 39, 4, 4, 9),
     ] {
-        let tally = tally_of(&rt, alloc, mine)?.join(tally_of(&rt, alloc, others)?)?;
+        let tally = tally_of(&rt, alloc, 2, mine)?.join(tally_of(&rt, alloc, 2, others)?)?;
         let found = mine.len() as u64 + others.len() as u64;
         let expected = Report {
             events: 2,
@@ -330,8 +339,30 @@ fn joins_two_tallies(rt: HostRuntime) -> Result<(), Fail> {
                 insufficient: 2,
                 ..AuditCounts::default()
             },
+            losses: Some(2),
         };
         assert!(rt; tally.report() == expected, "{found}");
+    }
+    Ok(())
+}
+
+/// The lines of that trace's report that both profiles have, where no lookup was found.
+const NUMBERS: &str = "events 1\nmembers 0\njoin-failed 0\ncrashes 1\nstranded 0\ndrops 0\nlate 0\n\
+    timeouts 0\nlookups 1\nfound 0\nlost 0\nbusy 0\nignored 0\nunfinished 1\nhops-sum 0\n\
+    hops-greatest 0\nus-sum 0\nus-least 0\nus-median 0\nus-greatest 0\naudits 1\nringless 0\n\
+    unordered 0\ninsufficient 1\n";
+
+#[test]
+fn reports_lost_messages_in_the_second_profile_alone(rt: HostRuntime) -> Result<(), Fail> {
+    let alloc = rt.alloc();
+    let none: &[u64] = &[];
+    for (profile, last) in [(1, ""), (2, "losses 1\n")] {
+        let report = tally_of(&rt, alloc, profile, none)?.report();
+        let mut writer = Watched::new(Vec::new(alloc));
+        report.write(alloc, &mut writer)?;
+        let text = format!(in alloc; "{NUMBERS}{last}")?;
+        let written = writer.into_inner();
+        assert!(rt; written.as_slice() == text.as_bytes(), "{profile}");
     }
     Ok(())
 }

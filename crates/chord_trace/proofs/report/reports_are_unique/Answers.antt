@@ -32,6 +32,6 @@ medians_are_unique (n ∷ ns) a b first second = by (nat_cmp a b) (ranks a b)
     by Greater gt = absurd (not_below (n ∷ ns) b a (omega arith) second first gt)
 
 pub returns : goal.returns
-returns c pieces a b first second =
+returns c profile pieces a b first second =
     let same = medians_are_unique (times_of (found_lookups pieces)) a.us_median b.us_median first.us_median second.us_median in
-    first.numbers ∙ ap (report_with pieces) same ∙ sym second.numbers
+    first.numbers ∙ ap (report_with profile pieces) same ∙ sym second.numbers

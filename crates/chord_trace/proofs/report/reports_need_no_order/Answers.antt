@@ -3,4 +3,4 @@ use Rattle.chord_trace.proofs.Reports.{reordered}
 use Rattle.chord_trace.proofs.report.reports_need_no_order.Goals as goal
 
 pub returns : goal.returns
-returns c pieces others report moved is = reordered pieces others report moved is
+returns c profile pieces others report moved is = reordered profile pieces others report moved is
