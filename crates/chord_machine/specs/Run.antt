@@ -23,7 +23,7 @@ trace_text sc = pieces_text sc (whole_trace sc)
 
 -- its report
 abbrev pub IsReport : Scenario → Report → Type 0
-IsReport sc report = IsReportOf (whole_trace sc) report
+IsReport sc report = IsReportOf sc.profile (whole_trace sc) report
 
 -- the run has more events than the scenario allows
 abbrev pub HasTooManyEvents : Scenario → Type 0
