@@ -27,14 +27,14 @@ text-one sc p = append-nil (piece_text sc p)
 pub adds_none : (sc : Scenario) (a : Option (List ℕ)) (t : Tally) → Adds sc a a t t []
 adds_none sc a t = record {
   written = Appends-nil a;
-  tallied = λ earlier h. subst (λ ps. IsTallyOf ps t) (sym (append-nil earlier)) h;
+  tallied = λ earlier h. subst (λ ps. IsTallyOf sc.profile ps t) (sym (append-nil earlier)) h;
 }
 
 pub adds_then : (sc : Scenario) (a b c : Option (List ℕ)) (s t u : Tally) (xs ys : List Piece) → Adds sc a b s t xs → Adds sc b c t u ys
     → Adds sc a c s u (xs ++ ys)
 adds_then sc a b c s t u xs ys p q = record {
   written = subst (λ text. Appends a c text) (sym (texts-append sc xs ys)) (Appends-trans a b c (pieces_text sc xs) (pieces_text sc ys) p.written q.written);
-  tallied = λ earlier h. subst (λ ps. IsTallyOf ps u) (append_assoc earlier xs ys) (q.tallied (earlier ++ xs) (p.tallied earlier h));
+  tallied = λ earlier h. subst (λ ps. IsTallyOf sc.profile ps u) (append_assoc earlier xs ys) (q.tallied (earlier ++ xs) (p.tallied earlier h));
 }
 
 pub fronts_then : (sc : Scenario) (a b c : Option (List ℕ)) (xs ys : List Piece) → Appends a b (pieces_text sc xs)
@@ -50,7 +50,7 @@ fronts_longer sc a b xs ys p = subst (λ text. AppendsFront a b text) (sym (text
 -- one audit
 
 pub audit-adds : (sc : Scenario) (a b : Option (List ℕ)) (s t : Tally) (line facts : AuditLine) → line ≡ facts → Appends a b (audit_text line)
-    → ((ps : List Piece) → IsTallyOf ps s → IsTallyOf (ps ++ piece.OfAudit line ∷ []) t)
+    → ((ps : List Piece) → IsTallyOf sc.profile ps s → IsTallyOf sc.profile (ps ++ piece.OfAudit line ∷ []) t)
     → Adds sc a b s t (piece.OfAudit facts ∷ [])
 audit-adds sc a b s t line facts e w k = subst (λ z. Adds sc a b s t (piece.OfAudit z ∷ [])) e (record {
   written = subst (λ text. Appends a b text) (sym (text-one sc (piece.OfAudit line))) w;

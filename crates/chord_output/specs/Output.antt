@@ -14,7 +14,7 @@ use Rattle.chord_trace.specs.Texts.{pieces_text}
 -- these pieces went out: their text to the writer, which held the old bytes, and they themselves into the tally
 pub record Adds (sc : Scenario) (old new : Option (List ℕ)) (before after : Tally) (pieces : List Piece) : Type 0 where
   pub written : Appends old new (pieces_text sc pieces)
-  pub tallied : (earlier : List Piece) → IsTallyOf earlier before → IsTallyOf (earlier ++ pieces) after
+  pub tallied : (earlier : List Piece) → IsTallyOf sc.profile earlier before → IsTallyOf sc.profile (earlier ++ pieces) after
 
 -- a run has at most so many audits: a duration has at most 1,000,000 whole periods of the audits
 abbrev pub most_audits : ℕ

@@ -10,7 +10,7 @@ returns-in_err-write_audit-clause-front g c = λ state are.
 pub returns-clause-adds : goal.returns-clause-adds
 returns-clause-adds g c = λ state are.
     audit-adds c.args.scenario.now _ _ _ _ c.in_ok-line.line (audit_facts c.args.scenario.now state c.args.time) (c.in_ok-line.ensures state are)
-    c.in_ok-write_audit.ensures.whole c.add_audit.ensures.piece
+    c.in_ok-write_audit.ensures.whole (c.add_audit.ensures.piece c.args.scenario.now.profile)
 
 pub returns-clause-front : goal.returns-clause-front
 returns-clause-front g c = λ state are.
