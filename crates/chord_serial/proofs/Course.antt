@@ -339,7 +339,7 @@ module _ (sc : Scenario) (ranges : IsInRange sc) where
               written = subst (λ ps. Appends old new (pieces_text sc ps)) (sym pieces)
                   (subst (λ text. Appends old new text) (sym (texts-append sc (output (chord sc) here) (put (block_of sc s event))))
                   (Appends-trans old now new (pieces_text sc (output (chord sc) here)) (pieces_text sc (put (block_of sc s event))) t.at.written all.written));
-              tallied = subst (λ ps. IsTallyOf ps f.tally) (sym pieces) (all.tallied (output (chord sc) here) t.at.tallied);
+              tallied = subst (λ ps. IsTallyOf sc.profile ps f.tally) (sym pieces) (all.tallied (output (chord sc) here) t.at.tallied);
               within = omega (arith, t.allowed, count_is);
               room = omega (arith, t.at.room, first_size, second_size, count_is);
             }
@@ -348,7 +348,7 @@ module _ (sc : Scenario) (ranges : IsInRange sc) where
 
   pub start_at : (now : Option (List ℕ)) (e : Engine) → e.states.items ≡ initial_ring sc
       → ((x : Event Body) → Contains e.pending x ↔ Contains ([] ++ start_events sc) x) → InKeyOrder event_key e.pending
-      → e.clock ≡ audit_times sc → IsTallyOf [] e.tally → e.count ≡ 0 → IsAt sc now now e
+      → e.clock ≡ audit_times sc → IsTallyOf sc.profile [] e.tally → e.count ≡ 0 → IsAt sc now now e
   unfolding initial_ring
   start_at now e states_are same ordered clock_is tally_is count_is =
       let ring : AreStatesAfter (chord sc) [] (initial_ring sc) = record {
@@ -363,7 +363,7 @@ module _ (sc : Scenario) (ranges : IsInRange sc) where
             (world_at_start (chord sc) w (initial_ring sc) ring)));
         audits = clock_is ∙ sym (audits_at_start sc ranges) ∙ ap (open_audits (chord sc)) (sym none);
         written = subst (λ h. Appends now now (pieces_text sc (output (chord sc) h))) (sym none) (Appends-nil now);
-        tallied = subst (λ h. IsTallyOf (output (chord sc) h) e.tally) (sym none) tally_is;
+        tallied = subst (λ h. IsTallyOf sc.profile (output (chord sc) h) e.tally) (sym none) tally_is;
         within = omega (arith, count_is);
         room = omega (arith, tally_is.size, ap length clock_is, audits-few sc ranges, count_is);
       }
@@ -401,8 +401,8 @@ module _ (sc : Scenario) (ranges : IsInRange sc) where
           (subst (λ text. Appends old x text) (sym (texts-append sc (output (chord sc) (past e.count)) rest))
           (Appends-trans old now x (pieces_text sc (output (chord sc) (past e.count))) (pieces_text sc rest) at.written adds.written))
 
-      pub whole_trace_tallied : (x : Option (List ℕ)) (last : Tally) → Adds sc now x e.tally last rest → IsTallyOf (whole_trace sc) last
-      whole_trace_tallied x last adds = subst (λ ps. IsTallyOf ps last) trace_is (adds.tallied (output (chord sc) (past e.count)) at.tallied)
+      pub whole_trace_tallied : (x : Option (List ℕ)) (last : Tally) → Adds sc now x e.tally last rest → IsTallyOf sc.profile (whole_trace sc) last
+      whole_trace_tallied x last adds = subst (λ ps. IsTallyOf sc.profile ps last) trace_is (adds.tallied (output (chord sc) (past e.count)) at.tallied)
 
       pub begin_end : (x : Option (List ℕ)) → AppendsFront now x (pieces_text sc rest) → IsBeginning sc old x
       begin_end x front = (

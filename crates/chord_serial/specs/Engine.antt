@@ -18,7 +18,7 @@ pub record IsAtWith (sc : Scenario) (old now : Option (List ℕ)) (e : Engine) (
   pub world : IsWorld (chord sc) e.states.items events e.count
   pub audits : e.clock ≡ open_audits (chord sc) (history (chord sc) e.count)
   pub written : Appends old now (pieces_text sc (output (chord sc) (history (chord sc) e.count)))
-  pub tallied : IsTallyOf (output (chord sc) (history (chord sc) e.count)) e.tally
+  pub tallied : IsTallyOf sc.profile (output (chord sc) (history (chord sc) e.count)) e.tally
   pub within : e.count ≤ sc.max_events
   pub room : taken e.tally + length e.clock ≤ e.count + most_audits
 

@@ -44,7 +44,7 @@ impl Engine {
             states,
             pending,
             clock,
-            tally: Tally::new(alloc),
+            tally: Tally::new(alloc, scenario.profile()),
             count: 0,
         })
     }

@@ -51,7 +51,7 @@ returns-clause-report g c =
     let at = c.requires.at.1 in
     let are = subst (λ (ss : List NodeState). AreStates sc ss S) (sym c.as_slice.ensures.value)
     (are_states sc c.recall_range.ensures e.states.items e.pending e.count at.world) in
-    c.report.ensures (whole_trace sc)
+    c.report.ensures sc.profile (whole_trace sc)
     (whole_trace_tallied sc c.recall_range.ensures c.requires.at.0 _ e at c.requires.ended (g.W.Write.contents c.put_audits.new.writer.inner)
     c.put_audits.new.tally
     (subst (λ (d : ℕ). Adds sc (g.W.Write.contents c.args.writer.now.inner) (g.W.Write.contents c.put_audits.new.writer.inner) e.tally

@@ -1,10 +1,11 @@
 -- The start is the run after no event.
-use Rattle.std.proofs.Common.{◌++◌, ap, List, subst, sym, ◌∙◌, refl, ◌↔◌}
+use Rattle.std.proofs.Common.{ℕ, [], ◌++◌, ap, List, subst, sym, ◌∙◌, refl, ◌↔◌}
 use Rattle.std.specs.List.{Contains}
 use Rattle.chord_event.specs.declared.body.Body.{Body}
 use Rattle.chord_event.specs.declared.event.Event.{Event}
 use Rattle.chord_machine.proofs.StartEvents.{starts_apart}
 use Rattle.chord_queue.proofs.Inserting.{AreApart}
+use Rattle.chord_trace.specs.Tally.{IsTallyOf}
 use Rattle.chord_serial.proofs.Course.{start_at}
 use Rattle.chord_serial.proofs.engine.Engine.start.Goals as goal
 
@@ -20,4 +21,4 @@ returns-clause-at c = λ now.
     subst (λ (es : List (Event Body)). Contains c.insert_all.new.self x ↔ Contains es x)
     (ap (λ (es : List (Event Body)). es ++ c.in_ok-start_events.field-0.items) c.new-pending.ensures ∙ c.in_ok-start_events.ensures)
     (c.in_ok-insert_all.ensures.same x))
-    c.in_ok-insert_all.ensures.ordered c.in_ok-clock.ensures c.new.ensures refl
+    c.in_ok-insert_all.ensures.ordered c.in_ok-clock.ensures (subst (λ (p : ℕ). IsTallyOf p [] c.new.result) c.profile.ensures c.new.ensures) refl
