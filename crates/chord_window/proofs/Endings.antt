@@ -62,7 +62,7 @@ use Rattle.chord_window.proofs.EngineCourse.{few_audits, middle_tallied}
 
 module _ (sc : Scenario) (ranges : IsInRange sc) where
   pub start_at : (now : Option (List ℕ)) (e : Engine) → IsWorldOf sc e.world → e.world.count ≡ 0 → e.clock ≡ audit_times sc
-      → e.world.division.parts ≤ length e.tallies.items → HaveTallied [] e.tallies.items → IsAt sc now now e
+      → e.world.division.parts ≤ length e.tallies.items → HaveTallied sc.profile [] e.tallies.items → IsAt sc now now e
   start_at now e world count_is clock_is each nothing =
       let none : history (chord sc) e.world.count ≡ [] = ap (history (chord sc)) count_is in
       record {
@@ -70,7 +70,7 @@ module _ (sc : Scenario) (ranges : IsInRange sc) where
         audits = clock_is ∙ sym (audits_at_start sc ranges) ∙ ap (open_audits (chord sc)) (sym none);
         written = subst (λ h. Appends now now (pieces_text sc (output (chord sc) h))) (sym none) (Appends-nil now);
         each = each;
-        tallied = subst (λ h. HaveTallied (output (chord sc) h) e.tallies.items) (sym none) nothing;
+        tallied = subst (λ h. HaveTallied sc.profile (output (chord sc) h) e.tallies.items) (sym none) nothing;
         room = omega (arith, ap (λ h. length (output (chord sc) h)) none, ap length clock_is, audits-few sc ranges, count_is);
       }
 
@@ -114,9 +114,9 @@ module _ (sc : Scenario) (ranges : IsInRange sc) where
         (Appends-trans old now x (pieces_text sc (output (chord sc) (past))) (pieces_text sc rest) at.written adds.written))
 
     module _ (some : 0 < e.world.division.parts) (before after : Tally) (first_is : before ≡ get_or e.tallies.items 0 before)
-        (adds : (earlier : List Piece) → IsTallyOf earlier before → IsTallyOf (earlier ++ rest) after) where
-      pub whole_trace_tallied : HaveTallied (whole_trace sc) (set e.tallies.items 0 after)
-      whole_trace_tallied = subst (λ ps. HaveTallied ps (set e.tallies.items 0 after)) trace_is (middle_tallied at some rest before after first_is adds)
+        (adds : (earlier : List Piece) → IsTallyOf sc.profile earlier before → IsTallyOf sc.profile (earlier ++ rest) after) where
+      pub whole_trace_tallied : HaveTallied sc.profile (whole_trace sc) (set e.tallies.items 0 after)
+      whole_trace_tallied = subst (λ ps. HaveTallied sc.profile ps (set e.tallies.items 0 after)) trace_is (middle_tallied at some rest before after first_is adds)
 
       abbrev all_shares : List Piece
       all_shares = shares_to whole_trace_tallied.share (length (set e.tallies.items 0 after))
@@ -133,11 +133,11 @@ module _ (sc : Scenario) (ranges : IsInRange sc) where
         ranges.numbers.max_events_greatest,
       )
 
-      pub whole_trace_reported : (joined : Tally) (report : Report) → ((share : ℕ → List Piece) → AreTalliesOf share (set e.tallies.items 0 after)
-          → IsTallyOf (shares_to share (length (set e.tallies.items 0 after))) joined)
-          → ((pieces : List Piece) → IsTallyOf pieces joined → IsReportOf pieces report) → IsReportOf (whole_trace sc) report
+      pub whole_trace_reported : (joined : Tally) (report : Report) → ((share : ℕ → List Piece) → AreTalliesOf sc.profile share (set e.tallies.items 0 after)
+          → IsTallyOf sc.profile (shares_to share (length (set e.tallies.items 0 after))) joined)
+          → ((pieces : List Piece) → IsTallyOf sc.profile pieces joined → IsReportOf sc.profile pieces report) → IsReportOf sc.profile (whole_trace sc) report
       whole_trace_reported joined report joins reports =
-          reordered all_shares (whole_trace sc) report (IsPermutation-sym (whole_trace sc) all_shares whole_trace_tallied.all)
+          reordered sc.profile all_shares (whole_trace sc) report (IsPermutation-sym (whole_trace sc) all_shares whole_trace_tallied.all)
           (reports all_shares (joins whole_trace_tallied.share whole_trace_tallied.each))
 
     pub begin_end : (x : Option (List ℕ)) → AppendsFront now x (pieces_text sc rest) → IsBeginning sc old x

@@ -94,14 +94,14 @@ at_spared sc old now e s at = record { world = at.world; audits = at.audits; wri
 
 -- nor does the division, nor do tallies that are still empty
 pub at_divided : (sc : Scenario) (old now : Option (List ℕ)) (e f : Engine) → IsWorldOf sc f.world → f.world.count ≡ e.world.count → f.clock ≡ e.clock
-    → f.world.division.parts ≤ length f.tallies.items → ((pieces : List Piece) → HaveTallied pieces e.tallies.items → HaveTallied pieces f.tallies.items)
+    → f.world.division.parts ≤ length f.tallies.items → ((pieces : List Piece) → HaveTallied sc.profile pieces e.tallies.items → HaveTallied sc.profile pieces f.tallies.items)
     → IsAt sc old now e → IsAt sc old now f
 at_divided sc old now e f world count clock each more at = record {
   world = world;
   audits = clock ∙ at.audits ∙ ap (λ k. open_audits (chord sc) (history (chord sc) k)) (sym count);
   written = subst (λ k. Appends old now (pieces_text sc (output (chord sc) (history (chord sc) k)))) (sym count) at.written;
   each = each;
-  tallied = subst (λ k. HaveTallied (output (chord sc) (history (chord sc) k)) f.tallies.items) (sym count)
+  tallied = subst (λ k. HaveTallied sc.profile (output (chord sc) (history (chord sc) k)) f.tallies.items) (sym count)
       (more (output (chord sc) (history (chord sc) e.world.count)) at.tallied);
   room = omega (arith, at.room, ap (λ k. length (output (chord sc) (history (chord sc) k))) count, ap length clock, count);
 }
@@ -119,27 +119,27 @@ blocks_text sc (b ∷ bs) = ap (λ l. block_text sc b ++ l) (blocks_text sc bs)
 
 -- the tallies after audits, which go into the first one
 module _ {sc : Scenario} {old now : Option (List ℕ)} {e : Engine} (at : IsAt sc old now e) (some : 0 < e.world.division.parts) where
-  first_tally : (before : Tally) → before ≡ get_or e.tallies.items 0 before → IsTallyOf (at.tallied.share 0) before
-  first_tally before is = subst (λ t. IsTallyOf (at.tallied.share 0) t) (sym is) (at.tallied.each 0 before (omega (arith, some, at.each)))
+  first_tally : (before : Tally) → before ≡ get_or e.tallies.items 0 before → IsTallyOf sc.profile (at.tallied.share 0) before
+  first_tally before is = subst (λ t. IsTallyOf sc.profile (at.tallied.share 0) t) (sym is) (at.tallied.each 0 before (omega (arith, some, at.each)))
 
   pub audits_fit : sc.max_events ≤ 50000000 → (before : Tally) → before ≡ get_or e.tallies.items 0 before → taken before + length e.clock ≤ 2 ^ 40
   audits_fit few before is = omega (
     arith,
     (first_tally before is).size,
-    tallied_shorter (output (chord sc) (history (chord sc) e.world.count)) e.tallies.items at.tallied 0 (omega (arith, some, at.each)),
+    tallied_shorter sc.profile (output (chord sc) (history (chord sc) e.world.count)) e.tallies.items at.tallied 0 (omega (arith, some, at.each)),
     at.room,
     at.world.within,
     few,
   )
 
   pub middle_tallied : (audits : List Piece) (before after : Tally) → before ≡ get_or e.tallies.items 0 before
-      → ((earlier : List Piece) → IsTallyOf earlier before → IsTallyOf (earlier ++ audits) after)
-      → HaveTallied (output (chord sc) (history (chord sc) e.world.count) ++ audits) (set e.tallies.items 0 after)
-  middle_tallied audits = first_tallied (output (chord sc) (history (chord sc) e.world.count)) audits e.tallies.items at.tallied
+      → ((earlier : List Piece) → IsTallyOf sc.profile earlier before → IsTallyOf sc.profile (earlier ++ audits) after)
+      → HaveTallied sc.profile (output (chord sc) (history (chord sc) e.world.count) ++ audits) (set e.tallies.items 0 after)
+  middle_tallied audits = first_tallied sc.profile (output (chord sc) (history (chord sc) e.world.count)) audits e.tallies.items at.tallied
       (omega (arith, some, at.each))
 
   pub few_audits : (audits : List Piece) (before after : Tally) → before ≡ get_or e.tallies.items 0 before
-      → ((earlier : List Piece) → IsTallyOf earlier before → IsTallyOf (earlier ++ audits) after)
+      → ((earlier : List Piece) → IsTallyOf sc.profile earlier before → IsTallyOf sc.profile (earlier ++ audits) after)
       → (left : ℕ) → taken after + left ≡ taken before + length e.clock → length audits + left ≡ length e.clock
   few_audits audits before after is adds left size =
       let first = first_tally before is in
@@ -235,7 +235,7 @@ module _ (sc : Scenario) (ranges : IsInRange sc) (old now : Option (List ℕ)) (
         omega (
           arith,
           (has.each part t l).size,
-          tallied_shorter (output (chord sc) past ++ new) (set e.tallies.items 0 after) has part l,
+          tallied_shorter sc.profile (output (chord sc) past ++ new) (set e.tallies.items 0 after) has part l,
           length-append (output (chord sc) past) new,
           few_audits at some new before after first_is audits.tallied left size,
           at.room,
@@ -283,8 +283,8 @@ module _ (sc : Scenario) (ranges : IsInRange sc) (old now : Option (List ℕ)) (
             → f.world.division ≡ e.world.division
             → f.clock ≡ filter (λ u. nat_lt o.time u) e.clock → length f.clock ≡ left → Appends middle new (flat_map (block_text sc) bs)
             → length f.tallies.items ≡ length (set e.tallies.items 0 after)
-            → ((share : ℕ → List Piece) → AreTalliesOf share (set e.tallies.items 0 after)
-            → AreTalliesOf (λ part. share part ++ map piece.OfEvent (blocks_at (block_lists dones) part)) f.tallies.items) → IsAt sc old new f
+            → ((share : ℕ → List Piece) → AreTalliesOf sc.profile share (set e.tallies.items 0 after)
+            → AreTalliesOf sc.profile (λ part. share part ++ map piece.OfEvent (blocks_at (block_lists dones) part)) f.tallies.items) → IsAt sc old new f
         next_at f new world count division clock left_is blocks each adds =
             let new_audits = audits_at sc (state (chord sc) past) (due o.time e.clock) in
             let pieces : output (chord sc) (history (chord sc) f.world.count) ≡ output (chord sc) past
@@ -303,8 +303,8 @@ module _ (sc : Scenario) (ranges : IsInRange sc) (old now : Option (List ℕ)) (
                   (pieces_text sc (map piece.OfEvent bs)) audits.written
                   (subst (λ t. Appends middle new t) (sym text_is) blocks)))));
               each = omega (arith, each, length-set e.tallies.items 0 after, at.each, ap (λ (d : Division). d.parts) division);
-              tallied = subst (λ ps. HaveTallied ps f.tallies.items) (append_assoc (output (chord sc) past) new_audits (map piece.OfEvent bs) ∙ sym pieces)
-                  (blocks_tallied (output (chord sc) past ++ new_audits) (block_lists dones) bs (set e.tallies.items 0 after) f.tallies.items
+              tallied = subst (λ ps. HaveTallied sc.profile ps f.tallies.items) (append_assoc (output (chord sc) past) new_audits (map piece.OfEvent bs) ∙ sym pieces)
+                  (blocks_tallied sc.profile (output (chord sc) past ++ new_audits) (block_lists dones) bs (set e.tallies.items 0 after) f.tallies.items
                   (middle_tallied at some new_audits before after first_is audits.tallied)
                   (can_merge sc ranges e.world at.world o.horizon dones a nowhere) merged
                   (omega (arith, length-map dones (λ (done : Done). done.blocks), a.long, at.each, length-set e.tallies.items 0 after)) each adds);

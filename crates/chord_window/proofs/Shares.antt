@@ -146,35 +146,35 @@ blocks_shared (v ∷ vs) (suc n) l = shares_front (λ k. map piece.OfEvent (bloc
 
 -- What the tallies have
 
-pub none_tallied : HaveTallied [] []
-none_tallied = record { share = λ k. []; each = λ k t l. absurd (omega (arith, l)); all = IsPermutation-refl [] }
+pub none_tallied : (profile : ℕ) → HaveTallied profile [] []
+none_tallied profile = record { share = λ k. []; each = λ k t l. absurd (omega (arith, l)); all = IsPermutation-refl [] }
 
 -- one tally has no more than all
-pub tallied_shorter : (pieces : List Piece) (tallies : List Tally) (h : HaveTallied pieces tallies) (k : ℕ) → k < length tallies
+pub tallied_shorter : (profile : ℕ) (pieces : List Piece) (tallies : List Tally) (h : HaveTallied profile pieces tallies) (k : ℕ) → k < length tallies
     → length (h.share k) ≤ length pieces
-tallied_shorter pieces tallies h k l =
+tallied_shorter profile pieces tallies h k l =
     omega (arith, shares_up h.share k (length tallies) l, length_permutation pieces (shares_to h.share (length tallies)) h.all)
 
 -- one of nothing more
 abbrev without : (ℕ → List Piece) → ℕ → ℕ → List Piece
 without share n k = cond (k == n) [] (share k)
 
-pub one_tallied : (pieces : List Piece) (tallies : List Tally) (new : Tally) → IsTallyOf [] new → HaveTallied pieces tallies
-    → HaveTallied pieces (tallies ++ new ∷ [])
-one_tallied pieces tallies new empty h = record { share = share; each = each; all = all }
+pub one_tallied : (profile : ℕ) (pieces : List Piece) (tallies : List Tally) (new : Tally) → IsTallyOf profile [] new → HaveTallied profile pieces tallies
+    → HaveTallied profile pieces (tallies ++ new ∷ [])
+one_tallied profile pieces tallies new empty h = record { share = share; each = each; all = all }
   where
     share : ℕ → List Piece
     share = without h.share (length tallies)
 
-    each : AreTalliesOf share (tallies ++ new ∷ [])
+    each : AreTalliesOf profile share (tallies ++ new ∷ [])
     each k t l = ⊎_elim
-        (λ s. subst (λ z. IsTallyOf (share k) z)
+        (λ s. subst (λ z. IsTallyOf profile (share k) z)
         (sym (ap (λ i. get_or (tallies ++ new ∷ []) i t) (omega (arith, s)) ∙ get_or-append-add tallies (new ∷ []) 0 t))
-        (subst (λ ps. IsTallyOf ps new) (sym (cond-true (k == length tallies) [] (h.share k) (eq-eqb k (length tallies) s))) empty))
+        (subst (λ ps. IsTallyOf profile ps new) (sym (cond-true (k == length tallies) [] (h.share k) (eq-eqb k (length tallies) s))) empty))
         (λ ne. let differ : k ≢ length tallies = ne in
         let inside : k < length tallies = omega (arith, l, differ, length-append tallies (new ∷ [])) in
-        subst (λ z. IsTallyOf (share k) z) (sym (get_or_append_left tallies (new ∷ []) t k inside))
-        (subst (λ ps. IsTallyOf ps (get_or tallies k t)) (sym (cond-false (k == length tallies) [] (h.share k) (ne_eqb k (length tallies) ne)))
+        subst (λ z. IsTallyOf profile (share k) z) (sym (get_or_append_left tallies (new ∷ []) t k inside))
+        (subst (λ ps. IsTallyOf profile ps (get_or tallies k t)) (sym (cond-false (k == length tallies) [] (h.share k) (ne_eqb k (length tallies) ne)))
         (h.each k t inside)))
         (cases_eq k (length tallies))
 
@@ -191,25 +191,25 @@ one_tallied pieces tallies new empty h = record { share = share; each = each; al
             (ne_eqb k (length tallies) (λ s. omega (arith, s, l))))
 
 -- the first takes more
-pub first_tallied : (pieces more : List Piece) (tallies : List Tally) → HaveTallied pieces tallies → 0 < length tallies → (before after : Tally)
-    → before ≡ get_or tallies 0 before → ((earlier : List Piece) → IsTallyOf earlier before → IsTallyOf (earlier ++ more) after)
-    → HaveTallied (pieces ++ more) (set tallies 0 after)
-first_tallied pieces more tallies h some before after read adds =
+pub first_tallied : (profile : ℕ) (pieces more : List Piece) (tallies : List Tally) → HaveTallied profile pieces tallies → 0 < length tallies → (before after : Tally)
+    → before ≡ get_or tallies 0 before → ((earlier : List Piece) → IsTallyOf profile earlier before → IsTallyOf profile (earlier ++ more) after)
+    → HaveTallied profile (pieces ++ more) (set tallies 0 after)
+first_tallied profile pieces more tallies h some before after read adds =
     let shares = shares_to h.share (length tallies) in
     record {
       share = with_first h.share more;
-      each = first_added h.share tallies more h.each before after read adds;
+      each = first_added profile h.share tallies more h.each before after read adds;
       all = subst (λ n. IsPermutation (pieces ++ more) (shares_to (with_first h.share more) n)) (sym (length-set tallies 0 after))
           (IsPermutation-trans (pieces ++ more) (shares ++ more) (shares_to (with_first h.share more) (length tallies))
           (IsPermutation-append_left more pieces shares h.all) (first_shared h.share more (length tallies) some));
     }
 
 -- each takes the blocks of a part
-pub blocks_tallied : (pieces : List Piece) (lists : List (Vec Block Global)) (blocks : List Block) (old now : List Tally) → HaveTallied pieces old
+pub blocks_tallied : (profile : ℕ) (pieces : List Piece) (lists : List (Vec Block Global)) (blocks : List Block) (old now : List Tally) → HaveTallied profile pieces old
     → CanMerge lists → IsMerged lists blocks → length lists ≤ length old → length now ≡ length old
-    → ((share : ℕ → List Piece) → AreTalliesOf share old → AreTalliesOf (λ part. share part ++ map piece.OfEvent (blocks_at lists part)) now)
-    → HaveTallied (pieces ++ map piece.OfEvent blocks) now
-blocks_tallied pieces lists blocks old now h can merged within long adds =
+    → ((share : ℕ → List Piece) → AreTalliesOf profile share old → AreTalliesOf profile (λ part. share part ++ map piece.OfEvent (blocks_at lists part)) now)
+    → HaveTallied profile (pieces ++ map piece.OfEvent blocks) now
+blocks_tallied profile pieces lists blocks old now h can merged within long adds =
     let shares = shares_to h.share (length old) in
     let new = shares_to (λ k. map piece.OfEvent (blocks_at lists k)) (length old) in
     record {

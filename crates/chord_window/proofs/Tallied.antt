@@ -47,31 +47,31 @@ blocks_at_is (x ∷ xs) (suc k) v l is = blocks_at_is xs k v (omega (arith, l)) 
 -- the first tallies have the blocks of their parts besides, and the others are as they were
 pub record HaveAdded (lists : List (Vec Block Global)) (n : ℕ) (old now : List Tally) : Type 0 where
   pub long : length now ≡ length old
-  pub added : (k : ℕ) (t : Tally) (pieces : List Piece) → k < n → k < length old → IsTallyOf pieces (get_or old k t)
-      → IsTallyOf (pieces ++ map piece.OfEvent (blocks_at lists k)) (get_or now k t)
+  pub added : (profile k : ℕ) (t : Tally) (pieces : List Piece) → k < n → k < length old → IsTallyOf profile pieces (get_or old k t)
+      → IsTallyOf profile (pieces ++ map piece.OfEvent (blocks_at lists k)) (get_or now k t)
   pub others : (k : ℕ) (t : Tally) → n ≤ k → get_or now k t ≡ get_or old k t
 
 pub none_added : (lists : List (Vec Block Global)) (tallies : List Tally) → HaveAdded lists 0 tallies tallies
 none_added lists tallies = record {
   long = refl;
-  added = λ k t pieces l. absurd (omega (arith, l));
+  added = λ profile k t pieces l. absurd (omega (arith, l));
   others = λ k t l. refl;
 }
 
 pub one_added : (lists : List (Vec Block Global)) (n : ℕ) (old now : List Tally) → HaveAdded lists n old now → n < length old → (before after : Tally)
     → before ≡ get_or now n before
-    → ((pieces : List Piece) → IsTallyOf pieces before → IsTallyOf (pieces ++ map piece.OfEvent (blocks_at lists n)) after)
+    → ((profile : ℕ) (pieces : List Piece) → IsTallyOf profile pieces before → IsTallyOf profile (pieces ++ map piece.OfEvent (blocks_at lists n)) after)
     → HaveAdded lists (n + 1) old (set now n after)
 one_added lists n old now h inside before after read adds = record {
   long = omega (arith, length-set now n after, h.long);
-  added = λ k t pieces l i is. ⊎_elim
-      (λ s. subst (λ z. IsTallyOf (pieces ++ map piece.OfEvent (blocks_at lists k)) z)
+  added = λ profile k t pieces l i is. ⊎_elim
+      (λ s. subst (λ z. IsTallyOf profile (pieces ++ map piece.OfEvent (blocks_at lists k)) z)
       (sym (ap (λ j. get_or (set now n after) j t) s ∙ get_or-set_same now n after t (omega (arith, inside, h.long))))
-      (subst (λ j. IsTallyOf (pieces ++ map piece.OfEvent (blocks_at lists j)) after) (sym s)
-      (adds pieces (subst (λ z. IsTallyOf pieces z) (ap (λ j. get_or old j t) s ∙ sym (h.others n t (omega arith))
+      (subst (λ j. IsTallyOf profile (pieces ++ map piece.OfEvent (blocks_at lists j)) after) (sym s)
+      (adds profile pieces (subst (λ z. IsTallyOf profile pieces z) (ap (λ j. get_or old j t) s ∙ sym (h.others n t (omega arith))
       ∙ same_read now n t before (omega (arith, inside, h.long)) ∙ sym read) is))))
-      (λ ne. let differ : k ≢ n = ne in subst (λ z. IsTallyOf (pieces ++ map piece.OfEvent (blocks_at lists k)) z)
-      (sym (get_or-set_other now n k after t ne)) (h.added k t pieces (omega (arith, l, differ)) i is))
+      (λ ne. let differ : k ≢ n = ne in subst (λ z. IsTallyOf profile (pieces ++ map piece.OfEvent (blocks_at lists k)) z)
+      (sym (get_or-set_other now n k after t ne)) (h.added profile k t pieces (omega (arith, l, differ)) i is))
       (cases_eq k n);
   others = λ k t l. get_or-set_other now n k after t (λ s. omega (arith, s, l)) ∙ h.others k t (omega (arith, l));
 }
@@ -83,14 +83,14 @@ blocks_past (x ∷ xs) zero l = absurd (omega (arith, l))
 blocks_past (x ∷ xs) (suc k) l = blocks_past xs k (omega (arith, l))
 
 pub all_added : (lists : List (Vec Block Global)) (n : ℕ) (old now : List Tally) → HaveAdded lists n old now → length lists ≤ n
-    → (share : ℕ → List Piece) → AreTalliesOf share old
-    → AreTalliesOf (λ part. share part ++ map piece.OfEvent (blocks_at lists part)) now
-all_added lists n old now h all share are = λ part t l.
+    → (profile : ℕ) (share : ℕ → List Piece) → AreTalliesOf profile share old
+    → AreTalliesOf profile (λ part. share part ++ map piece.OfEvent (blocks_at lists part)) now
+all_added lists n old now h all profile share are = λ part t l.
     let before = are part t (omega (arith, l, h.long)) in
     ⊎_elim
-    (λ inside. h.added part t (share part) inside (omega (arith, l, h.long)) before)
-    (λ past. subst (λ z. IsTallyOf (share part ++ map piece.OfEvent (blocks_at lists part)) z) (sym (h.others part t past))
-    (subst (λ ps. IsTallyOf ps (get_or old part t))
+    (λ inside. h.added profile part t (share part) inside (omega (arith, l, h.long)) before)
+    (λ past. subst (λ z. IsTallyOf profile (share part ++ map piece.OfEvent (blocks_at lists part)) z) (sym (h.others part t past))
+    (subst (λ ps. IsTallyOf profile ps (get_or old part t))
     (sym (ap (λ (bs : List Block). share part ++ map piece.OfEvent bs) (blocks_past lists part (omega (arith, all, past))) ∙ append-nil (share part))) before))
     (cases_lt part n)
 
@@ -99,14 +99,14 @@ abbrev pub with_first : (ℕ → List Piece) → List Piece → ℕ → List Pie
 with_first share pieces zero = share zero ++ pieces
 with_first share pieces (suc part) = share (suc part)
 
-pub first_added : (share : ℕ → List Piece) (tallies : List Tally) (pieces : List Piece) → AreTalliesOf share tallies → (before after : Tally)
+pub first_added : (profile : ℕ) (share : ℕ → List Piece) (tallies : List Tally) (pieces : List Piece) → AreTalliesOf profile share tallies → (before after : Tally)
     → before ≡ get_or tallies 0 before
-    → ((earlier : List Piece) → IsTallyOf earlier before → IsTallyOf (earlier ++ pieces) after) → AreTalliesOf (with_first share pieces) (set tallies 0 after)
-first_added share [] pieces are before after read adds = λ part t l. absurd (omega (arith, l))
-first_added share (x ∷ xs) pieces are before after read adds = go
+    → ((earlier : List Piece) → IsTallyOf profile earlier before → IsTallyOf profile (earlier ++ pieces) after) → AreTalliesOf profile (with_first share pieces) (set tallies 0 after)
+first_added profile share [] pieces are before after read adds = λ part t l. absurd (omega (arith, l))
+first_added profile share (x ∷ xs) pieces are before after read adds = go
   where
-    go : AreTalliesOf (with_first share pieces) (after ∷ xs)
-    go zero t l = adds (share zero) (subst (λ z. IsTallyOf (share zero) z) (sym read) (are zero t l))
+    go : AreTalliesOf profile (with_first share pieces) (after ∷ xs)
+    go zero t l = adds (share zero) (subst (λ z. IsTallyOf profile (share zero) z) (sym read) (are zero t l))
     go (suc part) t l = are (suc part) t l
 
 tail : {A : Type 0} → List A → List A
@@ -131,12 +131,12 @@ shares_up share k (suc n) l = ⊎_elim
     (λ ne. let differ : k ≢ n = ne in omega (arith, shares_up share k n (omega (arith, l, differ)), length-append (shares_to share n) (share n)))
     (cases_eq k n)
 
-pub joined_more : (share : ℕ → List Piece) (done all : List Tally) (t joined both : Tally) → AreTalliesOf share all → (length done < length all)
+pub joined_more : (profile : ℕ) (share : ℕ → List Piece) (done all : List Tally) (t joined both : Tally) → AreTalliesOf profile share all → (length done < length all)
     → ((d : Tally) → get_or all (length done) d ≡ t)
-    → ((mine others : List Piece) → IsTallyOf mine joined → IsTallyOf others t → IsTallyOf (mine ++ others) both)
-    → IsTallyOf (shares_to share (length done)) joined → IsTallyOf (shares_to share (length (done ++ t ∷ []))) both
-joined_more share done all t joined both are inside place joins is = subst (λ n. IsTallyOf (shares_to share n) both) more
-    (joins (shares_to share (length done)) (share (length done)) is (subst (λ z. IsTallyOf (share (length done)) z) (place t) (are (length done) t inside)))
+    → ((mine others : List Piece) → IsTallyOf profile mine joined → IsTallyOf profile others t → IsTallyOf profile (mine ++ others) both)
+    → IsTallyOf profile (shares_to share (length done)) joined → IsTallyOf profile (shares_to share (length (done ++ t ∷ []))) both
+joined_more profile share done all t joined both are inside place joins is = subst (λ n. IsTallyOf profile (shares_to share n) both) more
+    (joins (shares_to share (length done)) (share (length done)) is (subst (λ z. IsTallyOf profile (share (length done)) z) (place t) (are (length done) t inside)))
   where
     more : suc (length done) ≡ length (done ++ t ∷ [])
     more = omega (arith, length-append done (t ∷ []))

@@ -13,17 +13,17 @@ blocks_at [] part = []
 blocks_at (blocks ∷ lists) zero = blocks.items
 blocks_at (blocks ∷ lists) (suc part) = blocks_at lists part
 
--- the tally of each part has its share
-abbrev pub AreTalliesOf : (ℕ → List Piece) → List Tally → Type 0
-AreTalliesOf share tallies = (part : ℕ) (t : Tally) → part < length tallies → IsTallyOf (share part) (slice_index_or tallies part t)
+-- the tally of each part has its share, and all are of one profile
+abbrev pub AreTalliesOf : (profile : ℕ) → (ℕ → List Piece) → List Tally → Type 0
+AreTalliesOf profile share tallies = (part : ℕ) (t : Tally) → part < length tallies → IsTallyOf profile (share part) (slice_index_or tallies part t)
 
 -- the shares of so many parts, one after another
 abbrev pub shares_to : (ℕ → List Piece) → ℕ → List Piece
 shares_to share zero = []
 shares_to share (suc part) = shares_to share part ++ share part
 
--- the tallies have these pieces together, each piece in one of them
-pub record HaveTallied (pieces : List Piece) (tallies : List Tally) : Type 0 where
+-- the tallies of a profile have these pieces together, each piece in one of them
+pub record HaveTallied (profile : ℕ) (pieces : List Piece) (tallies : List Tally) : Type 0 where
   pub share : ℕ → List Piece
-  pub each : AreTalliesOf share tallies
+  pub each : AreTalliesOf profile share tallies
   pub all : IsPermutation pieces (shares_to share (length tallies))

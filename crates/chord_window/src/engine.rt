@@ -77,7 +77,7 @@ impl Engine {
         let world = World::start(alloc, scenario, division)?;
         let clock = AuditClock::start(alloc, scenario)?;
         let mut tallies = Vec::new(alloc);
-        add_tallies(alloc, &mut tallies, division.parts())?;
+        add_tallies(alloc, scenario.profile(), &mut tallies, division.parts())?;
         Ok(Engine {
             world,
             clock,
@@ -113,7 +113,7 @@ impl Engine {
             spares,
         } = self;
         let world = world.redivide(alloc, scenario, division)?;
-        add_tallies(alloc, &mut tallies, division.parts())?;
+        add_tallies(alloc, scenario.profile(), &mut tallies, division.parts())?;
         Ok(Engine {
             world,
             clock,
@@ -172,7 +172,7 @@ impl Engine {
             &mut tallies[0],
             writer,
         )?;
-        let tally = join_all(alloc, tallies)?;
+        let tally = join_all(alloc, scenario.profile(), tallies)?;
         Ok(tally.report())
     }
 

@@ -12,12 +12,17 @@ use chord_trace::Tally;
 use std::alloc::Global;
 
 /// Adds tallies of nothing, until there is one for each part.
-pub(crate) fn add_tallies(alloc: Global, tallies: &mut Vec<Tally>, parts: u32) -> Result<(), Memory>
+pub(crate) fn add_tallies(
+    alloc: Global,
+    profile: u32,
+    tallies: &mut Vec<Tally>,
+    parts: u32,
+) -> Result<(), Memory>
     ensures each { OnOk result (parts ≤ length tallies.new.items) }
-    ensures pieces { OnOk result ((pieces : List Piece) → HaveTallied pieces tallies.old.items → HaveTallied pieces tallies.new.items) }
+    ensures pieces { OnOk result ((pieces : List Piece) → HaveTallied profile pieces tallies.old.items → HaveTallied profile pieces tallies.new.items) }
 {
     for _part in tallies.len()..parts as usize {
-        tallies.push(Tally::new(alloc))?;
+        tallies.push(Tally::new(alloc, profile))?;
     }
     Ok(())
 }
@@ -26,7 +31,7 @@ pub(crate) fn add_tallies(alloc: Global, tallies: &mut Vec<Tally>, parts: u32) -
 fn tally_blocks(tally: &mut Tally, blocks: &[Block]) -> Result<(), Memory>
     requires short { All (λ block. length block.lines ≤ 64) blocks.now }
     requires room { taken tally.old + length blocks.now ≤ 2 ^ 40 }
-    ensures pieces { OnOk result ((pieces : List Piece) → IsTallyOf pieces tally.old → IsTallyOf (pieces ++ map piece.OfEvent blocks.now) tally.new) }
+    ensures pieces { OnOk result ((profile : ℕ) (pieces : List Piece) → IsTallyOf profile pieces tally.old → IsTallyOf profile (pieces ++ map piece.OfEvent blocks.now) tally.new) }
 {
     for block in blocks {
         tally.add(block)?;
@@ -40,7 +45,7 @@ pub(crate) fn tally_parts(tallies: &mut Vec<Tally>, lists: &[Vec<Block>]) -> Res
     requires short { (part : ℕ) → All (λ block. length block.lines ≤ 64) (blocks_at lists.now part) }
     requires room { (part : ℕ) (t : ATally) → part < length tallies.old.items → taken (slice_index_or tallies.old.items part t) + length (blocks_at lists.now part) ≤ 2 ^ 40 }
     ensures each { OnOk result (length tallies.new.items ≡ length tallies.old.items) }
-    ensures pieces { OnOk result ((share : ℕ → List Piece) → AreTalliesOf share tallies.old.items → AreTalliesOf (λ part. share part ++ map piece.OfEvent (blocks_at lists.now part)) tallies.new.items) }
+    ensures pieces { OnOk result ((profile : ℕ) (share : ℕ → List Piece) → AreTalliesOf profile share tallies.old.items → AreTalliesOf profile (λ part. share part ++ map piece.OfEvent (blocks_at lists.now part)) tallies.new.items) }
 {
     for part in 0..lists.len() {
         tally_blocks(&mut tallies[part], lists[part].as_slice())?;
@@ -48,12 +53,12 @@ pub(crate) fn tally_parts(tallies: &mut Vec<Tally>, lists: &[Vec<Block>]) -> Res
     Ok(())
 }
 
-/// The tally of what all have, in their order.
-pub(crate) fn join_all(alloc: Global, tallies: Vec<Tally>) -> Result<Tally, Memory>
-    requires room { (share : ℕ → List Piece) × AreTalliesOf share tallies.items × (length (shares_to share (length tallies.items)) ≤ 2 ^ 40) }
-    ensures pieces { IfOk result (λ joined. (share : ℕ → List Piece) → AreTalliesOf share tallies.items → IsTallyOf (shares_to share (length tallies.items)) joined) }
+/// The tally of what all have, in their order. All are of this profile.
+pub(crate) fn join_all(alloc: Global, profile: u32, tallies: Vec<Tally>) -> Result<Tally, Memory>
+    requires room { (share : ℕ → List Piece) × AreTalliesOf profile share tallies.items × (length (shares_to share (length tallies.items)) ≤ 2 ^ 40) }
+    ensures pieces { IfOk result (λ joined. (share : ℕ → List Piece) → AreTalliesOf profile share tallies.items → IsTallyOf profile (shares_to share (length tallies.items)) joined) }
 {
-    let mut joined = Tally::new(alloc);
+    let mut joined = Tally::new(alloc, profile);
     for tally in tallies {
         joined = joined.join(tally)?;
     }

@@ -7,6 +7,6 @@ use Rattle.chord_window.proofs.tallies.add_tallies.Goals as goal
 pub loop-part-preserved : goal.loop-part-preserved
 loop-part-preserved c = record {
   long = omega (arith, ap length c.in_ok-push.ensures.items, length-append c.loop-part.tallies.items (c.new.result ∷ []), c.loop-part.invariant.long);
-  pieces = λ pieces h. subst (λ (ts : List Tally). HaveTallied pieces ts) (sym c.in_ok-push.ensures.items)
-      (one_tallied pieces c.loop-part.tallies.items c.new.result (c.new.ensures) (c.loop-part.invariant.pieces pieces h));
+  pieces = λ pieces h. subst (λ (ts : List Tally). HaveTallied c.args.profile pieces ts) (sym c.in_ok-push.ensures.items)
+      (one_tallied c.args.profile pieces c.loop-part.tallies.items c.new.result (c.new.ensures) (c.loop-part.invariant.pieces pieces h));
 }

@@ -10,5 +10,5 @@ invariant-loop-tally l = record {
   can_next : (goal.iterator-loop-tally).can_next l.tally-iterator;
   is_finite : (goal.iterator-loop-tally).is_finite l.tally-iterator;
   whole : l.yielded ++ into_iter_items l.tally-iterator ≡ l.fn.tallies.items;
-  joined : (share : ℕ → List Piece) → AreTalliesOf share l.fn.tallies.items → IsTallyOf (shares_to share (length l.yielded)) l.joined;
+  joined : (share : ℕ → List Piece) → AreTalliesOf l.profile share l.fn.tallies.items → IsTallyOf l.profile (shares_to share (length l.yielded)) l.joined;
 }

@@ -32,8 +32,8 @@ loop-part-preserved c =
     let inside : c.loop-part.part < length c.args.tallies.now.items = omega (arith, c.loop-part-test.true, c.requires.each) in
     one_added c.args.lists.now c.loop-part.part c.args.tallies.now.items c.loop-part.tallies.items c.loop-part.invariant inside c.index_mut.result.now
     c.tally_blocks.new.tally c.index_mut.ensures.value
-    (λ pieces is. subst (λ (l : List Block). IsTallyOf (pieces ++ map piece.OfEvent l) c.tally_blocks.new.tally) (sym here)
-    (c.in_ok-tally_blocks.ensures.pieces pieces is))
+    (λ profile pieces is. subst (λ (l : List Block). IsTallyOf profile (pieces ++ map piece.OfEvent l) c.tally_blocks.new.tally) (sym here)
+    (c.in_ok-tally_blocks.ensures.pieces profile pieces is))
 
 pub returns-clause-pieces : goal.returns-clause-pieces
 returns-clause-pieces c =

@@ -1,5 +1,5 @@
 -- After the last event, the audits that are left end the trace.
-use Rattle.std.proofs.Common.{ℕ, List, length, sym, subst}
+use Rattle.std.proofs.Common.{ℕ, List, length, set, sym, subst}
 use Rattle.std.specs.List.{All}
 use Rattle.chord_audit.specs.Audit.{AreStates}
 use Rattle.chord_machine.specs.Chord.{chord}
@@ -7,8 +7,11 @@ use Rattle.chord_model.specs.Histories.{history, state}
 use Rattle.chord_node.specs.declared.state.NodeState.{NodeState}
 use Rattle.chord_node.specs.Invariant.{AllNodes}
 use Rattle.chord_output.specs.Output.{Adds, audits_at, due}
+use Rattle.chord_trace.specs.declared.piece.Piece.{Piece}
+use Rattle.chord_trace.specs.Tally.{IsTallyOf}
 use Rattle.chord_trace.specs.Texts.{pieces_text}
 use Rattle.chord_trace.specs.Writing.{AppendsFront}
+use Rattle.chord_window.specs.Tallies.{AreTalliesOf, shares_to}
 use Rattle.chord_window.proofs.EngineCourse.{are_states, audits_fit, states_known}
 use Rattle.chord_window.proofs.Endings.{begin_end, not_over_limit, shares_fit, whole_trace_reported, whole_trace_tallied, whole_trace_written}
 use Rattle.chord_window.proofs.engine.Engine.finish.Goals as goal
@@ -71,7 +74,7 @@ join_all-requires g c =
     record {
       room = (
         tallied.share,
-        tallied.each,
+        subst (λ (p : ℕ). AreTalliesOf p tallied.share (set e.tallies.items 0 c.put_audits.new.tally)) (sym c.profile.ensures) tallied.each,
         shares_fit sc ranges c.requires.at.0 _ e c.requires.at.1 c.requires.ended some c.index_mut.result.now
             c.put_audits.new.tally c.index_mut.ensures.value adds.tallied (length c.put_audits.new.clock) c.in_ok-put_audits.ensures.size,
       );
@@ -101,7 +104,11 @@ returns-clause-report g c =
     (are_states sc ranges c.requires.at.0 _ e c.requires.at.1)))) in
     whole_trace_reported sc ranges c.requires.at.0 _ e c.requires.at.1 c.requires.ended c.recall_division.ensures.few.0
     c.index_mut.result.now c.put_audits.new.tally c.index_mut.ensures.value adds.tallied
-    c.in_ok-tally.tally c.report.result c.in_ok-tally.ensures.pieces c.report.ensures
+    c.in_ok-tally.tally c.report.result
+    (subst (λ (p : ℕ). (share : ℕ → List Piece) → AreTalliesOf p share (set e.tallies.items 0 c.put_audits.new.tally)
+    → IsTallyOf p (shares_to share (length (set e.tallies.items 0 c.put_audits.new.tally))) c.in_ok-tally.tally) c.profile.ensures
+    c.in_ok-tally.ensures.pieces)
+    (c.report.ensures sc.profile)
 
 pub returns-clause-within : goal.returns-clause-within
 returns-clause-within g c = not_over_limit c.args.scenario.now c.recall_range.ensures c.requires.at.0 _ c.args.self c.requires.at.1 c.requires.ended

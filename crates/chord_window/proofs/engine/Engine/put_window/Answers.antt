@@ -177,9 +177,9 @@ returns-clause-at g c = λ old t.
     (subst (λ (bs : List Block). Appends (g.W.Write.contents c.put_audits.new.writer.inner) (g.W.Write.contents c.write_blocks.new.writer.inner)
     (flat_map (block_text sc) bs)) c.as_slice-3.ensures.value c.in_ok-write_blocks.ensures.whole)
     c.in_ok-tally_parts.ensures.each
-    (subst (λ (ls : List (Vec Block Global)). (share : ℕ → List Piece) → AreTalliesOf share (set e.tallies.items 0 c.put_audits.new.tally)
-    → AreTalliesOf (λ part. share part ++ map piece.OfEvent (blocks_at ls part)) c.tally_parts.new.tallies.items)
-    (c.as_slice-2.ensures.value ∙ c.in-Ok.ensures.blocks) c.in_ok-tally_parts.ensures.pieces)
+    (subst (λ (ls : List (Vec Block Global)). (share : ℕ → List Piece) → AreTalliesOf sc.profile share (set e.tallies.items 0 c.put_audits.new.tally)
+    → AreTalliesOf sc.profile (λ part. share part ++ map piece.OfEvent (blocks_at ls part)) c.tally_parts.new.tallies.items)
+    (c.as_slice-2.ensures.value ∙ c.in-Ok.ensures.blocks) (c.in_ok-tally_parts.ensures.pieces sc.profile))
 
 pub returns-clause-more : goal.returns-clause-more
 returns-clause-more g c =

@@ -1,7 +1,8 @@
-use Rattle.std.proofs.Common.{ap, arith, refl}
+use Rattle.std.proofs.Common.{ℕ, ap, arith, refl, subst}
 use Rattle.chord_model.specs.Windows.{Division}
 use Rattle.chord_window.proofs.EngineCourse.{at_divided}
 use Rattle.chord_window.specs.declared.engine.Engine.{Engine}
+use Rattle.chord_window.specs.Tallies.{HaveTallied}
 use Rattle.chord_window.proofs.engine.Engine.redivide.Goals as goal
 
 pub returns-clause-at : goal.returns-clause-at
@@ -9,4 +10,5 @@ returns-clause-at c = λ old now at.
     let f : Engine = record { world = c.in_ok-world.world; clock = c.args.self.clock; tallies = c.add_tallies.new.tallies; spares = c.args.self.spares } in
     at_divided c.args.scenario.now old now c.args.self f c.in_ok-world.ensures.world c.in_ok-world.ensures.count refl
     (omega (arith, c.in_ok-add_tallies.ensures.each, c.parts.ensures, ap (λ (d : Division). d.parts) c.in_ok-world.ensures.division))
-    c.in_ok-add_tallies.ensures.pieces at
+    (λ pieces. subst (λ (p : ℕ). HaveTallied p pieces c.args.self.tallies.items → HaveTallied p pieces c.add_tallies.new.tallies.items) c.profile.ensures
+    (c.in_ok-add_tallies.ensures.pieces pieces)) at
