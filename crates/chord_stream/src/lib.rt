@@ -1,8 +1,9 @@
 //! The random words of the nodes: each node draws from a stream of its own, at places that it counts.
 #![tactic(auto)]
 
-ghost use Rattle.std.specs.Prelude.{◌≡◌, ◌%◌, ◌<◌, ◌≤◌};
-ghost use Rattle.chord_stream.specs.Word.{word};
+ghost use Rattle.std.specs.Prelude.{◌≡◌, ◌+◌, ◌%◌, ◌<◌, ◌≤◌};
+ghost use Rattle.rand_chacha.specs.ChaCha.{key_of};
+ghost use Rattle.chord_stream.specs.Word.{seed_bytes, word};
 ghost use Rattle.chord_stream.specs.Streams.{StreamOf};
 
 use rand_chacha::ChaCha8Rng;
@@ -40,6 +41,24 @@ impl Stream {
     pub fn word_at(&self, place: u64) -> u32
         ensures { result ≡ word self.now.seed self.now.node place }
     {
+        self.generator_at(place).next_word()
+    }
+
+    /// The words at a place and at the next one. Drawing them together costs what one of them costs.
+    #[tactic(auto, unfolding(crate::specs::Word::word))]
+    pub fn pair_at(&self, place: u64) -> (u32, u32)
+        ensures first { result.0 ≡ word self.now.seed self.now.node place }
+        ensures second { result.1 ≡ word self.now.seed self.now.node (place + 1) }
+    {
+        let mut generator = self.generator_at(place);
+        let first = generator.next_word();
+        (first, generator.next_word())
+    }
+
+    /// The generator whose next word is that at a place.
+    fn generator_at(&self, place: u64) -> ChaCha8Rng
+        ensures { result ≡ record { key = key_of (seed_bytes self.now.seed); stream = self.now.node; word_pos = place } }
+    {
         let [a, b, c, d, e, f, g, h] = self.seed.to_le_bytes();
         let key = [
             a, b, c, d, e, f, g, h, 0, 0, 0, 0, 0, 0, 0, 0, 0, 0, 0, 0, 0, 0, 0, 0, 0, 0, 0, 0, 0,
@@ -48,7 +67,7 @@ impl Stream {
         let mut generator = ChaCha8Rng::from_seed(key);
         generator.set_stream(u64::from(self.node));
         generator.set_word_pos(u128::from(place));
-        generator.next_word()
+        generator
     }
 
     /// The number below `n` that the word at a place gives: the word modulo `n`.
