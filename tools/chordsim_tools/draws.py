@@ -39,8 +39,16 @@ class Draws:
         return least + self.below(greatest - least + 1)
 
     def key(self, bits: int) -> int:
-        """A number below 2^bits, from two words."""
-        return (self.word() % 2**32 << 32 | self.word() % 2**32) >> (64 - bits)
+        """A number below 2^bits, from two words, or four where there are more than 64 bits."""
+        wide = self.half_words(2) if bits <= 64 else self.half_words(4)
+        return wide >> (-bits % 64)
+
+    def half_words(self, count: int) -> int:
+        """The number that so many times 32 bits write, the first ones the highest."""
+        number = 0
+        for _ in range(count):
+            number = number << 32 | self.word() % 2**32
+        return number
 
     def waiting(self) -> Decimal:
         """An exponential waiting time with the mean 1."""

@@ -41,6 +41,7 @@ examples:
   tools/generate --nodes 128 --bits 64 --churn-uniform 20s..60s 5s..15s --stay 2 --seed 11
   tools/generate --nodes 256 --lifetime pareto:1.5:20s --down exp:10s --duration 5m -o heavy.toml
   tools/generate --initial 8 --arrive 5s..5055ms --duration 1m  a storm of joins
+  tools/generate --profile 2 --loss 20000 --spread 5ms          two messages of a hundred are lost, the others late
   tools/generate --lookups 0.5 --keys zipf:0.9:1000 --seed 3
 A scenario that is run with a latency file wants a --window of at most the file's least latency and a --timeout above
 twice its greatest one; tools/latency says both when it writes the file.
@@ -49,10 +50,10 @@ status: 0 the scenario is written; 2 the words are wrong, or ask for more than 1
 written. 130 interrupted. A file is whole or not there."""
 
 OPTIONS = (
-    ("profile", "1", "the set of rules (1, the only one there is now)"),
-    ("nodes", "N", "2 to 512 nodes, and at most 2^BITS (64)"),
+    ("profile", "N", "the set of rules: 1, or 2 for a network with loss and spread, wider identifiers and more nodes (1)"),
+    ("nodes", "N", "2 to 512 nodes, in profile 2 to 4096, and at most 2^BITS (64)"),
     ("initial", "N", "how many of them, the first ones, are members at the start: 2 to NODES (all)"),
-    ("bits", "N", "bits of an identifier: 3 to 64 (32)"),
+    ("bits", "N", "bits of an identifier: 3 to 64, in profile 2 to 128 (32)"),
     ("list", "N", "entries of a successor list: 1 to 16, and below the initial nodes (4, or as many as may be)"),
     ("duration", "TIME", "1us to 1000000s (120s)"),
     ("window", "TIME", "1us to 1000s, and at most the latency (the latency)"),
@@ -63,6 +64,8 @@ OPTIONS = (
     ("finger", "TIME", "1us to 1000s (250ms)"),
     ("jitter", "TIME", "0us to 1000s (50ms)"),
     ("max-events", "N", "1 to 50000000 (50000000)"),
+    ("loss", "N", "profile 2 alone: messages lost of a million, 0 to 1000000 (0)"),
+    ("spread", "TIME", "profile 2 alone: up to this much is added to each latency, 0us to 1000s (0us)"),
     ("seed", "N", "of the simulated streams, and of all that is drawn here: 0 to 9223372036854775807 (1)"),
     ("churn-uniform", "SPAN", "lives and down times that the program draws: two spans of 1us to 1000s"),
     ("lifetime", "LAW", f"lives drawn here: {LIVES}"),

@@ -5,8 +5,8 @@ from decimal import Decimal
 
 from chordsim_tools.command_line import BadWords
 from chordsim_tools.draws import Distribution, Zipf, distribution_of, zipf_of
-from chordsim_tools.options import Words, within
-from chordsim_tools.quantities import BILLION, decimal_of, span_of, time_text, whole_of
+from chordsim_tools.options import Words
+from chordsim_tools.quantities import BILLION, decimal_of, span_of, time_text
 from chordsim_tools.scenario import Churn, Lookups
 
 LENGTH = (1, BILLION)
@@ -36,12 +36,14 @@ class Plan:
 def plan_of(given: dict[str, str | None]) -> Plan:
     """The plan of the words, or BadWords with the first option that does not fit."""
     words = Words(given)
-    words.read("profile", 1, within(whole_of, 1, 1), "1 is the only set of rules there is now")
-    bits = words.count("bits", 32, 3, 64)
-    room = min(512, 2**bits)
-    nodes = words.count("nodes", min(64, room), 2, room, f" (at most 512 and 2^{bits}, by --bits)")
+    profile = words.count("profile", 1, 1, 2)
+    most_bits, most_nodes = (128, 4096) if profile == 2 else (64, 512)
+    bits = words.count("bits", 32, 3, most_bits, f" (in profile {profile})")
+    room = min(most_nodes, 2**bits)
+    why = f" (at most {most_nodes} in profile {profile}, and 2^{bits}, by --bits)"
+    nodes = words.count("nodes", min(64, room), 2, room, why)
     initial = words.count("initial", nodes, 2, nodes, " (at most --nodes)")
-    top = top_of(words, bits, initial)
+    top = top_of(words, bits, initial) | network_of(words, profile)
     churns = words.has("churn-uniform") or words.has("lifetime")
     by_command = words.has("lifetime") or initial < nodes
     check_companions(words, initial < nodes, churns, by_command)
@@ -70,7 +72,7 @@ def top_of(words: Words, bits: int, initial: int) -> dict[str, int]:
     audit = min(BILLION, max(1, duration // 24))
     least_audit = -(-duration // 1_000_000)
     return {
-        "profile": 1,
+        "profile": words.count("profile", 1, 1, 2),
         "bits": bits,
         "list": entries,
         "seed": seed,
@@ -83,6 +85,18 @@ def top_of(words: Words, bits: int, initial: int) -> dict[str, int]:
         "finger_us": words.time("finger", 250_000, *LENGTH),
         "jitter_us": words.time("jitter", 50_000, 0, BILLION),
         "max_events": words.count("max-events", 50_000_000, 1, 50_000_000),
+    }
+
+
+def network_of(words: Words, profile: int) -> dict[str, int]:
+    """The keys of loss and spread, which profile 2 alone has."""
+    for name in ("loss", "spread"):
+        words.only_with(name, profile == 2, "--profile 2")
+    if profile == 1:
+        return {}
+    return {
+        "loss_ppm": words.count("loss", 0, 0, 1_000_000),
+        "spread_us": words.time("spread", 0, 0, BILLION),
     }
 
 

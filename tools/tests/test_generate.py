@@ -3,6 +3,7 @@
 import os
 import subprocess
 import tempfile
+import tomllib
 from pathlib import Path
 from random import Random
 from unittest import mock
@@ -33,7 +34,13 @@ REFUSED = [
     ("--audit 119us", "--audit: a time of 120us to 1000s"),
     ("--jitter 1001s", "--jitter: a time of 0us to 1000s"),
     ("--max-events 50000001", "--max-events: 1 to 50000000"),
-    ("--profile 2", "--profile: 1 is the only"),
+    ("--profile 3", "--profile: 1 to 2"),
+    ("--profile 2 --bits 129", "--bits: 3 to 128"),
+    ("--profile 2 --nodes 4097", "--nodes: 2 to 4096"),
+    ("--profile 2 --loss 1000001", "--loss: 0 to 1000000"),
+    ("--profile 2 --spread 1001s", "--spread: a time of 0us to 1000s"),
+    ("--loss 0", "--loss: only with --profile 2"),
+    ("--profile 1 --spread 1ms", "--spread: only with --profile 2"),
     ("--lookup-gap 2s..1s", "--lookup-gap: none or MIN..MAX"),
     ("--lookup-gap 0..1s", "--lookup-gap: none or MIN..MAX"),
     ("--churn-uniform 1s..2s 0..1s", "--churn-uniform: two spans"),
@@ -108,6 +115,20 @@ def test_all_plain_words() -> None:
     assert ring.churn == Churn(12_000, 13_000, 14_000, 15_000)
     assert [node.initial for node in ring.nodes] == [True] * 6 + [False] * 3
     assert [node.churn for node in ring.nodes] == [False] + [True] * 8
+
+
+def test_second_profile() -> None:
+    """Loss and spread stand behind `max_events`; keys have up to 128 bits, and nodes are as many as may be."""
+    words = "--profile 2 --bits 128 --nodes 4096 --loss 20000 --spread 5ms --lookups 0.001 --duration 10s --seed 3"
+    ring = tomllib.loads(text_of(words))
+    assert [ring[key] for key in ("profile", "bits", "loss_ppm", "spread_us")] == [2, 128, 20_000, 5000]
+    assert list(ring)[12:15] == ["max_events", "loss_ppm", "spread_us"]
+    assert len(ring["node"]) == 4096
+    keys = [int(command["key"], 16) for command in ring["command"]]
+    assert keys and all(key >> 128 == 0 for key in keys) and any(key >> 120 for key in keys)
+    plain = tomllib.loads(text_of("--profile 2"))
+    assert (plain["loss_ppm"], plain["spread_us"]) == (0, 0)
+    assert text_of("--profile 1 --seed 1").split("\n", 4)[4] == text_of("--seed 1").split("\n", 4)[4]
 
 
 def test_defaults_that_follow() -> None:
@@ -308,12 +329,14 @@ def test_link() -> None:
 
 def random_words(random: Random) -> list[str]:
     """Words that the tool takes."""
-    bits = random.choice((3, 4, 8, 31, 32, 33, 63, 64))
+    profile = random.choice((1, 2))
+    bits = random.choice((3, 4, 8, 31, 32, 33, 63, 64) if profile == 1 else (3, 8, 64, 65, 96, 97, 127, 128))
     nodes = random.randint(2, min(60, 2**bits))
     initial = random.randint(2, nodes)
     duration = random.choice((1, 30, 10**6, 10**7))
     latency = random.choice((1, 500, 20_000, 10**9))
-    words = {"bits": bits, "nodes": nodes, "initial": initial, "duration": duration, "latency": latency}
+    words = {"profile": profile, "bits": bits, "nodes": nodes, "initial": initial}
+    words |= {"duration": duration, "latency": latency}
     words["seed"] = random.choice((0, 5, 2**63 - 1))
     words["list"] = random.randint(1, min(16, initial - 1))
     words["window"] = random.randint(1, latency)
@@ -331,6 +354,8 @@ def random_words(random: Random) -> list[str]:
         given += ["--arrive", f"0..{duration - 1}us"]
     if random.random() < 0.5:
         given += ["--lookups", random.choice(("0.5", "3.25")), "--keys", random.choice(("uniform", "zipf:0.8:7"))]
+    if profile == 2 and random.random() < 0.7:
+        given += ["--loss", random.choice(("0", "1000000", "20000")), "--spread", random.choice(("0", "3us", "1000s"))]
     if random.random() < 0.3:
         given += ["--lookup-gap", random.choice(("none", "1..1000s"))]
     return given
