@@ -100,7 +100,7 @@ const CHANGES: [(&str, &str, &str); 106] = [
     ("id = 0", "id = true", "S4 WrongType node 1 id"),
     ("do = \"lookup\"", "do = 1", "S4 WrongType command 1 do"),
     ("profile = 1", "profile = 0", "S5 OutOfRange top profile"),
-    ("profile = 1", "profile = 2", "S5 OutOfRange top profile"),
+    ("profile = 1", "profile = 2", GOOD),
     ("profile = 1", "profile = 3", "S5 OutOfRange top profile"),
     ("bits = 3", "bits = 2", "S5 OutOfRange top bits"),
     ("bits = 3", "bits = 64", GOOD),
@@ -442,7 +442,7 @@ const ROWS: [(&str, &str); 22] = [
     ("\"n0,n3,15", "S12 BadLatencyRow row 1"),
 ];
 
-fn answer(rt: &HostRuntime, toml: &[u8], csv: &[u8]) -> Result<String, Fail> {
+pub fn answer(rt: &HostRuntime, toml: &[u8], csv: &[u8]) -> Result<String, Fail> {
     match read_scenario(rt.alloc(), toml, csv) {
         Ok(scenario) => {
             let (nodes, commands) = (scenario.nodes(), scenario.commands());

@@ -43,6 +43,8 @@ mod rings;
 #[cfg(test)]
 mod searches;
 #[cfg(test)]
+mod second_profile;
+#[cfg(test)]
 mod streams;
 #[cfg(test)]
 mod triples;

@@ -74,7 +74,7 @@ fn random_shape(dice: &mut Dice, shortest: u32) -> Shape
     }
 }
 
-/// The settings of a random scenario.
+/// The settings of a random scenario, in either profile.
 fn write_settings(text: &mut String, dice: &mut Dice, shape: Shape) -> Result<(), Fail> {
     let Shape {
         bits,
@@ -83,7 +83,13 @@ fn write_settings(text: &mut String, dice: &mut Dice, shape: Shape) -> Result<()
         duration,
         ..
     } = shape;
-    writeln!(text, "profile = 1\nbits = {bits}\nlist = {list}")?;
+    if dice.below(2) == 0 {
+        writeln!(text, "profile = 1")?;
+    } else {
+        let (loss, spread) = (dice.below(200_000), dice.below(60));
+        writeln!(text, "profile = 2\nloss_ppm = {loss}\nspread_us = {spread}")?;
+    }
+    writeln!(text, "bits = {bits}\nlist = {list}")?;
     writeln!(text, "seed = {}", dice.below(1_000_000))?;
     writeln!(text, "duration_us = {duration}\nwindow_us = {window}")?;
     writeln!(

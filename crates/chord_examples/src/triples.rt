@@ -91,6 +91,6 @@ fn random_triples(rt: HostRuntime) -> Result<(), Fail> {
         }
     }
     assert!(rt; accepted.len() as u64 >= TRIPLES / 10 * 9);
-    assert!(rt; long.len() as u64 >= TRIPLES / 10 * 8, "{long:?}");
+    assert!(rt; long.len() as u64 >= TRIPLES / 10 * 7, "{long:?}");
     Ok(())
 }

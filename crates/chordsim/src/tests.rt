@@ -196,6 +196,26 @@ fn answers(rt: HostRuntime) -> Result<(), Fail> {
     Ok(())
 }
 
+/// Identifiers of 128 bits: the greatest one, and the first 16 bytes of the digests of `a` and `c`.
+#[test]
+fn wide_identifiers(rt: HostRuntime) -> Result<(), Fail> {
+    let alloc = rt.alloc();
+    let text = SCENARIO.replacen(alloc, "profile = 1\nbits = 8", "profile = 2\nbits = 128", 1)?;
+    let greatest = "\"ffffffffffffffffffffffffffffffff\"";
+    let text = text.as_str().replacen(alloc, "\"ff\"", greatest, 1)?;
+    let scenario = read_scenario(alloc, text.as_str().as_bytes(), b"")
+        .ok()
+        .ok_or("the scenario is refused")?;
+    let ids = answer(alloc, Question::Idents, &scenario)?;
+    assert!(rt;
+        ids.as_str()
+            == "n0 340282366920938463463374607431768211455\n\
+                a 179403677583746918774346401754890562282\nc 176315281104954437691133075835729201968\n",
+        "{ids}"
+    );
+    Ok(())
+}
+
 /// Asserts what standard error and the status say of the fault.
 fn failed(
     rt: &(impl AllocGlobal + Abort),

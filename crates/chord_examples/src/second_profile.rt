@@ -1,0 +1,344 @@
+//! Worked examples of the second profile: messages that are lost or late, wide identifiers, many nodes.
+ghost use Rattle.std.specs.Prelude.{◌<◌, ◌≤◌};
+
+use crate::engines::{ENGINES, Engine, Shape, run_by};
+use crate::examples::{EXAMPLES, Example};
+use crate::faults::{BASE, answer};
+use crate::playing::{SETTINGS, THREE, text_of};
+use chord_circle::Raw;
+use chord_crew::MOST_SEATS;
+use chord_scenario::{Scenario, read_scenario};
+use chord_stream::Stream;
+use chord_trace::{Report, Watched};
+use chord_window::MOST_PARTS;
+use std::alloc::Global;
+use std::sync::Wait;
+use std::test::Fail;
+use std::thread::Threads;
+
+/// Two parts, and a worker for each.
+const PAIR: Shape = Shape {
+    parts: 2,
+    workers: 2,
+};
+
+/// What a run left: its trace, and all lines of its report.
+#[derive(Drop)]
+struct Told {
+    trace: String,
+    report: String,
+}
+
+/// The scenario of an example, in the second profile and with these settings beside its own.
+fn in_second_profile(alloc: Global, own: &str, example: &Example) -> Result<Scenario, Fail> {
+    let settings = format!(in alloc; "{own}{}", example.settings)?;
+    let text = text_of(alloc, settings.as_str(), example.nodes, example.commands)?;
+    let text = text
+        .as_str()
+        .replacen(alloc, "profile = 1", "profile = 2", 1)?;
+    let scenario = read_scenario(alloc, text.as_str().as_bytes(), b"").ok();
+    Ok(scenario.ok_or(example.name)?)
+}
+
+/// All lines of a report.
+fn lines_of(alloc: Global, report: &Report) -> Result<String, Fail> {
+    let mut writer = Watched::new(Vec::with_capacity(alloc, 1024)?);
+    report.write(alloc, &mut writer)?;
+    Ok(String::from_utf8_lossy(alloc, writer.into_inner().as_slice())?)
+}
+
+/// What a run by an engine leaves.
+fn told_by<T: Threads + Wait + Sync>(
+    rt: &T,
+    alloc: Global,
+    engine: Engine,
+    shape: Shape,
+    scenario: &Scenario,
+) -> Result<Told, Fail>
+    requires parts { (0 < shape.parts) × (shape.parts ≤ MOST_PARTS) }
+    requires workers { (0 < shape.workers) × (shape.workers ≤ MOST_SEATS) }
+{
+    let mut writer = Watched::new(Vec::new(alloc));
+    let report = run_by(rt, alloc, engine, shape, scenario, &mut writer)?;
+    Ok(Told {
+        trace: String::from_utf8_lossy(alloc, writer.into_inner().as_slice())?,
+        report: lines_of(alloc, &report)?,
+    })
+}
+
+/// An example that draws nothing that makes a difference has its trace in the second profile too, and one line more in
+/// its report.
+#[test]
+fn examples_without_loss(rt: HostRuntime) -> Result<(), Fail> {
+    let alloc = rt.alloc();
+    for example in &EXAMPLES {
+        let name = example.name;
+        let first = example.scenario(alloc).ok().ok_or(name)?;
+        let one_profile = told_by(&rt, alloc, Engine::Serial, PAIR, &first)?;
+        let report = format!(in alloc; "{}losses 0\n", one_profile.report)?;
+        let scenario = in_second_profile(alloc, "", example)?;
+        for engine in ENGINES {
+            let told = told_by(&rt, alloc, engine, PAIR, &scenario)?;
+            assert!(rt;
+                told.trace.as_str() == example.trace,
+                "{name}, {engine:?}: {}",
+                told.trace
+            );
+            assert!(rt;
+                told.report == report,
+                "{name}, {engine:?}: {}",
+                told.report
+            );
+        }
+    }
+    Ok(())
+}
+
+/// The example in which n3 looks 1 up and asks n0.
+const ONE_HOP: &str = "[[command]]\nat_us = 100\ndo = \"lookup\"\nnode = \"n3\"\nkey = 1\n";
+
+/// A lookup of n3 whose messages are all lost.
+const LOSE_ALL: Example = Example {
+    name: "lose all",
+    settings: SETTINGS,
+    nodes: THREE,
+    commands: ONE_HOP,
+    trace: "100 n3 lookup 1\n\
+        100 n3 lose step n0\n\
+        140 n3 timeout n0\n\
+        140 n3 found 1 n1 hops=0 timeouts=1 us=40\n\
+        200 audit members=3 dead=0 ring=3 ordered=yes principals=3 sufficient=yes\n",
+    report: "events 2\nmembers 0\njoin-failed 0\ncrashes 0\nstranded 0\ndrops 0\nlate 0\ntimeouts 1\n\
+        lookups 1\nfound 1\nlost 0\nbusy 0\nignored 0\nunfinished 0\nhops-sum 0\nhops-greatest 0\n\
+        us-sum 40\nus-least 40\nus-median 40\nus-greatest 40\naudits 1\nringless 0\nunordered 0\n\
+        insufficient 0\nlosses 1\n",
+};
+
+/// A lookup of n3 by way of n0, which has crashed.
+const SILENT: Example = Example {
+    name: "words of the sender",
+    settings: SETTINGS,
+    nodes: THREE,
+    commands: "[[command]]\nat_us = 50\ndo = \"crash\"\nnode = \"n0\"\n\
+        [[command]]\nat_us = 100\ndo = \"lookup\"\nnode = \"n3\"\nkey = 1\n",
+    trace: "50 n0 crash\n\
+        100 n3 lookup 1\n\
+        114 n0 drop step n3\n\
+        140 n3 timeout n0\n\
+        140 n3 found 1 n1 hops=0 timeouts=1 us=40\n\
+        200 audit members=2 dead=0 ring=2 ordered=yes principals=2 sufficient=no\n",
+    report: "events 4\nmembers 0\njoin-failed 0\ncrashes 1\nstranded 0\ndrops 1\nlate 0\ntimeouts 1\n\
+        lookups 1\nfound 1\nlost 0\nbusy 0\nignored 0\nunfinished 0\nhops-sum 0\nhops-greatest 0\n\
+        us-sum 40\nus-least 40\nus-median 40\nus-greatest 40\naudits 1\nringless 0\nunordered 0\n\
+        insufficient 1\nlosses 0\n",
+};
+
+/// A lost message uses its number up, makes no event and leaves a line; the words of a message are its sender's.
+#[test]
+fn messages_that_are_lost_or_late(rt: HostRuntime) -> Result<(), Fail> {
+    let alloc = rt.alloc();
+    for (own, example) in [
+        ("loss_ppm = 1000000\n", &LOSE_ALL),
+        ("spread_us = 5\n", &SILENT),
+    ] {
+        let name = example.name;
+        let scenario = in_second_profile(alloc, own, example)?;
+        for engine in ENGINES {
+            let told = told_by(&rt, alloc, engine, PAIR, &scenario)?;
+            assert!(rt;
+                told.trace.as_str() == example.trace,
+                "{name}, {engine:?}: {}",
+                told.trace
+            );
+            assert!(rt;
+                told.report.as_str() == example.report,
+                "{name}, {engine:?}: {}",
+                told.report
+            );
+        }
+    }
+    Ok(())
+}
+
+/// A request and its reply each take their latency and a spread of their sender's. Ahead of it in a stream stand the words of
+/// the node's two timers, and the word that might have lost the message.
+#[test]
+fn spreads_are_added(rt: HostRuntime) -> Result<(), Fail> {
+    let alloc = rt.alloc();
+    let spread = Stream::of(1, 2).below(3, 6) + Stream::of(1, 0).below(3, 6);
+    assert!(rt; spread == 4, "{spread}");
+    let trace = "100 n3 lookup 1\n\
+        124 n3 found 1 n1 hops=1 timeouts=0 us=24\n\
+        200 audit members=3 dead=0 ring=3 ordered=yes principals=3 sufficient=yes\n";
+    let scenario = in_second_profile(alloc, "spread_us = 5\n", &LOSE_ALL)?;
+    for engine in ENGINES {
+        let told = told_by(&rt, alloc, engine, PAIR, &scenario)?;
+        assert!(rt; told.trace.as_str() == trace, "{engine:?}: {}", told.trace);
+    }
+    Ok(())
+}
+
+/// The base in the second profile with a text in place of another, and the answer.
+const CHANGES: [(&str, &str, &str); 17] = [
+    ("", "", "ok nodes=3 commands=1"),
+    (
+        "seed = 1",
+        "seed = 1\nloss_ppm = 0\nspread_us = 0",
+        "ok nodes=3 commands=1",
+    ),
+    (
+        "seed = 1",
+        "seed = 1\nloss_ppm = 1000000",
+        "ok nodes=3 commands=1",
+    ),
+    (
+        "seed = 1",
+        "seed = 1\nloss_ppm = 1000001",
+        "S5 OutOfRange top loss_ppm",
+    ),
+    (
+        "seed = 1",
+        "seed = 1\nloss_ppm = -1",
+        "S5 OutOfRange top loss_ppm",
+    ),
+    (
+        "seed = 1",
+        "seed = 1\nloss_ppm = 0.5",
+        "S4 WrongType top loss_ppm",
+    ),
+    (
+        "seed = 1",
+        "seed = 1\nspread_us = 1000000000",
+        "ok nodes=3 commands=1",
+    ),
+    (
+        "seed = 1",
+        "seed = 1\nspread_us = 1000000001",
+        "S5 OutOfRange top spread_us",
+    ),
+    (
+        "seed = 1",
+        "seed = 1\nspread_us = true",
+        "S4 WrongType top spread_us",
+    ),
+    (
+        "seed = 1",
+        "seed = 1\nloss_ppm = -1\nmax_events = 0",
+        "S5 OutOfRange top max_events",
+    ),
+    (
+        "seed = 1",
+        "seed = 1\nspread_us = -1\nchurn = 3",
+        "S4 WrongType top churn",
+    ),
+    (
+        "window_us = 10",
+        "window_us = 11\nspread_us = 5",
+        "S15 LatencyBelowWindow n0 n1",
+    ),
+    ("bits = 3", "bits = 128", "ok nodes=3 commands=1"),
+    ("bits = 3", "bits = 129", "S5 OutOfRange top bits"),
+    ("id = 3", "id = \"00000000000000000\"", "S8 SameId n0 n3"),
+    (
+        "key = 1",
+        "key = \"00000000000000000000000000000001\"",
+        "ok nodes=3 commands=1",
+    ),
+    (
+        "key = 1",
+        "key = \"000000000000000000000000000000001\"",
+        "S5 OutOfRange command 1 key",
+    ),
+];
+
+/// The keys and ranges of the second profile.
+#[test]
+fn texts_of_the_second_profile(rt: HostRuntime) -> Result<(), Fail> {
+    let base = BASE.replacen(rt.alloc(), "profile = 1", "profile = 2", 1)?;
+    for (old, new, want) in &CHANGES {
+        let text = base.as_str().replacen(rt.alloc(), *old, *new, 1)?;
+        let got = answer(&rt, text.as_str().as_bytes(), b"")?;
+        assert!(rt; got.as_str() == *want, "{got}, not {want}, at {new}");
+    }
+    Ok(())
+}
+
+/// The last identifier of the widest circle, as a text of 32 digits.
+#[test]
+fn the_widest_identifier(rt: HostRuntime) -> Result<(), Fail> {
+    let alloc = rt.alloc();
+    let text = BASE.replacen(alloc, "profile = 1\nbits = 3", "profile = 2\nbits = 128", 1)?;
+    let wide = "id = \"ffffffffffffffffffffffffffffffff\"";
+    let text = text.as_str().replacen(alloc, "id = 3", wide, 1)?;
+    let scenario = read_scenario(alloc, text.as_str().as_bytes(), b"")
+        .ok()
+        .ok_or("refused")?;
+    assert!(rt; scenario.nodes() == 3);
+    assert!(rt; scenario.ident(2).raw() == Raw::MAX);
+    let told = told_by(&rt, alloc, Engine::Serial, PAIR, &scenario)?;
+    let trace = "100 n0 lookup 1\n\
+        100 n0 found 1 n1 hops=0 timeouts=0 us=0\n\
+        200 audit members=3 dead=0 ring=3 ordered=yes principals=3 sufficient=yes\n";
+    assert!(rt; told.trace.as_str() == trace, "{}", told.trace);
+    assert!(rt;
+        told.report.as_str().starts_with("events 1\n"),
+        "{}",
+        told.report
+    );
+    assert!(rt;
+        told.report.as_str().ends_with("insufficient 0\nlosses 0\n"),
+        "{}",
+        told.report
+    );
+    Ok(())
+}
+
+/// A ring of so many nodes, each with its number for an identifier, in which the first node looks one up.
+fn ring_of(alloc: Global, bits: u32, nodes: u32) -> Result<String, Fail> {
+    let mut text = format!(in alloc;
+        "profile = 2\nbits = {bits}\nseed = 1\nlatency_us = 10\nlist = 16\nduration_us = 300\n\
+         window_us = 10\ntimeout_us = 40\naudit_us = 300\nstabilize_us = 1000\nfinger_us = 1000\n"
+    )?;
+    for node in 0..nodes {
+        let table = format!(in alloc;
+            "[[node]]\nname = \"n{node}\"\nid = {node}\ninitial = true\n"
+        )?;
+        text.push_str(table.as_str())?;
+    }
+    text.push_str("[[command]]\nat_us = 100\ndo = \"lookup\"\nnode = \"n0\"\nkey = 3000\n")?;
+    Ok(text)
+}
+
+/// As many nodes as there may be, in 512 parts and by eight workers, leave what one event at a time leaves. The lookup of
+/// n0 goes 2048, 512, 256, 128, 32, 16, 4, 2 and 1 places on, to the node ahead of the owner. One node more is refused.
+#[test]
+fn as_many_nodes_as_there_may_be(rt: HostRuntime) -> Result<(), Fail> {
+    let alloc = rt.alloc();
+    let more = ring_of(alloc, 13, 4097)?;
+    let refused = answer(&rt, more.as_str().as_bytes(), b"")?;
+    assert!(rt; refused.as_str() == "S5 OutOfRange top node", "{refused}");
+    let most = ring_of(alloc, 12, 4096)?;
+    let scenario = read_scenario(alloc, most.as_str().as_bytes(), b"")
+        .ok()
+        .ok_or("the ring is refused")?;
+    let shape = Shape {
+        parts: 512,
+        workers: 8,
+    };
+    let expected = "100 n0 lookup 3000\n\
+        280 n0 found 3000 n3000 hops=9 timeouts=0 us=180\n\
+        300 audit members=4096 dead=0 ring=4096 ordered=yes principals=4096 sufficient=yes\n";
+    for engine in [Engine::Serial, Engine::Crew] {
+        let told = told_by(&rt, alloc, engine, shape, &scenario)?;
+        assert!(rt;
+            told.trace.as_str() == expected,
+            "{engine:?}: {}",
+            told.trace
+        );
+        assert!(rt;
+            told.report.as_str().starts_with("events 27\n"),
+            "{engine:?}"
+        );
+    }
+    Ok(())
+}
