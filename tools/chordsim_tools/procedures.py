@@ -3,7 +3,7 @@
 from chordsim_tools.circle import Circle
 from chordsim_tools.scenario import Scenario
 from chordsim_tools.state import (
-    Answer, Attempt, Body, Call, Event, FingerTick, LifeEnd, Lookup, Next, Node, Owner, Purpose, Rise,
+    KINDS, Answer, Attempt, Body, Call, Event, FingerTick, LifeEnd, Lookup, Message, Next, Node, Owner, Purpose, Rise,
     StabilizeTick, Status, Step, Stuck, Timeout, TrafficTick,
 )
 from chordsim_tools.words import Stream
@@ -27,7 +27,7 @@ class World:
         self.streams = [Stream(scenario.seed, i) for i in range(len(scenario.nodes))]
 
     def latency(self, a: int, b: int) -> int:
-        """How long a message from node a to node b takes."""
+        """How long a message from node a to node b takes, without the spread."""
         if a == b:
             return 1
         return self.scenario.latencies.get((a, b), self.scenario.latency_us)
@@ -59,7 +59,7 @@ class Procedures:
         return self.world.names[node]
 
     def make(self, time: int, target: int, body: Body) -> None:
-        """Makes an event: its number is one more than the number of events that the node made before."""
+        """Makes an event: its number is one more than the number of events made, and messages lost, before."""
         self.n.count += 1
         self.events.append(Event(time, 2 + self.n.me, self.n.count, target, body))
 
@@ -67,9 +67,24 @@ class Procedures:
         """Makes a timer: an event for the node itself."""
         self.make(self.t + delay, self.n.me, body)
 
-    def send(self, to: int, body: Body) -> None:
-        """Sends a message."""
-        self.make(self.t + self.world.latency(self.n.me, to), to, body)
+    def send(self, to: int, body: Message) -> None:
+        """Makes a message. In the second profile one to another node may be lost, and comes later by a drawn spread."""
+        scenario = self.world.scenario
+        time = self.t + self.world.latency(self.n.me, to)
+        if scenario.profile == 1 or to == self.n.me:
+            self.make(time, to, body)
+            return
+        x = self.number_below(1_000_000)
+        e = self.number_below(scenario.spread_us + 1)
+        if x < scenario.loss_ppm:
+            self.lose(to, body)
+        else:
+            self.make(time + e, to, body)
+
+    def lose(self, to: int, body: Message) -> None:
+        """A message is lost: no event is made, and the number that it would have had is used up."""
+        self.n.count += 1
+        self.line(f"lose {KINDS[type(body)]} {self.name(to)}")
 
     def word(self) -> int:
         """The next word of the node's stream."""
@@ -77,21 +92,26 @@ class Procedures:
         self.n.place += 1
         return word
 
+    def number_below(self, n: int) -> int:
+        """A number below n: the next word modulo n, even where n is 1."""
+        return self.word() % n
+
     def time_from_span(self, least: int, greatest: int) -> int:
         """A time drawn from a span: the least plus a number below (greatest - least + 1)."""
-        return least + self.word() % (greatest - least + 1)
+        return least + self.number_below(greatest - least + 1)
 
     def random_key(self) -> int:
-        """A random key: one word where m is at most 32, and otherwise two, the higher one first; m low bits of it."""
-        number = self.word()
-        if self.world.circle.bits > 32:
+        """A random key: the m low bits of the number that as many words as m bits need write, the highest one first."""
+        bits = self.world.circle.bits
+        number = 0
+        for _ in range((bits + 31) // 32):
             number = number * 2**32 + self.word()
-        return number % 2**self.world.circle.bits
+        return number % 2**bits
 
     # 8.1 Call
 
     def call(self, request: type, p: int, purpose: Purpose, *rest: object, because: int | None = None) -> int:
-        """Calls a request to p for a purpose; gives the number of the call, which is that of the request's event."""
+        """Calls a request to p for a purpose; gives the number of the call, that of the request (also of a lost one)."""
         number = self.n.count + 1
         self.send(p, request(number, *rest))
         self.set_timer(self.world.scenario.timeout_us, Timeout(number))

@@ -13,7 +13,7 @@ from chordsim_tools.state import KINDS
 
 HELP = """\
 Runs a scenario by the rules of docs/rules.md, one event at a time, and prints the trace and then the report: the
-bytes that `chordsim run --scenario SCENARIO --serial` prints. It is slow: about 50,000 events each second."""
+bytes that `chordsim run --scenario SCENARIO --serial` prints. It is slow: about 40,000 events each second."""
 EXAMPLES = """\
 examples:
   tools/reference examples/ring.toml                       trace and report
@@ -22,7 +22,8 @@ examples:
   chordsim run --scenario world.toml --serial --trace t && tools/reference world.toml --compare t
                                                            says where the two traces first part
   tools/reference examples/churn64.toml --report --messages
-                                                           the report, and how many messages of each kind were sent
+                                                           the report, and how many messages of each kind were made
+                                                           (in profile 2 also how many of these were lost)
 
 status: 0 all was done; 1 a file is refused, or the traces part; 2 the words are wrong; 3 the run failed"""
 
@@ -38,7 +39,7 @@ def words(arguments: list[str]) -> argparse.Namespace:
     where.add_argument("--trace", metavar="FILE", help="put the trace to this file, not to standard output")
     where.add_argument("--report", action="store_true", help="print no trace")
     where.add_argument("--compare", metavar="TRACE", help="print neither; compare the trace with that of this file")
-    parser.add_argument("--messages", action="store_true", help="after the report, count the messages sent by kind")
+    parser.add_argument("--messages", action="store_true", help="after the report, count the messages made by kind")
     return parser.parse_args(arguments)
 
 
@@ -66,15 +67,23 @@ def lines_of(name: str) -> Iterator[str]:
 def run(scenario: Scenario, trace: TextIO | None, messages: bool) -> None:
     """Runs the scenario: the trace to a file, if there is one, and the report to standard output."""
     simulation = Simulation(scenario)
-    report = Report()
+    report = Report(scenario.profile)
     for line in simulation.lines():
         report.read(line)
         if trace is not None:
             trace.write(line + "\n")
     print(report.text(simulation.events), end="")
     if messages:
+        print_messages(simulation, report)
+
+
+def print_messages(simulation: Simulation, report: Report) -> None:
+    """Counts the messages made by kind, the lost ones with them; in the second profile also the lost ones alone."""
+    for kind in KINDS.values():
+        print(f"sent {kind} {simulation.messages[kind] + report.lost_messages[kind]}")
+    if report.profile == 2:
         for kind in KINDS.values():
-            print(f"sent {kind} {simulation.messages[kind]}")
+            print(f"lost {kind} {report.lost_messages[kind]}")
 
 
 def compare(ours: Iterable[str], theirs: Iterable[str]) -> int:

@@ -1,4 +1,4 @@
-"""The report (docs/rules.md, section 11): 24 numbers, counted from the lines of the trace."""
+"""The report (docs/rules.md, section 11): its numbers, counted from the lines of the trace."""
 
 from collections import Counter
 
@@ -11,10 +11,12 @@ LINES = (
 
 
 class Report:
-    """Reads the lines of a trace and counts."""
+    """Reads the lines of a trace and counts. `lost_messages` counts the lines `lose` by the kind of the message."""
 
-    def __init__(self) -> None:
-        """A report of no lines."""
+    def __init__(self, profile: int) -> None:
+        """A report of no lines, in this profile."""
+        self.profile = profile
+        self.lost_messages: Counter[str] = Counter()
         self.lines: Counter[str] = Counter()
         self.audits: Counter[str] = Counter()
         self.hops: list[int] = []
@@ -30,12 +32,14 @@ class Report:
             self.audits["insufficient"] += "sufficient=no" in words
             return
         self.lines[words[2]] += 1
+        if words[2] == "lose":
+            self.lost_messages[words[3]] += 1
         if words[2] == "found":
             self.hops.append(int(words[5].removeprefix("hops=")))
             self.times.append(int(words[7].removeprefix("us=")))
 
     def numbers(self, events: int) -> dict[str, int]:
-        """The 24 numbers, in their order."""
+        """The 24 numbers, in their order; in the second profile the 25th."""
         numbers = {"events": events}
         for word, kind in LINES:
             numbers[word] = self.lines[kind]
@@ -48,6 +52,8 @@ class Report:
         numbers["us-greatest"] = max(self.times, default=0)
         for word in ("audits", "ringless", "unordered", "insufficient"):
             numbers[word] = self.audits[word]
+        if self.profile == 2:
+            numbers["losses"] = self.lines["lose"]
         return numbers
 
     def text(self, events: int) -> str:

@@ -5,14 +5,14 @@ from typing import Any
 
 from chordsim_tools.scenario_faults import Document, faults_of
 from chordsim_tools.scenario_tables import (
-    BILLION, CHURN, COMMAND, GREATEST_INTEGER, GREATEST_SIZE, LOOKUPS, NODE, TOP, Key, Place, Refused, parse_toml,
-    rows_of, value_of_id,
+    CHURN, GREATEST_INTEGER, GREATEST_SIZE, LOOKUPS, SECOND, Key, Refused, parse_toml, rows_of, value_of_id,
 )
 
 __all__ = [
-    "BILLION", "CHURN", "COMMAND", "GREATEST_INTEGER", "GREATEST_SIZE", "LOOKUPS", "NODE", "TOP",
-    "Churn", "Command", "Key", "Lookups", "NodeSpec", "Place", "Refused", "Scenario", "parse_toml", "read_scenario",
+    "CHURN", "GREATEST_INTEGER", "GREATEST_SIZE", "LOOKUPS", "SECOND",
+    "Churn", "Command", "Key", "Lookups", "NodeSpec", "Refused", "Scenario", "read_scenario",
 ]
+
 
 @dataclass
 class NodeSpec:
@@ -57,6 +57,7 @@ class Lookups:
 class Scenario:
     """All that the two files say. `latencies` has each pair that a row names, in both orders."""
 
+    profile: int
     bits: int
     list: int
     seed: int
@@ -69,6 +70,8 @@ class Scenario:
     finger_us: int
     jitter_us: int
     max_events: int
+    loss_ppm: int
+    spread_us: int
     churn: Churn | None
     lookups: Lookups | None
     nodes: list[NodeSpec]
@@ -92,11 +95,13 @@ def whole_scenario(document: Document) -> Scenario:
         for n in document.nodes
     ]
     commands = [command_of(place.table, document.numbers) for place in document.commands]
-    plain = {key.name: top[key.name] for key in TOP if key.kind == "integer" and key.required and key.name != "profile"}
+    plain = {key.name: top[key.name] for key in document.top.keys if key.kind == "integer" and key.required}
     return Scenario(
         **plain,
         jitter_us=top.get("jitter_us", 0),
         max_events=top.get("max_events", 50_000_000),
+        loss_ppm=top.get("loss_ppm", 0),
+        spread_us=top.get("spread_us", 0),
         churn=Churn(**top["churn"]) if "churn" in top else None,
         lookups=Lookups(**top["lookups"]) if "lookups" in top else None,
         nodes=nodes,

@@ -8,7 +8,7 @@ from typing import Any
 
 from chordsim_tools.circle import Circle
 from chordsim_tools.scenario_tables import (
-    BILLION, COMMAND, NODE, TOP, Key, Place, Row, has_type, is_in_own_range, places_of, value_of_id,
+    BILLION, Key, Place, Row, has_type, is_in_own_range, places_of, profile_of, value_of_id,
 )
 
 
@@ -35,10 +35,11 @@ class Document:
     def __init__(self, top: dict[str, Any] | None, rows: list[Row]) -> None:
         """The tables and the rows."""
         self.is_toml = top is not None
-        self.top = Place("top", top or {}, TOP)
+        self.profile = profile_of(top or {})
+        self.top = Place("top", top or {}, self.profile.tables["top"])
         self.places = places_of(self.top.table) if self.is_toml else []
-        self.nodes = [place for place in self.places if place.keys is NODE]
-        self.commands = [place for place in self.places if place.keys is COMMAND]
+        self.nodes = [place for place in self.places if place.kind == "node"]
+        self.commands = [place for place in self.places if place.kind == "command"]
         self.rows = rows
 
     @cached_property
@@ -100,10 +101,10 @@ def missing_keys(document: Document) -> Iterator[Fault]:
     node_churns = any(node.table.get("churn") is True for node in document.nodes)
     for place in document.places:
         for key in place.keys:
-            do = place.table.get("do") if place.keys is COMMAND else None
+            do = place.table.get("do") if place.kind == "command" else None
             wanted = (
                 key.required
-                or (key.name == "churn" and place.keys is TOP and node_churns)
+                or (key.name == "churn" and place.kind == "top" and node_churns)
                 or (key.name == "via" and do == "join")
                 or (key.name == "key" and do == "lookup")
             )

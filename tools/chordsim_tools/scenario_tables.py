@@ -31,7 +31,7 @@ class NotToml(Refused):
 
 @dataclass
 class Key:
-    """A key of a table: its type, its range and whether it is required."""
+    """A key of a table: its type, its range (of an ID: how many digits its text has) and whether it is required."""
 
     name: str
     kind: str
@@ -47,6 +47,11 @@ class Place:
     name: str
     table: dict[str, Any]
     keys: list[Key]
+
+    @property
+    def kind(self) -> str:
+        """The name without its number."""
+        return self.name.partition(" ")[0]
 
     def key(self, name: str) -> Key:
         """The key of this name."""
@@ -68,9 +73,28 @@ class Row:
     fields: list[str]
 
 
-TOP = [
-    Key("profile", "integer", 1, 1),
-    Key("bits", "integer", 3, 64),
+class Profile:
+    """The keys of all tables in a profile: `tables` has them by the kind of the table."""
+
+    def __init__(self, number: int, bits: int, nodes: int, network: list[Key]) -> None:
+        """The profile with so many bits and nodes at most, and with these keys of its network."""
+        self.number = number
+        digits = bits // 4
+        self.tables = {
+            "top": [*top_keys(bits), *network, *keys_of_tables(nodes)],
+            "churn": CHURN,
+            "lookups": LOOKUPS,
+            "node": node_keys(digits),
+            "command": command_keys(digits),
+        }
+
+
+def top_keys(bits: int) -> list[Key]:
+    """The plain keys of the top that both profiles have."""
+    return [Key("profile", "integer", 1, 2), Key("bits", "integer", 3, bits), *TIMES_AND_LIMITS]
+
+
+TIMES_AND_LIMITS = [
     Key("list", "integer", 1, 16),
     Key("seed", "integer"),
     Key("duration_us", "integer", 1, 1000 * BILLION),
@@ -82,26 +106,55 @@ TOP = [
     Key("finger_us", "integer", 1, BILLION),
     Key("jitter_us", "integer", 0, BILLION, required=False),
     Key("max_events", "integer", 1, 50_000_000, required=False),
-    Key("churn", "table", required=False),
-    Key("lookups", "table", required=False),
-    Key("node", "tables", 2, 512),
-    Key("command", "tables", 0, 100_000, required=False),
 ]
+NETWORK = [
+    Key("loss_ppm", "integer", 0, 1_000_000, required=False),
+    Key("spread_us", "integer", 0, BILLION, required=False),
+]
+"""The keys that the second profile alone has."""
 CHURN = [Key(f"{word}_us", "integer", 1, BILLION) for word in ("life_min", "life_max", "down_min", "down_max")]
 LOOKUPS = [Key(f"{word}_us", "integer", 1, BILLION) for word in ("gap_min", "gap_max")]
-NODE = [
-    Key("name", "text"),
-    Key("id", "id", required=False),
-    Key("initial", "boolean", required=False),
-    Key("churn", "boolean", required=False),
-]
-COMMAND = [
-    Key("at_us", "integer", 0, 1000 * BILLION),
-    Key("do", "text"),
-    Key("node", "text"),
-    Key("via", "text", required=False),
-    Key("key", "id", required=False),
-]
+
+
+def keys_of_tables(nodes: int) -> list[Key]:
+    """The keys of the top whose values are tables, of which so many may be nodes."""
+    return [
+        Key("churn", "table", required=False),
+        Key("lookups", "table", required=False),
+        Key("node", "tables", 2, nodes),
+        Key("command", "tables", 0, 100_000, required=False),
+    ]
+
+
+def node_keys(digits: int) -> list[Key]:
+    """The keys of a node, whose identifier has so many hexadecimal digits at most."""
+    return [
+        Key("name", "text"),
+        Key("id", "id", 1, digits, required=False),
+        Key("initial", "boolean", required=False),
+        Key("churn", "boolean", required=False),
+    ]
+
+
+def command_keys(digits: int) -> list[Key]:
+    """The keys of a command, whose key has so many hexadecimal digits at most."""
+    return [
+        Key("at_us", "integer", 0, 1000 * BILLION),
+        Key("do", "text"),
+        Key("node", "text"),
+        Key("via", "text", required=False),
+        Key("key", "id", 1, digits, required=False),
+    ]
+
+
+FIRST = Profile(1, 64, 512, [])
+SECOND = Profile(2, 128, 4096, NETWORK)
+
+
+def profile_of(top: dict[str, Any]) -> Profile:
+    """The profile that a file is held against: the second where `profile` is the whole number 2, else the first."""
+    value = top.get("profile")
+    return SECOND if has_type(value, "integer") and value == 2 else FIRST
 
 
 def parse_toml(file: bytes) -> dict[str, Any]:
@@ -138,15 +191,16 @@ def great_integer(value: Any) -> int | None:
 
 def places_of(top: dict[str, Any]) -> list[Place]:
     """All tables of the document, in the order top, churn, lookups, nodes, commands."""
-    places = [Place("top", top, TOP)]
-    for name, keys in (("churn", CHURN), ("lookups", LOOKUPS)):
+    tables = profile_of(top).tables
+    places = [Place("top", top, tables["top"])]
+    for name in ("churn", "lookups"):
         if isinstance(top.get(name), dict):
-            places.append(Place(name, top[name], keys))
-    for name, keys in (("node", NODE), ("command", COMMAND)):
+            places.append(Place(name, top[name], tables[name]))
+    for name in ("node", "command"):
         items = top.get(name)
         for number, item in enumerate(items if isinstance(items, list) else [], start=1):
             if isinstance(item, dict):
-                places.append(Place(f"{name} {number}", item, keys))
+                places.append(Place(f"{name} {number}", item, tables[name]))
     return places
 
 
@@ -174,16 +228,18 @@ def is_in_own_range(value: Any, key: Key) -> bool:
     if key.kind == "tables":
         return key.least <= len(value) <= key.greatest
     if key.kind == "id":
-        ident = value_of_id(value)
-        return ident is not None and ident >= 0
+        return value >= 0 if isinstance(value, int) else is_hexadecimal(value, key.greatest)
     return key.name != "do" or value in ACTIONS
 
 
-def value_of_id(value: int | str) -> int | None:
-    """The value of an ID, or nothing where a text is not 1 to 16 hexadecimal digits."""
-    if isinstance(value, int):
-        return value
-    return int(value, 16) if re.fullmatch(r"[0-9a-f]{1,16}", value) else None
+def is_hexadecimal(text: str, digits: int) -> bool:
+    """Whether a text is 1 to so many hexadecimal digits, in small letters."""
+    return re.fullmatch(f"[0-9a-f]{{1,{digits}}}", text) is not None
+
+
+def value_of_id(value: int | str) -> int:
+    """The value of an ID that is a number or hexadecimal digits."""
+    return value if isinstance(value, int) else int(value, 16)
 
 
 def rows_of(file: bytes) -> list[Row]:

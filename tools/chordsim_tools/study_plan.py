@@ -7,7 +7,7 @@ from dataclasses import dataclass, field
 from pathlib import Path
 from typing import Any
 
-from chordsim_tools.scenario import CHURN, GREATEST_INTEGER, LOOKUPS, TOP, Key
+from chordsim_tools.scenario import CHURN, GREATEST_INTEGER, LOOKUPS, SECOND, Key
 from chordsim_tools.study_files import Stop, read_bytes
 
 Setting = tuple[tuple[str, int], ...]
@@ -49,14 +49,14 @@ def label(setting: Setting) -> str:
 
 
 def varied_keys() -> set[str]:
-    """The keys of a scenario that can be varied."""
+    """The keys of a scenario that can be varied, in either profile."""
 
     def names(keys: list[Key]) -> list[str]:
         """The integers among these keys."""
         return [key.name for key in keys if key.kind == "integer"]
 
     tables = {f"{table}.{name}" for table, keys in (("churn", CHURN), ("lookups", LOOKUPS)) for name in names(keys)}
-    return (set(names(TOP)) | tables) - {"seed"}
+    return (set(names(SECOND.tables["top"])) | tables) - {"seed"}
 
 
 def read_study(path: Path) -> Study:
