@@ -26,19 +26,23 @@ def comes_back(start: int, best: dict[int, int | None]) -> bool:
     return False
 
 
-def is_passed_over(world: World, x: int, nodes: list[Node], members: set[int]) -> bool:
-    """Whether x lies between two neighbours of a member and its list."""
+def passed_over(world: World, nodes: list[Node], members: set[int]) -> set[int]:
+    """The identifiers of the members that lie between two neighbours of a member and its list."""
+    idents = world.idents
+    places = sorted(idents[n] for n in members)
+    passed: set[int] = set()
     for n in members:
         sequence = [n, *nodes[n].succ]
         for a, b in zip(sequence, sequence[1:]):
-            if world.between(a, x, b):
-                return True
-    return False
+            passed.update(world.circle.all_between(idents[a], idents[b], places))
+    return passed
 
 
 def is_ordered(world: World, ring: list[int], best: dict[int, int | None]) -> bool:
     """Whether no ring member lies between a ring member and its best successor."""
-    return not any(world.between(n, x, best[n]) for n in ring for x in ring)
+    idents = world.idents
+    places = sorted(idents[n] for n in ring)
+    return not any(world.circle.all_between(idents[n], idents[best[n]], places) for n in ring)
 
 
 def audit_line(world: World, nodes: list[Node], time: int) -> str:
@@ -48,7 +52,7 @@ def audit_line(world: World, nodes: list[Node], time: int) -> str:
     dead = len([n for n in members if best[n] is None])
     ring = [n for n in members if comes_back(n, best)]
     ordered = is_ordered(world, ring, best)
-    principals = len([x for x in members if not is_passed_over(world, x, nodes, members)])
+    principals = len(members) - len(passed_over(world, nodes, members))
     sufficient = principals >= world.scenario.list + 1 and dead == 0
     return (
         f"{time} audit members={len(members)} dead={dead} ring={len(ring)} ordered={yes_or_no(ordered)} "

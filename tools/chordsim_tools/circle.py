@@ -1,6 +1,7 @@
 """The circle of identifiers (docs/rules.md, section 2)."""
 
 import hashlib
+from bisect import bisect_left, bisect_right
 from dataclasses import dataclass
 
 
@@ -27,6 +28,17 @@ class Circle:
     def finger_start(self, n: int, i: int) -> int:
         """The start of finger i, from 1 to m, of a node at n."""
         return (n + 2 ** (i - 1)) % 2**self.bits
+
+    def all_between(self, a: int, b: int, ordered: list[int]) -> list[int]:
+        """Those x of an ordered list of different places for which between(a, x, b) holds."""
+        behind, before = bisect_right(ordered, a), bisect_left(ordered, b)
+        if a < b:
+            return ordered[behind:before]
+        return ordered[behind:] + ordered[:before]
+
+    def first_from(self, start: int, ordered: list[int]) -> int:
+        """The first of an ordered list of places at or after the start, clockwise."""
+        return ordered[bisect_left(ordered, start) % len(ordered)]
 
     def identifier_of_name(self, name: str) -> int:
         """The m leading bits of the SHA-1 digest of the name."""

@@ -73,23 +73,23 @@ def initial_states(world: World) -> list[Node]:
     """The states of all nodes at the start: initial nodes know the whole ring, all others are Down."""
     nodes = [Node(i) for i in range(len(world.names))]
     initial = [i for i, node in enumerate(world.scenario.nodes) if node.initial]
+    node_at = {world.idents[i]: i for i in initial}
+    places = sorted(node_at)
     for i in initial:
-        make_initial(world, nodes[i], initial)
+        make_initial(world, nodes[i], node_at, places)
+        nodes[i].via = initial[1] if i == initial[0] else initial[0]
     return nodes
 
 
-def make_initial(world: World, node: Node, initial: list[int]) -> None:
-    """Makes the node a Member with epoch 1 that knows the whole ring."""
-    circle, idents = world.circle, world.idents
-    me = idents[node.me]
-    others = [i for i in initial if i != node.me]
-    clockwise = sorted(others, key=lambda i: circle.distance(me, idents[i]))
+def make_initial(world: World, node: Node, node_at: dict[int, int], places: list[int]) -> None:
+    """Makes the node a Member with epoch 1 that knows the whole ring: the initial nodes at all these places."""
+    circle = world.circle
+    me = world.idents[node.me]
+    clockwise = [node_at[place] for place in circle.all_between(me, me, places)]
     node.status = Status.MEMBER
     node.epoch = 1
     node.prdc = clockwise[-1]
     node.succ = clockwise[: world.scenario.list]
     for i in range(2, circle.bits + 1):
-        start = circle.finger_start(me, i)
-        node.fingers[i] = min(initial, key=lambda x: circle.distance(start, idents[x]))
+        node.fingers[i] = node_at[circle.first_from(circle.finger_start(me, i), places)]
     node.next_finger = 2
-    node.via = others[0]

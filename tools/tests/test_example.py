@@ -51,7 +51,7 @@ def test_events() -> None:
 def test_trace_and_report() -> None:
     """The three lines, and the numbers that are not 0."""
     run = Simulation(ring(*CHANGES))
-    report = Report()
+    report = Report(run.scenario.profile)
     lines = list(run.lines())
     for line in lines:
         report.read(line)
@@ -69,7 +69,7 @@ def test_trace_and_report() -> None:
 def test_report_of_the_ring() -> None:
     """The report of examples/ring.toml is the one kept in examples/reports, with 24 lines."""
     run = Simulation(ring())
-    report = Report()
+    report = Report(run.scenario.profile)
     for line in run.lines():
         report.read(line)
     text = report.text(run.events)

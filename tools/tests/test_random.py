@@ -28,7 +28,7 @@ def load_tests(*_: object) -> object:
 def expected(toml: str, csv: str) -> tuple[str, str | None]:
     """The trace by the reference, and the report, or none where there are too many events."""
     simulation = Simulation(read_scenario(toml.encode(), csv.encode()))
-    report = Report()
+    report = Report(simulation.scenario.profile)
     trace = []
     try:
         for line in simulation.lines():

@@ -19,7 +19,7 @@ def test_reports_of_the_quick_examples() -> None:
     """All but churn512, which takes minutes."""
     for name in QUICK:
         run = Simulation(read_scenario((EXAMPLES / f"{name}.toml").read_bytes(), b""))
-        report = Report()
+        report = Report(run.scenario.profile)
         for line in run.lines():
             report.read(line)
         assert report.text(run.events) == (EXAMPLES / "reports" / f"{name}.report").read_text(), name
