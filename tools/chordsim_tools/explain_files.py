@@ -98,7 +98,7 @@ def allowed_at(key: Key, bits: int | None) -> str:
         greatest = GREATEST_INTEGER if bits is None else 2**bits - 1
         least = f"an integer from 0 to {min(greatest, GREATEST_INTEGER)}"
         digits = f"of at most {greatest:x}" if bits is not None else "of a value below 2^bits"
-        return f"{least}, or a text of 1 to 16 hexadecimal digits 0 to 9 and a to f {digits}"
+        return f"{least}, or a text of 1 to {key.greatest} hexadecimal digits 0 to 9 and a to f {digits}"
     if key.kind == "tables":
         return f"{key.least} to {key.greatest} tables, each with the heading [[{key.name}]]"
     if key.kind == "table":

@@ -6,10 +6,11 @@ from difflib import get_close_matches
 from typing import Any
 
 from chordsim_tools.quantities import time_of
-from chordsim_tools.scenario_tables import BILLION, CHURN, COMMAND, LOOKUPS, NODE, TOP, Key, Row, has_type
+from chordsim_tools.scenario_tables import (
+    BILLION, FIRST, NETWORK, SECOND, Key, Profile, Row, has_type, is_hexadecimal, is_in_own_range,
+)
 
 HEADINGS = {"top": "the top", "churn": "[churn]", "lookups": "[lookups]", "node": "[[node]]", "command": "[[command]]"}
-TABLES = {"top": TOP, "churn": CHURN, "lookups": LOOKUPS, "node": NODE, "command": COMMAND}
 SEPARATORS = {";": "semicolons", "\t": "tabs", "|": "bars", ":": "colons", " ": "blanks"}
 
 
@@ -33,27 +34,37 @@ def close_to(word: str, words: Iterable[str]) -> str | None:
     return next((other for other in get_close_matches(word.strip(), words, 1, 0.7) if other != word), None)
 
 
-def of_unknown_key(name: str, place: str, table: dict[str, Any]) -> list[str]:
-    """A key that is like it, or the table that has it."""
+def of_unknown_key(name: str, place: str, table: dict[str, Any], profile: Profile) -> list[str]:
+    """A key that is like it, or the table or the profile that has it."""
     kind = place.split()[0]
+    if profile is FIRST and name in {key.name for key in NETWORK}:
+        return [of_network_key(name, kind)]
     headings = HEADINGS if kind == "top" else {}
-    meant = close_to(name, (key.name for key in TABLES[kind] if key.name not in table or key.name in headings))
+    keys = profile.tables[kind]
+    meant = close_to(name, (key.name for key in keys if key.name not in table or key.name in headings))
     if meant is not None:
         return [f"did you mean {headings.get(meant, f'`{meant}`')}?"]
-    owners = [other for other, keys in TABLES.items() if other != kind and name in {key.name for key in keys}]
+    owners = [other for other, keys in profile.tables.items() if other != kind and name in {key.name for key in keys}]
     if "top" in owners:
         return [f"`{name}` is a key of the top: put it above the first heading"]
     if owners:
         return [f"`{name}` is a key of " + " and of ".join(HEADINGS[owner] for owner in owners)]
-    present = close_to(name, (key.name for key in TABLES[kind]))
+    present = close_to(name, (key.name for key in keys))
     if present is not None:
         return [f"`{present}` is there already: take `{name}` away"]
-    return []
+    meant = close_to(name, (key.name for key in NETWORK)) if profile is FIRST and kind == "top" else None
+    return [] if meant is None else [f"did you mean `{meant}`? {of_network_key(meant, kind)}"]
 
 
-def of_missing_key(key: str, place: str, table: dict[str, Any]) -> list[str]:
+def of_network_key(name: str, kind: str) -> str:
+    """That the second profile has this key, and where."""
+    where = "" if kind == "top" else ", and put it above the first heading"
+    return f"profile 2 has `{name}`: write profile = 2{where}"
+
+
+def of_missing_key(key: str, place: str, table: dict[str, Any], profile: Profile) -> list[str]:
     """An unknown key in the table that is like it, or that it is required by another value."""
-    listed = {other.name for other in TABLES[place.split()[0]]}
+    listed = {other.name for other in profile.tables[place.split()[0]]}
     meant = close_to(key, (name for name in table if name not in listed))
     hints = [] if meant is None else [f"`{meant}` stands there and is no key: did you mean `{key}` by it?"]
     if key in ("via", "key"):
@@ -115,20 +126,34 @@ def of_measure(text: str, key: Key | None = None) -> list[str]:
     return [f"in microseconds: {micros}"]
 
 
-def of_id(value: int | str, bits: int | None) -> list[str]:
-    """An identifier that is no number of hexadecimal digits, or that is too great."""
+def of_id(value: int | str, bits: int | None, digits: int) -> list[str]:
+    """An identifier that is no number of so many hexadecimal digits, or that is too great."""
     if isinstance(value, str):
-        word = value.strip().lower().replace("_", "").replace(":", "").removeprefix("0x")
-        if word != value and re.fullmatch(r"[0-9a-f]{1,16}", word) and (bits is None or int(word, 16) < 2**bits):
-            return [f'did you mean "{word}"?']
-        if re.fullmatch(r"0+[0-9a-f]{1,16}", value) and len(value) > 16:
-            return [f'16 digits at most: "{value.lstrip("0")}"']
-        if re.fullmatch(r"[0-9a-f]{1,16}", value):
-            return [f"it is {int(value, 16)} in decimal, and bits = {bits}"]
-        return ["write small letters"] if re.fullmatch(r"[0-9a-fA-F]{1,16}", value) else []
+        return of_digits(value, bits, digits)
     if bits is not None and value >= 2**bits:
         return [f"it has {value.bit_length()} bits, and bits = {bits}"]
     return []
+
+
+def of_digits(text: str, bits: int | None, digits: int) -> list[str]:
+    """A text that is no identifier."""
+    word = text.strip().lower().replace("_", "").replace(":", "").removeprefix("0x")
+    if word != text and is_hexadecimal(word, digits) and (bits is None or int(word, 16) < 2**bits):
+        return [f'did you mean "{word}"?']
+    if len(text) > digits and re.fullmatch(f"0+[0-9a-f]{{1,{digits}}}", text):
+        return [f'{digits} digits at most: "{text.lstrip("0") or "0"}"']
+    if is_hexadecimal(text, digits):
+        return [f"it is {int(text, 16)} in decimal, and bits = {bits}"]
+    return ["write small letters"] if is_hexadecimal(text.lower(), digits) else []
+
+
+def of_profile(value: Any, key: Key, place: str, profile: Profile) -> list[str]:
+    """That the second profile allows a value that the first one does not."""
+    wider = next(other for other in SECOND.tables[place.split()[0]] if other.name == key.name)
+    if profile is SECOND or is_in_own_range(value, key) or not is_in_own_range(value, wider):
+        return []
+    unit = {"tables": " tables", "id": " hexadecimal digits, and 128 bits"}.get(key.kind, "")
+    return [f"profile 2 allows up to {wider.greatest}{unit}: write profile = 2"]
 
 
 def of_range(value: int, key: Key) -> list[str]:

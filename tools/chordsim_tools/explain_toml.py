@@ -99,7 +99,7 @@ def of_value(text: str) -> list[str]:
         return [f"without leading zeros: {int(value)}"]
     if of_measure(value):
         return [f"{hint}, without a unit" for hint in of_measure(value)]
-    if re.fullmatch(r"0*[0-9a-fA-F]{1,16}", value):
+    if re.fullmatch(r"0*[0-9a-fA-F]{1,32}", value):
         return [f'hexadecimal digits stand in quotes: "{value.lower()}"']
     if WORD.fullmatch(value):
         return [f'a text stands in quotes: "{shown(value)}"']

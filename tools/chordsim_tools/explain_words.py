@@ -55,14 +55,14 @@ def unknown_key(fault: Fault, files: Files) -> Words:
     """S2."""
     place = files.place(fault.place)
     allowed = "the keys " + ", ".join(key.name for key in place.keys)
-    likely = hints.of_unknown_key(fault.key, fault.place, place.table)
+    likely = hints.of_unknown_key(fault.key, fault.place, place.table, files.document.profile)
     return f"`{shown(fault.key)}` is no key of {heading_of(fault.place)}", f"`{shown(fault.key)}`", allowed, likely
 
 
 def missing_key(fault: Fault, files: Files) -> Words:
     """S3."""
     _, _, _, allowed = value_and_key(fault, files)
-    likely = hints.of_missing_key(fault.key, fault.place, files.place(fault.place).table)
+    likely = hints.of_missing_key(fault.key, fault.place, files.place(fault.place).table, files.document.profile)
     headings = [place.name for place in files.document.places if place.name != "top" and fault.key in place.table]
     if fault.place == "top" and not likely and headings and fault.key not in ("node", "churn"):
         line = files.line(headings[0], fault.key)
@@ -82,14 +82,15 @@ def out_of_range(fault: Fault, files: Files) -> Words:
     """S5."""
     value, key, written, allowed = value_and_key(fault, files)
     table = files.place(fault.place).table
+    wider = hints.of_profile(value, key, fault.place, files.document.profile)
     if key.kind == "tables":
-        return f"there are too {'few' if len(value) < key.least else 'many'}", f"{len(value)} tables", allowed, []
+        return f"there are too {'few' if len(value) < key.least else 'many'}", f"{len(value)} tables", allowed, wider
     if key.name == "do":
         meant = hints.close_to(value, ACTIONS)
         return "`do` is no such word", written, allowed, [] if meant is None else [f'did you mean "{meant}"?']
     if key.kind == "id":
-        likely = hints.of_id(value, files.document.top.usable("bits"))
-        return f"`{key.name}` is no identifier on this circle", written, allowed, likely
+        likely = hints.of_id(value, files.document.top.usable("bits"), key.greatest)
+        return f"`{key.name}` is no identifier on this circle", written, allowed, likely + wider
     if key.least <= value <= key.greatest and key.name == "audit_us":
         least = -(-table["duration_us"] // 1_000_000)
         likely = [f"a run has at most 1000000 audits, so for duration_us = {table['duration_us']} {least} is the least"]
@@ -98,7 +99,7 @@ def out_of_range(fault: Fault, files: Files) -> Words:
         other = key.name.replace("_max_", "_min_")
         likely = [f"{other} = {table[other]} stands at {files.line(fault.place, other)}"]
         return f"`{key.name}` is below `{other}`", written, integers(table[other], BILLION), likely
-    return f"`{key.name}` is out of range", written, allowed, hints.of_range(value, key)
+    return f"`{key.name}` is out of range", written, allowed, hints.of_range(value, key) + wider
 
 
 def bad_name(fault: Fault, files: Files) -> Words:
@@ -212,7 +213,10 @@ def below_window(fault: Fault, files: Files) -> Words:
         what += " that no row names is below `window_us`"
         found = f"latency_us = {top['latency_us']}"
     allowed = f"window_us = {top['window_us']} or more"
-    return what, found, allowed, [f"raise it, or lower `window_us` ({files.line('top', 'window_us')})"]
+    likely = [f"raise it, or lower `window_us` ({files.line('top', 'window_us')})"]
+    if top.get("spread_us"):
+        likely.append("`spread_us` does not count here: a message may come without it")
+    return what, found, allowed, likely
 
 
 WORDS: dict[str, Callable[[Fault, Files], Words]] = {

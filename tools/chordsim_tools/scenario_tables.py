@@ -73,28 +73,7 @@ class Row:
     fields: list[str]
 
 
-class Profile:
-    """The keys of all tables in a profile: `tables` has them by the kind of the table."""
-
-    def __init__(self, number: int, bits: int, nodes: int, network: list[Key]) -> None:
-        """The profile with so many bits and nodes at most, and with these keys of its network."""
-        self.number = number
-        digits = bits // 4
-        self.tables = {
-            "top": [*top_keys(bits), *network, *keys_of_tables(nodes)],
-            "churn": CHURN,
-            "lookups": LOOKUPS,
-            "node": node_keys(digits),
-            "command": command_keys(digits),
-        }
-
-
-def top_keys(bits: int) -> list[Key]:
-    """The plain keys of the top that both profiles have."""
-    return [Key("profile", "integer", 1, 2), Key("bits", "integer", 3, bits), *TIMES_AND_LIMITS]
-
-
-TIMES_AND_LIMITS = [
+RUN = [
     Key("list", "integer", 1, 16),
     Key("seed", "integer"),
     Key("duration_us", "integer", 1, 1000 * BILLION),
@@ -107,6 +86,7 @@ TIMES_AND_LIMITS = [
     Key("jitter_us", "integer", 0, BILLION, required=False),
     Key("max_events", "integer", 1, 50_000_000, required=False),
 ]
+"""The plain keys of the top that are the same in both profiles."""
 NETWORK = [
     Key("loss_ppm", "integer", 0, 1_000_000, required=False),
     Key("spread_us", "integer", 0, BILLION, required=False),
@@ -116,9 +96,13 @@ CHURN = [Key(f"{word}_us", "integer", 1, BILLION) for word in ("life_min", "life
 LOOKUPS = [Key(f"{word}_us", "integer", 1, BILLION) for word in ("gap_min", "gap_max")]
 
 
-def keys_of_tables(nodes: int) -> list[Key]:
-    """The keys of the top whose values are tables, of which so many may be nodes."""
+def top_keys(bits: int, nodes: int, network: list[Key]) -> list[Key]:
+    """The keys of the top, for so many bits and nodes at most, and with these keys of the network."""
     return [
+        Key("profile", "integer", 1, 2),
+        Key("bits", "integer", 3, bits),
+        *RUN,
+        *network,
         Key("churn", "table", required=False),
         Key("lookups", "table", required=False),
         Key("node", "tables", 2, nodes),
@@ -147,8 +131,23 @@ def command_keys(digits: int) -> list[Key]:
     ]
 
 
-FIRST = Profile(1, 64, 512, [])
-SECOND = Profile(2, 128, 4096, NETWORK)
+class Profile:
+    """The keys of all tables in a profile: `tables` has them by the kind of the table."""
+
+    def __init__(self, bits: int, nodes: int, network: list[Key]) -> None:
+        """The profile with so many bits and nodes at most, and with these keys of its network."""
+        digits = bits // 4
+        self.tables = {
+            "top": top_keys(bits, nodes, network),
+            "churn": CHURN,
+            "lookups": LOOKUPS,
+            "node": node_keys(digits),
+            "command": command_keys(digits),
+        }
+
+
+FIRST = Profile(64, 512, [])
+SECOND = Profile(128, 4096, NETWORK)
 
 
 def profile_of(top: dict[str, Any]) -> Profile:

@@ -35,10 +35,14 @@ def csv_text(lines: list[list[Any]]) -> str:
 
 
 def runs_text(rows: list[Row]) -> str:
-    """One line a run: the setting, the seed, the report, the numbers of the trace."""
+    """One line a run: the setting, the seed, the report, the numbers of the trace. No message of profile 1 is lost."""
     lines: list[list[Any]] = []
+    has_losses = any("losses" in result["report"] for _, _, result in rows)
     for setting, seed, result in rows:
-        numbers = {**dict(setting), "seed": seed, **result["report"], **result["numbers"]}
+        report = dict(result["report"])
+        if has_losses:
+            report.setdefault("losses", 0)
+        numbers = {**dict(setting), "seed": seed, **report, **result["numbers"]}
         if not lines:
             lines.append(list(numbers))
         if list(numbers) != lines[0]:
