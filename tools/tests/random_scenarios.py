@@ -2,11 +2,18 @@
 
 from random import Random
 
+BITS = {1: [3, 4, 5, 6, 8, 16, 31, 32, 33, 63, 64], 2: [3, 4, 5, 6, 8, 32, 33, 64, 65, 96, 97, 127, 128]}
+"""The bits of the scenarios of each profile."""
+
 
 def scenario_files(seed: int) -> tuple[str, str]:
-    """A scenario and a latency file that chordsim accepts: few nodes, much churn, calls that time out."""
+    """A scenario and a latency file that chordsim accepts: few nodes, much churn, calls that time out.
+
+    Two of four seeds have the second profile, one of them an even seed and one an odd one.
+    """
     dice = Random(seed)
-    bits = dice.choice([3, 4, 5, 6, 8, 16, 31, 32, 33, 63, 64])
+    profile = 1 + seed // 2 % 2
+    bits = dice.choice(BITS[profile])
     nodes = dice.randint(3, min(2**bits, dice.choice([4, 8, 16])))
     entries = dice.randint(1, min(16, nodes - 1, dice.choice([1, 2, 3, 5])))
     window = dice.randint(1, 20)
@@ -15,7 +22,10 @@ def scenario_files(seed: int) -> tuple[str, str]:
     is_churning = dice.random() < 0.6
     idents = dice.sample(range(2**bits), nodes) if bits < 20 else distinct(dice, 2**bits, nodes)
     initial = set(dice.sample(range(nodes), dice.randint(entries + 1, nodes)))
-    text = settings(dice, bits, entries, window, latency, duration)
+    network = network_of(dice, latency) if profile == 2 else {}
+    reach = latency + network.get("spread_us", 0)
+    top = {"profile": profile} | settings(dice, bits, entries, window, latency, reach, duration) | network
+    text = "".join(f"{key} = {value}\n" for key, value in top.items())
     text += tables(dice, is_churning)
     for i, ident in enumerate(idents):
         text += node_table(dice, i, ident, i in initial, is_churning)
@@ -32,11 +42,12 @@ def distinct(dice: Random, size: int, count: int) -> list[int]:
     return list(numbers)
 
 
-def settings(dice: Random, bits: int, entries: int, window: int, latency: int, duration: int) -> str:
-    """The keys of the top table."""
-    timeout = dice.choice([dice.randint(1, 40), 2 * latency + dice.randint(1, 100)])
-    values = {
-        "profile": 1,
+def settings(
+    dice: Random, bits: int, entries: int, window: int, latency: int, reach: int, duration: int
+) -> dict[str, int]:
+    """The keys of the top table that both profiles have. The reach is the latency with the spread."""
+    timeout = dice.choice([dice.randint(1, 40), 2 * reach + dice.randint(1, 100)])
+    return {
         "bits": bits,
         "list": entries,
         "seed": dice.choice([0, 1, dice.getrandbits(31), dice.getrandbits(63)]),
@@ -50,7 +61,14 @@ def settings(dice: Random, bits: int, entries: int, window: int, latency: int, d
         "jitter_us": dice.randint(0, 40),
         "max_events": dice.choice([50_000_000, dice.randint(1, 3000)]) if dice.random() < 0.2 else 50_000_000,
     }
-    return "".join(f"{key} = {value}\n" for key, value in values.items())
+
+
+def network_of(dice: Random, latency: int) -> dict[str, int]:
+    """Loss and spread, where the scenario has them: all messages lost, some or none, and late by some latencies."""
+    loss = dice.choice([0, 1_000_000, dice.randint(1, 200_000), dice.randint(1, 50_000), dice.randint(1, 50_000)])
+    spread = dice.choice([0, 1, dice.randint(0, latency), dice.randint(0, 5 * latency)])
+    keys = {"loss_ppm": loss, "spread_us": spread}
+    return {key: value for key, value in keys.items() if dice.random() < 0.85}
 
 
 def tables(dice: Random, is_churning: bool) -> str:

@@ -1,4 +1,4 @@
-"""The first fault is the program's: on 150 spoiled files, and where the tool knows another one."""
+"""The first fault is the program's: on 200 spoiled files of both profiles, and where the tool knows another one."""
 
 import shutil
 
@@ -10,7 +10,7 @@ from .programs import program
 from .spoiled import good_world, spoiled
 from .test_explain import WORLD, told
 
-SEEDS = range(150)
+SEEDS = range(200)
 
 
 def load_tests(*_: object) -> object:
@@ -28,8 +28,9 @@ def answer(scenario: bytes, latency: bytes) -> str:
 
 def test_the_good_world_is_accepted() -> None:
     """Else the spoiled files would say nothing."""
-    files = good_world().scenario().encode(), good_world().latency().encode()
-    assert answer(*files) == answer_of(program(), *files) == "accepted: 5 nodes, 4 commands"
+    for profile in (1, 2):
+        files = good_world(profile).scenario().encode(), good_world(profile).latency().encode()
+        assert answer(*files) == answer_of(program(), *files) == "accepted: 5 nodes, 4 commands"
 
 
 def test_spoiled_files() -> None:
