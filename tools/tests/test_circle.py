@@ -41,6 +41,21 @@ def test_finger_starts() -> None:
     assert [CIRCLE.finger_start(5, i) for i in (1, 2, 3)] == [6, 7, 1]
 
 
+def test_all_between_is_between() -> None:
+    """On every way, of a list of places with and without its ends."""
+    for ordered in ([0, 1, 2, 3, 4, 5, 6, 7], [1, 4, 6], [5], []):
+        for a in range(8):
+            for b in range(8):
+                found = CIRCLE.all_between(a, b, ordered)
+                assert sorted(found) == [x for x in ordered if CIRCLE.between(a, x, b)], (a, b, ordered)
+                assert found == sorted(found, key=lambda x: CIRCLE.distance(a, x))
+
+
+def test_first_from() -> None:
+    """The place itself, the next one, and over 0."""
+    assert [CIRCLE.first_from(start, [1, 4, 6]) for start in range(8)] == [1, 1, 4, 4, 4, 6, 6, 1]
+
+
 def test_identifier_is_the_head_of_the_digest() -> None:
     """The SHA-1 digest of `abc` begins with a9993e36 4706816a (FIPS 180)."""
     assert Circle(32).identifier_of_name("abc") == 0xA9993E36

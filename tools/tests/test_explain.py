@@ -153,6 +153,63 @@ def test_misspelled_heading() -> None:
     assert (unknown.line, unknown.hints, missing.fault) == (17, ["did you mean [[node]]?"], "S3 MissingKey top node")
 
 
+def test_keys_of_the_other_profile() -> None:
+    """Keys of the network in profile 1, misspelled and below a heading; in profile 2 they are keys like all others."""
+    (found,) = faults(changed(("seed = 1", "seed = 1\nloss_ppm = 5")))
+    assert (found.fault, found.line, found.hints) == (
+        "S2 UnknownKey top", 5, ["profile 2 has `loss_ppm`: write profile = 2"]
+    )
+    assert "loss_ppm" not in found.allowed
+    (found,) = faults(changed(("seed = 1", "seed = 1\nspreads_us = 5")))
+    assert found.hints == ["did you mean `spread_us`? profile 2 has `spread_us`: write profile = 2"]
+    (found,) = faults(changed(("[churn]", "[churn]\nspread_us = 5")))
+    assert found.hints == ["profile 2 has `spread_us`: write profile = 2, and put it above the first heading"]
+    (found,) = faults(changed(("profile = 1", "profile = 2\nloss_pmm = 5")))
+    assert (found.hints, "loss_ppm, spread_us" in found.allowed) == (["did you mean `loss_ppm`?"], True)
+    (found,) = faults(changed(("profile = 1", "profile = 2"), ("[churn]", "[churn]\nspread_us = 5")))
+    assert found.hints == ["`spread_us` is a key of the top: put it above the first heading"]
+    unknown, wrong = faults(changed(("profile = 1", 'profile = "2"\nloss_ppm = 5')))
+    assert (unknown.fault, wrong.fault) == ("S2 UnknownKey top", "S4 WrongType top profile")
+    assert (wrong.allowed, wrong.hints) == ("an integer from 1 to 2", ["without quotes: profile = 2"])
+    assert faults(changed(("profile = 1", "profile = 2\nloss_ppm = 5\nspread_us = 5"))) == []
+
+
+def test_ranges_of_both_profiles() -> None:
+    """What profile 1 refuses and profile 2 allows, and what both refuse."""
+    second = ("profile = 1", "profile = 2")
+    (found,) = faults(changed(("bits = 3", "bits = 65")))
+    assert (found.allowed, found.hints) == (
+        "an integer from 3 to 64", ["profile 2 allows up to 128: write profile = 2"]
+    )
+    (found,) = faults(changed(second, ("bits = 3", "bits = 129")))
+    assert (found.allowed, found.hints) == ("an integer from 3 to 128", [])
+    (found,) = faults(changed(("id = 3", 'id = "00000000000000003"')))
+    assert found.hints == [
+        '16 digits at most: "3"', "profile 2 allows up to 32 hexadecimal digits, and 128 bits: write profile = 2"
+    ]
+    assert "1 to 16 hexadecimal digits" in found.allowed
+    (found,) = faults(changed(second, ("id = 3", f'id = "{"3":0>33}"')))
+    assert (found.fault, found.hints) == ("S5 OutOfRange node 3 id", ['32 digits at most: "3"'])
+    assert "1 to 32 hexadecimal digits" in found.allowed
+    assert faults(changed(second, ("id = 3", f'id = "{"3":0>32}"'))) == []
+    more = "".join(f'[[node]]\nname = "x{i}"\n' for i in range(510))
+    (found,) = faults(changed(("[[command]]", more + "[[command]]"), ("bits = 3", "bits = 64")))
+    assert (found.fault, found.hints) == (
+        "S5 OutOfRange top node", ["profile 2 allows up to 4096 tables: write profile = 2"]
+    )
+    assert faults(changed(second, ("[[command]]", more + "[[command]]"), ("bits = 3", "bits = 64"))) == []
+    (found,) = faults(changed(("profile = 1", "profile = 3")))
+    assert (found.fault, found.allowed) == ("S5 OutOfRange top profile", "an integer from 1 to 2")
+
+
+def test_window_and_spread() -> None:
+    """A spread does not make a latency long enough."""
+    text = changed(("profile = 1", "profile = 2\nspread_us = 5"), ("window_us = 10", "window_us = 11"))
+    (found,) = faults(text)
+    assert found.fault == "S15 LatencyBelowWindow n0 n1"
+    assert found.hints[1:] == ["`spread_us` does not count here: a message may come without it"]
+
+
 def test_rows_that_are_no_heading() -> None:
     """A first row with a name or a number is none."""
     for rows in ("n0;n1;10", "n0,n1", "x,y,5.5"):

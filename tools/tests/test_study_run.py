@@ -58,7 +58,9 @@ run)
     if grep -qsx "$(cat "$here/sleep")" "$3"; then echo $$ > "$here/pid"; exec sleep 60; fi
     if grep -qsx "$(cat "$here/fail")" "$3"; then echo '5 n0 loo'; echo 'failed: 3 TooManyEvents' >&2; exit 3; fi
     printf '10 n0 lookup 11\\n30 n0 found 11 n1 hops=1 timeouts=0 us=20\\n'
-    printf 'events 4\\nlookups 1\\nfound 1\\nringless 0\\n' ;;
+    if grep -qx 'profile = 2' "$3"; then echo '40 n0 lose step n1'; fi
+    printf 'events 4\\nlookups 1\\nfound 1\\nringless 0\\n'
+    if grep -qx 'profile = 2' "$3"; then echo 'losses 1'; fi ;;
 esac
 """
 
@@ -139,6 +141,24 @@ def test_rows_of_the_programs_own_answers() -> None:
         manifest = json.loads((folder / "study" / "manifest.json").read_text())
         assert (manifest["nodes"], manifest["study"], manifest["window_us"]) == (16, "study.toml", 3000000)
         assert not left_overs(folder)
+
+
+def test_losses_of_the_second_profile() -> None:
+    """A column `losses` behind the report where a run has the second profile; of the others none are lost."""
+    for study, wanted in (
+        (STUDY.replace("list = [1, 2]", "profile = [1, 2]"), ["0", "0", "1", "1"]),
+        (STUDY.replace("list = [1, 2]", "profile = [2, 1]"), ["1", "1", "0", "0"]),
+        (STUDY.replace("list = [1, 2]", "profile = [2]\nloss_ppm = [0, 5]\nspread_us = [7]"), ["1", "1", "1", "1"]),
+    ):
+        with study_folder(study) as folder:
+            assert call(folder) == (0, "")
+            rows = table(folder, "runs.csv")
+            assert [row["losses"] for row in rows] == wanted
+            columns = list(rows[0])
+            assert columns[columns.index("ringless") :][:3] == ["ringless", "losses", "judged-lookups"]
+            assert {row["right"] for row in rows} == {"1"}
+    with study_folder(STUDY.replace("list = [1, 2]", "profile = [1]")) as folder:
+        assert call(folder) == (0, "") and "losses" not in table(folder, "runs.csv")[0]
 
 
 def test_what_failed_is_told_and_what_was_done_is_kept() -> None:
@@ -307,6 +327,27 @@ def test_two_by_two_with_the_program() -> None:
             for word in ("lookups", "found", "right"):
                 assert sum(int(step[word]) for step in steps) == int(row[word])
         assert wrong > 0
+
+
+def test_both_profiles_with_the_program() -> None:
+    """The column `losses` counts the lines of lost messages, and is 0 in the first profile."""
+    program = chordsim()
+    base = BASE.replace("profile = 1", "profile = 2\nloss_ppm = 20000\nspread_us = 5000")
+    with study_folder(STUDY.replace("list = [1, 2]", "loss_ppm = [0, 20000]")) as folder:
+        (folder / "base.toml").write_text(base)
+        assert call(folder, program=program) == (0, "")
+        for row in table(folder, "runs.csv"):
+            text = base.replace("loss_ppm = 20000", f"loss_ppm = {row['loss_ppm']}")
+            (folder / "one.toml").write_text(text.replace("seed = 7", f"seed = {row['seed']}"))
+            words = [program, "run", "--scenario", folder / "one.toml", "--serial"]
+            lines = subprocess.run(words, capture_output=True, text=True, check=True).stdout.splitlines()
+            report = dict(line.split(" ") for line in lines if not line[0].isdigit())
+            assert len(report) == 25 and {word: row[word] for word in report} == report
+            assert len([line for line in lines if " lose " in line]) == int(row["losses"])
+            assert (row["losses"] == "0") == (row["loss_ppm"] == "0")
+    with study_folder(STUDY.replace("list = [1, 2]", "profile = [1, 2]")) as folder:
+        assert call(folder, program=program) == (0, "")
+        assert [row["losses"] for row in table(folder, "runs.csv")] == ["0"] * 4
 
 
 def steps_of(folder: Path, row: dict[str, str]) -> list[dict[str, str]]:
