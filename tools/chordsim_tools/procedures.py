@@ -111,7 +111,7 @@ class Procedures:
     # 8.1 Call
 
     def call(self, request: type, p: int, purpose: Purpose, *rest: object, because: int | None = None) -> int:
-        """Calls a request to p for a purpose; gives the number of the call, that of the request (also of a lost one)."""
+        """Calls a request to p for a purpose; gives the number of the call: that of the request, lost or not."""
         number = self.n.count + 1
         self.send(p, request(number, *rest))
         self.set_timer(self.world.scenario.timeout_us, Timeout(number))

@@ -16,7 +16,10 @@ class TooManyEvents(Exception):
 
 
 class Simulation:
-    """A run of a scenario. `lines` runs it; `events` and `messages` (those that arrive, by kind) are whole at its end."""
+    """A run of a scenario. `lines` runs it; `events` and `messages` are whole when `lines` has come to its end.
+
+    `messages` counts by kind those that were made and not lost.
+    """
 
     def __init__(self, scenario: Scenario) -> None:
         """The start (section 7)."""

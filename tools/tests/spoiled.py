@@ -42,8 +42,8 @@ class World:
 
 def good_world(profile: int) -> World:
     """A world without a fault: five nodes, four commands, four rows."""
-    top = [f"profile = {profile}", "bits = 8", "list = 2", "seed = 1", "duration_us = 2000", "window_us = 10", "latency_us = 10"]
-    top += ["timeout_us = 40", "audit_us = 200", "stabilize_us = 100", "finger_us = 100"]
+    top = [f"profile = {profile}", "bits = 8", "list = 2", "seed = 1", "duration_us = 2000", "window_us = 10"]
+    top += ["latency_us = 10", "timeout_us = 40", "audit_us = 200", "stabilize_us = 100", "finger_us = 100"]
     top += ["loss_ppm = 50000", "spread_us = 7"] if profile == 2 else []
     churn = [f"{word}_us = 100" for word in ("life_min", "life_max", "down_min", "down_max")]
     nodes = [[f'name = "n{i}"', f"id = {40 * i}", "initial = true"] for i in range(4)]

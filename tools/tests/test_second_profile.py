@@ -10,7 +10,7 @@ from chordsim_tools.report import Report
 from chordsim_tools.rules import act
 from chordsim_tools.scenario import Refused, read_scenario
 from chordsim_tools.simulation import Simulation, initial_states
-from chordsim_tools.state import Body, CmdCrash, CmdJoin, CmdLookup, Event, GetState, Notify, Ping, Step, Timeout
+from chordsim_tools.state import Body, CmdCrash, CmdJoin, CmdLookup, Event, GetState, Node, Notify, Ping, Step, Timeout
 
 from .functions import suite_of
 from .programs import ended
@@ -59,7 +59,7 @@ def many(profile: int, count: int) -> str:
     return head + "".join(f'[[node]]\nname = "n{i}"\nid = {i}\ninitial = true\n' for i in range(count))
 
 
-def happen(world: World, node: object, body: Body, origin: int) -> tuple[list[str], list[tuple[int, int, int, Body]]]:
+def happen(world: World, node: Node, body: Body, origin: int) -> tuple[list[str], list[tuple[int, int, int, Body]]]:
     """Lets an event happen at n0 at 100. Gives its lines, and of each event its time, number, target and body."""
     events, lines = act(world, node, Event(100, origin, 1, 0, body))
     return [line.removeprefix("100 n0 ") for line in lines], [(e.time, e.number, e.target, e.body) for e in events]

@@ -99,6 +99,14 @@ def test_warmup() -> None:
     assert (one.all_lookups, one.all_found) == (4, 2)
 
 
+def test_lost_messages() -> None:
+    """They change nothing: a lost message is not a lost lookup, and its sender stays a member."""
+    lines = ("90 a lookup 15", "90 a lose step b", "110 b lose step-reply a", "190 a lost 15 hops=0 timeouts=1 us=100")
+    with_losses, without = reader(*lines), reader(lines[0], lines[3])
+    assert with_losses.numbers() == without.numbers() and with_losses.numbers()["judged-lost"] == 1
+    assert (with_losses.steps, with_losses.members.places) == (without.steps, [10, 20, 30])
+
+
 def test_audits() -> None:
     """Whole: all members once around. Torn: dead ones, no ring, or out of order."""
     facts = [
