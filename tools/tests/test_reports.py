@@ -7,7 +7,7 @@ from chordsim_tools.simulation import Simulation
 from .functions import suite_of
 from .worlds import EXAMPLES
 
-QUICK = ("ring", "half_crash", "join_storm", "churn64", "slow_repair")
+QUICK = ("ring", "half_crash", "join_storm", "churn64", "slow_repair", "lossy64")
 
 
 def load_tests(*_: object) -> object:
