@@ -35,7 +35,11 @@ measured round trips with the other chosen hosts (the lower one of two in the mi
 them, rounded up; SIDE is the way from one corner to the next.
 
 At the end a line on standard error says the number of hosts and of gaps filled, the least, the median and the greatest
-latency, and the greatest window_us that a scenario with these latencies may have (which is the least latency).
+latency, and the greatest window_us that a scenario with these latencies may have (which is the least latency). A spread (spread_us, of
+profile 2) only adds to these and does not count for the window.
+
+chordsim reads at most 16,777,216 bytes of latencies, which a row for each pair of some 1,400 nodes has. A greater file
+is refused; profile 1 has at most 512 nodes.
 
 examples:
   tools/latency king.txt --nodes 128 --seed 3 -o king.csv
@@ -49,13 +53,14 @@ status: 0 the file is written; 1 a file is refused; 2 the words are wrong; 3 the
 interrupted. A file is whole or not there."""
 BARE = ("nodes", "names", "seed", "plane", "floor", "form", "unit", "gaps")
 """The options that have a value, but -o."""
+MOST_NODES = 4096
 
 
 def words(arguments: list[str]) -> Namespace:
     """The words of the command line."""
     parser = Parser(PROG, HELP, EPILOG)
     parser.add_argument("measured", metavar="MEASURED", nargs="?", help="the file with the round trips")
-    parser.add_argument("--nodes", metavar="N", help="2 to 512 nodes (64, or as many as --names has)")
+    parser.add_argument("--nodes", metavar="N", help="2 to 4096 nodes (64, or as many as --names has)")
     parser.add_argument("--names", metavar="FILE", help="a scenario; its nodes' names are taken, in their order")
     parser.add_argument("--seed", metavar="N", help="of all that is drawn: 0 to 9223372036854775807 (1)")
     parser.add_argument("--form", metavar="FORM", help="the form of MEASURED: matrix or lines (matrix)")
@@ -81,15 +86,15 @@ def names_of(file: str) -> list[str]:
     for number, name in enumerate(names, start=1):
         if not isinstance(name, str) or not re.fullmatch(r"[A-Za-z0-9._-]{1,32}", name) or name in names[: number - 1]:
             raise Refused(f"{file}: node {number} has no name of its own")
-    if not 2 <= len(names) <= 512:
-        raise Refused(f"{file}: {len(names)} nodes, not 2 to 512")
+    if not 2 <= len(names) <= MOST_NODES:
+        raise Refused(f"{file}: {len(names)} nodes, not 2 to {MOST_NODES}")
     return names
 
 
 def nodes_of(given: Words) -> list[str]:
     """The names of the nodes that the words ask for."""
     if not given.has("names"):
-        return [f"n{i}" for i in range(given.count("nodes", 64, 2, 512))]
+        return [f"n{i}" for i in range(given.count("nodes", 64, 2, MOST_NODES))]
     names = names_of(given.given["names"])
     given.count("nodes", len(names), len(names), len(names), ", as many as --names has")
     return names
@@ -134,6 +139,12 @@ def check_words(given: Words, measured: str | None) -> None:
         given.only_with(name, measured is not None, "a file MEASURED")
 
 
+def check_size(count: int, size: int) -> None:
+    """Refuses a file of this size or more that chordsim would not read."""
+    if size > GREATEST_SIZE:
+        raise BadWords(f"--nodes: rows for all pairs of {count} nodes have more than {GREATEST_SIZE} bytes")
+
+
 def facts(count: int, result: Latencies) -> str:
     """What is said at the end."""
     times = [micros for _, _, micros in result.micros]
@@ -148,8 +159,11 @@ def obey(args: Namespace) -> None:
     given = Words({name: getattr(args, name) for name in BARE})
     check_words(given, args.measured)
     names = nodes_of(given)
+    check_size(len(names), (len(names) - 1) * sum(len(name) + 2 for name in names))
     result = latencies(given, args.measured, len(names))
-    put("".join(f"{names[a]},{names[b]},{micros}\n" for a, b, micros in result.micros), args.file)
+    text = "".join(f"{names[a]},{names[b]},{micros}\n" for a, b, micros in result.micros)
+    check_size(len(names), len(text))
+    put(text, args.file)
     say(facts(len(names), result))
 
 

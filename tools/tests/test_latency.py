@@ -6,6 +6,7 @@ import tempfile
 from collections.abc import Iterator
 from contextlib import contextmanager
 from pathlib import Path
+from unittest import mock
 from random import Random
 
 from chordsim_tools.draws import Draws
@@ -189,7 +190,8 @@ def test_refused_words() -> None:
         ("--plane 0", "--plane: a time of 1us to 600s"),
         ("--plane 601s", "--plane: a time of 1us to 600s"),
         ("--plane 1s --floor 101s", "--floor: a time of 1us to 100s"),
-        ("--plane 1s --nodes 513", "--nodes: 2 to 512"),
+        ("--plane 1s --nodes 4097", "--nodes: 2 to 4096"),
+        ("--plane 1s --nodes 4096", "--nodes: rows for all pairs of 4096 nodes have more than 16777216 bytes"),
         ("--plane 1s --seed -1", "--seed: 0 to 9223372036854775807"),
         ("king --unit ns", "--unit: us or ms or s"),
         ("king --form square", "--form: matrix or lines"),
@@ -199,6 +201,14 @@ def test_refused_words() -> None:
         status, out, err = ended(main, *words.split())
         assert (status, out) == (2, ""), words
         assert err.startswith("tools/latency: ") and text in err and err.count("\n") == 1, (words, err)
+
+
+def test_size_of_the_file() -> None:
+    """A file of just as many bytes as chordsim reads is written; one byte more is refused."""
+    size = len(ended(main, "--plane", "1s", "--nodes", "20")[1])
+    for greatest, status in ((size, 0), (size - 1, 2)):
+        with mock.patch("chordsim_tools.latency.GREATEST_SIZE", greatest):
+            assert ended(main, "--plane", "1s", "--nodes", "20")[0] == status, greatest
 
 
 def test_files_that_cannot_be_written() -> None:
