@@ -85,5 +85,5 @@ def command_table(plan: Plan, command: Command) -> str:
 
 
 def key_text(key: int) -> str:
-    """A key or an identifier: a hexadecimal text where it has 64 bits, which no integer of TOML has."""
+    """A key or an identifier: a hexadecimal text where it has 64 bits or more, which no integer of TOML has."""
     return str(key) if key < 2**63 else f'"{key:x}"'
