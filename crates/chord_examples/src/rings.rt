@@ -68,9 +68,9 @@ fn between_at_the_ends(rt: HostRuntime) {
         return;
     };
     let five = circle.low_bits(5);
-    for x in 0..8 {
+    for x in 0..8u32 {
         assert!(rt;
-            circle.between(five, circle.low_bits(x), five) == (x != 5),
+            circle.between(five, circle.low_bits(Raw::from(x)), five) == (x != 5),
             "{x}"
         );
     }
