@@ -38,7 +38,7 @@ impl Ticket {
 /// to take memory again.
 ///
 /// Only `reserve` takes memory. The end of an arena drops its records, so an arena whose records
-/// are not `Drop` can't be ended.
+/// are not `Drop` cannot be ended.
 pub struct RecordArena<T> {
     chunks: Vec<Chunk<T>>,
     len: usize,
@@ -71,7 +71,7 @@ impl<T> RecordArena<T> {
     }
 
     /// Makes room for `additional` more records, in whole chunks. Room that is there stays, also
-    /// where memory was refused; some of the new room may then be there too.
+    /// if an allocation failed; some of the new room may then be there too.
     pub fn reserve(&mut self, additional: usize) -> Result<(), Memory>
         requires { length self.old.items + additional ≤ 2 ^ 32 }
         ensures items { self.new.items ≡ self.old.items }
@@ -98,7 +98,7 @@ impl<T> RecordArena<T> {
         Ok(())
     }
 
-    /// Puts a record behind the others. It comes back where there is no room.
+    /// Puts a record behind the others. It comes back if there is no room.
     pub fn place(&mut self, value: T) -> Result<Ticket, T>
         ensures variant { IsOk result ↔ (length self.old.items < self.old.room) }
         ensures ticket { IfOk result (λ ticket. ticket ≡ length self.old.items) }

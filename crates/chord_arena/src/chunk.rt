@@ -26,7 +26,7 @@ impl<T> Model for Chunk<T> {
 }
 
 impl<T> Chunk<T> {
-    /// A chunk without records. Memory is refused too where 256 records are too large for any block.
+    /// A chunk without records. Memory is refused too if 256 records are too large for any block.
     pub(crate) fn new(alloc: Global) -> Result<Chunk<T>, AllocError>
         ensures { IfOk result (λ c. c ≡ []) }
     {

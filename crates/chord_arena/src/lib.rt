@@ -8,7 +8,7 @@ mod raw_chunk;
 mod tests;
 
 pub use arena::{RecordArena, Ticket};
-// Contracts name an arena only where the types of its fields are exported.
+// Contracts name an arena only if the types of its fields are exported.
 #[doc(hidden)]
 pub use chunk::Chunk;
 #[doc(hidden)]

@@ -283,7 +283,7 @@ module _ (sc : Setup) (states : List NodeState) (members : List Bool) (best : Li
       ∙ count_same (λ n. is_marked members n && not (is_marked_rank ranks passed n)) (is_principal sc state) 0 (node_count sc) (λ n low lt.
       ap (λ b. b && not (is_marked_rank ranks passed n)) (member_is n (omega arith)) ∙ ap (λ b. is_member (state n) && not b) (passed_is n (omega arith)))
 
--- a line is that of the facts where its fields are
+-- a line is that of the facts if its fields are
 pub line_is : (sc : Setup) (state : ℕ → NodeState) (time m d r : ℕ) (o : Bool) (p : ℕ) (s : Bool)
     → m ≡ member_count sc state → d ≡ dead_count sc state → r ≡ count_by (is_on_ring sc state) (nodes sc) → o ≡ is_ordered sc state
     → p ≡ principal_count sc state

@@ -72,7 +72,7 @@ any_more p n =
     ∙ or_one (list_any p (range_with_len 0 n)) (p (0 + n))
     ∙ ap (λ k. list_any p (range_with_len 0 n) || p k) (zero-add n)
 
--- where some number passes there is one
+-- if some number passes there is one
 pub any_found : (p : ℕ → Bool) (a n : ℕ) → list_any p (range_with_len a n) ≡ true → (x : ℕ) × (a ≤ x) × (x < a + n) × (p x ≡ true)
 any_found p a zero h = absurd cc
 any_found p a (suc n) h = found (λ r. any_found p (a + 1) n r) (p a) refl

@@ -84,7 +84,7 @@ led_to next p n k some h =
     let half = passes next (on.0 - k) k n n way in
     (half.0, on.0 - k, half.1, half.2)
 
--- Among more numbers than a list has members some two are equal, where all are in the list.
+-- Among more numbers than a list has members some two are equal, if all are in the list.
 
 abbrev IsIn : List ℕ → ℕ → Type 0
 IsIn ys q = list_any (eqb q) ys ≡ true
@@ -181,7 +181,7 @@ comes_back_within next ys k y n all more h = back (two_equal place ys (suc (leng
         let turned : after next (r + d) q ≡ Some n = ap (λ w. after next w q) either_way ∙ after_then next d r q q round ∙ end in
         (d, omega arith, omega arith, sym (after_then next r d q n end) ∙ turned)
 
--- steps stay among the first N nodes, where each does
+-- steps stay among the first N nodes, if each does
 abbrev pub Leads : (most : ℕ) → (ℕ → Option ℕ) → Type 0
 Leads most next = (n m : ℕ) → n < most → next n ≡ Some m → m < most
 

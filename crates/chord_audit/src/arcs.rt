@@ -25,7 +25,7 @@ impl Arcs {
         Ok(Arcs { first: 0, far })
     }
 
-    /// Adds the way from rank a up to rank b, which goes round where b is not above a.
+    /// Adds the way from rank a up to rank b, which goes round if b is not above a.
     pub fn add(&mut self, a: usize, b: usize)
         requires a { a < length self.old.far.items }
         requires b { b < length self.old.far.items }

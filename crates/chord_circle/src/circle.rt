@@ -30,7 +30,7 @@ impl Model for Circle {
 }
 
 impl Circle {
-    /// The circle of identifiers with this many bits, where that is 3 to 128.
+    /// The circle of identifiers with this many bits, if that is 3 to 128.
     pub fn new(bits: u32) -> Option<Circle>
         ensures accepted { IsSome result ↔ (3 ≤ bits) × (bits ≤ MOST_BITS) }
         ensures value { IfSome result (λ circle. circle ≡ bits) }
@@ -55,7 +55,7 @@ impl Circle {
         self.bits
     }
 
-    /// The identifier of a number, where the circle has that many places.
+    /// The identifier of a number, if the circle has that many places.
     pub fn ident(&self, raw: Raw) -> Option<Ident>
         ensures accepted { IsSome result ↔ raw < 2 ^ self.now }
         ensures value { IfSome result (λ ident. ident ≡ raw) }

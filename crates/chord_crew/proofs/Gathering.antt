@@ -43,7 +43,7 @@ use Rattle.chord_crew.specs.Seats.{SeatState}
 use Rattle.chord_crew.specs.Shifts.{AreResults, IsShift}
 use Rattle.chord_crew.specs.Windows.{IsGathered, IsWindowFault, JoinsBoth, joined_seats}
 
--- a fact of no value, where there is none
+-- a fact of no value, if there is none
 pub from_none : {X : Type 0} (o : Option X) (P : Type 0) → o ≡ None → IfNone o P → P
 from_none None P is fact = fact
 from_none (Some x) P is fact = absurd (none-some x (sym is))
@@ -94,7 +94,7 @@ fault_of_either sc w horizon mine others shift fault g s (inl memory) = inr (inl
 fault_of_either sc w horizon mine others shift fault g s (inr (inl theirs)) = rw theirs at g
 fault_of_either sc w horizon mine others shift fault g s (inr (inr mine_is)) = inr (rw mine_is at s.fault)
 
--- where the joined seat has each part once, there is one result of each part
+-- if the joined seat has each part once, there is one result of each part
 pub all_gathered : (sc : Scenario) (w : World) (horizon : ℕ) (seat : SeatState) (gathered : Gathered) → IsHorizon w horizon
     → IsGathered sc w horizon seat gathered → HasEachOnce w.division.parts gathered.seat.numbers → ArePartsDone sc w horizon gathered.done.items
 all_gathered sc w horizon seat gathered next is once = record {

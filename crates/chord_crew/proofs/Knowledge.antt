@@ -40,7 +40,7 @@ module _ (counter : Counter) (seat : SeatState) (word : ℕ) (views : List View)
         at_most_once x,
       ))
 
-  -- where it has met the end, each number was drawn
+  -- if it has met the end, each number was drawn
   pub all_drawn : seat.met_end ≡ true → AllAreDrawn counter.parts views
   all_drawn ended x below = moment.kept.each_once x (omega (
     arith,
@@ -48,7 +48,7 @@ module _ (counter : Counter) (seat : SeatState) (word : ℕ) (views : List View)
         (view_of seat) at moment.kept.end_is_met ended,
   ))
 
-  -- where it has the whole allowance too, each number is in its list
+  -- if it has the whole allowance too, each number is in its list
   pub whole_has_each : seat.met_end ≡ true → seat.allowance ≡ counter.seats → HasEachOnce counter.parts seat.numbers
   whole_has_each ended whole =
       let count : (x : ℕ) → draws_of x views ≡ count_of x seat.numbers = λ x. sum_by-whole (λ u. count_of x u.numbers) (λ u. u.allowance) views

@@ -34,7 +34,7 @@ module _ {A : Type 0} where
       (omega (arith, sum_by-cons f x xs, sum_by-at f xs j v e))
   sum_by-two f (x ∷ xs) (suc j) (suc k) v w e h apart = omega (arith, sum_by-cons f x xs, sum_by-two f xs j k v w e h (λ s. apart (λ i. suc (s i))))
 
-  -- where one element has the whole sum of `g`, and `f` is 0 where `g` is, it has the whole sum of `f`
+  -- if one element has the whole sum of `g`, and `f` is 0 if `g` is, it has the whole sum of `f`
   sum_by-none : (f g : A → ℕ) (xs : List A) → sum_by g xs ≡ 0 → ((k : ℕ) (u : A) → get_elem? xs k ≡ some u → g u ≡ 0 → f u ≡ 0) → sum_by f xs ≡ 0
   sum_by-none f g [] none zero_too = λ i. 0
   sum_by-none f g (x ∷ xs) none zero_too =

@@ -9,11 +9,11 @@ use Rattle.chord_event.specs.declared.error.RunError.TheVariants as run
 use Rattle.chord_scenario.specs.declared.scenario.Scenario.{Scenario}
 use Rattle.chord_window.specs.declared.world.World.{World}
 
--- a window ends early where the run of a part does, or where a thread start was refused
+-- a window ends early if the run of a part does, or if a thread start was refused
 abbrev pub IsWindowFault : Scenario → RunError → Type 0
 IsWindowFault sc fault = (fault ≡ run.Worker) ⊎ IsPartFault sc fault
 
--- how far back a fault stands where several meet in one window: a refused thread comes first
+-- how far back a fault stands if several meet in one window: a refused thread comes first
 abbrev pub rank_of : RunError → ℕ
 rank_of run.Worker = 0
 rank_of run.Memory = 1

@@ -24,7 +24,7 @@ use std::sync::Wait;
 use std::thread::Threads;
 
 /// Lets so many workers run the parts of the world's next window. The answer is what the parts
-/// leave, in their order. Where several faults meet it is a refused thread, else memory, else too
+/// leave, in their order. If several faults meet it is a refused thread, else memory, else too
 /// many events.
 pub(crate) fn run_parts<R: Threads + Wait + Sync, S: Starter, G: Gate + Sync>(
     rt: &R,
@@ -70,9 +70,9 @@ pub(crate) fn run_parts<R: Threads + Wait + Sync, S: Starter, G: Gate + Sync>(
 ///
 /// # Errors
 ///
-/// `Worker`, where the start of a thread is refused; `BadDivision`, with nothing written, where the
+/// `Worker`, if the start of a thread is refused; `BadDivision`, with nothing written, if the
 /// division has another number of nodes than the scenario; `TooManyEvents`, `Write` and `Memory` as
-/// `chord_serial::run_serial`. Where several workers of a window fail, `Worker` comes before
+/// `chord_serial::run_serial`. If several workers of a window fail, `Worker` comes before
 /// `Memory`, and that before `TooManyEvents`.
 pub fn run_crew<R: Threads + Wait + Sync, G: Gate + Sync, W: Write>(
     rt: &R,
@@ -108,12 +108,12 @@ pub fn run_crew<R: Threads + Wait + Sync, G: Gate + Sync, W: Write>(
     )
 }
 
-/// Runs a scenario as `run_crew`, where a starter is asked before the start of each worker's thread.
+/// Runs a scenario as `run_crew`, if a starter is asked before the start of each worker's thread.
 /// After a no it is not asked again.
 ///
 /// # Errors
 ///
-/// `Worker`, where the starter said no or the start of a thread is refused; the others as
+/// `Worker`, if the starter said no or the start of a thread is refused; the others as
 /// `run_crew`.
 pub fn run_crew_started<R: Threads + Wait + Sync, S: Starter, G: Gate + Sync, W: Write>(
     rt: &R,

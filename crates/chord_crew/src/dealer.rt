@@ -15,7 +15,7 @@ pub trait Dealer {
     ///
     /// # Errors
     ///
-    /// `Memory`, where a growth is refused.
+    /// `Memory`, if an allocation fails.
     fn deal(&mut self, loads: &[u64]) -> Result<Division, Memory>
         ensures named { IfOk result (λ d. can_name (length loads.now) d) };
 }

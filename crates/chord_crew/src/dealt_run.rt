@@ -26,8 +26,8 @@ use std::thread::Threads;
 ///
 /// # Errors
 ///
-/// `BadDivision`, where the dealer names a division of another number of nodes than the scenario
-/// has; `Memory`, where the dealer's memory is refused too; the others as `run_crew`.
+/// `BadDivision`, if the dealer names a division of another number of nodes than the scenario
+/// has; `Memory`, if the dealer's memory is refused too; the others as `run_crew`.
 pub fn run_crew_dealt<R: Threads + Wait + Sync, D: Dealer, G: Gate + Sync, W: Write>(
     rt: &R,
     alloc: Global,

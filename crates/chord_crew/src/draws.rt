@@ -41,7 +41,7 @@ impl Draws {
     ///
     /// # Errors
     ///
-    /// `Memory`, where a growth is refused.
+    /// `Memory`, if an allocation fails.
     pub fn start(alloc: Global, parts: u32, seats: u32) -> Result<(Draws, Seat), Memory>
         requires parts { (0 < parts) × (parts ≤ MOST_PARTS) }
         requires seats { (0 < seats) × (seats ≤ MOST_SEATS) }

@@ -18,7 +18,7 @@ use std::alloc::Global;
 pub struct Shift {
     /// Its seat, with the parts that it drew.
     pub seat: Seat,
-    /// What each of these parts leaves, in the order of the draws. Where there is a fault the last
+    /// What each of these parts leaves, in the order of the draws. If there is a fault the last
     /// part has left nothing.
     pub done: Vec<Done>,
     /// Why the worker stopped early: `Memory` or `TooManyEvents`.

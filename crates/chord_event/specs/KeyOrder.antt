@@ -5,7 +5,7 @@ use Rattle.chord_event.specs.declared.key.Key.{Key}
 use Rattle.chord_event.specs.Keys.{IsBefore, is_before}
 
 module _ {A : Type 0} (key_of : A → Key) where
-  -- each comes before those that stand after it
+  -- each comes before all later ones
   abbrev pub InKeyOrder : List A → Type 0
   InKeyOrder [] = ⊤
   InKeyOrder (x ∷ xs) = AllByRecursion (λ y. IsBefore (key_of x) (key_of y)) xs × InKeyOrder xs
@@ -14,7 +14,7 @@ module _ {A : Type 0} (key_of : A → Key) where
   abbrev pub IsNewKey : Key → List A → Type 0
   IsNewKey k xs = AllByRecursion (λ y. key_of y ≢ k) xs
 
-  -- x put ahead of the first that it comes before
+  -- x inserted before the first element that it comes before
   abbrev pub put_in_order : A → List A → List A
   put_in_order x [] = x ∷ []
   put_in_order x (y ∷ ys) = if is_before (key_of x) (key_of y) then x ∷ (y ∷ ys) else y ∷ put_in_order x ys

@@ -24,6 +24,6 @@ is_before a b =
 abbrev pub is_same_key : Key → Key → Bool
 is_same_key a b = a.time == b.time && (a.origin == b.origin && a.number == b.number)
 
--- which of the two comes first, as `Key::cmp` answers it
+-- which of the two comes first, as `Key::cmp` returns it
 abbrev pub key_cmp : Key → Key → Ordering
 key_cmp a b = ordering_then (nat_cmp a.time b.time) (ordering_then (nat_cmp a.origin b.origin) (nat_cmp a.number b.number))

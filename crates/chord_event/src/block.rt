@@ -1,8 +1,9 @@
+//! The trace of one event.
 use crate::key::Key;
 use crate::line::Line;
 use crate::listed::Listed;
 
-/// What one event left in the trace: its lines, in the order made, under its key and its target.
+/// What one event left in the trace: its lines in the order made, with its key and its target.
 #[derive(Drop)]
 pub struct Block {
     pub key: Key,

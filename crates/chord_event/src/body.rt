@@ -1,11 +1,12 @@
+//! What events do: commands, timers and messages.
 ghost use Rattle.std.specs.Prelude.{◌≡◌, IfOk};
 
 use crate::error::Memory;
 use crate::listed::Listed;
 use chord_circle::Ident;
 
-/// What a node answers to one step of a search: the owner of the key, whom to ask next, or that it
-/// knows no way on.
+/// The reply to one step of a search: the owner of the key, the node to ask next, or `Stuck` if the
+/// node knows neither.
 #[derive(Clone, Copy, Debug, PartialEq, Eq, Drop)]
 pub enum Answer {
     Owner(u32),
@@ -13,8 +14,8 @@ pub enum Answer {
     Stuck,
 }
 
-/// What an event asks of its target: a command, a timer of its own, or a message. A message is sent
-/// by the node of its key's origin; requests and replies carry the number of their call.
+/// What an event asks of its target: a command, a timer of the target, or a message. The sender of
+/// a message is the node of its key's origin. Requests and replies carry the number of their call.
 #[derive(Drop)]
 pub enum Body {
     CmdJoin {
@@ -76,7 +77,7 @@ pub enum Body {
 }
 
 impl Body {
-    /// An equal body.
+    /// A copy of the body.
     pub fn try_clone(&self) -> Result<Body, Memory>
         ensures { IfOk result (λ copy. copy ≡ self.now) }
     {

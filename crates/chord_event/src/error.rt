@@ -1,8 +1,9 @@
+//! The errors of a run.
 ghost use Rattle.std.specs.Prelude.{◌≡◌};
 
 use std::alloc::{AllocError, AllocFailed};
 
-/// A growth was refused.
+/// An allocation failed.
 #[derive(Clone, Copy, Debug, PartialEq, Eq, Drop)]
 pub struct Memory;
 
@@ -21,9 +22,9 @@ impl<T: Drop> From<AllocFailed<T>> for Memory {
 /// Why a run stopped before its end.
 #[derive(Clone, Copy, Debug, PartialEq, Eq, Drop)]
 pub enum RunError {
-    /// A growth was refused.
+    /// An allocation failed.
     Memory,
-    /// The start of a thread was refused.
+    /// A thread could not be started.
     Worker,
     /// The run has more events than the scenario allows.
     TooManyEvents,

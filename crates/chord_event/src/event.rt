@@ -1,10 +1,11 @@
+//! Events of the simulation.
 ghost use Rattle.std.specs.Prelude.{◌≡◌, IfOk};
 
 use crate::body::Body;
 use crate::error::Memory;
 use crate::key::Key;
 
-/// An event, and the node at which it takes place.
+/// An event, and the number of the node at which it happens.
 #[derive(Drop)]
 pub struct Event<B = Body> {
     pub key: Key,
@@ -13,7 +14,7 @@ pub struct Event<B = Body> {
 }
 
 impl Event {
-    /// An equal event.
+    /// A copy of the event.
     pub fn try_clone(&self) -> Result<Event, Memory>
         ensures { IfOk result (λ copy. copy ≡ self.now) }
     {

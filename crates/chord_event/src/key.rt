@@ -1,9 +1,9 @@
+//! Keys, which put all events into one order.
 ghost use Rattle.std.specs.Prelude.{◌≡◌, ◌+◌, ◌-◌, ◌^◌, ◌<◌};
 ghost use Rattle.chord_event.specs.Keys.{is_before};
 
-/// Where an event stands in the order of all events: by its time in microseconds, then by its
-/// origin, then by its number. Origin 0 is kept for audits, 1 is the scenario's commands, and
-/// `2 + i` is node i.
+/// The place of an event in the order of all events: by time in microseconds, then by origin, then
+/// by number. Origin 0 is reserved for audits, 1 is the scenario's commands, and `2 + i` is node i.
 #[derive(Clone, Copy, Debug, PartialEq, Eq, PartialOrd, Ord, Drop)]
 pub struct Key {
     pub time: u64,
@@ -12,7 +12,8 @@ pub struct Key {
 }
 
 impl Key {
-    /// The key of the next event of a node that has made `count` events.
+    /// The key of the next event of a node that has made `count` events. It requires only that the
+    /// numbers fit; that `count` stays below 2^40 is a law of runs.
     pub fn next_of(time: u64, node: u32, count: u64) -> Key
         requires count { count < 2 ^ 64 - 1 }
         requires node { node < 2 ^ 32 - 2 }
@@ -25,8 +26,7 @@ impl Key {
         }
     }
 
-    /// Whether the event of this key comes before that of the other: by its time in microseconds,
-    /// then by its origin, then by its number. No event comes before itself.
+    /// Whether this key comes before the other one. No key comes before itself.
     pub fn is_before(&self, other: &Key) -> bool
         ensures { result ≡ is_before self.now other.now }
     {

@@ -1,3 +1,4 @@
+//! The lines of a trace.
 use chord_circle::Ident;
 
 /// The kinds of message between nodes.
@@ -22,7 +23,7 @@ pub enum CommandKind {
     Lookup,
 }
 
-/// One line of an event's block. Nodes are named by their numbers, `us` is microseconds.
+/// One line of an event's block. Nodes are named by their numbers from 0. `us` is in microseconds.
 #[derive(Clone, Copy, Debug, PartialEq, Eq, Drop)]
 pub enum Line {
     Join {
@@ -47,7 +48,7 @@ pub enum Line {
     Timeout {
         silent: u32,
     },
-    /// A message of the node's own that the network loses.
+    /// A message from this node that the network loses.
     Lose {
         kind: MessageKind,
         receiver: u32,

@@ -1,3 +1,4 @@
+//! Lists that contracts see as plain lists.
 ghost use Rattle.std.specs.Prelude.{◌≡◌, ℕ, ◌+◌, ◌-◌, ◌<◌, ◌≤◌, [], ◌∷◌, ◌++◌, drop, length, take, IsSome, IfOk, OnOk, is_ok, insert, remove, slice_get, slice_index_or, slice_set, if◌then◌else◌};
 ghost use Rattle.std.specs.Fn.{CalledAt};
 ghost use Rattle.std.specs.List.Retain.{IsFiltered};
@@ -6,7 +7,7 @@ use crate::error::Memory;
 use std::alloc::Global;
 use std::marker::Model;
 
-/// A list, which contracts see as the list of its items.
+/// A vector with its allocator. Contracts see the plain list of its items.
 #[derive(Drop)]
 pub struct Listed<T> {
     items: Vec<T>,
@@ -107,7 +108,7 @@ impl<T> Listed<T> {
         }
     }
 
-    /// Keeps what passes.
+    /// Keeps the items that `f` accepts, in their order.
     pub fn retain<F: FnMut(&T) -> bool>(&mut self, f: F)
     where
         T: Drop,

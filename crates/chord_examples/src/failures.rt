@@ -124,7 +124,7 @@ fn latency_texts_that_are_too_long(rt: HostRuntime) -> Result<(), Fail> {
     Ok(())
 }
 
-/// Where both texts have a fault, the scenario text's is told; a fault of the scenario is told only of two texts
+/// If both texts have a fault, the scenario text's is told; a fault of the scenario is told only of two texts
 /// that were read.
 #[test]
 fn faults_of_both_texts(rt: HostRuntime) -> Result<(), Fail> {

@@ -76,7 +76,7 @@ fn examples_by_plans(rt: HostRuntime) -> Result<(), Fail> {
     Ok(())
 }
 
-/// Where one event is allowed, a serial plan writes what that one leaves. By workers the first window has two events,
+/// If one event is allowed, a serial plan writes what that one leaves. By workers the first window has two events,
 /// and a window that fails writes nothing: so they do not run one event at a time.
 #[test]
 fn plans_differ_in_what_fails(rt: HostRuntime) -> Result<(), Fail> {
@@ -94,7 +94,7 @@ fn plans_differ_in_what_fails(rt: HostRuntime) -> Result<(), Fail> {
     Ok(())
 }
 
-/// Whether a random scenario leaves the same by a plan as one event at a time, where it is accepted.
+/// Whether a random scenario leaves the same by a plan as one event at a time, if it is accepted.
 fn is_same<T: AllocGlobal + Threads + Wait + Sync>(
     rt: &T,
     texts: &RandomTexts,

@@ -51,7 +51,7 @@ fn are_known(scenario: &Scenario, nodes: &[u32]) -> bool
 /// n3 and n0 and the same fingers, and n3 the successors n0 and n1 and n0 as both fingers. So each
 /// node knows the owner of a key up to its first successor that is not to be avoided. For any other
 /// key it names the node that it knows closest before the key, as n3 for key 4 at n0: the second
-/// entry of a list counts for this only where the first is to be avoided.
+/// entry of a list counts for this only if the first is to be avoided.
 #[test]
 fn searches_of_the_first_ring(rt: HostRuntime) -> Result<(), Fail> {
     let alloc = rt.alloc();

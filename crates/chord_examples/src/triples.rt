@@ -32,7 +32,7 @@ struct Both {
     picked: Result<Report, RunError>,
 }
 
-/// Runs the triple of a seed, where its scenario and its division are accepted.
+/// Runs the triple of a seed, if its scenario and its division are accepted.
 fn run_triple(alloc: Global, seed: u64) -> Result<Option<Both>, Fail> {
     let mut dice = Dice { state: seed };
     let RandomTexts { nodes, toml, csv } = random_texts(alloc, &mut dice, 3000)?;

@@ -54,7 +54,7 @@ audits-within sc ranges =
     let fits : n * sc.audit ≤ sc.duration = omega (arith, div-mul-le_self (sc.duration - 1) sc.audit) in
     each-push (λ t. t ≤ sc.duration) (multiples sc.audit n) sc.duration (multiples-most sc.audit n sc.duration fits) (omega arith)
 
--- where one is late, all that follow are
+-- if one is late, all that follow are
 pub late-from : (xs : List ℕ) (i t : ℕ) → IsAscending xs → i < length xs → t < get_or xs i 0 → AllByRecursion (λ u. t < u) (drop i xs)
 late-from [] i t up inside late = absurd (omega (arith, inside))
 late-from (x ∷ xs) zero t up inside late = (late, each-weaker (λ u. x < u) (λ u. t < u) xs (λ u h. omega (arith, h, late)) up.0)

@@ -112,7 +112,7 @@ module _ {State Body Piece : Type 0} (m : Machine State Body Piece) where
           λ x c. ⊎_elim (λ s. subst (λ (z : Event Body). t ≤ z.key.time) s late) (λ r. ih.2 x r) (contains_cons x e ih.0 c),
         )
 
-    -- the run below t is legal, and where it has room left nothing is pending below t after it
+    -- the run below t is legal, and if it has room left nothing is pending below t after it
     pub below_is_legal : (t k : ℕ) → IsLegal m (below t (history m k))
     below_is_legal t k =
         let s = below_splits t (history m k) (history_is_legal m k) in

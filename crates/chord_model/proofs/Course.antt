@@ -73,7 +73,7 @@ module _ {State Body Piece : Type 0} (m : Machine State Body Piece) {Sound : ℕ
   }
 
   module _ (states : List State) (events : List (Event Body)) (count : ℕ) (a : IsWorld m states events count) where
-    -- where no event at hand is below the duration, none may follow
+    -- if no event at hand is below the duration, none may follow
     pub none_left : All (λ (x : Event Body). m.duration ≤ x.key.time) events → next m (history m count) ≡ None
     none_left late = none_from_late m (history m count) (λ x c. All_at (λ (x : Event Body). m.duration ≤ x.key.time) events x late ((a.waits x).1 c))
 

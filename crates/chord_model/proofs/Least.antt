@@ -45,7 +45,7 @@ module _ {Body : Type 0} where
       let same : earlier y (least ys) ≡ e = cc s in
       subst (λ (z : Event Body). IsLeast (y ∷ ys) z) same found
 
-  -- where one key is one event, the least is found
+  -- if one key is one event, the least is found
   pub least_is : (xs : List (Event Body)) (e : Event Body) → ((x y : Event Body) → Contains xs x → Contains xs y → x.key ≡ y.key → x ≡ y)
       → IsLeast xs e → least xs ≡ Some e
   least_is xs e one l = go (least xs) refl

@@ -169,7 +169,7 @@ module _ {Body : Type 0} where
         ap (λ z. merge (ran n) z) (merged_first ran g up n (λ p l. each p (omega arith)))
         ∙ (ap (λ z. merge z (among n g)) (each n (omega arith)) ∙ merge-restrict n g up)
 
-    -- where each part ran its events of g, together they ran g
+    -- if each part ran its events of g, together they ran g
     pub merged_is : (ran : ℕ → List (Event Body)) (g : List (Event Body)) → AllPairs (λ (a b : Event Body). IsBefore b.key a.key) g
         → ((x : Event Body) → Contains g x → part_of d x.target < d.parts)
         → ((p : ℕ) → p < d.parts → ran p ≡ restrict d p g) → merged ran d.parts ≡ g

@@ -86,7 +86,7 @@ module _ {State Body Piece : Type 0} (m : Machine State Body Piece) where
       let f = filter_contains (λ (x : Event Body). nat_lt x.key.time m.duration) (pending m h) x c in
       omega (arith, late x f.0, ltb-true x.key.time m.duration f.1))
 
-  -- where no event may follow, none is pending below the duration
+  -- if no event may follow, none is pending below the duration
   pub none_next : (h : List (Event Body)) → ((e : Event Body) → IsNext m h e → ⊥) → (x : Event Body) → Contains (pending m h) x → m.duration ≤ x.key.time
   none_next h stuck x c = go (next m h) refl
     where

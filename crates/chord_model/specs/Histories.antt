@@ -95,7 +95,7 @@ module _ {State Body Piece : Type 0} (m : Machine State Body Piece) where
   abbrev pub IsOverLimit : Type 0
   IsOverLimit = length (history (m.max_events + 1)) ≡ m.max_events + 1
 
-  -- the whole run, where it is not over the limit
+  -- the whole run, if it is not over the limit
   abbrev pub full_history : List (Event Body)
   full_history = history m.max_events
 
@@ -116,6 +116,6 @@ module _ {State Body Piece : Type 0} (m : Machine State Body Piece) where
   output [] = []
   output (e ∷ h) = output h ++ (map (audit_at h) (filter (λ t. nat_le t e.key.time) (open_audits h)) ++ (effect_after h e).piece ∷ [])
 
-  -- where no event may follow, the remaining audits do
+  -- if no event may follow, the remaining audits do
   abbrev pub trace : List (Event Body) → List Piece
   trace h = output h ++ (if is_none (next h) then map (audit_at h) (open_audits h) else [])

@@ -102,7 +102,7 @@ module _ {State Body Piece : Type 0} (m : Machine State Body Piece) where
   abbrev pub HistoriesMeet : (ℕ → State → Bool) → (Event Body → Bool) → Type 0
   HistoriesMeet sound fit = (h : List (Event Body)) → IsPossible m h → Meets (λ n s. IsTrue (sound n s)) (λ e. IsTrue (fit e)) h
 
-  -- Where no event adds more than `most` to a measure of its target's state, no node's has grown by more than `most` for each event.
+  -- If no event adds more than `most` to a measure of its target's state, no node's has grown by more than `most` for each event.
   abbrev pub CountsAreBounded : (ℕ → State → Bool) → (Event Body → Bool) → Type 0
   CountsAreBounded sound fit =
       (measure : State → ℕ) (most : ℕ) → ((s : State) (e : Event Body) → IsTrue (sound e.target s) → IsTrue (fit e)
@@ -187,11 +187,11 @@ module _ {State Body Piece : Type 0} (m : Machine State Body Piece) where
     pub states : (n : ℕ) → n < m.nodes → state m (ran (part_of d n) ++ h) n ≡ state m (taken ++ h) n
     -- the parts add to the trace what the one run does
     pub pieces : (p : ℕ) → p < d.parts → pieces_since m h (ran p) ≡ filter (λ b. part_of d b.0.target == p) (pieces_since m h taken)
-    -- an event is pending where it was so before, or a part made it, and it is due at the horizon or later
+    -- an event is pending if it was so before, or a part made it, and it is due at the horizon or later
     pub mail : (x : Event Body)
         → Contains (pending m (taken ++ h)) x
         ↔ ((Contains (pending m h) x ⊎ ((p : ℕ) × (p < d.parts) × Contains (made_since m h (ran p)) x)) × (horizon ≤ x.key.time))
-    -- in other words, where it waits at its part, or was made for it at another one
+    -- in other words, if it waits at its part, or was made for it at another one
     pub waits : (x : Event Body) → x.target < m.nodes
         → Contains (pending m (taken ++ h)) x
         ↔ (Contains (pending m (ran (part_of d x.target) ++ h)) x ⊎ ((p : ℕ) × (p < d.parts) × (p ≢ part_of d x.target) × Contains (made_since m h (ran p)) x))
@@ -222,7 +222,7 @@ module _ {State Body Piece : Type 0} (m : Machine State Body Piece) where
       → (ran : ℕ → List (Event Body)) → ((p : ℕ) → p < d.parts → IsSealedRun m d (history m k) horizon p (ran p))
       → left_by d (history m k) ran ≡ history m (k + events_run ran d.parts)
 
-  -- Where the parts together run too many events, done or not, the run has too many.
+  -- If the parts together run too many events, done or not, the run has too many.
   abbrev pub LimitIsFound : Type 0
   LimitIsFound =
       (d : Division) → Divides d m.nodes → (h : List (Event Body)) (time horizon : ℕ) → MayOpen h time horizon

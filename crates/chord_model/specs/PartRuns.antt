@@ -13,7 +13,7 @@ module _ {State Body Piece : Type 0} (m : Machine State Body Piece) where
   part_run d h horizon p zero = []
   part_run d h horizon p (suc n) = let ran = part_run d h horizon p n in cons_option (least (waiting m d h horizon p ran)) ran
 
-  -- the horizon of the window that follows a history, where an event may
+  -- the horizon of the window that follows a history, if an event may
   abbrev pub horizon_after : List (Event Body) → Option ℕ
   horizon_after h = option_map (λ (e : Event Body). horizon_from m e.key.time) (next m h)
 

@@ -111,7 +111,7 @@ abbrev pub events_run : {Body : Type 0} → (ℕ → List (Event Body)) → ℕ 
 events_run ran zero = 0
 events_run ran (suc p) = length (ran p) + events_run ran p
 
--- what a window after h leaves, where its parts ran these lists
+-- what a window after h leaves, if its parts ran these lists
 abbrev pub left_by : {Body : Type 0} → Division → List (Event Body) → (ℕ → List (Event Body)) → List (Event Body)
 left_by d h ran = merged ran d.parts ++ h
 
@@ -134,7 +134,7 @@ module _ {State Body Piece : Type 0} (m : Machine State Body Piece) where
   abbrev pub drawing : Division → Window Body → Option (Step Body)
   drawing d w = if nat_lt w.drawn d.parts then Some (Drew w.drawn) else None
 
-  -- a worker with a part runs the least event that waits there, or seals the part where none does
+  -- a worker with a part runs the least event that waits there, or seals the part if none does
   abbrev pub running : ℕ → Option (Event Body) → Step Body
   running p (Some e) = Ran p e
   running p None = Sealed p

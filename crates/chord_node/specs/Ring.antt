@@ -29,7 +29,7 @@ others sc n = filter (λ x. not (x == n)) (initial_nodes sc)
 unfoldable pub clockwise : Scenario → (n : ℕ) → List ℕ
 clockwise sc n = sorted_by (way sc n) (others sc n)
 
--- finger i of node n: the first node met at a distance of 2 ^ (i - 1) or more, or n itself where the circle ends before
+-- finger i of node n: the first node met at a distance of 2 ^ (i - 1) or more, or n itself if the circle ends before
 abbrev pub first_at : Scenario → (n least : ℕ) → List ℕ → ℕ
 first_at sc n least met = unwrap_or (find (λ x. nat_le least (way sc n x)) met) n
 

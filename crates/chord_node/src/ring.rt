@@ -86,7 +86,7 @@ fn clockwise(
     Ok(met)
 }
 
-/// The first of the nodes that is met at a distance or later, or the node itself where none is.
+/// The first of the nodes that is met at a distance or later, or the node itself if none is.
 fn first_at(node: u32, least: Raw, met: &[Met]) -> u32
     ensures { result ≡ first_tagged node least met.now }
 {
@@ -125,8 +125,8 @@ fn fingers(
     Ok(fingers)
 }
 
-/// How many timers a member has at the start: two, one for its own lookups where the scenario has
-/// these, and one for the end of its life where it is a churn node.
+/// How many timers a member has at the start: two, one for its own lookups if the scenario has
+/// these, and one for the end of its life if it is a churn node.
 fn timer_count(scenario: &Scenario, node: u32) -> u64
     requires { node < node_count scenario.now }
     ensures { result ≡ length (timers scenario.now node) }

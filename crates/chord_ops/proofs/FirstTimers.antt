@@ -16,7 +16,7 @@ use Rattle.chord_ops.specs.FirstTurns.{IsNew, first_turn}
 use Rattle.chord_ops.specs.Procedures.{armed, finger_armed, life_armed, stabilize_armed, traffic_armed}
 use Rattle.chord_ops.specs.Turns.{timer_made, when_some}
 
--- the first timers of a node, where these are the scenario's lookups and times of churn
+-- the first timers of a node, if these are the scenario's lookups and times of churn
 abbrev timers_with : Scenario → (lookups : Option Span) → (is_churn : Bool) → (churn : Option Churn) → List (Span × Body)
 timers_with sc lookups is_churn churn =
     (jittered sc sc.stabilize, body.StabilizeTick 1)

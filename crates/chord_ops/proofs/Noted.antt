@@ -94,7 +94,7 @@ noted_line sc n text turn is h =
     notes_lines sc n 1 turn.lines (text ∷ []) turn.state.lookups
     (All-cons (IsLineOf sc) text [] is (none_of (IsLineOf sc))) (omega arith) h
 
--- Messages, each of which leaves a line where it is lost
+-- Messages, each of which leaves a line if it is lost
 
 pub noted_sent : (sc : Scenario) (n : ℕ) (k : MessageKind) (to : ℕ) (message : Body) (turn : Turn) → to < node_count sc → HasNoted sc n turn
     → HasNoted sc (n + 1) (sent sc k to message turn)

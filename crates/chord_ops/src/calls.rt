@@ -1,4 +1,4 @@
-//! The calls that are out, and the head of the successor list.
+//! Outstanding calls, and the head of the successor list.
 ghost use Rattle.std.specs.Prelude.{◌≡◌, ◌==◌, ℕ, not, filter, OnOk};
 ghost use Rattle.chord_node.specs.Invariant.{AllNodes};
 ghost use Rattle.chord_ops.specs.Procedures.{call_of, without_call};
@@ -10,7 +10,7 @@ use chord_event::{Body, Listed, Memory, MessageKind};
 use chord_node::{Call, NodeState};
 use chord_scenario::Scenario;
 
-/// The call of this number that is out.
+/// The outstanding call with this number.
 pub fn find_call(state: &NodeState, number: u64) -> Option<Call>
     ensures { result ≡ call_of number state.now }
 {
@@ -22,7 +22,7 @@ pub fn find_call(state: &NodeState, number: u64) -> Option<Call>
         .find(|call| call.number == number)
 }
 
-/// Keeps the calls of other numbers.
+/// Removes the call with this number.
 fn remove_call(calls: &mut Listed<Call>, number: u64)
     ensures { calls.new ≡ filter (λ call. not (call.number == number)) calls.old }
 {
@@ -37,14 +37,14 @@ pub fn head_of(state: &NodeState) -> Option<u32>
 }
 
 impl Turn {
-    /// The call is no longer out.
+    /// Removes the call with this number from the outstanding ones.
     pub fn drop_call(&mut self, number: u64)
         ensures { self.new ≡ without_call number self.old }
     {
         remove_call(&mut self.state.calls, number);
     }
 
-    /// Tells the head that this node stands before it.
+    /// Notifies the head that this node precedes it.
     #[tactic(auto, unfolding(crate::specs::Rules::head_notified))]
     pub fn notify_head(&mut self, scenario: &Scenario) -> Result<(), Memory>
         requires can_act { CanAct scenario.now 1 2 self.old }

@@ -4,7 +4,7 @@ use Rattle.chord_event.specs.declared.error.RunError.{RunError}
 use Rattle.chord_event.specs.declared.error.RunError.TheVariants as run
 use Rattle.chord_trace.specs.declared.report.Report.{Report}
 
--- the errors that are left where the division fits
+-- the errors that are left if the division fits
 pub other_errors : (e : RunError) → (e ≢ run.BadDivision) → (e ≡ run.Memory) ⊎ (e ≡ run.Worker) ⊎ (e ≡ run.TooManyEvents) ⊎ (e ≡ run.Write)
 other_errors run.Memory fits = inl cc
 other_errors run.Worker fits = inr (inl cc)

@@ -1,4 +1,4 @@
--- The two texts that the readers of a simulation have left, where these are known.
+-- The two texts that the readers of a simulation have left, if these are known.
 use Rattle.std.specs.Io.KnownBytes.{Consumes}
 use Rattle.std.specs.Prelude.{◌≡◌, ℕ, ◌+◌, ◌<◌, ◌≤◌, List, length, Option, Some, IfSome}
 use Rattle.chord_scenario.specs.declared.fault.ScenarioFault.{ScenarioFault}
@@ -29,7 +29,7 @@ pub record IsCutOff (old new : Option (List ℕ)) : Type 0 where
   pub consumed : Consumes old new taken
   pub one_beyond : length taken ≡ most_bytes + 1
 
--- a fact of two texts, which says nothing where one of them is not known
+-- a fact of two texts, which says nothing if one of them is not known
 abbrev pub IfBothKnown : (scenario latency : Option (List ℕ)) → ((toml csv : List ℕ) → Type 0) → Type 0
 IfBothKnown scenario latency Holds = (toml csv : List ℕ) → scenario ≡ Some toml → latency ≡ Some csv → Holds toml csv
 

@@ -8,7 +8,7 @@ use chord_scenario::ScenarioFault;
 use std::alloc::AllocError;
 
 /// Why a simulation did not come to its end. That memory was refused is always an error of the run,
-/// also where the scenario was still read.
+/// also if the scenario was still read.
 #[derive(Drop)]
 pub enum PlayFault {
     /// The reader of the text failed.

@@ -55,7 +55,7 @@ impl Pending {
         let _ = &self.alloc;
     }
 
-    /// Adds an event. It comes back where memory was refused.
+    /// Adds an event. It comes back if an allocation failed.
     pub fn insert(&mut self, event: Event) -> Result<(), Event>
         requires { IsNewKey event_key event.key self.old }
         ensures ok { OnOk result (self.new ≡ put_in_order event_key event self.old) }

@@ -6,7 +6,7 @@ use std::alloc::AllocError;
 /// Why a call did not end with its answer.
 #[derive(Clone, Copy, Debug, PartialEq, Eq, Drop)]
 pub enum Stop {
-    /// A growth was refused, and what is promised of it stands.
+    /// An allocation failed, and what is promised of it stands.
     Memory,
     /// The start of a thread was refused, and what is promised of it stands.
     Worker,
@@ -23,7 +23,7 @@ pub fn holds(promise: bool, wrong: &'static str) -> Result<(), Stop> {
     }
 }
 
-/// Stops unless what was written is a beginning of a trace, and all of it where the run ended.
+/// Stops unless what was written is a beginning of a trace, and all of it if the run ended.
 pub fn holds_written(trace: &[u8], written: &[u8], ended: bool) -> Result<(), Stop> {
     holds(
         trace.starts_with(written),

@@ -64,7 +64,7 @@ module _ {profile bits : ℕ} {churns : Bool} {s : Section} (sound : IsSound pro
       let e = required k (Whole least greatest) in
       number_agrees (is_in_range bits (Whole least greatest)) (agrees s.members k) (data_at k s.members) (not_missing e is) (not_out e is)
 
-  -- one that may be there is in range where its default is
+  -- one that may be there is in range if its default is
   pub optional_fits : (k : FileKey) (least greatest default : ℕ) → Lists (optional k (Whole least greatest)) → Fits least greatest default
       → Fits least greatest (number_or default k s.members)
   optional_fits k least greatest default is own =

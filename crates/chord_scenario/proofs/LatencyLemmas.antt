@@ -159,7 +159,7 @@ find-good p (x ∷ xs) r g h =
       | inr more ↦ find-good p xs r g.1 (rw more at h)
     ]
 
--- rows give two names no latency exactly where none names the pair
+-- rows give two names no latency exactly if none names the pair
 pub row_latency-none : (a b : List ℕ) (rows : List Row) → find (names_pair a b) rows ≡ None → row_latency a b rows ≡ None
 row_latency-none a b rows h = ap (λ o. option_and_then (λ (l : Link). l.latency) (option_and_then link_of o)) h
 

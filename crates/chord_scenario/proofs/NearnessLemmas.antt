@@ -84,7 +84,7 @@ find-next test nodes j y all before within is other = sym (ap (find test) (drop_
 pub at_place : (nodes : List Node) (i : ℕ) (x : Node) → slice_get nodes i ≡ Some x → i < length nodes → x ≡ get_or nodes i x
 at_place nodes i x h within = same_Some _ _ (sym h ∙ slice_get-get_or nodes i x within)
 
--- a node that meets a later one is the first, where none before it does
+-- a node that meets a later one is the first, if none before it does
 pub meeting-here : (meets : Node → Node → Bool) (nodes : List Node) (i : ℕ) (x y : Node)
     → first_meeting meets (drop i nodes) ≡ first_meeting meets nodes → i < length nodes → x ≡ get_or nodes i x
     → find (meets x) (drop (i + 1) nodes) ≡ Some y → Some (x, y) ≡ first_meeting meets nodes

@@ -1,4 +1,4 @@
--- What holds where a latency file has no rows, and a square without cells.
+-- What holds if a latency file has no rows, and a square without cells.
 use Rattle.std.proofs.Common.{◌≡◌, ◌∙◌, sym, ap, refl, ℕ, ◌*◌, ◌≤◌, Bool, true, false, List, [], ◌∷◌, length, replicate, find, nat_lt, ◌==◌, None}
 use Rattle.std.proofs.lemmas.Bool.{eqb-true, le-ltb}
 use Rattle.std.proofs.lemmas.List.{length-replicate, get_or-replicate, nil_from_length}

@@ -124,7 +124,7 @@ module _ (profile bits : ℕ) (churns : Bool) (top : Members) (s : IsSound profi
     spread = spread_fits;
   }
 
-  -- the file has a churn table where a node churns
+  -- the file has a churn table if a node churns
   pub churn_there : churns ≡ true → IsSome (churn_of top)
   unfolding churn_of has_type
   churn_there some =

@@ -44,7 +44,7 @@ nodes_in top = nodes_of (number_at key.Bits top) (sections top)
 abbrev pub commands_in : Members → List Command
 commands_in top = commands_of (number_at key.Bits top) (nodes_in top) (sections top)
 
--- for each node in turn the latency that the rows give it to each node, and 0 where they give none
+-- for each node in turn the latency that the rows give it to each node, and 0 if they give none
 abbrev pub square_by_rows : List Row → List Node → List ℕ
 square_by_rows rows nodes = flat_map (λ x. map (latency_by_rows 0 rows x) nodes) nodes
 

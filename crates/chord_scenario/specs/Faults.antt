@@ -156,7 +156,7 @@ first_answer = first_some (λ answer. answer)
 unfoldable pub file_fault : Members → List Row → Option ScenarioFault
 file_fault top rows = first_answer (questions top rows)
 
--- the table that a text is, where it is text and a TOML document
+-- the table that a text is, if it is text and a TOML document
 unfoldable pub document : List ℕ → Option Members
 document text = if is_utf8 text then parse_document text else None
 

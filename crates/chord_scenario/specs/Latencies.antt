@@ -56,7 +56,7 @@ keeps_unknown kept = option_map_or (λ l. is_none l.first || is_none l.second) k
 abbrev pub keeps_itself : Option RowLink → Bool
 keeps_itself kept = option_map_or (λ l. l.itself) kept false
 
--- the square has the latency that the rows give each two nodes, and 0 where they give none
+-- the square has the latency that the rows give each two nodes, and 0 if they give none
 pub record HasLatencies (nodes : List Node) (rows : List Row) (cells : List ℕ) : Type 0 where
   pub size : length cells ≡ length nodes * length nodes
   pub cell : (a b : List ℕ) (i j : ℕ) → index_of a nodes ≡ Some i → index_of b nodes ≡ Some j
@@ -67,7 +67,7 @@ abbrev pub square_or_zeros : (n : ℕ) → (cells : List ℕ) → List ℕ
 square_or_zeros n [] = replicate (n * n) 0
 square_or_zeros n (cell ∷ cells) = cell ∷ cells
 
--- what a square of n by n says of two different nodes: its cell, or the default where that is 0
+-- what a square of n by n says of two different nodes: its cell, or the default if that is 0
 abbrev pub latency_in : List ℕ → ℕ → ℕ → ℕ → ℕ → ℕ
 latency_in cells n default i j =
     if slice_index cells (i * n + j) == 0 then default else slice_index cells (i * n + j)

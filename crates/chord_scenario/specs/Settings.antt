@@ -46,14 +46,14 @@ number_or default k ms = unwrap_or (option_and_then as_whole (data_at k ms)) def
 abbrev pub on_circle : (bits : ℕ) → ℕ → Option ℕ
 on_circle bits n = if nat_lt n (2 ^ bits) then Some n else None
 
--- the identifier at a key, where the key holds one of the circle
+-- the identifier at a key, if the key holds one of the circle
 abbrev pub identifier_at : (bits : ℕ) → FileKey → Members → Option ℕ
 identifier_at bits k ms = option_and_then (on_circle bits) (option_and_then identifier_of (data_at k ms))
 
 abbrev pub name_at : FileKey → Members → List ℕ
 name_at k ms = unwrap_or (text_at k ms) []
 
--- a node; its identifier comes from its name where none is given
+-- a node; its identifier comes from its name if none is given
 unfoldable pub node_of : (bits : ℕ) → Members → Node
 node_of bits ms = record {
   name = name_at key.Name ms;

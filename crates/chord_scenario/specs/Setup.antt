@@ -29,5 +29,5 @@ pub record Setup : Type 0 where
   pub lookups : Option Span
   pub nodes : List Node
   pub commands : List Command
-  -- for each node in turn its latency to each node, and 0 where no row names the two
+  -- for each node in turn its latency to each node, and 0 if no row names the two
   pub latencies : List ℕ

@@ -35,7 +35,7 @@ command_events sc = map (λ p. command_event p.0 p.1) (enumerate_from 1 sc.comma
 abbrev pub jittered : Setup → (period : ℕ) → Span
 jittered sc period = record { least = period; greatest = period + sc.jitter }
 
--- only where the scenario has lookups of the nodes' own
+-- only if the scenario has lookups of the nodes' own
 abbrev pub traffic_timers : Option Span → List (Span × Body)
 traffic_timers None = []
 traffic_timers (Some gap) = (gap, body.TrafficTick 1) ∷ []

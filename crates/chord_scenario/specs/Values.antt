@@ -42,11 +42,11 @@ abbrev pub as_whole : Data → Option ℕ
 as_whole (integer (pos n)) = Some n
 as_whole _ = None
 
--- the number at a key, and 0 where the key holds none
+-- the number at a key, and 0 if the key holds none
 abbrev pub number_at : FileKey → Members → ℕ
 number_at k ms = unwrap_or (option_and_then as_whole (data_at k ms)) 0
 
--- the boolean at a key, and `false` where the key holds none
+-- the boolean at a key, and `false` if the key holds none
 abbrev pub truth_at : FileKey → Members → Bool
 truth_at k ms = unwrap_or (option_and_then as_bool (data_at k ms)) false
 

@@ -26,7 +26,7 @@ fn node_at(names: &Names<'_>, table: &Table, key: FileKey) -> u32
     names.number_of(name_at(table, key).as_bytes()).unwrap_or(0)
 }
 
-/// The key that a command looks up, and 0 where it has none.
+/// The key that a command looks up, and 0 if it has none.
 fn key_of(circle: Circle, table: &Table) -> Ident
     ensures { result ≡ unwrap_or (identifier_at circle key.Key (table_view table.now)) 0 }
 {
@@ -90,7 +90,7 @@ pub(crate) fn small_number_at(table: &Table, key: FileKey) -> u32
     number_at(table, key) as u32
 }
 
-/// The number at a key, and another one where the key holds none.
+/// The number at a key, and another one if the key holds none.
 pub(crate) fn number_or(table: &Table, key: FileKey, default: u64) -> u64
     ensures { result ≡ number_or default key (table_view table.now) }
 {

@@ -38,7 +38,7 @@ pub enum ScenarioFault {
     SameLinkTwice(Place),
     /// The latency between two nodes is less than a window.
     LatencyBelowWindow(Name, Name),
-    /// A growth was refused.
+    /// An allocation failed.
     Memory,
 }
 

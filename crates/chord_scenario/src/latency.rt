@@ -67,7 +67,7 @@ pub(crate) fn cell_at(cells: &[u32], n: usize, i: usize, j: usize) -> u32
     cells[cell_of(n, i, j)]
 }
 
-/// The square of latencies that rows give, without cells where there are no rows, or the first row
+/// The square of latencies that rows give, without cells if there are no rows, or the first row
 /// that names the pair of an earlier one.
 pub(crate) fn latencies(alloc: Global, rows: &Rows<'_>) -> Result<Vec<u32>, ScenarioFault>
     requires few { length rows.now.names.nodes.now ≤ 4096 }

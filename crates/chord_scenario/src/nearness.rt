@@ -10,7 +10,7 @@ use crate::row::Rows;
 use crate::setting::Node;
 use std::alloc::{AllocError, Global};
 
-/// What a square for n nodes says of two different ones: its cell, or the default where that is 0.
+/// What a square for n nodes says of two different ones: its cell, or the default if that is 0.
 pub(crate) fn latency_in(cells: &[u32], n: usize, default: u64, i: usize, j: usize) -> u64
     requires row { i < n }
     requires column { j < n }

@@ -35,7 +35,7 @@ pub(crate) fn identifier_at(circle: Circle, table: &Table, key: FileKey) -> Opti
     }
 }
 
-/// The text at a key, and the empty text where the key holds none.
+/// The text at a key, and the empty text if the key holds none.
 pub(crate) fn name_at<'a>(table: &'a Table, key: FileKey) -> &'a str
     ensures { result.now ≡ name_at key (table_view table.now) }
 {

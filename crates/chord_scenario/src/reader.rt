@@ -88,7 +88,7 @@ fn link_fault(
     self_link(tables, rows)
 }
 
-/// The commands of a scenario, and the square of its latencies, which has no cells where there are
+/// The commands of a scenario, and the square of its latencies, which has no cells if there are
 /// no rows.
 #[derive(Drop)]
 struct Linked {
@@ -202,7 +202,7 @@ fn assembled(circle: Circle, top: &Table, nodes: Vec<Node>, linked: Linked) -> S
 }
 
 /// Reads a scenario from the text of a scenario file and that of a latency file. Otherwise answers
-/// the first fault of the texts, or that a growth was refused.
+/// the first fault of the texts, or that an allocation failed.
 pub fn read_scenario(alloc: Global, toml: &[u8], csv: &[u8]) -> Result<Scenario, ScenarioFault>
     ensures accepted { IfOk result (Accepts toml.now csv.now) }
     ensures refused { IfErr result (λ e. (e ≡ ScenarioFault.Memory) ⊎ (scenario_fault toml.now csv.now ≡ Some e)) }

@@ -10,8 +10,8 @@ use crate::names::Names;
 use csv::{ByteRecord, ErrorKind, ReaderBuilder};
 use std::alloc::{AllocError, Global};
 
-/// What is kept of a row of three fields: the numbers of its two nodes, where they are nodes,
-/// whether both have one name, and its latency, where it is one.
+/// What is kept of a row of three fields: the numbers of its two nodes, if they are nodes,
+/// whether both have one name, and its latency, if it is one.
 #[derive(Clone, Copy, Drop)]
 pub(crate) struct RowLink {
     pub first: Option<u32>,
@@ -118,7 +118,7 @@ fn latency_number(field: &[u8]) -> Option<u32>
     }
 }
 
-/// A row of three fields: two names and a number of microseconds, where it is one.
+/// A row of three fields: two names and a number of microseconds, if it is one.
 #[derive(Clone, Copy)]
 struct Link<'a> {
     first: &'a [u8],

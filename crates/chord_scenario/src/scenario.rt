@@ -30,8 +30,8 @@ pub struct Scenario {
     pub(crate) lookups: Option<Span>,
     pub(crate) nodes: Vec<Node>,
     pub(crate) commands: Vec<Command>,
-    /// For each node in turn its latency to each node, and 0 where no row names the two; without
-    /// cells where there are no rows.
+    /// For each node in turn its latency to each node, and 0 if no row names the two; without
+    /// cells if there are no rows.
     pub(crate) latencies: Vec<u32>,
 }
 
@@ -162,14 +162,14 @@ impl Scenario {
         self.spread
     }
 
-    /// How long churn nodes live and stay down, where the scenario says so.
+    /// How long churn nodes live and stay down, if the scenario says so.
     pub fn churn_times(&self) -> Option<Churn>
         ensures { result ≡ self.now.churn }
     {
         self.churn
     }
 
-    /// How long a node waits between lookups of its own, where the scenario has these.
+    /// How long a node waits between lookups of its own, if the scenario has these.
     pub fn lookups(&self) -> Option<Span>
         ensures { result ≡ self.now.lookups }
     {

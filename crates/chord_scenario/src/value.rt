@@ -27,7 +27,7 @@ pub(crate) fn whole(value: &Value) -> Option<u64>
     }
 }
 
-/// The number at a key, and 0 where the key holds none.
+/// The number at a key, and 0 if the key holds none.
 pub(crate) fn number_at(table: &Table, key: FileKey) -> u64
     ensures { result ≡ number_at key (table_view table.now) }
 {
@@ -37,7 +37,7 @@ pub(crate) fn number_at(table: &Table, key: FileKey) -> u64
     }
 }
 
-/// The boolean at a key, and `false` where the key holds none.
+/// The boolean at a key, and `false` if the key holds none.
 pub(crate) fn truth_at(table: &Table, key: FileKey) -> bool
     ensures { result ≡ truth_at key (table_view table.now) }
 {

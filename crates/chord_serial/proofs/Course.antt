@@ -141,7 +141,7 @@ abbrev value : Option ℕ → ℕ
 value (Some time) = time
 value None = 0
 
--- where the first event is late, all are
+-- if the first event is late, all are
 pub none_late : (horizon : ℕ) (es : List (Event Body)) → None ≡ time_of_first es → All (λ (e : Event Body). horizon ≤ e.key.time) es
 none_late horizon [] is = All_from (λ (e : Event Body). horizon ≤ e.key.time) [] (λ x c. absurd (contains_none x c))
 none_late horizon (e ∷ es) is = absurd (none-some e.key.time is)

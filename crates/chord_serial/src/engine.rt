@@ -49,7 +49,7 @@ impl Engine {
         })
     }
 
-    /// Takes the next event of the run out, or answers `None` where the run has no more. Where it may
+    /// Takes the next event of the run out, or answers `None` if the run has no more. If it may
     /// have no more it answers `TooManyEvents`.
     pub fn take_next(&mut self, scenario: &Scenario) -> Result<Option<Event>, RunError>
         ensures next { IfOk result (λ next. IfSome next (λ event. (old now : Option (List ℕ)) → IsAt scenario.now old now self.old → HasTaken scenario.now old now self.new event)) }

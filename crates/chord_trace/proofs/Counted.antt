@@ -50,7 +50,7 @@ cond-add : (b : Bool) (m n : ℕ) → cond b (m + n) 0 ≡ cond b m 0 + cond b n
 cond-add true m n = refl
 cond-add false m n = refl
 
--- c more at a key, where an insertion makes a list longer only at a new key
+-- c more at a key, if an insertion makes a list longer only at a new key
 pub counted-insert : (test : ℕ → Bool) (es : List (ℕ × ℕ)) (k w c : ℕ)
     → length (insert_entry nat_cmp es k w) ≡ length es + cond (is_some (lookup (is_at (nat_cmp k)) es)) 0 1
     → w ≡ unwrap_or (lookup (is_at (nat_cmp k)) es) 0 + c

@@ -7,7 +7,7 @@ use Rattle.chord_event.specs.declared.line.Line.{Line}
 use Rattle.chord_trace.specs.declared.piece.Piece.{Piece}
 use Rattle.chord_trace.specs.declared.piece.Piece.TheVariants as piece
 
--- the block of a piece, its lines, and its audit, where it has them
+-- the block of a piece, its lines, and its audit, if it has them
 abbrev pub block_in : Piece → Option Block
 block_in (piece.OfEvent block) = Some block
 block_in (piece.OfAudit audit) = None

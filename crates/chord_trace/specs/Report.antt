@@ -23,7 +23,7 @@ abbrev pub report_with : (profile : ℕ) → List Piece → (median : ℕ) → R
 report_with profile pieces median = record {
   events = length (blocks_of pieces);
   lines = counts_in (lines_of pieces);
-  -- the lookups without an end, or 0 where there are more ends than lookups
+  -- the lookups without an end, or 0 if there are more ends than lookups
   unfinished = count_by is_lookup (lines_of pieces) - (count_by is_found (lines_of pieces) + count_by is_lost (lines_of pieces));
   hops_sum = sum (hops_of (found_lookups pieces));
   hops_greatest = greatest (hops_of (found_lookups pieces));

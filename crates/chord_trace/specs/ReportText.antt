@@ -17,7 +17,7 @@ numbers_of r =
     ∷ (codes "audits", r.audits.audits) ∷ (codes "ringless", r.audits.ringless)
     ∷ (codes "unordered", r.audits.unordered) ∷ (codes "insufficient", r.audits.insufficient) ∷ []
 
--- the word for the lost messages, with their number where the report has it
+-- the word for the lost messages, with their number if the report has it
 abbrev pub loss_number : Option ℕ → List (List ℕ × ℕ)
 loss_number None = []
 loss_number (Some losses) = (codes "losses", losses) ∷ []

@@ -12,7 +12,7 @@ use std::alloc::{AllocError, Global};
 use std::fmt::Write as _;
 use std::io::Write;
 
-/// Writes the line of an audit. The error is Memory where its text cannot be made, and Write where
+/// Writes the line of an audit. The error is Memory if its text cannot be made, and Write if
 /// the writer fails.
 pub fn write_audit<W: Write>(
     alloc: Global,

@@ -14,8 +14,8 @@ use std::alloc::{AllocError, Global};
 use std::fmt::Write as _;
 use std::io::Write;
 
-/// Writes the lines of an event. The error is Memory where their text cannot be made, and Write
-/// where the writer fails.
+/// Writes the lines of an event. The error is Memory if their text cannot be made, and Write
+/// if the writer fails.
 pub fn write_block<W: Write>(
     alloc: Global,
     scenario: &Scenario,

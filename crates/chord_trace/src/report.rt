@@ -34,8 +34,8 @@ pub struct Report {
 }
 
 impl Report {
-    /// Writes a line for each number. The error is Memory where the text cannot be made, and Write
-    /// where the writer fails.
+    /// Writes a line for each number. The error is Memory if the text cannot be made, and Write
+    /// if the writer fails.
     pub fn write<W: Write>(&self, alloc: Global, writer: &mut Watched<W>) -> Result<(), RunError>
         requires { has_failed writer.old ≡ false }
         ensures whole { OnOk result (Appends (W.contents (wrapped writer.old)) (W.contents (wrapped writer.new)) (report_text self.now)) }

@@ -346,7 +346,7 @@ fn joins_two_tallies(rt: HostRuntime) -> Result<(), Fail> {
     Ok(())
 }
 
-/// The lines of that trace's report that both profiles have, where no lookup was found.
+/// The lines of that trace's report that both profiles have, if no lookup was found.
 const NUMBERS: &str = "events 1\nmembers 0\njoin-failed 0\ncrashes 1\nstranded 0\ndrops 0\nlate 0\n\
     timeouts 0\nlookups 1\nfound 0\nlost 0\nbusy 0\nignored 0\nunfinished 1\nhops-sum 0\n\
     hops-greatest 0\nus-sum 0\nus-least 0\nus-median 0\nus-greatest 0\naudits 1\nringless 0\n\

@@ -31,12 +31,12 @@ use Rattle.chord_window.specs.Worlds.{IsWorldOf}
 use Rattle.chord_window.proofs.CopyFacts.{no_copies, seen_first}
 use Rattle.chord_window.proofs.Openings.{due_apart, due_waits, window_may_open}
 
--- what is said where there is none
+-- what is said if there is none
 pub none_after : {A : Type 0} (o : Option A) (P : Type 0) → o ≡ None → IfNone o P → P
 none_after None P e h = h
 none_after (Some x) P e h = absurd cc
 
--- what is said where there is one
+-- what is said if there is one
 pub some_after : {A : Type 0} (o : Option A) (P : A → Type 0) (x : A) → o ≡ Some x → IfSome o P → P x
 some_after None P x e h = absurd cc
 some_after (Some y) P x e h = let same : y ≡ x = cc in subst P same h
@@ -158,6 +158,6 @@ module _ (sc : Scenario) (ranges : IsInRange sc) (world : World) (is : IsWorldOf
       blocks_are = r.blocks_are;
     })
 
-    -- what the run comes to where no event is left
+    -- what the run comes to if no event is left
     pub run_left : (done : Done) → drop run.taken due ++ q.events ≡ [] → HasLeft run done → IsDone sc world horizon run.part done
     run_left done none left = run_done done none left.part_is left.nodes_are left.mail_is left.blocks_are left.events_are

@@ -117,7 +117,7 @@ one_placed dones slots d rest k in_range among before = by_place (ℕ_discrete k
         (subst (IsFilled dones k) (sym (set_here slots d.part (Some d) in_range)) (sym same, among)))
     by_place (no apart) = there apart before
 
--- where none is to come, each place is filled
+-- if none is to come, each place is filled
 pub none_to_come : (dones : List Done) (slot : Option Done) (k : ℕ) → IsFilled dones k slot ⊎ IsToCome k [] → IsFilled dones k slot
 none_to_come dones slot k (inl filled) = filled
 none_to_come dones slot k (inr none) = absurd none
@@ -247,7 +247,7 @@ events_by_part parts (d ∷ ds) below =
     ∙ ap (λ z. z + sum_to (λ k. events_of k ds) parts) (sym (sum_one d.part d.events parts (below 0 0 (omega arith))))
     ∙ sym (sum_plus (λ k. cond (eqb d.part k) d.events 0) (λ k. events_of k ds) parts)
 
--- where the results are in order, the one at a place has the events of its part
+-- if the results are in order, the one at a place has the events of its part
 events_there : (parts : ℕ) (dones : List Done) → HasEachOnce parts (parts_of dones) → (from : ℕ) (list : List Done) → AreInOrderFrom dones from list
     → (q k : ℕ) → q < length list → from + q ≡ k → k < parts
     → events_at list q ≡ events_of k dones

@@ -28,7 +28,7 @@ module _ (sc : Scenario) (world : World) (is : IsWorldOf sc world) where
       ap (begun_at (chord sc) number (history (chord sc) world.count)) w.next_is
       ∙ ap (λ k. Within number (opened (history (chord sc) world.count) k)) (sym w.horizon_is)
 
-  -- where there is none, the run has ended
+  -- if there is none, the run has ended
   ended : world.opening ≡ None → (number : ℕ) → begun (chord sc) number (history (chord sc) world.count) ≡ Ended (history (chord sc) world.count)
   ended none number = go (next (chord sc) (history (chord sc) world.count)) (sym is.opening_is ∙ none)
     where

@@ -76,7 +76,7 @@ pub lowest_is : (can : ℕ → Bool) (n i : ℕ) → lowest_by can n ≡ Some i 
 lowest_is can zero i e = absurd cc
 lowest_is can (suc n) i e = or_more can n i (lowest_by can n) (λ s. lowest_is can n i s) e
 
--- where there is none, none can
+-- if there is none, none can
 not_last : (can : ℕ → Bool) (n : ℕ) (b : Bool) → can n ≡ b → (if b then Some n else None) ≡ None → can n ≡ false
 not_last can n true t e = absurd cc
 not_last can n false t e = t
@@ -105,7 +105,7 @@ unsealed w (suc n) p l undone = ⊎_elim
 
 module _ (sc : Scenario) (world : World) (horizon drawn : ℕ) (ws : List Worker) (ds : List (Option Done)) (w : Window Body)
     (picked : IsPickedWith sc world horizon drawn ws ds w) where
-  -- a worker can go where it can take a step of the window machine
+  -- a worker can go if it can take a step of the window machine
   pub same_can : (i : ℕ) → i < length ws → can_step (chord sc) world.division w i ≡ can_go_with drawn ws ds i
   same_can i l =
       let x = slot_there ws i l in
@@ -171,7 +171,7 @@ module _ (sc : Scenario) (world : World) (horizon drawn : ℕ) (ws : List Worker
       (led number ((i, step) ∷ more) h (subst (λ r. Goes (chord sc) (λ _. world.division) (length ws) r rest ((i, step) ∷ more) h)
       (sym (within i number l can)) (steps (same_turn rest ∙ turned) next goes)))
 
-  -- where no worker can go, all parts are done
+  -- if no worker can go, all parts are done
   pub all_done : 0 < length ws → lowest_by (can_go_with drawn ws ds) (length ws) ≡ None → all_sealed w world.division.parts ≡ true
   all_done some none = go (all_sealed w world.division.parts) refl
     where

@@ -4,7 +4,7 @@ use Rattle.chord_model.specs.Windows.{Division, part_of}
 use Rattle.chord_node.specs.declared.state.NodeState.{NodeState}
 use Rattle.chord_window.specs.declared.copies.Copies.{Copies}
 
--- the state in a slot of the copies, where there is one, or else the world's
+-- the state in a slot of the copies, if there is one, or else the world's
 abbrev pub in_slot : NodeState → Option ℕ → List NodeState → List NodeState → ℕ → NodeState
 in_slot other None copies states i = slice_index_or states i other
 in_slot other (Some k) copies states i = slice_index_or copies k other

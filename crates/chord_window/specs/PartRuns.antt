@@ -90,7 +90,7 @@ pub record HasHandled (sc : Scenario) (d : Division) (states : List NodeState) (
   pub blocks_are : new.blocks.items ≡ old.blocks.items ++ block_of sc (seen_in sc states old event.target) event ∷ []
   pub block : IsShortBlock sc (block_of sc (seen_in sc states old event.target) event)
 
--- whether the due event at this place comes before the first of the queue, where there are such
+-- whether the due event at this place comes before the first of the queue, if there are such
 abbrev pub is_ahead : Option (Event Body) → Option (Event Body) → Bool
 is_ahead None first = false
 is_ahead (Some event) None = true

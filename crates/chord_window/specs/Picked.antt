@@ -62,7 +62,7 @@ shown_step (Sealed p) = answer.Sealed p
 abbrev pub shown : ℕ × Step Body → Taken
 shown s = record { worker = s.0; step = shown_step s.1 }
 
--- a worker can take a step where it has a part, or not all parts were drawn
+-- a worker can take a step if it has a part, or not all parts were drawn
 abbrev pub has_part : Option Worker → Bool
 has_part None = false
 has_part (Some x) = is_some x.run

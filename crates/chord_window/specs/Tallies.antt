@@ -7,7 +7,7 @@ use Rattle.chord_trace.specs.declared.piece.Piece.{Piece}
 use Rattle.chord_trace.specs.declared.tally.Tally.{Tally}
 use Rattle.chord_trace.specs.Tally.{IsTallyOf}
 
--- the list of a part, and none where there is no such part
+-- the list of a part, and none if there is no such part
 abbrev pub blocks_at : List (Vec Block Global) → ℕ → List Block
 blocks_at [] part = []
 blocks_at (blocks ∷ lists) zero = blocks.items

@@ -29,7 +29,7 @@ impl Copies {
         }
     }
 
-    /// Makes a slot for each node, where there is none yet.
+    /// Makes a slot for each node, if there is none yet.
     fn make_slots(&mut self, nodes: usize) -> Result<(), Memory>
         requires { (length self.old.slots.items ≡ nodes) ⊎ (self.old.slots.items ≡ []) }
         ensures long { OnOk result (length self.new.slots.items ≡ nodes) }

@@ -35,7 +35,7 @@ impl Division {
     ghost use Rattle.chord_window.specs.Divisions.{block_part, dealt_part, first_fault};
     ghost use Rattle.chord_model.specs.Windows.{part_of};
 
-    /// A division by the part of each node, where there are 1 to 512 parts, the list has one entry for
+    /// A division by the part of each node, if there are 1 to 512 parts, the list has one entry for
     /// each node, and each entry is below the number of parts.
     ///
     /// # Errors
@@ -58,7 +58,7 @@ impl Division {
     ///
     /// # Errors
     ///
-    /// `Memory`, where a growth is refused.
+    /// `Memory`, if an allocation fails.
     pub fn dealt(alloc: Global, nodes: u32, parts: u32) -> Result<Division, Memory>
         requires nodes { 0 < nodes }
         requires parts { (0 < parts) × (parts ≤ MOST_PARTS) }
@@ -76,7 +76,7 @@ impl Division {
     ///
     /// # Errors
     ///
-    /// `Memory`, where a growth is refused.
+    /// `Memory`, if an allocation fails.
     pub fn blocks(alloc: Global, nodes: u32, parts: u32) -> Result<Division, Memory>
         requires nodes { 0 < nodes }
         requires parts { (0 < parts) × (parts ≤ MOST_PARTS) }

@@ -87,11 +87,11 @@ impl Engine {
     }
 
     /// The same run, by another division of the nodes from the next window on. The scenario is the
-    /// one that the run was started from. Where it is refused the run is given up.
+    /// one that the run was started from. If it is refused the run is given up.
     ///
     /// # Errors
     ///
-    /// `BadDivision`, where the division has another number of nodes than the scenario; `Memory`.
+    /// `BadDivision`, if the division has another number of nodes than the scenario; `Memory`.
     pub fn redivide(
         self,
         alloc: Global,

@@ -88,7 +88,7 @@ fn gather(
 ///
 /// # Errors
 ///
-/// `TooManyEvents`, where the run has more events than the scenario allows, and `Memory`, where a
+/// `TooManyEvents`, if the run has more events than the scenario allows, and `Memory`, if a
 /// growth is refused.
 pub fn exchange(
     alloc: Global,

@@ -24,7 +24,7 @@ fn place(alloc: Global, parts: u32, dones: Vec<Done>) -> Result<Vec<Option<Done>
 ///
 /// # Errors
 ///
-/// `Memory`, where a growth is refused.
+/// `Memory`, if an allocation fails.
 pub fn in_part_order(alloc: Global, parts: u32, dones: Vec<Done>) -> Result<Vec<Done>, Memory>
     requires once { HasEachOnce parts (parts_of dones.items) }
     ensures { IfOk result (λ list. AreInOrder dones.items parts list.items) }

@@ -116,8 +116,8 @@ impl PartRun {
         }
     }
 
-    /// Runs the least event that waits at the part, and answers its key, or `None` where no event is
-    /// left. Where the run may have no more events the answer is `TooManyEvents`.
+    /// Runs the least event that waits at the part, and answers its key, or `None` if no event is
+    /// left. If the run may have no more events the answer is `TooManyEvents`.
     pub(crate) fn step(
         &mut self,
         alloc: Global,
@@ -227,7 +227,7 @@ fn sort_out(
 ///
 /// # Errors
 ///
-/// `TooManyEvents`, where this part alone shows that the run has more events than the scenario allows;
+/// `TooManyEvents`, if this part alone shows that the run has more events than the scenario allows;
 /// `Memory`.
 pub fn run_part(
     alloc: Global,

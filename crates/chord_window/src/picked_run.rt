@@ -25,7 +25,7 @@ use std::mem;
 ///
 /// # Errors
 ///
-/// `BadDivision`, with nothing written, where the division has another number of nodes than the
+/// `BadDivision`, with nothing written, if the division has another number of nodes than the
 /// scenario; `TooManyEvents`, `Write` and `Memory` as `chord_serial::run_serial`.
 pub fn run_picked<W: Write>(
     alloc: Global,

@@ -33,7 +33,7 @@ fn copy_lookups(spare: Listed<Lookup>, lookups: &Listed<Lookup>) -> Result<Liste
     Ok(copies)
 }
 
-/// An equal attempt, where there is one.
+/// An equal attempt, if there is one.
 fn copy_attempt(join: &Option<Attempt>) -> Result<Option<Attempt>, Memory>
     ensures { IfOk result (λ copy. copy ≡ join.now) }
 {
@@ -72,7 +72,7 @@ impl Spares {
         }
     }
 
-    /// Keeps a state for its memory. Where there is no room for it, it is dropped.
+    /// Keeps a state for its memory. If there is no room for it, it is dropped.
     pub(crate) fn keep(&mut self, state: NodeState) {
         let _refused = self.states.push(state);
     }

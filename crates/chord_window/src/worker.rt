@@ -13,7 +13,7 @@ use chord_queue::WindowQueue;
 use chord_scenario::Scenario;
 use std::alloc::Global;
 
-/// A worker on the calling thread: the run of its part, where it has one, and the queue for it.
+/// A worker on the calling thread: the run of its part, if it has one, and the queue for it.
 #[derive(Drop)]
 pub struct Worker {
     pub run: Option<PartRun>,
@@ -39,7 +39,7 @@ impl Worker {
         }
     }
 
-    /// Takes one step: begins with the part `drawn`, where it has none, or goes on with its part.
+    /// Takes one step: begins with the part `drawn`, if it has none, or goes on with its part.
     pub(crate) fn step(
         &mut self,
         alloc: Global,

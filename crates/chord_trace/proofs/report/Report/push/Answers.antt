@@ -1,4 +1,4 @@
--- The text of a report is that of its numbers, and that of the lost messages where it has them.
+-- The text of a report is that of its numbers, and that of the lost messages if it has them.
 use Rattle.std.proofs.Common.{◌≡◌, ◌∙◌, ℕ, List, ◌++◌, Option, Some, None, ap, sym, codes, decimal, append_assoc, append-nil, string_bytes}
 use Rattle.std.proofs.lemmas.List.Concat.{flat_map-append}
 use Rattle.chord_trace.specs.ReportText.{loss_number, number_text, numbers_of, report_text}
