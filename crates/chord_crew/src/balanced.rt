@@ -1,3 +1,4 @@
+//! The dealer that evens out the loads of the parts.
 ghost use Rattle.std.specs.Prelude.{◌≡◌, ℕ, ◌<◌, ◌≤◌, length, IfOk, OnOk};
 ghost use Rattle.std.specs.BinaryHeap.{heap_items, heap_len};
 ghost use Rattle.std.specs.List.{All};
@@ -10,11 +11,12 @@ use std::cmp::Reverse;
 use std::collections::BinaryHeap;
 use std::marker::Model;
 
-/// A dealer that evens out the parts by what their nodes have handled so far: it puts the nodes,
-/// the one with the greatest load first, each onto the part that has the least load by then, and
-/// among such parts the fewest nodes. Among equal ones the node, and the part, with the lowest
-/// number comes first. Contracts see its number of parts. More nodes than a `u32` counts are
-/// answered with `Memory`.
+/// A dealer that evens out the parts by all events that their nodes have handled so far. It takes
+/// the nodes in turn, the one with the greatest load first, and puts each on the part with the
+/// least load so far. Among parts of one load it takes the one with the fewest nodes, so that nodes
+/// without a load are spread too. Among equal nodes, and equal parts, the lowest number comes
+/// first. Contracts see its number of parts. More nodes than a `u32` counts are refused with
+/// `Memory`.
 #[derive(Drop)]
 pub struct Balanced {
     alloc: Global,
@@ -63,7 +65,7 @@ fn heaviest_first(alloc: Global, loads: &[u64]) -> Result<Vec<NodeLoad>, Memory>
     Ok(order)
 }
 
-/// So many parts, of which none has a load.
+/// `parts` parts without a load.
 fn empty_parts(alloc: Global, parts: u32) -> Result<BinaryHeap<Reverse<PartLoad>>, Memory>
     ensures many { IfOk result (λ heap. heap_len heap ≡ parts) }
     ensures below { IfOk result (λ heap. All (λ p. p.0.part < parts) (heap_items heap)) }
@@ -79,7 +81,7 @@ fn empty_parts(alloc: Global, parts: u32) -> Result<BinaryHeap<Reverse<PartLoad>
     Ok(heap)
 }
 
-/// Puts a node with its load onto the part that has the least. The answer is this part.
+/// Puts a node with its load on the part with the least load. Returns that part.
 fn put_load(least: &mut BinaryHeap<Reverse<PartLoad>>, load: u64) -> Result<u32, Memory>
     requires some { 0 < heap_len least.old }
     ensures many { OnOk result (heap_len least.new ≡ heap_len least.old) }
@@ -102,7 +104,7 @@ fn put_load(least: &mut BinaryHeap<Reverse<PartLoad>>, load: u64) -> Result<u32,
     Ok(part)
 }
 
-/// The part of each node, where the nodes are dealt in this order.
+/// The part of each node when the nodes are dealt in this order.
 fn deal_in_order(alloc: Global, parts: u32, order: &[NodeLoad]) -> Result<Vec<u32>, Memory>
     requires parts { 0 < parts }
     requires nodes { All (λ o. o.node < length order.now) order.now }

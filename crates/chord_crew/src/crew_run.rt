@@ -1,3 +1,4 @@
+//! Runs by crews: windows whose parts are run by workers in threads.
 ghost use Rattle.std.specs.Prelude.{◌≡◌, ◌≢◌, ◌⊎◌, ◌<◌, ◌≤◌, true, false, length, OnOk, IfOk, IfErr, Err};
 ghost use Rattle.std.specs.Io.KnownBytes.{Appends};
 ghost use Rattle.chord_machine.specs.Run.{HasTooManyEvents, IsReport, trace_text};
@@ -23,9 +24,9 @@ use std::io::Write;
 use std::sync::Wait;
 use std::thread::Threads;
 
-/// Lets so many workers run the parts of the world's next window. The answer is what the parts
-/// leave, in their order. If several faults meet it is a refused thread, else memory, else too
-/// many events.
+/// Lets `workers` workers run the parts of the world's next window. Returns what the parts leave,
+/// in the order of the parts. Of several faults it returns `Worker`, else `Memory`, else
+/// `TooManyEvents`.
 pub(crate) fn run_parts<R: Threads + Wait + Sync, S: Starter, G: Gate + Sync>(
     rt: &R,
     alloc: Global,
@@ -45,6 +46,8 @@ pub(crate) fn run_parts<R: Threads + Wait + Sync, S: Starter, G: Gate + Sync>(
 {
     world.division.recall_division();
     let parts = world.division.parts();
+    // New in each window: a seat that is dropped with a fault spoils the counter of one window
+    // only, which then has no result.
     let (draws, seat) = Draws::start(alloc, parts, workers)?;
     let run = WindowRun {
         alloc,
@@ -63,14 +66,14 @@ pub(crate) fn run_parts<R: Threads + Wait + Sync, S: Starter, G: Gate + Sync>(
     Ok(dones)
 }
 
-/// Runs a scenario by windows, the parts of each by 1 to 64 workers, each of which has a thread of
-/// its own in each window: writes the trace, window by window, and answers the report. The bytes
-/// and the report do not depend on who draws which part. What the writer took of the trace before
-/// an error is its beginning.
+/// Runs a scenario by windows. 1 to 64 workers, each in its own thread, run the parts of a window.
+/// Writes the trace, window by window, and returns the report. The bytes and the report do not
+/// depend on which worker draws which part. What was written before an error is a beginning of the
+/// trace.
 ///
 /// # Errors
 ///
-/// `Worker`, if the start of a thread is refused; `BadDivision`, with nothing written, if the
+/// `Worker`, if a thread could not be started; `BadDivision`, with nothing written, if the
 /// division has another number of nodes than the scenario; `TooManyEvents`, `Write` and `Memory` as
 /// `chord_serial::run_serial`. If several workers of a window fail, `Worker` comes before
 /// `Memory`, and that before `TooManyEvents`.
@@ -108,13 +111,12 @@ pub fn run_crew<R: Threads + Wait + Sync, G: Gate + Sync, W: Write>(
     )
 }
 
-/// Runs a scenario as `run_crew`, if a starter is asked before the start of each worker's thread.
-/// After a no it is not asked again.
+/// Runs a scenario as `run_crew`, but asks a starter before it starts each worker's thread. After a
+/// refusal the starter is not asked again.
 ///
 /// # Errors
 ///
-/// `Worker`, if the starter said no or the start of a thread is refused; the others as
-/// `run_crew`.
+/// `Worker`, if the starter refused or a thread could not be started; the others as `run_crew`.
 pub fn run_crew_started<R: Threads + Wait + Sync, S: Starter, G: Gate + Sync, W: Write>(
     rt: &R,
     alloc: Global,

@@ -1,13 +1,15 @@
+//! Dealers, which divide the nodes before each window.
 use chord_event::Memory;
 use chord_window::Division;
 
-/// Who divides the nodes among the parts before each window. It may go by what the nodes have
-/// handled so far: the bytes of a trace and its report do not depend on it.
+/// Divides the nodes among the parts before each window. It may go by what the nodes have handled
+/// so far: the bytes of a trace and its report do not depend on the divisions.
 pub trait Dealer {
     ghost use Rattle.std.specs.Prelude.{ℕ, length, IfOk};
     ghost use Rattle.chord_model.specs.Windows.{Division as ADivision};
 
-    // The divisions that it may name, of so many nodes.
+    // The divisions that it may name for this number of nodes. So a dealer that only names
+    // divisions of the right length never meets `BadDivision`.
     ghost can_name: { ℕ → ADivision → Type 0 };
 
     /// The division for the next window. `loads` has, for each node, the number of events that it

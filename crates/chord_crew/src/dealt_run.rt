@@ -1,3 +1,4 @@
+//! Runs by crews whose nodes are divided again before each window.
 ghost use Rattle.std.specs.Prelude.{◌≡◌, ◌≢◌, ◌<◌, ◌≤◌, true, false, length, OnOk, IfOk, Err};
 ghost use Rattle.std.specs.Io.KnownBytes.{Appends};
 ghost use Rattle.chord_machine.specs.Run.{HasTooManyEvents, IsReport, trace_text};
@@ -21,13 +22,13 @@ use std::io::Write;
 use std::sync::Wait;
 use std::thread::Threads;
 
-/// Runs a scenario as `run_crew`, where a dealer divides the nodes anew before each window, by the
-/// number of events that each node has handled so far. It is asked once for each window.
+/// Runs a scenario as `run_crew`, but asks a dealer for a new division before each window. The
+/// dealer is passed the number of events that each node has handled so far.
 ///
 /// # Errors
 ///
 /// `BadDivision`, if the dealer names a division of another number of nodes than the scenario
-/// has; `Memory`, if the dealer's memory is refused too; the others as `run_crew`.
+/// has; `Memory`, also if the dealer runs out of memory; the others as `run_crew`.
 pub fn run_crew_dealt<R: Threads + Wait + Sync, D: Dealer, G: Gate + Sync, W: Write>(
     rt: &R,
     alloc: Global,
@@ -51,6 +52,8 @@ pub fn run_crew_dealt<R: Threads + Wait + Sync, D: Dealer, G: Gate + Sync, W: Wr
     ensures bad { result ≡ Err RunError.BadDivision → (has_failed writer.new ≡ false) × ((d : ADivision) × D.can_name (node_count scenario.now) d × (length d.of_node ≢ node_count scenario.now)) }
 {
     scenario.recall_range();
+    // All nodes in one part: the dealer is asked before each window and never otherwise, so a run
+    // without windows never asks it.
     let whole = Division::dealt(alloc, scenario.nodes(), 1)?;
     let mut engine = Engine::start(alloc, scenario, &whole)?;
     let mut loads = vec![in alloc; 0u64; scenario.nodes() as usize]?;

@@ -5,14 +5,14 @@ use atomic_table::{Join, Play, Split, TableRule};
 use std::collections::LinkedList;
 use std::marker::{Brand, PhantomData};
 
-/// What a seat knows. No value of it is made.
+/// What a seat knows: ghost state, never constructed.
 pub struct View {
     pub numbers: LinkedList<u32>,
     pub allowance: u32,
     pub met_end: bool,
 }
 
-/// How many numbers there are, and how many seats there can be.
+/// The number of numbers to draw, and the greatest number of seats.
 #[derive(Clone, Copy)]
 pub struct Plan {
     pub parts: u32,
@@ -30,7 +30,7 @@ impl TableRule<(), View, Plan> for Counting {
     ghost first = { λ plan. first_view plan.seats };
 }
 
-/// How many numbers the counter of a draw has. The call picks it.
+/// The number of numbers that the counter of a draw has. The call picks it.
 pub trait Parts {
     ghost parts: { ℕ };
 }
@@ -39,7 +39,7 @@ impl Parts for Brand {
     ghost parts = { 0 };
 }
 
-/// A draw, by what it tells its seat.
+/// A draw, by what its seat learns.
 pub struct Drawn<P> {
     marker: PhantomData<P>,
 }

@@ -1,3 +1,4 @@
+//! The counter from which the workers of a window draw its parts.
 ghost use Rattle.std.specs.Prelude.{◌≡◌, ◌+◌, ◌-◌, ◌<◌, ◌≤◌, ◌||◌, ◌&&◌, ℕ, List, [], ◌∷◌, ◌++◌, true, false, length, None, IfOk, IfSome, IfNone};
 ghost use Rattle.chord_crew.specs.Draws.{after_draw};
 ghost use Rattle.chord_crew.specs.Seats.{AllAreDrawn, IsDrawnOnlyAt, IsFresh, IsMomentOf, Knows};
@@ -58,8 +59,8 @@ impl Draws {
         Ok((Draws { table, parts }, seat))
     }
 
-    /// Moves 1 of a seat's allowance to a new seat, which knows as much of the end. The seat keeps
-    /// its numbers.
+    /// Moves 1 of a seat's allowance to a new seat, which knows of the end if the seat does. The
+    /// seat keeps its numbers.
     pub fn split(&self, seat: &mut Seat) -> Seat
         requires of_this { seat.old.table ≡ self.now.table }
         requires enough { 2 ≤ seat.old.allowance }
@@ -74,8 +75,8 @@ impl Draws {
         }
     }
 
-    /// The next number, or `None` past the end. It waits for nobody. A seat that knows of the end
-    /// takes no step.
+    /// The next number, or `None` past the end. It never blocks. A seat that knows of the end does
+    /// not touch the counter.
     pub fn draw(&self, seat: &mut Seat) -> Option<u32>
         requires { seat.old.table ≡ self.now.table }
         ensures drawn { IfSome result (λ n. seat.new ≡ record seat.old { numbers = seat.old.numbers ++ n ∷ [] }) }
@@ -101,7 +102,7 @@ impl Draws {
         }
     }
 
-    /// One step on the word. The answer is what the word was.
+    /// Adds 1 to the word, and returns its old value.
     fn step<P: Parts>(&self, token: &mut atomic_table::Seat<(), View>) -> u64
         requires parts { P.parts ≡ self.now.parts }
         requires token { (token.old.table_id ≡ self.now.table) × (token.old.me.0.met_end ≡ false) × (0 < token.old.me.0.allowance) }
@@ -112,7 +113,7 @@ impl Draws {
         self.table.shared.fetch_add::<Drawn<P>>(token, 0, 1)
     }
 
-    /// The first seat takes the second in, with its numbers behind its own.
+    /// Joins the second seat to the first, with its numbers after those of the first.
     pub fn join(&self, seat: &mut Seat, other: Seat)
         requires of_this { seat.old.table ≡ self.now.table }
         requires other { other.table ≡ self.now.table }
@@ -129,7 +130,7 @@ impl Draws {
         seat.is_exhausted = seat.is_exhausted && is_exhausted;
     }
 
-    /// Gives the counter up. A seat with the whole allowance that has met the end has drawn each
+    /// Drops the counter. A seat with the whole allowance that has met the end has drawn each
     /// number once.
     pub fn close(self, seat: Seat)
         requires { seat.table ≡ self.table }

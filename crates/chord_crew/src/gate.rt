@@ -1,10 +1,12 @@
-/// What a worker passes after each draw, before it runs the part. A gate may wait, by a handle that
-/// it holds. It is told the number of the worker, from 0 on, and the part.
+//! Gates, which workers pass before they run a part.
+
+/// Called by a worker after each draw, before it runs the part, with the number of the worker, from
+/// 0 on, and the part. A gate may block, by a wait handle that it holds itself.
 pub trait Gate {
     fn pass(&self, worker: u32, part: u32);
 }
 
-/// A gate that holds nobody.
+/// A gate that never blocks.
 #[derive(Clone, Copy, Debug, Drop)]
 pub struct OpenGate;
 

@@ -1,3 +1,4 @@
+//! The joined results of a window's workers.
 ghost use Rattle.std.specs.Prelude.{◌≡◌, ◌≤◌, ◌⊎◌, ◌++◌, Some, None, Err, IfOk, IfErr, IfSome};
 ghost use Rattle.std.specs.Result.{ForOk};
 ghost use Rattle.chord_crew.specs.Windows.{JoinsBoth, joined_seats, rank_of};
@@ -9,7 +10,7 @@ use crate::shift::Shift;
 use chord_event::RunError;
 use chord_window::Done;
 
-/// What the workers of a window hand on together: the joined seat, and what the parts that they
+/// The joined results of the workers of a window: the joined seat, and what the parts that they
 /// drew leave, in the order of its numbers.
 #[derive(Drop)]
 pub struct Gathered {
@@ -17,7 +18,7 @@ pub struct Gathered {
     pub done: Vec<Done>,
 }
 
-/// What one worker hands on by itself.
+/// The result of one worker alone.
 pub(crate) fn alone(shift: Shift) -> Result<Gathered, RunError>
     ensures ok { IfOk result (λ g. (g.seat ≡ shift.seat) × (g.done.items ≡ shift.done.items) × (shift.fault ≡ None)) }
     ensures fault { IfErr result (λ e. shift.fault ≡ Some e) }
@@ -31,7 +32,7 @@ pub(crate) fn alone(shift: Shift) -> Result<Gathered, RunError>
     }
 }
 
-/// Puts one more worker's seat and results behind those of the others.
+/// Adds one more worker's seat and results to those of the others.
 fn append(draws: &Draws, others: Gathered, mine: Gathered) -> Result<Gathered, RunError>
     requires others { others.seat.table ≡ draws.now.table }
     requires mine { mine.seat.table ≡ draws.now.table }
@@ -51,7 +52,7 @@ fn append(draws: &Draws, others: Gathered, mine: Gathered) -> Result<Gathered, R
     }
 }
 
-/// What the others and one more worker hand on, or the graver of their faults.
+/// The results of the others and of one more worker, or the graver of their faults.
 pub(crate) fn gather(
     draws: &Draws,
     others: Result<Gathered, RunError>,
@@ -62,7 +63,7 @@ pub(crate) fn gather(
     ensures ok { IfOk result (JoinsBoth others shift) }
     ensures fault { IfErr result (λ e. (e ≡ RunError.Memory) ⊎ (others ≡ Err e) ⊎ (shift.fault ≡ Some e)) }
 
-    // No fault of the others or of the one is graver.
+    // Neither the others nor this worker has a graver fault.
     ensures theirs { IfErr result (λ e. IfErr others (λ f. rank_of e ≤ rank_of f)) }
     ensures mine { IfErr result (λ e. IfSome shift.fault (λ f. rank_of e ≤ rank_of f)) }
 {

@@ -18,7 +18,7 @@ fn count_blocks(loads: &mut Vec<u64>, blocks: &[Block])
     }
 }
 
-/// Adds to the load of each node how many of its events the parts of a window have run.
+/// Adds to the load of each node the number of its events in a window.
 pub(crate) fn count_events(loads: &mut Vec<u64>, dones: &[Done])
     requires targets { All (λ done. All (λ block. block.target < length loads.old.items) done.blocks.items) dones.now }
     requires room { (node : ℕ) → slice_index loads.old.items node + events_at node dones.now < 2 ^ 64 }

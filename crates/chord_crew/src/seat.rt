@@ -1,8 +1,9 @@
+//! Seats, which draw from a counter.
 use crate::draw_rule::View;
 use std::marker::Model;
 
-/// The right to draw, with the numbers that were drawn by it. It has no lifetime, and may go to
-/// another thread.
+/// The right to draw, with the numbers drawn so far. It has no lifetime and can move to another
+/// thread.
 #[derive(Drop)]
 pub struct Seat {
     pub(crate) token: atomic_table::Seat<(), View>,

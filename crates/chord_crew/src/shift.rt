@@ -1,3 +1,4 @@
+//! One worker's window: its draws and the runs of its parts.
 ghost use Rattle.std.specs.Prelude.{◌≡◌, ◌<◌, ◌∷◌, ◌++◌, [], All, OnOk, OnErr, IfErr};
 ghost use Rattle.chord_crew.specs.Shifts.{IsPartFault, IsShift, IsWindowOf};
 ghost use Rattle.chord_window.specs.Ordering.{IsResult, parts_of};
@@ -13,19 +14,19 @@ use chord_scenario::Scenario;
 use chord_window::{Done, World, run_part};
 use std::alloc::Global;
 
-/// What a worker hands on.
+/// The result of a worker.
 #[derive(Drop)]
 pub struct Shift {
     /// Its seat, with the parts that it drew.
     pub seat: Seat,
-    /// What each of these parts leaves, in the order of the draws. If there is a fault the last
-    /// part has left nothing.
+    /// What each of these parts leaves, in the order of the draws. If there is a fault, the last
+    /// part is missing.
     pub done: Vec<Done>,
     /// Why the worker stopped early: `Memory` or `TooManyEvents`.
     pub fault: Option<RunError>,
 }
 
-/// Runs a part, and puts what it leaves behind what others left.
+/// Runs a part, and adds its result to the list.
 fn add_result(
     alloc: Global,
     scenario: &Scenario,
@@ -56,9 +57,9 @@ fn add_result(
 }
 
 /// One worker's window, up to the horizon in microseconds: draws a part, passes the gate and runs
-/// the part, again until no part is left or one has a fault. The seat is new, and the draws are of
-/// as many parts as the world's division has. Callers may run it on threads of their own, with one
-/// seat each, join the seats, and hand all results to `chord_window::exchange`.
+/// the part, until no part is left or one has a fault. The seat is new, and the draws have as many
+/// parts as the world's division. A caller may run this on its own threads with one seat each, then
+/// join the seats and pass all results to `chord_window::exchange`.
 pub fn work<G: Gate>(
     alloc: Global,
     scenario: &Scenario,

@@ -1,10 +1,12 @@
-/// Who allows the starts of threads. It is asked before each start of a worker's thread, with the
-/// worker's number from 0 on, and a no counts as a refused start.
+//! Starters, which allow or refuse the threads of workers.
+
+/// Allows or refuses the start of each worker's thread. It is passed the number of the worker, from
+/// 0 on. A refusal counts as a failed start.
 pub trait Starter {
     fn may_start(&mut self, worker: u32) -> bool;
 }
 
-/// A starter that allows each start.
+/// A starter that allows every start.
 #[derive(Clone, Copy, Debug, Drop)]
 pub struct AllStart;
 

@@ -1,3 +1,4 @@
+//! What the workers of one window share and promise.
 use crate::draws::Draws;
 use crate::seat::Seat;
 use crate::shift::Shift;
@@ -7,8 +8,8 @@ use std::alloc::Global;
 use std::snapshot::Snapshot;
 use std::thread::Promise;
 
-/// What all workers of a window share: the world, which nobody changes meanwhile, the window's
-/// horizon, the draws of its parts and the gate.
+/// What all workers of a window share: the world, which is not changed meanwhile, the window's
+/// horizon in microseconds, the draws of its parts and the gate.
 #[derive(Drop)]
 pub struct WindowRun<'a, G> {
     pub alloc: Global,

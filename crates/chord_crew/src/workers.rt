@@ -1,3 +1,4 @@
+//! The threads of a window's workers: how they are started and joined.
 ghost use Rattle.std.specs.Prelude.{◌≡◌, ◌+◌, ◌<◌, ◌≤◌, [], IfOk, IfErr};
 ghost use Rattle.std.specs.Thread.{IsSync};
 ghost use Rattle.chord_crew.specs.Shifts.{IsWindowOf};
@@ -16,7 +17,7 @@ use std::sync::Wait;
 use std::thread;
 use std::thread::{PromisedHandle, Scope, Threads};
 
-/// Starts a worker's thread, if it may start. Its result is the shift of the seat that it is given.
+/// Starts a worker's thread, if the starter allows it. Its result is the shift of this seat.
 fn start_worker<'s, E, S: Starter, G: Gate + Sync>(
     scope: &Scope<'s, E>,
     run: &WindowRun<'s, G>,
@@ -36,6 +37,7 @@ fn start_worker<'s, E, S: Starter, G: Gate + Sync>(
     if !starter.may_start(worker) {
         return Err(RunError::Worker);
     }
+    // Taken apart, since a closure that captures a struct of references loses its postcondition.
     let &WindowRun {
         alloc,
         scenario,
@@ -60,8 +62,9 @@ fn start_worker<'s, E, S: Starter, G: Gate + Sync>(
     }
 }
 
-/// Starts a thread for each of the workers that are left, from this worker on, joins them, and puts
-/// together what they hand on. The seat has 1 of the allowance for each of them.
+/// Starts a thread for each of the `left` workers from this one on, joins them, and gathers their
+/// results. The seat has 1 of the allowance for each of them. Worker 0 has a thread too: if the
+/// calling thread ran its parts, a gate could block the thread that has to join the others.
 #[cycle(workers)]
 pub(crate) fn run_workers<R: Threads + Wait + Sync, S: Starter, G: Gate + Sync>(
     rt: &R,
@@ -85,6 +88,8 @@ pub(crate) fn run_workers<R: Threads + Wait + Sync, S: Starter, G: Gate + Sync>(
     }
     let mut seat = seat;
     let mine = run.draws.split(&mut seat);
+    // A closure that captures a struct of references loses its postcondition: the struct is taken
+    // apart here and built again inside.
     let &WindowRun {
         alloc,
         scenario,
@@ -136,6 +141,8 @@ fn run_last<R: Threads + Wait + Sync, S: Starter, G: Gate + Sync>(
     ensures ok { IfOk result (IsGathered run.now.scenario.now run.now.world.now run.now.horizon seat) }
     ensures fault { IfErr result (IsWindowFault run.now.scenario.now) }
 {
+    // A closure that captures a struct of references loses its postcondition: the struct is taken
+    // apart here and built again inside.
     let &WindowRun {
         alloc,
         scenario,

@@ -124,8 +124,8 @@ fn latency_texts_that_are_too_long(rt: HostRuntime) -> Result<(), Fail> {
     Ok(())
 }
 
-/// If both texts have a fault, the scenario text's is told; a fault of the scenario is told only of two texts
-/// that were read.
+/// If both texts have a fault, the scenario text's is told; a fault of the scenario is told only of
+/// two texts that were read.
 #[test]
 fn faults_of_both_texts(rt: HostRuntime) -> Result<(), Fail> {
     let alloc = rt.alloc();

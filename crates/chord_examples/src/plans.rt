@@ -76,8 +76,8 @@ fn examples_by_plans(rt: HostRuntime) -> Result<(), Fail> {
     Ok(())
 }
 
-/// If one event is allowed, a serial plan writes what that one leaves. By workers the first window has two events,
-/// and a window that fails writes nothing: so they do not run one event at a time.
+/// If one event is allowed, a serial plan writes what that one leaves. By workers the first window
+/// has two events, and a window that fails writes nothing: so they do not run one event at a time.
 #[test]
 fn plans_differ_in_what_fails(rt: HostRuntime) -> Result<(), Fail> {
     let alloc = rt.alloc();

@@ -102,7 +102,8 @@ module _ {State Body Piece : Type 0} (m : Machine State Body Piece) where
   abbrev pub HistoriesMeet : (ℕ → State → Bool) → (Event Body → Bool) → Type 0
   HistoriesMeet sound fit = (h : List (Event Body)) → IsPossible m h → Meets (λ n s. IsTrue (sound n s)) (λ e. IsTrue (fit e)) h
 
-  -- If no event adds more than `most` to a measure of its target's state, no node's has grown by more than `most` for each event.
+  -- If no event adds more than `most` to a measure of its target's state, no node's has grown by more than `most` for
+  -- each event.
   abbrev pub CountsAreBounded : (ℕ → State → Bool) → (Event Body → Bool) → Type 0
   CountsAreBounded sound fit =
       (measure : State → ℕ) (most : ℕ) → ((s : State) (e : Event Body) → IsTrue (sound e.target s) → IsTrue (fit e)

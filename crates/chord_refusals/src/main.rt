@@ -4,9 +4,9 @@
 //!     chord_refusals [TASK]
 //!     chord_refusals list
 //!
-//! Without a word all tasks are done; `list` prints their names. The status is 0 if all is done; 3 if an allocation failed, or 4 if the
-//! start of a thread was, and all that is promised of it stands; and 1, with a line that says what is wrong, if
-//! something else stands.
+//! Without a word all tasks are done; `list` prints their names. The status is 0 if all is done; 3
+//! if an allocation failed, or 4 if the start of a thread was, and all that is promised of it
+//! stands; and 1, with a line that says what is wrong, if something else stands.
 #![tactic(auto)]
 
 mod queues;

@@ -72,7 +72,8 @@ impl Tally {
         self.audits.add(audit);
     }
 
-    /// The tally of what both have, which are of one profile. Both are given up if an allocation fails.
+    /// The tally of what both have, which are of one profile. Both are given up if an allocation
+    /// fails.
     pub fn join(self, other: Tally) -> Result<Tally, Memory>
         requires room { taken self + taken other ≤ 2 ^ 40 }
         requires same_profile { self.profile ≡ other.profile }

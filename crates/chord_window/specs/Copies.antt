@@ -18,7 +18,8 @@ pub record IsSlot (c : Copies) (i k : ℕ) : Type 0 where
   pub slot : slice_index_or c.slots.items i None ≡ Some k
   pub inside : k < length c.states.items
 
--- there is a slot for each node, or none at all; each slot has a state of its node, and each state is in the slot of its node, which is of the part
+-- there is a slot for each node, or none at all; each slot has a state of its node, and each state is in the slot of
+-- its node, which is of the part
 pub record AreCopies (d : Division) (part : ℕ) (states : List NodeState) (c : Copies) : Type 0 where
   pub long : (length c.slots.items ≡ length states) ⊎ (c.slots.items ≡ [])
   pub filled : (i k : ℕ) → slice_index_or c.slots.items i None ≡ Some k → k < length c.states.items

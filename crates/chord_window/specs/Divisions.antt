@@ -11,7 +11,7 @@ pub record AreWithin (parts : ℕ) (of_node : List ℕ) : Type 0 where
   pub few : parts ≤ MOST_PARTS
   pub below : All (λ p. p < parts) of_node
 
--- the first reason why a list is no division of so many nodes into so many parts
+-- the first reason why a list is no division of this number of nodes into this number of parts
 abbrev pub first_fault : (nodes parts : ℕ) → List ℕ → Option DivisionFault
 first_fault nodes parts of_node =
     if parts == 0 then Some fault.NoParts
@@ -20,10 +20,10 @@ first_fault nodes parts of_node =
     else if list_any (λ p. nat_le parts p) of_node then Some fault.PartOutOfRange
     else None
 
--- the part of a node where the nodes are dealt to the parts in turn
+-- the part of a node when the nodes are dealt to the parts in turn
 abbrev pub dealt_part : (parts node : ℕ) → ℕ
 dealt_part parts node = node % parts
 
--- the part of a node where each part has neighbouring nodes
+-- the part of a node when each part has neighbouring nodes
 abbrev pub block_part : (nodes parts node : ℕ) → ℕ
 block_part nodes parts node = node * parts / nodes

@@ -90,7 +90,7 @@ pub record HasHandled (sc : Scenario) (d : Division) (states : List NodeState) (
   pub blocks_are : new.blocks.items ≡ old.blocks.items ++ block_of sc (seen_in sc states old event.target) event ∷ []
   pub block : IsShortBlock sc (block_of sc (seen_in sc states old event.target) event)
 
--- whether the due event at this place comes before the first of the queue, if there are such
+-- whether the due event at this place comes before the first of the queue; a missing event comes last
 abbrev pub is_ahead : Option (Event Body) → Option (Event Body) → Bool
 is_ahead None first = false
 is_ahead (Some event) None = true
@@ -99,7 +99,7 @@ is_ahead (Some event) (Some first) = is_before event.key first.key
 abbrev pub comes_first : List (Event Body) → (taken : ℕ) → List (Event Body) → Bool
 comes_first due taken made = is_ahead (slice_get due taken) (slice_get made 0)
 
--- a window up to the horizon may follow the world, and the due events stand in the order of their keys
+-- a window up to the horizon may follow the world, and the due events are in the order of their keys
 pub record IsWindow (sc : Scenario) (w : World) (horizon : ℕ) (due : List (Event Body)) : Type 0 where
   pub time : ℕ
   pub may_open : MayOpen (chord sc) (history (chord sc) w.count) time horizon

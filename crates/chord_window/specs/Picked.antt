@@ -53,7 +53,7 @@ use Rattle.chord_window.specs.declared.world.World.{World}
 use Rattle.chord_window.specs.PartRuns.{IsDone, ran_by}
 use Rattle.chord_window.specs.Workers.{IsBusy, IsIdle}
 
--- a step as it is answered: of an event it names the key
+-- a step as it is returned: an event is named by its key
 abbrev pub shown_step : Step Body → AStep
 shown_step (Drew p) = answer.Drew p
 shown_step (Ran p e) = answer.Ran e.key
@@ -143,7 +143,7 @@ module _ (sc : Scenario) (world : World) (horizon : ℕ) where
   abbrev pub potential : PickedWindow → ℕ
   potential b = potential_with b.drawn b.workers.items (length b.dones.items)
 
--- the picks lead from the one window to where the other stands, by these steps
+-- the picks lead from the one window to the other, by these steps
 abbrev pub Leads : Scenario → Division → (workers : ℕ) → Window Body → (picks : List ℕ) → List (ℕ × Step Body) → (ℕ → Run Body) → (rest : List ℕ) → Type 0
 Leads sc d workers from picks steps to rest =
     (number : ℕ) (more : List (ℕ × Step Body)) (h : List (Event Body)) → Goes (chord sc) (λ _. d) workers (to number) rest more h

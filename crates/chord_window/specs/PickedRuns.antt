@@ -17,7 +17,7 @@ pub record AreStepsOf (sc : Scenario) (d : Division) (workers : ℕ) (picks : Li
   pub history_left : List (Event Body)
   pub goes : Goes (chord sc) (λ _. d) workers (begun (chord sc) 0 []) picks steps history_left
 
--- these are its steps as far as the first so many events, and these picks are left
+-- these are its steps up to the first `count` events, and these picks are left
 pub record HasCome (sc : Scenario) (d : Division) (workers : ℕ) (picks rest : List ℕ) (count : ℕ) (taken : List Taken) : Type 0 where
   pub number : ℕ
   pub steps : List (ℕ × Step Body)

@@ -17,7 +17,7 @@ blocks_at (blocks ∷ lists) (suc part) = blocks_at lists part
 abbrev pub AreTalliesOf : (profile : ℕ) → (ℕ → List Piece) → List Tally → Type 0
 AreTalliesOf profile share tallies = (part : ℕ) (t : Tally) → part < length tallies → IsTallyOf profile (share part) (slice_index_or tallies part t)
 
--- the shares of so many parts, one after another
+-- the shares of the first parts, one after another
 abbrev pub shares_to : (ℕ → List Piece) → ℕ → List Piece
 shares_to share zero = []
 shares_to share (suc part) = shares_to share part ++ share part

@@ -1,3 +1,4 @@
+//! The states that a part changes, copied at the first touch.
 ghost use Rattle.std.specs.Prelude.{◌≡◌, ◌⊎◌, ◌<◌, ℕ, Some, None, [], length, slice_index_or, IfOk, OnOk};
 ghost use Rattle.chord_node.specs.declared.state.NodeState.{NodeState as AState};
 ghost use Rattle.chord_model.specs.Windows.{Division, part_of};
@@ -9,7 +10,7 @@ use chord_event::Memory;
 use chord_node::NodeState;
 use std::alloc::Global;
 
-/// The states of the nodes that a part's run has touched, and for each node where its copy stands.
+/// The states of the nodes that a part's run has touched, and for each node the index of its copy.
 /// There are no slots until a node is touched.
 #[derive(Drop)]
 pub struct Copies {
@@ -18,7 +19,7 @@ pub struct Copies {
 }
 
 impl Copies {
-    /// No copies, and no slots yet. There is to be room for copies of so many states.
+    /// No copies and no slots yet, with room for `many` copies if memory allows it.
     pub(crate) fn new(alloc: Global, many: usize) -> Copies
         ensures slots { result.slots.items ≡ [] }
         ensures states { result.states.items ≡ [] }
@@ -43,7 +44,7 @@ impl Copies {
         Ok(())
     }
 
-    /// Where the copy of a node's state stands, which is made at the first call.
+    /// The index of the copy of a node's state. The first call makes the copy.
     pub(crate) fn touch(
         &mut self,
         states: &[NodeState],
@@ -57,6 +58,7 @@ impl Copies {
         ensures copies { OnOk result ((d : Division) (part : ℕ) → part_of d node ≡ part → AreCopies d part states.now self.old → AreCopies d part states.now self.new) }
         ensures slot { IfOk result (λ slot. IsSlot self.new node slot) }
     {
+        // Made at the first touch, so that a part with nothing due takes no memory for them.
         self.make_slots(states.len())?;
         if let Some(slot) = self.slots[node] {
             return Ok(slot);

@@ -1,3 +1,4 @@
+//! Divisions of the nodes into parts.
 ghost use Rattle.std.specs.Prelude.{◌≡◌, nat_le};
 ghost use Rattle.std.specs.List.{list_any};
 ghost use Rattle.chord_window.specs.Divisions.{first_fault};
@@ -35,12 +36,12 @@ impl Division {
     ghost use Rattle.chord_window.specs.Divisions.{block_part, dealt_part, first_fault};
     ghost use Rattle.chord_model.specs.Windows.{part_of};
 
-    /// A division by the part of each node, if there are 1 to 512 parts, the list has one entry for
-    /// each node, and each entry is below the number of parts.
+    /// The division that gives each node the part in the list. There must be 1 to 512 parts, one
+    /// entry for each node, and each entry must be below the number of parts.
     ///
     /// # Errors
     ///
-    /// The first that holds of `NoParts`, `TooManyParts`, `WrongLength` and `PartOutOfRange`. A
+    /// The first that applies of `NoParts`, `TooManyParts`, `WrongLength` and `PartOutOfRange`. A
     /// refused list is dropped.
     pub fn new(nodes: u32, parts: u32, of_node: Vec<u32>) -> Result<Division, DivisionFault>
         ensures sound { IfOk result (λ _. first_fault nodes parts of_node.items ≡ None) }
@@ -53,8 +54,8 @@ impl Division {
         }
     }
 
-    /// The division that deals the nodes to the parts in turn: the part of node i is the rest of i by
-    /// the number of parts, which is 1 to 512.
+    /// The division that deals the nodes to the parts in turn: the part of node i is i modulo the
+    /// number of parts, which is 1 to 512.
     ///
     /// # Errors
     ///
@@ -71,8 +72,9 @@ impl Division {
         Ok(Division { parts, of_node })
     }
 
-    /// The division of the nodes into blocks of neighbours, as even as can be: the part of node i is
-    /// i times the number of parts, which is 1 to 512, by the number of nodes, rounded down.
+    /// The division of the nodes into blocks of neighbours, as even as possible: the part of node i
+    /// is i times the number of parts, which is 1 to 512, divided by the number of nodes, rounded
+    /// down.
     ///
     /// # Errors
     ///
@@ -89,15 +91,16 @@ impl Division {
         Ok(Division { parts, of_node })
     }
 
-    /// What holds of each division.
+    /// What holds of every division.
     pub fn recall_division(&self)
         ensures few { (0 < self.now.parts) × (self.now.parts ≤ MOST_PARTS) }
         ensures below { All (λ p. p < self.now.parts) self.now.of_node }
     {
+        // A no-op for the machine: it hands the prover what the type keeps.
         let _ = &self.parts;
     }
 
-    /// An equal division.
+    /// A copy of the division.
     pub fn try_clone(&self) -> Result<Division, Memory>
         ensures { IfOk result (λ copy. copy ≡ self.now) }
     {
@@ -108,7 +111,7 @@ impl Division {
         })
     }
 
-    /// The number of nodes.
+    /// The number of nodes. It is a `usize` as the length of the list, though `new` takes a `u32`.
     pub fn nodes(&self) -> usize
         ensures { result ≡ length self.now.of_node }
     {
@@ -131,7 +134,7 @@ impl Division {
     }
 }
 
-/// The first reason why a list is no division of so many nodes into so many parts.
+/// The first reason why a list is no division of `nodes` nodes into `parts` parts.
 fn first_fault(nodes: u32, parts: u32, of_node: &[u32]) -> Option<DivisionFault>
     ensures { result ≡ first_fault nodes parts of_node.now }
 {
@@ -148,7 +151,7 @@ fn first_fault(nodes: u32, parts: u32, of_node: &[u32]) -> Option<DivisionFault>
     }
 }
 
-/// Whether an entry is the number or more.
+/// Whether an entry is `parts` or more.
 fn has_part_from(list: &[u32], parts: u32) -> bool
     ensures { result ≡ list_any (λ p. nat_le parts p) list.now }
 {

@@ -4,14 +4,14 @@ ghost use Rattle.std.specs.Prelude.{◌≡◌};
 
 use std::fmt;
 
-/// Why a list of parts is no division of the nodes. Of those that hold, the first is told.
+/// Why a list of parts is no division of the nodes. If several faults apply, the first is returned.
 #[derive(Clone, Copy, Debug, PartialEq, Eq, Drop)]
 pub enum DivisionFault {
     /// There is no part.
     NoParts,
     /// There are more than 512 parts.
     TooManyParts,
-    /// The list has not one entry for each node.
+    /// The list does not have one entry for each node.
     WrongLength,
     /// An entry is not below the number of parts.
     PartOutOfRange,

@@ -1,3 +1,4 @@
+//! The engine of all runs by windows, from the start to the report.
 ghost use Rattle.std.specs.Prelude.{◌≡◌, ◌≢◌, ◌⊎◌, ℕ, ◌+◌, ◌<◌, List, Option, None, Some, true, false, length, OnOk, IfOk, IfErr, Err};
 ghost use Rattle.std.specs.List.{All, flat_map};
 ghost use Rattle.chord_machine.specs.Run.{HasTooManyEvents, IsReport, trace_text};
@@ -32,13 +33,13 @@ use std::io::Write;
 pub struct Engine {
     pub(crate) world: World,
     pub(crate) clock: AuditClock,
-    /// A tally for each part of this division and of those before it. The first has the audits besides.
+    /// A tally for each part of this division and of earlier ones. The first also has the audits.
     pub(crate) tallies: Vec<Tally>,
     /// The states that the last window replaced.
     pub(crate) spares: Spares,
 }
 
-/// Writes blocks, in their order.
+/// Writes blocks in their order.
 fn write_blocks<W: Write>(
     alloc: Global,
     scenario: &Scenario,
@@ -86,8 +87,8 @@ impl Engine {
         })
     }
 
-    /// The same run, by another division of the nodes from the next window on. The scenario is the
-    /// one that the run was started from. If it is refused the run is given up.
+    /// The same run, with another division of the nodes from the next window on. The scenario is
+    /// the one that the run was started from. After an error the run cannot go on.
     ///
     /// # Errors
     ///
@@ -122,7 +123,7 @@ impl Engine {
         })
     }
 
-    /// What the windows so far have left.
+    /// The world that the windows so far have left.
     pub fn world(&self) -> &World
         ensures { result.now ≡ self.now.world }
     {
@@ -136,7 +137,7 @@ impl Engine {
         self.world.opening
     }
 
-    /// Puts the audits that are left out, and makes the report.
+    /// Writes the remaining audits, and makes the report.
     pub fn finish<W: Write>(
         self,
         alloc: Global,
@@ -176,8 +177,8 @@ impl Engine {
         Ok(tally.report())
     }
 
-    /// Puts out what the parts of the next window leave: makes the audits that are due at its first
-    /// time, and puts the blocks of the parts out in the order of their keys.
+    /// Writes what the parts of the next window leave: first the audits that are due at its first
+    /// time, then the blocks of all parts in the order of their keys.
     pub fn put_window<W: Write>(
         &mut self,
         alloc: Global,

@@ -1,3 +1,4 @@
+//! The end of a window: the results of the parts become one world again.
 ghost use Rattle.std.specs.Prelude.{◌≡◌, ◌⊎◌, ◌+◌, ◌<◌, ◌≤◌, ◌++◌, ℕ, List, map, length, IfOk, IfErr, OnOk, Err};
 ghost use Rattle.std.specs.List.{AllByRecursion};
 ghost use Rattle.chord_machine.specs.Run.{HasTooManyEvents};
@@ -23,7 +24,7 @@ pub struct Gathered {
     pub blocks: Vec<Vec<Block>>,
 }
 
-/// Puts states in the places of their nodes. Those that stood there are spare.
+/// Puts states in the places of their nodes. The replaced ones become spare.
 fn put_states(states: &mut Vec<NodeState>, nodes: Vec<NodeState>, spares: &mut Spares)
     requires { AllByRecursion (λ s. s.me < length states.old.items) nodes.items }
     ensures { states.new.items ≡ with_states nodes.items states.old.items }
@@ -34,7 +35,7 @@ fn put_states(states: &mut Vec<NodeState>, nodes: Vec<NodeState>, spares: &mut S
     }
 }
 
-/// The items of both lists, the first list's first.
+/// The items of the first list, and then those of the second.
 fn joined(first: Vec<Event>, second: Vec<Event>) -> Result<Vec<Event>, Memory>
     ensures { IfOk result (λ list. list.items ≡ first.items ++ second.items) }
 {
@@ -47,7 +48,7 @@ fn joined(first: Vec<Event>, second: Vec<Event>) -> Result<Vec<Event>, Memory>
     Ok(list)
 }
 
-/// Takes what the parts leave: their states into the places of their nodes, and the rest together.
+/// Puts the states of the parts in the places of their nodes, and gathers the rest.
 fn gather(
     alloc: Global,
     room: u64,
@@ -82,14 +83,14 @@ fn gather(
     })
 }
 
-/// Puts together what the parts of a window leave, and opens the next window. There is one result of
-/// each part, in any order. The answer is the blocks of each part, in the order of the parts. After
-/// an error the world is spent.
+/// Puts together what the parts of a window leave, and opens the next window. There is one result
+/// for each part, in any order. Returns the blocks by part, in the order of the parts. After an
+/// error the world is unusable.
 ///
 /// # Errors
 ///
-/// `TooManyEvents`, if the run has more events than the scenario allows, and `Memory`, if a
-/// growth is refused.
+/// `TooManyEvents`, if the run has more events than the scenario allows; `Memory`, if an allocation
+/// fails.
 pub fn exchange(
     alloc: Global,
     scenario: &Scenario,
@@ -110,7 +111,7 @@ pub fn exchange(
     exchange_in_order(alloc, scenario, world, list, &mut spares)
 }
 
-/// `exchange` of results that are in the order of their parts. The states that were replaced are spare.
+/// `exchange`, for results in the order of their parts. The replaced states become spare.
 pub(crate) fn exchange_in_order(
     alloc: Global,
     scenario: &Scenario,

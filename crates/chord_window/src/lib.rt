@@ -27,7 +27,8 @@ pub use part_run::{Done, run_part};
 pub use picked_run::run_picked;
 pub use taken::{Step, Taken};
 pub use world::World;
-// What runs windows in another way goes by the engine, and contracts name the types of its fields.
+// Other ways to run windows, such as a crew, go by the engine. Contracts name the types of its
+// fields.
 #[doc(hidden)]
 pub use engine::Engine;
 #[doc(hidden)]

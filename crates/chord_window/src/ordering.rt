@@ -1,3 +1,4 @@
+//! The results of the parts, in the order of the parts.
 ghost use Rattle.std.specs.Prelude.{◌≡◌, ◌<◌, ℕ, None, length, slice_index_or, IfOk};
 ghost use Rattle.chord_window.specs.Ordering.{AreInOrder, HasEachOnce, IsFilled, parts_of};
 
@@ -6,7 +7,7 @@ use crate::slots::{empty_slots, take_out};
 use chord_event::Memory;
 use std::alloc::Global;
 
-/// Puts what each part leaves at the place of the part.
+/// Puts the result of each part at the place of the part.
 fn place(alloc: Global, parts: u32, dones: Vec<Done>) -> Result<Vec<Option<Done>>, Memory>
     requires once { HasEachOnce parts (parts_of dones.items) }
     ensures long { IfOk result (λ slots. length slots.items ≡ parts) }
@@ -20,7 +21,7 @@ fn place(alloc: Global, parts: u32, dones: Vec<Done>) -> Result<Vec<Option<Done>
     Ok(slots)
 }
 
-/// What the parts leave, in the order of the parts. There is one result of each part.
+/// The results of the parts, in the order of the parts. There is one result for each part.
 ///
 /// # Errors
 ///

@@ -1,3 +1,4 @@
+//! The run of one part in one window.
 ghost use Rattle.std.specs.Prelude.{◌≡◌, ◌≢◌, ◌⊎◌, ◌+◌, ◌-◌, ◌*◌, ◌<◌, ◌≤◌, ◌^◌, ◌↔◌, ◌++◌, ◌∷◌, [], ℕ, Some, drop, length, nat_le, slice_index_or, IfOk, IfErr, IfSome, OnOk, Err, IfNone};
 ghost use Rattle.std.specs.List.{AllPairs, Contains, list_all};
 ghost use Rattle.chord_event.specs.declared.body.Body.{Body as ABody};
@@ -27,7 +28,7 @@ pub struct Done {
     pub part: u32,
     /// The states of the nodes that it touched.
     pub nodes: Vec<NodeState>,
-    /// What it made for the horizon or later.
+    /// The events that it made for the horizon or later.
     pub mail: Vec<Event>,
     /// What its events left in the trace, in the order of their keys.
     pub blocks: Vec<Block>,
@@ -35,7 +36,7 @@ pub struct Done {
     pub events: u64,
 }
 
-/// The run of a part, as far as it has come.
+/// The run of a part, so far.
 #[derive(Drop)]
 pub struct PartRun {
     pub part: u32,
@@ -47,7 +48,7 @@ pub struct PartRun {
 }
 
 impl PartRun {
-    /// Lets the target of an event act on it. The answer is the events that it made.
+    /// Lets the target of an event act on it. Returns the events that it made.
     fn handle(
         &mut self,
         alloc: Global,
@@ -81,6 +82,8 @@ impl PartRun {
     {
         scenario.recall_range();
         let due = world.parts[part as usize].due.len();
+        // Room for the due events and a quarter more. If memory refuses it, that is no error: the
+        // lists begin with none and grow.
         let many = due.saturating_add(due / 4);
         PartRun {
             part,
@@ -91,7 +94,7 @@ impl PartRun {
         }
     }
 
-    /// What a run leaves to which no event is left.
+    /// What a finished run leaves.
     pub(crate) fn finish(self) -> Done
         ensures { HasLeft self result }
     {
@@ -116,8 +119,8 @@ impl PartRun {
         }
     }
 
-    /// Runs the least event that waits at the part, and answers its key, or `None` if no event is
-    /// left. If the run may have no more events the answer is `TooManyEvents`.
+    /// Runs the least event that waits at the part, and returns its key, or `None` if no event is
+    /// left. Returns `TooManyEvents` if an event is left but the run may have no more.
     pub(crate) fn step(
         &mut self,
         alloc: Global,
@@ -181,7 +184,7 @@ fn comes_first(due: &[Event], taken: usize, queue: &WindowQueue) -> bool
     }
 }
 
-/// Whether all events are at a time or later.
+/// Whether no event is before a time.
 fn are_from(events: &[Event], time: u64) -> bool
     ensures { result ≡ list_all (λ e. nat_le time e.key.time) events.now }
 {
@@ -222,8 +225,8 @@ fn sort_out(
     Ok(())
 }
 
-/// Runs the events of a part below the world's horizon, in microseconds, the least first. The world is
-/// left as it was, and the queue empty, after an error too.
+/// Runs the events of a part before the world's horizon, in microseconds, the least first. It
+/// leaves the world as it was and the queue empty, after an error too.
 ///
 /// # Errors
 ///
@@ -270,6 +273,7 @@ fn run_events(
     scenario.recall_range();
     let events = &world.parts[part as usize];
     let due = events.due.as_slice();
+    // A part that runs by itself has no spare states. Only `run_picked` has them.
     let mut spares = Spares::new(alloc);
     let mut run = PartRun::start(alloc, scenario, world, part, horizon);
     while let Some(_key) = run.step(alloc, scenario, world, due, horizon, queue, &mut spares)? {}

@@ -1,3 +1,4 @@
+//! Runs whose workers take turns on the calling thread.
 ghost use Rattle.std.specs.Prelude.{◌≡◌, ◌≢◌, ◌⊎◌, ◌<◌, ◌≤◌, true, false, length, OnOk, IfOk, IfErr, Err};
 ghost use Rattle.std.specs.Io.KnownBytes.{Appends};
 ghost use Rattle.chord_machine.specs.Run.{HasTooManyEvents, IsReport, trace_text};
@@ -17,11 +18,11 @@ use std::alloc::Global;
 use std::io::Write;
 use std::mem;
 
-/// Runs a scenario by windows, with 1 to 64 workers that take their steps in turn on the calling
-/// thread: each pick names the worker that takes the next step, and after the picks the lowest
-/// worker that can go does. Picks that name no worker, or one that can take no step, are passed over.
-/// Writes the trace and answers the report and the steps. What the writer took of the trace before an
-/// error is its beginning.
+/// Runs a scenario by windows, with 1 to 64 workers that take turns on the calling thread. Each
+/// pick names the worker that takes the next step. After the picks it is the lowest worker that can
+/// take one. Picks that name no worker, or one that can take no step, are skipped. Writes the
+/// trace, and returns the report and the steps. What was written before an error is a beginning of
+/// the trace.
 ///
 /// # Errors
 ///

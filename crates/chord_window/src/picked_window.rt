@@ -1,3 +1,4 @@
+//! A window whose workers take turns on the calling thread.
 ghost use Rattle.std.specs.Prelude.{◌≡◌, ◌⊎◌, ◌+◌, ◌<◌, ◌≤◌, ◌||◌, ℕ, [], List, Some, IsTrue, drop, length, nat_lt, slice_index_or, IfOk, IfErr, OnOk, Err};
 ghost use Rattle.std.specs.List.{AllByRecursion};
 ghost use Rattle.chord_machine.specs.Run.{HasTooManyEvents};
@@ -21,20 +22,20 @@ use chord_event::{Memory, RunError};
 use chord_scenario::Scenario;
 use std::alloc::Global;
 
-/// A window whose workers take their steps in turn, on the calling thread.
+/// A window whose workers take turns on the calling thread.
 #[derive(Drop)]
 pub struct PickedWindow {
-    /// How many parts were drawn.
+    /// The number of parts that were drawn.
     pub drawn: u32,
     pub workers: Vec<Worker>,
-    /// By part, what those left that are sealed.
+    /// For each part its result, once it is sealed.
     pub dones: Vec<Option<Done>>,
-    /// Memory for the copies of states.
+    /// Retired states, whose memory copies reuse.
     pub spares: Spares,
 }
 
 impl PickedWindow {
-    /// So many workers, and no window.
+    /// `workers` workers, and no window.
     pub(crate) fn new(alloc: Global, workers: u32) -> Result<PickedWindow, Memory>
         ensures workers { IfOk result (λ picked. length picked.workers.items ≡ workers) }
         ensures idle { IfOk result (λ picked. AllByRecursion IsIdle picked.workers.items) }
@@ -72,7 +73,7 @@ impl PickedWindow {
     }
 
     /// The worker whose turn it is: the first of the picks that can take a step, or else the lowest.
-    /// Picks that name no worker, or one that can take no step, are passed over.
+    /// Picks that name no worker, or one that can take no step, are skipped.
     fn turn(&self, lowest: usize, picks: &[u32], next: &mut usize) -> usize
         requires lowest { lowest_by (can_go self.now) (length self.now.workers.items) ≡ Some lowest }
         requires next { next.old ≤ length picks.now }
@@ -140,7 +141,7 @@ impl PickedWindow {
         }
     }
 
-    /// Runs a window, from the first draw to the last seal, and answers what its parts leave.
+    /// Runs a window, from the first draw to the last seal, and returns what its parts leave.
     pub(crate) fn run(
         &mut self,
         alloc: Global,
@@ -172,7 +173,7 @@ impl PickedWindow {
         Ok(dones)
     }
 
-    /// The steps of a window, as long as a worker can take one.
+    /// Takes the steps of a window, until no worker can take one.
     fn take_turns(
         &mut self,
         alloc: Global,

@@ -1,8 +1,9 @@
+//! Lists with room ahead.
 ghost use Rattle.std.specs.Prelude.{◌≡◌, []};
 
 use std::alloc::Global;
 
-/// An empty list. If memory allows it, it has room for so many items.
+/// An empty list, with room for `many` items if memory allows it.
 pub(crate) fn list_with_room<T: Drop>(alloc: Global, many: usize) -> Vec<T>
     ensures { result.items ≡ [] }
 {

@@ -1,3 +1,4 @@
+//! Places for the results of the parts.
 ghost use Rattle.std.specs.Prelude.{◌≡◌, None, length, IfOk};
 ghost use Rattle.std.specs.List.{AllByRecursion};
 ghost use Rattle.chord_window.specs.Slots.{in_slots};
@@ -6,7 +7,7 @@ use crate::part_run::Done;
 use chord_event::Memory;
 use std::alloc::Global;
 
-/// So many empty places.
+/// `parts` empty places.
 pub(crate) fn empty_slots(alloc: Global, parts: u32) -> Result<Vec<Option<Done>>, Memory>
     ensures long { IfOk result (λ slots. length slots.items ≡ parts) }
     ensures empty { IfOk result (λ slots. AllByRecursion (λ slot. slot ≡ None) slots.items) }

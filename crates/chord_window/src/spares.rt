@@ -1,17 +1,17 @@
-//! Memory of states that is used again.
+//! Retired states, whose memory is reused.
 ghost use Rattle.std.specs.Prelude.{◌≡◌, IfOk};
 
 use chord_event::{Listed, Memory};
 use chord_node::{Attempt, Lookup, NodeState};
 use std::alloc::Global;
 
-/// States that nobody reads any more, whose memory is used again for copies of others.
+/// Retired states, kept so that copies can reuse their memory.
 #[derive(Drop)]
 pub struct Spares {
     pub states: Vec<NodeState>,
 }
 
-/// An equal list, in the memory of another one.
+/// A copy of a list, in the memory of another one.
 fn copy_list<T: Copy>(spare: Listed<T>, list: &Listed<T>) -> Result<Listed<T>, Memory>
     ensures { IfOk result (λ copy. copy ≡ list.now) }
 {
@@ -21,7 +21,7 @@ fn copy_list<T: Copy>(spare: Listed<T>, list: &Listed<T>) -> Result<Listed<T>, M
     Ok(Listed::from_vec(items))
 }
 
-/// Equal lookups, in the memory of others.
+/// Copies of lookups, in the memory of other ones.
 fn copy_lookups(spare: Listed<Lookup>, lookups: &Listed<Lookup>) -> Result<Listed<Lookup>, Memory>
     ensures { IfOk result (λ copy. copy ≡ lookups.now) }
 {
@@ -33,7 +33,7 @@ fn copy_lookups(spare: Listed<Lookup>, lookups: &Listed<Lookup>) -> Result<Liste
     Ok(copies)
 }
 
-/// An equal attempt, if there is one.
+/// A copy of the attempt, if there is one.
 fn copy_attempt(join: &Option<Attempt>) -> Result<Option<Attempt>, Memory>
     ensures { IfOk result (λ copy. copy ≡ join.now) }
 {
@@ -43,7 +43,7 @@ fn copy_attempt(join: &Option<Attempt>) -> Result<Option<Attempt>, Memory>
     }
 }
 
-/// An equal state, in the memory of another one.
+/// A copy of a state, in the memory of another one.
 fn copy_state(spare: NodeState, state: &NodeState) -> Result<NodeState, Memory>
     ensures { IfOk result (λ copy. copy ≡ state.now) }
 {
@@ -72,17 +72,17 @@ impl Spares {
         }
     }
 
-    /// Keeps a state for its memory. If there is no room for it, it is dropped.
+    /// Keeps a state for its memory, or drops it if memory refuses room for it.
     pub(crate) fn keep(&mut self, state: NodeState) {
         let _refused = self.states.push(state);
     }
 
-    /// Drops the states, and keeps the room for them.
+    /// Drops the states, and keeps the list's room.
     pub(crate) fn clear(&mut self) {
         self.states.clear();
     }
 
-    /// An equal state.
+    /// A copy of a state, in the memory of a spare one if there is one.
     pub(crate) fn copy_of(&mut self, state: &NodeState) -> Result<NodeState, Memory>
         ensures { IfOk result (λ copy. copy ≡ state.now) }
     {

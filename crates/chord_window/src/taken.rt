@@ -1,7 +1,8 @@
+//! The steps of workers.
 use chord_event::Key;
 
-/// What a worker does at once: it draws a part, or runs its part's least event below the horizon,
-/// which is named by its key, or seals its part, since none is left there.
+/// One step of a worker: it draws a part, or runs its part's least event before the horizon, which
+/// is named by its key, or seals its part because no such event is left.
 #[derive(Clone, Copy, Debug, PartialEq, Eq, Drop)]
 pub enum Step {
     Drew(u32),

@@ -11,7 +11,7 @@ use chord_event::{Block, Memory};
 use chord_trace::Tally;
 use std::alloc::Global;
 
-/// Adds tallies of nothing, until there is one for each part.
+/// Adds empty tallies until there is one for each part.
 pub(crate) fn add_tallies(
     alloc: Global,
     profile: u32,
@@ -53,7 +53,7 @@ pub(crate) fn tally_parts(tallies: &mut Vec<Tally>, lists: &[Vec<Block>]) -> Res
     Ok(())
 }
 
-/// The tally of what all have, in their order. All are of this profile.
+/// All tallies joined, in their order. All are of this profile.
 pub(crate) fn join_all(alloc: Global, profile: u32, tallies: Vec<Tally>) -> Result<Tally, Memory>
     requires room { (share : ℕ → List Piece) × AreTalliesOf profile share tallies.items × (length (shares_to share (length tallies.items)) ≤ 2 ^ 40) }
     ensures pieces { IfOk result (λ joined. (share : ℕ → List Piece) → AreTalliesOf profile share tallies.items → IsTallyOf profile (shares_to share (length tallies.items)) joined) }

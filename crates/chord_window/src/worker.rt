@@ -1,3 +1,4 @@
+//! A worker on the calling thread.
 ghost use Rattle.std.specs.Prelude.{◌≡◌, ◌⊎◌, IfOk, IfErr, IsSome, Err, Some};
 ghost use Rattle.chord_machine.specs.Run.{HasTooManyEvents};
 ghost use Rattle.chord_window.specs.declared.part_run.PartRun.{PartRun as APartRun};
@@ -20,7 +21,7 @@ pub struct Worker {
     pub queue: WindowQueue,
 }
 
-/// What a worker's step came to.
+/// The outcome of a worker's step.
 #[derive(Drop)]
 pub enum Progress {
     Drew,
@@ -39,7 +40,7 @@ impl Worker {
         }
     }
 
-    /// Takes one step: begins with the part `drawn`, if it has none, or goes on with its part.
+    /// Takes one step: begins the part `drawn` if it has none, or goes on with its part.
     pub(crate) fn step(
         &mut self,
         alloc: Global,
@@ -76,7 +77,7 @@ impl Worker {
         }
     }
 
-    /// Ends the run of the worker's part, to which no event is left.
+    /// Ends the run of the worker's part, which has no events left.
     fn seal(&mut self) -> Done
         requires { IsSome self.old.run }
         ensures left { (run : APartRun) → self.old.run ≡ Some run → HasLeft run result }
