@@ -11,7 +11,7 @@ use Rattle.chord_window.specs.Ordering.{count_of}
 abbrev pub draws_of : ℕ → List View → ℕ
 draws_of x views = sum_by (λ v. count_of x v.numbers) views
 
--- how many draws past the end are left to a seat and to those that will be split from it
+-- how many draws past the end are left to a seat and to those that will be split off it
 abbrev pub draws_past_end : View → ℕ
 draws_past_end v = if v.met_end then 0 else v.allowance
 
@@ -32,7 +32,7 @@ IsCounting plan state = (word : ℕ) × (state.words ≡ word ∷ []) × IsKept 
 abbrev pub first_view : ℕ → View
 first_view seats = record { numbers = []; allowance = seats; met_end = false }
 
--- a seat after it found a number in the word: the number is drawn, or the seat has met the end
+-- a seat after it found a number in the word: it has drawn the number, or has met the end
 abbrev pub after_draw : ℕ → View → ℕ → View
 after_draw parts v found = if nat_lt found parts then record v { numbers = v.numbers ++ found ∷ [] } else record v { met_end = true }
 
@@ -40,14 +40,14 @@ after_draw parts v found = if nat_lt found parts then record v { numbers = v.num
 abbrev pub after_split : View → View
 after_split v = record v { allowance = v.allowance - 1 }
 
--- the new seat, which knows as much of the end
+-- the new seat, which knows of the end if the old one does
 abbrev pub split_off : View → View
 split_off v = record { numbers = []; allowance = 1; met_end = v.met_end }
 
--- a seat after it took another in
+-- a seat after it was joined with another
 abbrev pub joined : View → View → View
 joined v w = record { numbers = v.numbers ++ w.numbers; allowance = v.allowance + w.allowance; met_end = v.met_end || w.met_end }
 
--- what is left of the other
+-- what is left of the other seat
 abbrev pub spent : View
 spent = record { numbers = []; allowance = 0; met_end = false }

@@ -11,7 +11,7 @@ pub record Counter : Type 0 where
   pub parts : ℕ
   pub seats : ℕ
 
--- a seat: the counter that it is of, its place among all seats, its view, and whether it was told of the end
+-- a seat: its counter, its place among all seats, its view, and whether it knows of the end
 pub record SeatState : Type 0 where
   pub table : TableId
   pub place : ℕ
@@ -24,7 +24,7 @@ pub record SeatState : Type 0 where
 abbrev pub view_of : SeatState → View
 view_of s = record { numbers = s.numbers; allowance = s.allowance; met_end = s.met_end }
 
--- it has drawn nothing, and was not told of the end
+-- it has drawn nothing, and does not know of the end
 abbrev pub IsFresh : SeatState → Type 0
 IsFresh s = (s.numbers ≡ []) × (s.is_exhausted ≡ false)
 
@@ -33,7 +33,7 @@ pub record IsMomentOf (counter : Counter) (seat : SeatState) (word : ℕ) (views
   pub kept : IsKept counter.parts counter.seats word views
   pub has_view : slice_get views seat.place ≡ Some (view_of seat)
 
--- the fact holds of all views from now on, until the seat's own next step
+-- the fact holds of all views from now on, until this seat's next step
 abbrev pub Knows : Counter → SeatState → (List View → Type 0) → Type 0
 Knows counter seat fact = (word : ℕ) (views : List View) → IsMomentOf counter seat word views → fact views
 

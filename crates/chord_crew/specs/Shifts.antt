@@ -29,7 +29,7 @@ pub record AreButLast (sc : Scenario) (w : World) (horizon : ℕ) (parts : List 
   pub parts_are : parts_of list ++ last ∷ [] ≡ parts
   pub each : All (IsResult sc w horizon) list
 
--- a seat as it was handed out, and as it comes back
+-- a seat as it was passed to a worker, and as it comes back
 pub record IsSameSeat (before after : SeatState) : Type 0 where
   pub table : after.table ≡ before.table
   pub allowance : after.allowance ≡ before.allowance
@@ -38,8 +38,8 @@ pub record IsSameSeat (before after : SeatState) : Type 0 where
 abbrev pub IsPartFault : Scenario → RunError → Type 0
 IsPartFault sc fault = (fault ≡ run.Memory) ⊎ ((fault ≡ run.TooManyEvents) × HasTooManyEvents sc)
 
--- A worker without a fault was told of the end, and has what each part that it drew leaves, in the order of its draws. One
--- with a fault has it of all parts but the last.
+-- A worker without a fault knows of the end, and has what each part that it drew leaves, in the order of its draws. A
+-- worker with a fault has it of all its parts but the last.
 pub record IsShift (sc : Scenario) (w : World) (horizon : ℕ) (seat : SeatState) (shift : Shift) : Type 0 where
   pub same_seat : IsSameSeat seat shift.seat
   pub exhausted : IfNone shift.fault (shift.seat.is_exhausted ≡ true)

@@ -1,4 +1,4 @@
--- What the workers of a window hand on together.
+-- The joined results of the workers of a window.
 use Rattle.std.specs.Prelude.{◌≡◌, ◌⊎◌, ◌+◌, ◌&&◌, ◌||◌, ◌++◌, ℕ, true, None, Result, IsOk, IfOk}
 use Rattle.chord_crew.specs.declared.gathered.Gathered.{Gathered}
 use Rattle.chord_crew.specs.declared.shift.Shift.{Shift}
@@ -9,11 +9,11 @@ use Rattle.chord_event.specs.declared.error.RunError.TheVariants as run
 use Rattle.chord_scenario.specs.declared.scenario.Scenario.{Scenario}
 use Rattle.chord_window.specs.declared.world.World.{World}
 
--- a window ends early if the run of a part does, or if a thread start was refused
+-- a window ends early if the run of a part does, or if a thread could not be started
 abbrev pub IsWindowFault : Scenario → RunError → Type 0
 IsWindowFault sc fault = (fault ≡ run.Worker) ⊎ IsPartFault sc fault
 
--- how far back a fault stands if several meet in one window: a refused thread comes first
+-- the rank of a fault if several meet in one window: the lowest is reported, a thread that could not be started first
 abbrev pub rank_of : RunError → ℕ
 rank_of run.Worker = 0
 rank_of run.Memory = 1
@@ -31,13 +31,13 @@ joined_seats first second =
       is_exhausted = first.is_exhausted && second.is_exhausted;
     }
 
--- the workers were all told of the end, and have what each part that they drew leaves
+-- all workers know of the end, and have what each part that they drew leaves
 pub record IsGathered (sc : Scenario) (w : World) (horizon : ℕ) (seat : SeatState) (gathered : Gathered) : Type 0 where
   pub same_seat : IsSameSeat seat gathered.seat
   pub exhausted : gathered.seat.is_exhausted ≡ true
   pub results : AreResults sc w horizon gathered.seat.numbers gathered.done.items
 
--- what the others and one more worker hand on, none of them with a fault, put together
+-- the joined results of the others and one more worker, none of them with a fault
 pub record JoinsBoth (others : Result Gathered RunError) (shift : Shift) (whole : Gathered) : Type 0 where
   pub others_are : IsOk others
   pub no_fault : shift.fault ≡ None

@@ -1,4 +1,4 @@
-//! The crew: workers that draw the parts of a window and run them, each in a thread of its own.
+//! The crew: workers that draw the parts of a window and run them, each in its own thread.
 #![tactic(auto)]
 
 mod balanced;

@@ -77,7 +77,7 @@ module _ (sc : Scenario) (ranges : IsInRange sc) where
   each_left p [] most = tt
   each_left p (u ∷ us) most = each_picked (p u) u (filter p us) most.0 (each_left p us most.1)
 
-  -- behind the last event stand the audits that are left
+  -- the remaining audits come after the last event
   pub whole_trace_is : (past : List (Event Body)) (clock : List ℕ) → clock ≡ open_audits (chord sc) past → IsWhole (chord sc) past → length past ≤ sc.max_events
       → output (chord sc) past ++ audits_at sc (state (chord sc) past) (due sc.duration clock) ≡ whole_trace sc
   whole_trace_is past clock clock_is whole few =

@@ -1,4 +1,4 @@
--- What goes out piece after piece.
+-- What is output piece by piece.
 use Rattle.std.proofs.Common.{◌≡◌, ◌∙◌, ℕ, ◌<◌, ◌≤◌, true, false, cond, List, [], ◌∷◌, ◌++◌, Option, ap, refl, sym, subst, append_assoc, append-nil, arith}
 use Rattle.std.specs.Prelude.{nat_le, nat_lt}
 use Rattle.std.proofs.lemmas.Bool.Decides.{nat_tests}
@@ -81,7 +81,7 @@ all-left time [] late = refl
 all-left time (t ∷ times) late = let first : time < t = late.0 in let open_yet : nat_lt time t ≡ true = grind (arith, nat_tests)
     in ap (λ b. cond b (t ∷ filter (λ u. nat_lt time u) times) (filter (λ u. nat_lt time u) times)) open_yet ∙ ap (λ ts. t ∷ ts) (all-left time times late.1)
 
--- where the loop has come to: these pieces went out, and with the audits that are due of those left they are all
+-- where the loop has come to: these pieces were output, and with the audits that are due of those left they are all
 pub record HasPut (sc : Scenario) (state : ℕ → NodeState) (time : ℕ) (a b : Option (List ℕ)) (s t : Tally) (all left : List ℕ) : Type 0 where
   pub pieces : List Piece
   pub adds : Adds sc a b s t pieces
@@ -105,7 +105,7 @@ pub put_all : (sc : Scenario) (state : ℕ → NodeState) (time : ℕ) (a b : Op
 put_all sc state time a b s t all left late h =
     subst (λ ps. Adds sc a b s t ps) (sym (ap (λ ts. h.pieces ++ audits_at sc state ts) (none-due time left late) ∙ append-nil h.pieces) ∙ h.rest) h.adds
 
--- a piece that went out half is the front of all
+-- a piece that was written in part is the front of all
 pub put_front : (sc : Scenario) (state : ℕ → NodeState) (time at : ℕ) (a b c : Option (List ℕ)) (s t : Tally) (all old new : List ℕ) → old ≡ at ∷ new
     → at ≤ time
     → HasPut sc state time a b s t all old → AppendsFront b c (pieces_text sc (audits_at sc state (at ∷ [])))

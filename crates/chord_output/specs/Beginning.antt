@@ -1,4 +1,4 @@
--- What has gone out of a run that did not end.
+-- What was written of a run that did not end.
 use Rattle.std.specs.Prelude.{ℕ, List, Option}
 use Rattle.chord_machine.specs.Run.{trace_after}
 use Rattle.chord_scenario.specs.declared.scenario.Scenario.{Scenario}

@@ -1,4 +1,4 @@
--- What goes out, to the writer and into the tally.
+-- What is written, and added to the tally.
 use Rattle.std.specs.Prelude.{ℕ, List, ◌++◌, Option, map, nat_le}
 use Rattle.std.specs.Io.KnownBytes.{Appends}
 use Rattle.std.specs.List.{filter}
@@ -11,12 +11,12 @@ use Rattle.chord_trace.specs.declared.tally.Tally.{Tally}
 use Rattle.chord_trace.specs.Tally.{IsTallyOf}
 use Rattle.chord_trace.specs.Texts.{pieces_text}
 
--- these pieces went out: their text to the writer, which held the old bytes, and they themselves into the tally
+-- these pieces were output: their text went to the writer, which held the old bytes, and they went into the tally
 pub record Adds (sc : Scenario) (old new : Option (List ℕ)) (before after : Tally) (pieces : List Piece) : Type 0 where
   pub written : Appends old new (pieces_text sc pieces)
   pub tallied : (earlier : List Piece) → IsTallyOf sc.profile earlier before → IsTallyOf sc.profile (earlier ++ pieces) after
 
--- a run has at most so many audits: a duration has at most 1,000,000 whole periods of the audits
+-- the most audits of a run: a duration has at most 1,000,000 whole periods of the audits
 abbrev pub most_audits : ℕ
 most_audits = 1000001
 

@@ -1,5 +1,5 @@
-//! What a run puts out, to the writer of its trace and into the tally of its report: what all engines
-//! have in common.
+//! The output of a run, to the writer of its trace and into the tally of its report. All engines
+//! use it.
 #![tactic(auto)]
 
 mod putting;

@@ -1,4 +1,4 @@
-//! What goes out: to the writer of the trace, and into the tally of the report.
+//! How blocks and audits are written to the trace and added to the tally of the report.
 ghost use Rattle.std.specs.Prelude.{◌≡◌, ◌⊎◌, ℕ, ◌+◌, ◌<◌, ◌≤◌, ◌^◌, ◌∷◌, [], true, false, length, nat_lt, OnOk, IfErr, Err};
 ghost use Rattle.std.specs.List.{All, filter};
 ghost use Rattle.chord_audit.specs.Audit.{AreStates};
@@ -22,7 +22,7 @@ use chord_trace::{Tally, Watched, write_audit, write_block};
 use std::alloc::Global;
 use std::io::Write;
 
-/// Puts the block of an event out.
+/// Writes the block of an event, and adds it to the tally.
 pub fn put_block<W: Write>(
     alloc: Global,
     scenario: &Scenario,
@@ -47,7 +47,7 @@ pub fn put_block<W: Write>(
     Ok(())
 }
 
-/// Makes the audit of a time and puts it out.
+/// Makes the audit of a time in microseconds, writes it, and adds it to the tally.
 fn put_audit<W: Write>(
     alloc: Global,
     scenario: &Scenario,
@@ -74,7 +74,8 @@ fn put_audit<W: Write>(
     Ok(())
 }
 
-/// Makes the audits that are due by a time and puts them out.
+/// Makes the audits that are due by a time in microseconds, writes them, and adds them to the
+/// tally.
 pub fn put_audits<W: Write>(
     alloc: Global,
     scenario: &Scenario,

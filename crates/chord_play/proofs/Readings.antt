@@ -32,7 +32,7 @@ whole_text (Some xs) (Some ys) text eats end bytes same =
     let plain : xs ≡ text = simp append-nil at whole in
     cc
 
--- a reader's fault that is one of the scenario is not that memory was refused
+-- a reader's fault that is one of the scenario is not a failed allocation
 pub scenario_is : (f e : ScenarioFault) → fault_of_scenario f ≡ play.Scenario e → (e ≢ Memory) × (f ≡ e)
 scenario_is NotToml e same = (λ h. cc, cc)
 scenario_is (UnknownKey at) e same = (λ h. cc, cc)

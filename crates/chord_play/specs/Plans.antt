@@ -7,11 +7,11 @@ use Rattle.chord_play.specs.declared.plan.Split.{Split}
 use Rattle.chord_play.specs.declared.plan.Split.TheVariants as split
 use Rattle.chord_window.specs.Divisions.{block_part, dealt_part}
 
--- the part of a node, of so many nodes in so many parts
+-- the part of a node, of this number of nodes in this number of parts
 abbrev pub part_by : Split → (nodes parts node : ℕ) → ℕ
 part_by split.RoundRobin nodes parts = dealt_part parts
 part_by split.Blocks nodes parts = block_part nodes parts
 
--- the division of so many nodes that a plan asks for
+-- the division of this number of nodes that a plan asks for
 abbrev pub planned : Plan → (nodes : ℕ) → Division
 planned plan nodes = record { parts = plan.parts; of_node = map (part_by plan.split nodes plan.parts) (range_with_len 0 nodes) }

@@ -7,7 +7,7 @@ use Rattle.chord_scenario.specs.declared.scenario.Scenario.{Scenario}
 use Rattle.chord_output.specs.Beginning.{IsBeginning}
 use Rattle.chord_trace.specs.declared.report.Report.{Report}
 
--- the scenario that the texts give was run to its end: its trace went out, and this is its report
+-- the scenario that the texts give was run to its end: its trace was written, and this is its report
 pub record IsPlayed (scenario latency : Option (List ℕ)) (old new : Option (List ℕ)) (r : Report) : Type 0 where
   pub setup : Scenario
   pub given : Gives scenario latency setup
@@ -15,7 +15,7 @@ pub record IsPlayed (scenario latency : Option (List ℕ)) (old new : Option (Li
   pub report : IsReport setup r
   pub within : HasTooManyEvents setup → ⊥
 
--- a beginning of the trace of the scenario that the texts give went out
+-- a beginning of the trace of the scenario that the texts give was written
 pub record HasBegun (scenario latency : Option (List ℕ)) (old new : Option (List ℕ)) : Type 0 where
   pub setup : Scenario
   pub given : Gives scenario latency setup

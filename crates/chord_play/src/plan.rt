@@ -1,3 +1,4 @@
+//! Plans: how a run is carried out.
 ghost use Rattle.std.specs.Prelude.{◌≤◌};
 
 /// How nodes are dealt to parts.
@@ -5,12 +6,12 @@ ghost use Rattle.std.specs.Prelude.{◌≤◌};
 pub enum Split {
     /// One node to each part in turn, and so on.
     RoundRobin,
-    /// As many neighbours in file order to each part.
+    /// Blocks of neighbours in file order, as even as possible.
     Blocks,
 }
 
-/// How a run is carried out: on one thread and one event at a time, or by workers (1 to 64), to
-/// whom the nodes come in parts (1 to 512).
+/// How a run is carried out: one event at a time on one thread, or by 1 to 64 workers with the
+/// nodes in 1 to 512 parts.
 #[derive(Clone, Copy, Debug, PartialEq, Eq, Drop)]
 pub struct Plan {
     pub serial: bool,

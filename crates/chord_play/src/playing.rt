@@ -1,3 +1,4 @@
+//! From bytes to bytes: `load` and `play`.
 ghost use Rattle.std.specs.Prelude.{◌≡◌, ◌≢◌, ◌⊎◌, true, false, IfErr, IfOk, OnOk, Err};
 ghost use Rattle.chord_event.specs.declared.error.RunError.{RunError};
 ghost use Rattle.chord_play.specs.Faults.{is_of_run};
@@ -19,8 +20,8 @@ use std::io::{Read, Write};
 use std::sync::Wait;
 use std::thread::Threads;
 
-/// Reads the scenario text, then the latency text, and answers the scenario that they give, or the
-/// first fault. A text of more than 16,777,216 bytes is not read further than one byte beyond.
+/// Reads the scenario text and then the latency text, and returns their scenario or the first
+/// fault. A text of more than 16,777,216 bytes is read one byte beyond that and no further.
 pub fn load<R: Read, Q: Read>(
     alloc: Global,
     scenario: &mut Watched<R>,
@@ -52,9 +53,9 @@ pub fn load<R: Read, Q: Read>(
     Ok(scenario)
 }
 
-/// Loads a scenario and runs it: writes its trace and answers its report. The plan changes neither:
-/// a serial one is carried out one event at a time, any other by its workers, to whom the nodes come
-/// in its parts. What the writer took before an error is the beginning of the trace.
+/// Loads a scenario and runs it: writes its trace and returns its report. Neither depends on the
+/// plan, which says whether the events run one at a time or by workers and parts. What was written
+/// before an error is a beginning of the trace.
 pub fn play<T: Threads + Wait + Sync, R: Read, Q: Read, W: Write>(
     rt: &T,
     alloc: Global,

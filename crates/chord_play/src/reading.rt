@@ -1,3 +1,4 @@
+//! How the two texts are read.
 ghost use Rattle.std.specs.Prelude.{◌≡◌, ◌≤◌, true, false, Err, IfOk, OnOk, vec_len};
 ghost use Rattle.std.specs.Io.KnownBytes.{Consumes, IsAtEnd};
 ghost use Rattle.chord_play.specs.Texts.{IsCutOff};
@@ -28,7 +29,7 @@ impl From<AllocError> for TextFault {
     }
 }
 
-/// Reads a text to its end, or one byte beyond its limit.
+/// Reads a text to its end, or to one byte beyond the limit.
 pub(crate) fn read_text<R: Read>(
     alloc: Global,
     reader: &mut Watched<R>,

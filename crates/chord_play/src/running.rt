@@ -18,7 +18,7 @@ use std::io::Write;
 use std::sync::Wait;
 use std::thread::Threads;
 
-/// The division of so many nodes that a plan asks for.
+/// The division of `nodes` nodes that a plan asks for.
 fn divide(alloc: Global, plan: &Plan, nodes: u32) -> Result<Division, Memory>
     requires { 0 < nodes }
     ensures { IfOk result (λ division. division ≡ planned plan.now nodes) }

@@ -1,3 +1,5 @@
+//! The names of the two texts.
+
 /// The two texts of a simulation.
 #[derive(Clone, Copy, Debug, PartialEq, Eq, Drop)]
 pub enum Text {

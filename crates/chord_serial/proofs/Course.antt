@@ -157,7 +157,7 @@ all_late horizon time (e ∷ es) is late ordered = All_from (λ (x : Event Body)
     (all_in (λ (y : Event Body). IsBefore e.key y.key) es ordered.0 x (is_in es x later))) in omega (arith, late, here, after))
     (contains_cons x e es c))
 
--- what has gone out of an engine is the beginning of a trace
+-- what an engine has written is the beginning of a trace
 pub begin_at : (sc : Scenario) (old now : Option (List ℕ)) (e : Engine) → IsAt sc old now e → IsBeginning sc old now
 begin_at sc old now e a = (
   e.count,
@@ -252,7 +252,7 @@ module _ (sc : Scenario) (ranges : IsInRange sc) where
     abbrev audits : List Piece
     audits = audits_due (state (chord sc) here)
 
-    -- what the event and the audits before it put out
+    -- what the event and the audits before it output
     abbrev put : Block → List Piece
     put block = audits ++ piece.OfEvent block ∷ []
 
@@ -282,7 +282,7 @@ module _ (sc : Scenario) (ranges : IsInRange sc) where
             (fronts_then sc old now x (output (chord sc) here) (put (block_of sc s event)) t.at.written front)),
       )
 
-      -- the audits are put out with a slice of the states
+      -- the audits are written with a slice of the states
       module _ (slice : List NodeState) (sliced : slice ≡ states) where
         pub begin_audits : (x : Option (List ℕ)) → OfAccounts slice (λ account. AppendsFront now x (pieces_text sc (audits_due account))) → IsBeginning sc old x
         begin_audits x fronts =
@@ -293,7 +293,7 @@ module _ (sc : Scenario) (ranges : IsInRange sc) where
             → Adds sc now x e.tally middle audits
         audits_add x middle adds = of_slice (λ account. Adds sc now x e.tally middle (audits_due account)) slice sliced adds
 
-        -- after whole audits, nothing or the front of a block has gone out
+        -- after whole audits, nothing or the front of a block has been written
         pub begin_middle : (x : Option (List ℕ)) (middle : Tally) → OfAccounts slice (λ account. Adds sc now x e.tally middle (audits_due account))
             → IsBeginning sc old x
         begin_middle x middle adds =

@@ -12,8 +12,8 @@ use Rattle.chord_serial.specs.declared.engine.Engine.{Engine}
 use Rattle.chord_trace.specs.Tally.{IsTallyOf, taken}
 use Rattle.chord_trace.specs.Texts.{pieces_text}
 
--- the engine, with these events still to come, is where the first so many events of the run leave it, and what they put
--- out has gone to the writer, which held the old bytes at the start
+-- the engine, with these events still to come, is where the first `e.count` events of the run leave it, and what they
+-- output has gone to the writer, which held the old bytes at the start
 pub record IsAtWith (sc : Scenario) (old now : Option (List ℕ)) (e : Engine) (events : List (Event Body)) : Type 0 where
   pub world : IsWorld (chord sc) e.states.items events e.count
   pub audits : e.clock ≡ open_audits (chord sc) (history (chord sc) e.count)
@@ -26,7 +26,7 @@ pub record IsAtWith (sc : Scenario) (old now : Option (List ℕ)) (e : Engine) (
 abbrev pub IsAt : Scenario → (old now : Option (List ℕ)) → Engine → Type 0
 IsAt sc old now e = IsAtWith sc old now e e.pending
 
--- the same with this event too, which is the next one, was taken out and is in hand
+-- the same with this event too, which is the next one and has been taken out
 pub record HasTaken (sc : Scenario) (old now : Option (List ℕ)) (e : Engine) (event : Event Body) : Type 0 where
   pub at : IsAtWith sc old now e (event ∷ e.pending)
   pub next : IsFirstAt (event ∷ e.pending) sc.duration 0

@@ -1,3 +1,4 @@
+//! The engine that takes one event at a time.
 ghost use Rattle.std.specs.Prelude.{◌≡◌, ◌⊎◌, ℕ, ◌+◌, ◌<◌, ◌≤◌, List, Option, None, true, false, OnOk, IfOk, IfErr, IfSome, Ok, Err};
 ghost use Rattle.std.specs.Io.KnownBytes.{Appends};
 ghost use Rattle.std.specs.List.{All};
@@ -49,8 +50,8 @@ impl Engine {
         })
     }
 
-    /// Takes the next event of the run out, or answers `None` if the run has no more. If it may
-    /// have no more it answers `TooManyEvents`.
+    /// Takes the next event of the run, or returns `None` if the run has no more. Returns
+    /// `TooManyEvents` if an event is left but the run may have no more.
     pub fn take_next(&mut self, scenario: &Scenario) -> Result<Option<Event>, RunError>
         ensures next { IfOk result (λ next. IfSome next (λ event. (old now : Option (List ℕ)) → IsAt scenario.now old now self.old → HasTaken scenario.now old now self.new event)) }
         ensures ended { result ≡ Ok None → (self.new ≡ self.old) × All (λ e. scenario.now.duration ≤ e.key.time) self.new.pending }
@@ -72,7 +73,7 @@ impl Engine {
         Ok(self.pending.pop_first())
     }
 
-    /// Lets the target of an event act on it, and puts out what comes of it.
+    /// Writes the audits that are due, lets the target of an event act on it, and writes its block.
     pub fn handle<W: Write>(
         &mut self,
         alloc: Global,
@@ -108,7 +109,7 @@ impl Engine {
         Ok(())
     }
 
-    /// Puts the audits that are left out, and makes the report.
+    /// Writes the remaining audits, and makes the report.
     pub fn finish<W: Write>(
         &mut self,
         alloc: Global,

@@ -1,3 +1,4 @@
+//! Runs one event at a time.
 ghost use Rattle.std.specs.Prelude.{◌≡◌, ◌⊎◌, true, false, OnOk, IfOk, IfErr, Err};
 ghost use Rattle.std.specs.Io.KnownBytes.{Appends};
 ghost use Rattle.chord_machine.specs.Run.{HasTooManyEvents, IsReport, trace_text};
@@ -11,8 +12,8 @@ use chord_trace::{Report, Watched};
 use std::alloc::Global;
 use std::io::Write;
 
-/// Runs a scenario, one event at a time: writes its trace and answers its report. What the writer
-/// took of the trace before an error is its beginning.
+/// Runs a scenario one event at a time: writes its trace and returns its report. What was written
+/// before an error is a beginning of the trace.
 pub fn run_serial<W: Write>(
     alloc: Global,
     scenario: &Scenario,

@@ -10,7 +10,7 @@ use std::alloc::Global;
 use std::io::Write;
 use std::test::Fail;
 
-/// A node crashes and joins again at one instant, while a reply is on its way to it.
+/// A node crashes and joins again at the same time, while a reply is on its way to it.
 const REJOIN: &str = r#"profile = 1
 bits = 3
 list = 2
@@ -56,7 +56,7 @@ const TRACE: &str = "100 n3 lookup 1\n\
     120 n3 late step-reply n0\n\
     200 audit members=2 dead=0 ring=2 ordered=yes principals=2 sufficient=no\n";
 
-/// Puts copies in the place of all states.
+/// Replaces all states by copies.
 fn copy_states(states: &mut Vec<NodeState>) -> Result<(), Memory>
     ensures { OnOk result (states.new.items ≡ states.old.items) }
 {

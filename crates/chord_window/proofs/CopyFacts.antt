@@ -175,7 +175,7 @@ module _ (d : Division) (part : ℕ) (states : List NodeState) (old new : Copies
   as_long : length new.states.items ≡ length old.states.items
   as_long = omega (arith, ap length states_are, length-set old.states.items slot after)
 
-  -- who stands where is as before
+  -- which state is where is as before
   same_me : (k : ℕ) (s : NodeState) → (get_or new.states.items k s).me ≡ (get_or old.states.items k s).me
   same_me k s = ⊎_elim
       (λ e. ap (λ z. (get_or new.states.items z s).me) e ∙ ap (λ (z : NodeState). z.me) (now_here s) ∙ me ∙ sym (are.named node slot s at.slot)
@@ -202,6 +202,6 @@ module _ (d : Division) (part : ℕ) (states : List NodeState) (old new : Copies
       go None e = refl
       go (Some k) e = now_other k s (λ same. ne (sym (are.named i k s e) ∙ ap (λ z. (get_or old.states.items z s).me) same ∙ are.named node slot s at.slot))
 
--- what stands in a slot is what is seen
+-- what is in a slot is what is seen
 pub slot_seen : (states : List NodeState) (c : Copies) (i k : ℕ) (s : NodeState) → IsSlot c i k → seen s states c i ≡ get_or c.states.items k s
 slot_seen states c i k s at = ap (λ z. in_slot s z c.states.items states i) at.slot

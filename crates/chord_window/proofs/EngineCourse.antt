@@ -80,7 +80,7 @@ use Rattle.chord_window.proofs.WindowOutput.{can_merge, merged_length, window_ad
 pub nowhere : Block
 nowhere = record { key = record { time = 0; origin = 0; number = 0 }; target = 0; lines = [] }
 
--- what has gone out of an engine is the beginning of a trace
+-- what an engine has written is the beginning of a trace
 pub begin_at : (sc : Scenario) (old now : Option (List ℕ)) (e : Engine) → IsAt sc old now e → IsBeginning sc old now
 begin_at sc old now e at = (
   e.world.count,
@@ -197,7 +197,7 @@ module _ (sc : Scenario) (ranges : IsInRange sc) (old now : Option (List ℕ)) (
     goes_on : history (chord sc) (e.world.count + 1) ≡ first.event ∷ past
     goes_on = subst (λ k. history (chord sc) k ≡ first.event ∷ past) (sym (add-one e.world.count)) (ap (λ z. cons_option z past) first.next_is)
 
-    -- the audits that are due stand ahead of the next event
+    -- the audits that are due come before the next event
     pub begin_audits : (x : Option (List ℕ)) → AppendsFront now x (pieces_text sc (audits_at sc (state (chord sc) past) (due o.time e.clock)))
         → IsBeginning sc old x
     begin_audits x front = (

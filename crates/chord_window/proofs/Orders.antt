@@ -82,7 +82,7 @@ same_default (d ∷ ds) (suc k) x y in_range = same_default ds k x y (omega arit
 pub all_are_of : (parts : ℕ) (dones : List Done) → HasEachOnce parts (parts_of dones) → AreOf dones parts dones
 all_are_of parts dones once = are_of dones parts dones (λ k x in_range. (k, in_range, same_default dones k (slice_index_or dones k x) x in_range)) once.no_other
 
--- what was put at a place, and what stands at the others
+-- what was put at a place, and what is at the others
 set_here : (slots : List (Option Done)) (i : ℕ) (s : Option Done) → i < length slots → slice_index_or (slice_set slots i s) i None ≡ s
 set_here [] i s in_range = absurd (omega arith)
 set_here (x ∷ xs) zero s in_range = refl

@@ -61,7 +61,7 @@ use Rattle.chord_window.specs.Picked.{IsHeldBy, IsPartOf, IsPickedWith, can_go_w
 use Rattle.chord_window.specs.Worlds.{IsWorldOf}
 use Rattle.chord_window.specs.Workers.{HasDrawn, HasRunOne, IsBusy, IsIdle, MayGoOn, MayGoOnWith}
 
--- what stands at a place of a list in which one place was written
+-- what is at a place of a list in which one place was written
 pub set_at : {A : Type 0} (xs : List A) (i j : ℕ) (v y : A) → slice_get (set xs i v) j ≡ Some y → ((j ≡ i) × (y ≡ v)) ⊎ ((j ≢ i) × (slice_get xs j ≡ Some y))
 set_at [] i j v y e = absurd cc
 set_at (x ∷ xs) zero zero v y e = let same : v ≡ y = cc in inl (refl, sym same)

@@ -38,7 +38,7 @@ use Rattle.chord_trace.specs.declared.tally.Tally.{Tally}
 use Rattle.chord_trace.specs.Tally.{IsTallyOf}
 use Rattle.chord_window.specs.Tallies.{AreTalliesOf, blocks_at, shares_to}
 
--- the list of a part is the one that stands in its place
+-- the list of a part is the one in its place
 pub blocks_at_is : (lists : List (Vec Block Global)) (k : ℕ) (v : Vec Block Global) → k < length lists → v ≡ get_or lists k v → blocks_at lists k ≡ v.items
 blocks_at_is [] k v l is = absurd (omega (arith, l))
 blocks_at_is (x ∷ xs) zero v l is = ap (λ (z : Vec Block Global). z.items) (sym is)

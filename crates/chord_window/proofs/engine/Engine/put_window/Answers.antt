@@ -1,4 +1,4 @@
--- A window puts out its audits and its blocks, and each part's blocks go into its tally.
+-- A window writes its audits and its blocks, and each part's blocks go into its tally.
 use Rattle.std.proofs.Common.{◌∙◌, ◌≤◌, ◌++◌, ℕ, List, Vec, length, map, set, ap, sym, subst, refl, arith}
 use Rattle.std.specs.Global.{Global}
 use Rattle.std.specs.List.{All, flat_map}
