@@ -7,8 +7,8 @@ use chord_event::RunError;
 use chord_scenario::ScenarioFault;
 use std::alloc::AllocError;
 
-/// Why a simulation did not come to its end. That memory was refused is always an error of the run,
-/// also if the scenario was still read.
+/// Why a simulation did not reach its end. A failed allocation is always an error of the run, even
+/// while the texts are read.
 #[derive(Drop)]
 pub enum PlayFault {
     /// The reader of the text failed.

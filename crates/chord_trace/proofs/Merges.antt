@@ -1,4 +1,4 @@
--- A merge on its way: the blocks put out so far, and what is left of the lists.
+-- A merge on its way: the blocks merged so far, and what is left of the lists.
 use Rattle.std.proofs.Common.{
   ◌≡◌,
   ◌≢◌,
@@ -137,7 +137,7 @@ same_len ls ms p = same_number left_len length-add ls ms p
 abbrev pub has_key : Key → Block → Bool
 has_key k b = is_same_key k b.key
 
--- of all blocks these are put out, in order, and those are left, each later than what was put out
+-- of all blocks these are merged, in order, and those are left, each later than the merged ones
 pub record IsMerging (all done : List Block) (left : List (List Block)) : Type 0 where
   pub ordered : AllByRecursion (λ l. InKeyOrder block_key l) left
   pub merged : InKeyOrder block_key done
@@ -200,7 +200,7 @@ first_before x xs ls o single least y h = elim (in_append xs (together ls) y h) 
       ))
 ]
 
--- such a block put out
+-- such a block is merged
 pub put_out : (all done : List Block) (x : Block) (xs : List Block) (ls : List (List Block)) → ((y : Block) → IsIn y (together ls) → IsAtMost x.key y.key)
     → IsMerging all done ((x ∷ xs) ∷ ls) → IsMerging all (done ++ x ∷ []) (xs ∷ ls)
 put_out all done x xs ls least g =

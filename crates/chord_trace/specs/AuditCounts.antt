@@ -1,4 +1,4 @@
--- How many audits there are, and how many are faulty in each way.
+-- The number of audits, and how many have each fault.
 use Rattle.std.specs.Prelude.{◌+◌, ◌≤◌, ◌==◌, not, List, count_by, length}
 use Rattle.chord_audit.specs.declared.audit_line.AuditLine.{AuditLine}
 use Rattle.chord_trace.specs.declared.audit_counts.AuditCounts.{AuditCounts}

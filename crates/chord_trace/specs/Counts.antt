@@ -1,4 +1,4 @@
--- How many lines there are of each kind.
+-- The number of lines of each kind.
 use Rattle.std.specs.Prelude.{ℕ, ◌+◌, ◌≤◌, List, count_by}
 use Rattle.chord_event.specs.declared.line.Line.{Line}
 use Rattle.chord_trace.specs.Kinds.{
@@ -17,7 +17,7 @@ use Rattle.chord_trace.specs.Kinds.{
 }
 use Rattle.chord_trace.specs.declared.line_counts.LineCounts.{LineCounts}
 
--- how many of the lines are of each kind
+-- the number of these lines of each kind
 abbrev pub counts_in : List Line → LineCounts
 counts_in lines = record {
   members = count_by is_member lines;

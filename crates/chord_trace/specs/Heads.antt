@@ -11,7 +11,7 @@ use Rattle.chord_trace.specs.declared.merging.Head.{Head}
 abbrev pub head_key : Head → Key
 head_key head = head.first.key
 
--- by the first block's key, turned round
+-- by the first block's key, in reverse
 abbrev pub head_cmp : Head → Head → Ordering
 head_cmp a b = key_cmp (head_key b) (head_key a)
 

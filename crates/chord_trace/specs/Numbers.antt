@@ -1,11 +1,11 @@
 -- Hops and times of lookups.
 use Rattle.std.specs.Prelude.{◌≡◌, ℕ, ◌+◌, ◌/◌, ◌<◌, ◌≤◌, Bool, cond, nat_le, nat_lt, List, [], ◌∷◌, count_by, fold, length, map, max, min, sum_by}
 
--- the greatest number, and 0 of none
+-- the greatest number, and 0 if there is none
 abbrev pub greatest : List ℕ → ℕ
 greatest = fold max 0
 
--- the least number, and 0 of none
+-- the least number, and 0 if there is none
 abbrev pub least : List ℕ → ℕ
 least [] = 0
 least (n ∷ ns) = fold min n ns
@@ -25,8 +25,8 @@ counted test = sum_by (λ entry. cond (test entry.0) entry.1 0)
 abbrev pub half_of : ℕ → ℕ
 half_of n = (n + 1) / 2
 
--- m is the number in the middle, the lower one of two, and 0 of none: fewer than half of the
--- numbers are below it, and at least half are at most it, so that it is one of them
+-- m is the median, the lower of the two middle numbers, and 0 if there is none: fewer than half of the numbers are
+-- below it, and at least half are at most it, so it is one of them; defined so it needs no sorting
 pub record IsMedian (ns : List ℕ) (m : ℕ) : Type 0 where
   pub none : length ns ≡ 0 → m ≡ 0
   pub below : 0 < length ns → count_by (λ n. nat_lt n m) ns < half_of (length ns)

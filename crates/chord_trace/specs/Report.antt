@@ -14,7 +14,7 @@ use Rattle.chord_trace.specs.declared.report.Report.{Report}
 abbrev pub found_lookups : List Piece → List (ℕ × ℕ)
 found_lookups pieces = filter_map found_in (lines_of pieces)
 
--- how many messages were lost, which the second profile alone has
+-- the number of lost messages, which only the second profile reports
 abbrev pub losses_in : (profile : ℕ) → List Line → Option ℕ
 losses_in profile lines = if profile == 2 then Some (count_by is_loss lines) else None
 

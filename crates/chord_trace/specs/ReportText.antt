@@ -3,7 +3,7 @@ use Rattle.std.specs.Prelude.{ℕ, List, [], ◌∷◌, ◌++◌, Option, Some, 
 use Rattle.std.specs.List.{flat_map}
 use Rattle.chord_trace.specs.declared.report.Report.{Report}
 
--- the words that each report has, with their numbers
+-- the names and numbers that every report has
 abbrev pub numbers_of : Report → List (List ℕ × ℕ)
 numbers_of r =
     (codes "events", r.events) ∷ (codes "members", r.lines.members) ∷ (codes "join-failed", r.lines.join_failed)
@@ -17,12 +17,12 @@ numbers_of r =
     ∷ (codes "audits", r.audits.audits) ∷ (codes "ringless", r.audits.ringless)
     ∷ (codes "unordered", r.audits.unordered) ∷ (codes "insufficient", r.audits.insufficient) ∷ []
 
--- the word for the lost messages, with their number if the report has it
+-- the name and number of the lost messages, if the report has them
 abbrev pub loss_number : Option ℕ → List (List ℕ × ℕ)
 loss_number None = []
 loss_number (Some losses) = (codes "losses", losses) ∷ []
 
--- a line for each word and its number
+-- a line for each name and its number
 abbrev pub number_text : List (List ℕ × ℕ) → List ℕ
 number_text = flat_map (λ p. p.0 ++ codes " " ++ decimal p.1 ++ codes "\n")
 

@@ -14,7 +14,7 @@ use Rattle.chord_scenario.specs.World.{name_of}
 use Rattle.chord_trace.specs.declared.piece.Piece.{Piece}
 use Rattle.chord_trace.specs.declared.piece.Piece.TheVariants as piece
 
--- the word of a kind of message
+-- the name of a kind of message
 abbrev pub message_text : MessageKind → List ℕ
 message_text message.Step = codes "step"
 message_text message.GetState = codes "get-state"
@@ -26,7 +26,7 @@ message_text message.StateReply = codes "state-reply"
 message_text message.ListReply = codes "list-reply"
 message_text message.Pong = codes "pong"
 
--- the word of a kind of command
+-- the name of a kind of command
 abbrev pub command_text : CommandKind → List ℕ
 command_text command.Join = codes "join"
 command_text command.Crash = codes "crash"
@@ -65,7 +65,7 @@ line_text sc time node line =
 abbrev pub block_text : Setup → Block → List ℕ
 block_text sc block = flat_map (line_text sc block.key.time block.target) block.lines
 
--- the word of an answer
+-- the name of a truth value
 abbrev pub yes_or_no : Bool → List ℕ
 yes_or_no true = codes "yes"
 yes_or_no false = codes "no"

@@ -1,6 +1,7 @@
+//! Counts of audits for the report.
 use chord_audit::AuditLine;
 
-/// How many audits there are, and how many of them a report counts as faulty in each way.
+/// The number of audits, and how many of them have each fault that a report counts.
 #[derive(Clone, Copy, Debug, Default, PartialEq, Eq, Drop)]
 pub struct AuditCounts {
     pub audits: u64,
@@ -13,7 +14,7 @@ impl AuditCounts {
     ghost use Rattle.std.specs.Prelude.{◌≡◌, ◌+◌, ◌≤◌, ◌<◌, ◌^◌, ◌∷◌, []};
     ghost use Rattle.chord_trace.specs.AuditCounts.{audit_counts_in, audits_plus, AreAmong};
 
-    /// Counts the audit too.
+    /// Counts one more audit.
     pub(crate) fn add(&mut self, audit: &AuditLine)
         requires room { self.old.audits < 2 ^ 63 }
         requires among { AreAmong self.old }
@@ -25,7 +26,7 @@ impl AuditCounts {
         self.insufficient += u64::from(!audit.sufficient);
     }
 
-    /// What both have together.
+    /// The sum of both.
     pub(crate) fn join(self, other: AuditCounts) -> AuditCounts
         requires room { self.audits + other.audits ≤ 2 ^ 63 }
         requires mine { AreAmong self }

@@ -1,3 +1,4 @@
+//! The text of an audit.
 ghost use Rattle.std.specs.Prelude.{◌≡◌, ◌⊎◌, ◌++◌, true, false, OnOk, IfErr, string_bytes, Err};
 ghost use Rattle.std.specs.Io.KnownBytes.{Appends};
 ghost use Rattle.chord_trace.specs.Texts.{yes_or_no, audit_text};
@@ -12,8 +13,8 @@ use std::alloc::{AllocError, Global};
 use std::fmt::Write as _;
 use std::io::Write;
 
-/// Writes the line of an audit. The error is Memory if its text cannot be made, and Write if
-/// the writer fails.
+/// Writes the line of an audit. The error is `Memory` if an allocation fails, and `Write` if the
+/// writer fails.
 pub fn write_audit<W: Write>(
     alloc: Global,
     audit: &AuditLine,

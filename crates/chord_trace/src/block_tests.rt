@@ -45,7 +45,7 @@ fn ident(rt: &impl Abort, raw: Raw) -> Ident {
     circle.ident(raw).expect(rt, "an identifier")
 }
 
-/// The kinds of messages, with their words.
+/// The kinds of messages, with their names in a trace.
 const MESSAGES: [(MessageKind, &str); 9] = [
     (MessageKind::Step, "step"),
     (MessageKind::GetState, "get-state"),
@@ -58,7 +58,7 @@ const MESSAGES: [(MessageKind, &str); 9] = [
     (MessageKind::Pong, "pong"),
 ];
 
-/// The kinds of commands, with their words.
+/// The kinds of commands, with their names in a trace.
 const COMMANDS: [(CommandKind, &str); 3] = [
     (CommandKind::Join, "join"),
     (CommandKind::Crash, "crash"),
@@ -212,7 +212,7 @@ fn block(alloc: Global, time: u64, origin: u32, number: u64) -> Block
     }
 }
 
-/// Lists whose blocks are at one time by turns, and one that is empty.
+/// Lists with blocks at the same times alternately, and one that is empty.
 fn three_lists(alloc: Global) -> Result<Vec<Vec<Block>>, Memory>
     ensures { IfOk result (λ lists. CanMerge lists.items) }
 {

@@ -1,3 +1,4 @@
+//! The text of an event's block.
 ghost use Rattle.std.specs.Prelude.{◌≡◌, ◌⊎◌, ◌<◌, ◌++◌, true, false, OnOk, IfErr, string_bytes, Err};
 ghost use Rattle.std.specs.Io.KnownBytes.{Appends};
 ghost use Rattle.chord_scenario.specs.World.{node_count};
@@ -14,8 +15,8 @@ use std::alloc::{AllocError, Global};
 use std::fmt::Write as _;
 use std::io::Write;
 
-/// Writes the lines of an event. The error is Memory if their text cannot be made, and Write
-/// if the writer fails.
+/// Writes the lines of an event. The error is `Memory` if an allocation fails, and `Write` if the
+/// writer fails.
 pub fn write_block<W: Write>(
     alloc: Global,
     scenario: &Scenario,

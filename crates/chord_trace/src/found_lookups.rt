@@ -1,3 +1,4 @@
+//! Sums and counts of the lookups that were found.
 ghost use Rattle.std.specs.Prelude.{◌≡◌, ℕ, ◌+◌, ◌*◌, ◌^◌, ◌<◌, ◌≤◌, Bool, true, cond, nat_le, nat_lt, OnOk, OnErr};
 ghost use Rattle.chord_trace.specs.Kinds.{found_in};
 ghost use Rattle.chord_trace.specs.Numbers.{counted};
@@ -6,8 +7,8 @@ use chord_event::Line;
 use std::alloc::{AllocError, Global};
 use std::collections::BTreeMap;
 
-/// What the lookups that were found took: their hops, their times in microseconds, and how many
-/// took each time.
+/// The lookups that were found: their hops, their times in microseconds, and how many took each
+/// time.
 #[derive(Drop)]
 pub struct FoundLookups {
     pub len: u64,
@@ -28,7 +29,7 @@ impl FoundLookups {
     ghost use Rattle.chord_trace.specs.FoundLookups.{HasFound, found_len};
     ghost use Rattle.chord_trace.specs.Numbers.{IsMedian, times_of};
 
-    /// None yet.
+    /// No lookups.
     pub fn new(alloc: Global) -> FoundLookups
         ensures { HasFound [] result }
     {
@@ -43,7 +44,7 @@ impl FoundLookups {
         }
     }
 
-    /// Adds the lookups that the lines say were found.
+    /// Adds the lookups that were found according to these lines.
     pub fn add_lines(&mut self, lines: &[Line]) -> Result<(), AllocError>
         requires { found_len self.old + length lines.now ≤ 2 ^ 46 }
         ensures has { OnOk result ((seen : List (ℕ × ℕ)) → HasFound seen self.old → HasFound (seen ++ filter_map found_in lines.now) self.new) }
@@ -77,7 +78,7 @@ impl FoundLookups {
         Ok(())
     }
 
-    /// What both have together.
+    /// Both together.
     pub fn join(self, other: FoundLookups) -> Result<FoundLookups, AllocError>
         requires { found_len self + found_len other ≤ 2 ^ 46 }
         ensures has { IfOk result (λ joined. (seen more : List (ℕ × ℕ)) → HasFound seen self → HasFound more other → HasFound (seen ++ more) joined) }
@@ -103,7 +104,8 @@ impl FoundLookups {
         })
     }
 
-    /// The time in the middle, the lower one of two, and 0 of none.
+    /// The median time in microseconds: the lower of the two middle ones, and 0 if there are no
+    /// times.
     pub fn us_median(&self) -> u64
         ensures { (seen : List (ℕ × ℕ)) → HasFound seen self.now → IsMedian (times_of seen) result }
     {
@@ -114,7 +116,7 @@ impl FoundLookups {
     }
 }
 
-/// The hops and the time of a lookup that was found.
+/// The hops and the time of a lookup that was found, if the line is of one.
 fn found_in(line: Line) -> Option<(u32, u64)>
     ensures { result ≡ found_in line }
 {
@@ -124,7 +126,7 @@ fn found_in(line: Line) -> Option<(u32, u64)>
     }
 }
 
-/// Counts so many more at this time.
+/// Adds to the count of a time.
 fn count_more(counts: &mut BTreeMap<u64, u64>, us: u64, count: u64) -> Result<(), AllocError>
     requires { counted (λ _. true) counts.old.entries + count ≤ 2 ^ 46 }
     ensures more { OnOk result ((test : ℕ → Bool) → counted test counts.new.entries ≡ counted test counts.old.entries + cond (test us) count 0) }
@@ -135,7 +137,7 @@ fn count_more(counts: &mut BTreeMap<u64, u64>, us: u64, count: u64) -> Result<()
     Ok(())
 }
 
-/// Counts at each time as many more as others have there.
+/// Adds other counts, time by time.
 fn add_counts(
     counts: &mut BTreeMap<u64, u64>,
     others: &BTreeMap<u64, u64>,
@@ -164,6 +166,6 @@ fn nth_least(counts: &BTreeMap<u64, u64>, n: u64) -> u64
             return *us;
         }
     }
-    // Not reached, since n is at most the number of times.
+    // Not reached: n is at most the number of times.
     0
 }

@@ -1,6 +1,7 @@
+//! Counts of lines for the report.
 use chord_event::Line;
 
-/// How many lines there are of each kind that a report counts.
+/// The number of lines of each kind that a report counts.
 #[derive(Clone, Copy, Debug, Default, PartialEq, Eq, Drop)]
 pub struct LineCounts {
     pub members: u64,
@@ -21,7 +22,7 @@ impl LineCounts {
     ghost use Rattle.std.specs.Prelude.{◌≡◌, ◌-◌, ◌^◌, ◌≤◌, ◌∷◌, [], length};
     ghost use Rattle.chord_trace.specs.Counts.{counts_in, plus, AreWithin};
 
-    /// Counts the lines too.
+    /// Counts more lines.
     pub(crate) fn add(&mut self, lines: &[Line])
         requires counts { AreWithin (2 ^ 63 - length lines.now) self.old }
         requires short { length lines.now ≤ 2 ^ 63 }
@@ -32,7 +33,7 @@ impl LineCounts {
         }
     }
 
-    /// What both have together.
+    /// The sum of both.
     pub(crate) fn join(self, other: LineCounts) -> LineCounts
         requires mine { AreWithin (2 ^ 62) self }
         requires others { AreWithin (2 ^ 62) other }

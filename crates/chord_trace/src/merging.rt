@@ -1,3 +1,4 @@
+//! Merging the blocks of all parts into one list.
 ghost use Rattle.std.specs.Prelude.{IfOk, map};
 ghost use Rattle.std.specs.BinaryHeap.{IsHeap, heap_items};
 ghost use Rattle.std.specs.List.Sorted.{IsPermutation};
@@ -15,8 +16,8 @@ use std::cmp::Ordering;
 use std::collections::BinaryHeap;
 use std::vec::IntoIter;
 
-/// The first block of a list, and those after it. Heads compare by the keys of these blocks, turned
-/// round, since a heap gives the greatest first.
+/// The first block of a list, and the rest of the list. Heads compare by the keys of their first
+/// blocks in reverse, since a heap gives the greatest first.
 #[derive(Drop)]
 struct Head {
     first: Block,
@@ -61,7 +62,7 @@ impl Ord for Head {
     }
 }
 
-/// The blocks of all lists, each of which stands in the order of keys, in one list in that order.
+/// The blocks of all lists in one list, in the order of keys. Each list must be in that order.
 pub fn merge_blocks(alloc: Global, lists: Vec<Vec<Block>>) -> Result<Vec<Block>, Memory>
     requires { CanMerge lists.items }
     ensures { IfOk result (λ blocks. IsMerged lists.items blocks.items) }
@@ -93,7 +94,7 @@ fn merge_lists(alloc: Global, lists: Vec<Vec<Block>>) -> Result<Vec<Block>, Memo
     Ok(merged)
 }
 
-/// How many blocks the lists have, as far as a number can say it.
+/// The number of blocks in the lists, or the greatest `usize` if there are more.
 fn count_blocks(lists: &[Vec<Block>]) -> usize {
     let mut count: usize = 0;
     for blocks in lists {

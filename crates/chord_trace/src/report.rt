@@ -1,3 +1,4 @@
+//! The report of a run.
 ghost use Rattle.std.specs.Prelude.{◌≡◌, ◌⊎◌, ℕ, ◌++◌, true, false, List, map, OnOk, IfErr, string_bytes, Err};
 ghost use Rattle.std.specs.Io.KnownBytes.{Appends};
 ghost use Rattle.std.specs.List.Sorted.{IsPermutation};
@@ -29,13 +30,13 @@ pub struct Report {
     pub us_median: u64,
     pub us_greatest: u64,
     pub audits: AuditCounts,
-    /// How many messages were lost, in the second profile.
+    /// The number of lost messages. `None` in the first profile, which has no such line.
     pub losses: Option<u64>,
 }
 
 impl Report {
-    /// Writes a line for each number. The error is Memory if the text cannot be made, and Write
-    /// if the writer fails.
+    /// Writes a line for each number. The error is `Memory` if an allocation fails, and `Write` if
+    /// the writer fails.
     pub fn write<W: Write>(&self, alloc: Global, writer: &mut Watched<W>) -> Result<(), RunError>
         requires { has_failed writer.old ≡ false }
         ensures whole { OnOk result (Appends (W.contents (wrapped writer.old)) (W.contents (wrapped writer.new)) (report_text self.now)) }
@@ -106,7 +107,7 @@ pub fn reports_are_unique()
     ensures { (profile : ℕ) (pieces : List Piece) (a b : Report) → IsReportOf profile pieces a → IsReportOf profile pieces b → a ≡ b }
 {}
 
-/// A report does not depend on the order in which the pieces of a trace are gone over.
+/// A report does not depend on the order of the pieces of a trace.
 pub fn reports_need_no_order()
     ensures { (profile : ℕ) (pieces others : List Piece) (report : Report) → IsPermutation pieces others → IsReportOf profile pieces report → IsReportOf profile others report }
 {}

@@ -1,3 +1,4 @@
+//! The tally from which a report is made.
 ghost use Rattle.std.specs.Prelude.{◌≡◌, ◌+◌, ◌*◌, ◌≤◌, ◌^◌, count_by, length};
 ghost use Rattle.chord_trace.specs.AuditCounts.{AreAmong};
 ghost use Rattle.chord_trace.specs.Counts.{AreWithin};
@@ -12,7 +13,7 @@ use chord_audit::AuditLine;
 use chord_event::{Block, Line, Memory};
 use std::alloc::Global;
 
-/// What a report is made of, of the blocks and audits so far.
+/// What the report needs of the blocks and audits so far.
 #[derive(Drop)]
 pub struct Tally {
     profile: u32,
@@ -58,6 +59,7 @@ impl Tally {
         let lines = block.lines.as_slice();
         self.events += 1;
         self.counts.add(lines);
+        // Counted in every profile, and reported in the second. In the first there are none.
         self.losses += count_losses(lines);
         self.founds.add_lines(lines)?;
         Ok(())
@@ -72,8 +74,8 @@ impl Tally {
         self.audits.add(audit);
     }
 
-    /// The tally of what both have, which are of one profile. Both are given up if an allocation
-    /// fails.
+    /// The tally of both together, which are of one profile. If an allocation fails, both are
+    /// dropped.
     pub fn join(self, other: Tally) -> Result<Tally, Memory>
         requires room { taken self + taken other ≤ 2 ^ 40 }
         requires same_profile { self.profile ≡ other.profile }
@@ -117,7 +119,7 @@ impl Tally {
     }
 }
 
-/// How many messages the lines say were lost.
+/// The number of lost messages according to these lines.
 fn count_losses(lines: &[Line]) -> u64
     requires { length lines.now ≤ 64 }
     ensures { result ≡ count_by is_loss lines.now }

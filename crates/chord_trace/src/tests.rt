@@ -12,14 +12,15 @@ use std::io::{ErrorKind, Read, Write};
 use std::process::Abort;
 use std::test::Fail;
 
-/// What a call of a scripted reader or writer answers.
+/// What a call of a scripted reader or writer returns.
 #[derive(Clone, Copy)]
 enum Turn {
     Takes(usize),
     Fails,
 }
 
-/// A reader and writer that notes the length that each call asks for, and answers by its script.
+/// A reader and writer that notes the length that each call asks for, and returns what its script
+/// says.
 #[derive(Drop)]
 struct Scripted {
     script: [Turn; 4],
@@ -124,7 +125,7 @@ fn a_watched_reader_has_the_calls_and_answers_of_its_own(rt: HostRuntime) {
     assert_eq!(rt; calls, 4);
 }
 
-/// A writer with room for some bytes, which takes as many as it may at a call.
+/// A writer with room for some bytes, which takes a limited number of them in a call.
 #[derive(Drop)]
 struct Bounded {
     taken: Vec<u8>,

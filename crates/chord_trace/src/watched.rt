@@ -1,3 +1,4 @@
+//! Readers and writers that remember failures.
 ghost use Rattle.std.specs.Prelude.{◌≡◌, ◌||◌, false, is_err};
 ghost use Rattle.std.specs.Io.{ReadsAtMost, WritesAtMost};
 ghost use Rattle.std.specs.Io.KnownBytes.{Keeps, ReadConsumes, WriteAppends};
@@ -6,8 +7,8 @@ ghost use Rattle.chord_trace.specs.Watched.{wrapped, has_failed, refuses};
 use std::io;
 use std::io::{Read, Write};
 
-/// A reader or a writer that remembers whether one of its calls failed. Each call is one call of
-/// what it wraps, and has its answer.
+/// A reader or writer that remembers whether one of its calls failed. It passes each call on once,
+/// and returns the same result.
 #[derive(Drop)]
 pub struct Watched<V> {
     inner: V,
@@ -15,7 +16,7 @@ pub struct Watched<V> {
 }
 
 impl<V> Watched<V> {
-    /// A reader or a writer of which no call has failed yet.
+    /// Wraps a reader or writer. No call has failed yet.
     pub fn new(inner: V) -> Watched<V>
         ensures wrapped { wrapped result ≡ inner }
         ensures sound { has_failed result ≡ false }
@@ -26,14 +27,15 @@ impl<V> Watched<V> {
         }
     }
 
-    /// Whether a call so far answered an error, or a write took no byte of a piece that has some.
+    /// Whether a call so far returned an error, or a write took no byte of a piece that is not
+    /// empty.
     pub fn failed(&self) -> bool
         ensures { result ≡ has_failed self.now }
     {
         self.failed
     }
 
-    /// What it wraps.
+    /// The reader or writer inside.
     pub fn into_inner(self) -> V
         ensures { result ≡ wrapped self }
     {
@@ -72,6 +74,8 @@ impl<W: Write> Write for Watched<W> {
         ensures bytes { Keeps (W.contents (wrapped self.old)) (W.contents (wrapped self.new)) }
         ensures noted { has_failed self.new ≡ (has_failed self.old || is_err result) }
     {
+        // That the flush is passed on is tested and not proved: contracts of std say nothing of
+        // flushes.
         let outcome = self.inner.flush();
         self.failed |= outcome.is_err();
         outcome

@@ -1,3 +1,4 @@
+//! Writing a text.
 ghost use Rattle.std.specs.Prelude.{◌≡◌, true, false, OnOk, OnErr, IfErr};
 ghost use Rattle.std.specs.Io.KnownBytes.{Appends};
 ghost use Rattle.chord_trace.specs.Watched.{wrapped, has_failed};
@@ -7,8 +8,8 @@ use crate::watched::Watched;
 use chord_event::RunError;
 use std::io::Write;
 
-/// Writes the text, and stops at the first call that answers an error or takes nothing. An interrupted
-/// call is such an error: nothing is tried again.
+/// Writes the text, and stops at the first call that returns an error or takes nothing. An
+/// interrupted call counts as an error: it is not tried again.
 pub fn write_text<W: Write>(text: &[u8], writer: &mut Watched<W>) -> Result<(), RunError>
     requires { has_failed writer.old ≡ false }
     ensures whole { OnOk result (Appends (W.contents (wrapped writer.old)) (W.contents (wrapped writer.new)) text.now) }
