@@ -1,3 +1,4 @@
+//! Arenas: lists of records that never move.
 ghost use Rattle.std.specs.Prelude.{◌≡◌, ◌+◌, ◌<◌, ◌≤◌, ◌^◌, ◌↔◌, max, [], ◌∷◌, ◌++◌, length, slice_get, Some, IfOk, IfErr, OnOk, OnErr, IsOk};
 ghost use Rattle.std.specs.List.{All};
 ghost use Rattle.chord_arena.specs.Arena.{arena, room_for};
@@ -7,8 +8,8 @@ use chord_event::Memory;
 use std::alloc::Global;
 use std::marker::Model;
 
-/// The place of a record in the arena that gave it, which contracts see as its index. It serves as
-/// long as that arena is not cleared.
+/// The place of a record in the arena that returned it. Contracts see its index. It is valid until
+/// that arena is cleared.
 #[derive(Clone, Copy, Debug, PartialEq, Eq, PartialOrd, Ord)]
 pub struct Ticket {
     index: u32,
@@ -34,11 +35,11 @@ impl Ticket {
 }
 
 /// A list of records that never move, in chunks of 256. Contracts see the records as `items`, in
-/// the order in which they were placed, and as `room` the most records that it holds before it has
-/// to take memory again.
+/// the order in which they were placed, and as `room` the number of records that it can hold before
+/// it has to allocate again.
 ///
-/// Only `reserve` takes memory. The end of an arena drops its records, so an arena whose records
-/// are not `Drop` cannot be ended.
+/// Only `reserve` allocates. Dropping an arena drops its records, so an arena whose records are not
+/// `Drop` cannot be dropped.
 pub struct RecordArena<T> {
     chunks: Vec<Chunk<T>>,
     len: usize,
@@ -70,8 +71,8 @@ impl<T> RecordArena<T> {
         }
     }
 
-    /// Makes room for `additional` more records, in whole chunks. Room that is there stays, also
-    /// if an allocation failed; some of the new room may then be there too.
+    /// Makes room for `additional` more records, in whole chunks. The room so far stays, also if an
+    /// allocation fails. Some of the new room may then be there too.
     pub fn reserve(&mut self, additional: usize) -> Result<(), Memory>
         requires { length self.old.items + additional ≤ 2 ^ 32 }
         ensures items { self.new.items ≡ self.old.items }
@@ -98,7 +99,7 @@ impl<T> RecordArena<T> {
         Ok(())
     }
 
-    /// Puts a record behind the others. It comes back if there is no room.
+    /// Adds a record at the end, or returns it if there is no room.
     pub fn place(&mut self, value: T) -> Result<Ticket, T>
         ensures variant { IsOk result ↔ (length self.old.items < self.old.room) }
         ensures ticket { IfOk result (λ ticket. ticket ≡ length self.old.items) }
@@ -116,8 +117,8 @@ impl<T> RecordArena<T> {
         Ok(Ticket { index: len as u32 })
     }
 
-    /// The record at a ticket. No contract tells the tickets of two arenas apart: it is the record
-    /// that this arena has at that index.
+    /// The record at a ticket. No contract distinguishes the tickets of two arenas: it is the
+    /// record that this arena has at the ticket's index.
     pub fn get(&self, ticket: &Ticket) -> &T
         requires { ticket.now < length self.now.items }
         ensures { slice_get self.now.items ticket.now ≡ Some result.now }
@@ -133,7 +134,7 @@ impl<T> RecordArena<T> {
         self.len
     }
 
-    /// How many records there may be before memory is taken again, a multiple of 256.
+    /// The number of records that fit before the next allocation, a multiple of 256.
     pub fn room(&self) -> usize
         ensures { result ≡ self.now.room }
     {
@@ -142,7 +143,7 @@ impl<T> RecordArena<T> {
 }
 
 impl<T: Drop> RecordArena<T> {
-    /// Drops all records, which no contract says, and keeps the room.
+    /// Drops all records and keeps the room. That the records are dropped is in no contract.
     pub fn clear(&mut self)
         ensures { self.new ≡ arena [] self.old.room }
     {

@@ -1,3 +1,4 @@
+//! Chunks of 256 records.
 ghost use Rattle.std.specs.Prelude.{◌≡◌, ◌<◌, [], ◌∷◌, ◌++◌, length, slice_get, Some, IfOk};
 
 use crate::raw_chunk::RawChunk;
@@ -26,7 +27,8 @@ impl<T> Model for Chunk<T> {
 }
 
 impl<T> Chunk<T> {
-    /// A chunk without records. Memory is refused too if 256 records are too large for any block.
+    /// A chunk without records. The allocation also fails if 256 records are too large for any
+    /// block.
     pub(crate) fn new(alloc: Global) -> Result<Chunk<T>, AllocError>
         ensures { IfOk result (λ c. c ≡ []) }
     {
@@ -37,7 +39,7 @@ impl<T> Chunk<T> {
         Ok(Chunk { raw, len: 0 })
     }
 
-    /// Gives the memory of a chunk without records back.
+    /// Frees the memory of a chunk without records.
     pub(crate) fn free(self, alloc: Global)
         requires { self ≡ [] }
     {
@@ -45,7 +47,7 @@ impl<T> Chunk<T> {
         raw.deallocate(&alloc, CHUNK_PLACES);
     }
 
-    /// Puts a record behind the others.
+    /// Adds a record at the end.
     pub(crate) fn push(&mut self, value: T)
         requires { length self.old < 256 }
         ensures { self.new ≡ self.old ++ value ∷ [] }
@@ -63,7 +65,7 @@ impl<T> Chunk<T> {
         self.raw.get(index)
     }
 
-    /// Takes the last record out.
+    /// Removes the last record and returns it.
     pub(crate) fn pop(&mut self) -> T
         requires { 0 < length self.old }
         ensures { self.old ≡ self.new ++ result ∷ [] }

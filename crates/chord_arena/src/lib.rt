@@ -1,4 +1,4 @@
-//! Records that stand in raw memory, in chunks of 256, and never move.
+//! Records in raw memory, in chunks of 256, that never move.
 #![tactic(auto)]
 
 mod arena;
@@ -8,7 +8,7 @@ mod raw_chunk;
 mod tests;
 
 pub use arena::{RecordArena, Ticket};
-// Contracts name an arena only if the types of its fields are exported.
+// Contracts can name an arena only if the types of its fields are exported.
 #[doc(hidden)]
 pub use chunk::Chunk;
 #[doc(hidden)]

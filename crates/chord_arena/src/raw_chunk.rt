@@ -1,3 +1,4 @@
+//! Raw memory of a chunk, the only code that follows pointers.
 ghost use Rattle.std.specs.Prelude.{◌≡◌, ℕ, ◌+◌, ◌<◌, ◌≤◌, List, [], ◌∷◌, ◌++◌, length, slice_get, Some, IfOk};
 ghost use Rattle.std.specs.Vec.Ownership.{FitsInBlock};
 ghost use Rattle.chord_arena.specs.Ownership.{chunk_owned, chunk_lent};
@@ -10,7 +11,7 @@ use std::mem::{align_of, size_of};
 /// code follows a pointer. Contracts see the records as `items`, and how many fit as `places`; the
 /// holder keeps both counts and the allocator.
 ///
-/// It is not `Drop`: whoever holds it has to free it, by `deallocate`.
+/// It is not `Drop`: its holder must free it with `deallocate`.
 pub struct RawChunk<T, A: Allocator> {
     start: *mut T,
     owner: PhantomData<*const A>,
@@ -47,7 +48,7 @@ impl<T, A: Allocator> RawChunk<T, A> {
         }
     }
 
-    /// Gives the memory back once no record is left.
+    /// Frees the memory. No record may be left.
     pub(crate) fn deallocate(self, alloc: &A, places: usize)
         requires empty { self.items ≡ [] }
         requires counted { self.places ≡ places }
@@ -59,7 +60,7 @@ impl<T, A: Allocator> RawChunk<T, A> {
         }
     }
 
-    /// Puts a record behind the `len` that are there.
+    /// Adds a record after the `len` present ones.
     pub(crate) fn push(&mut self, len: usize, item: T)
         requires counted { len ≡ length self.old.items }
         requires room { len < self.old.places }
@@ -69,7 +70,7 @@ impl<T, A: Allocator> RawChunk<T, A> {
         unsafe { self.start.add(len).write(item) }
     }
 
-    /// Takes the last record out, and leaves the `len` before it.
+    /// Removes the last record and returns it. The `len` records before it stay.
     pub(crate) fn pop(&mut self, len: usize) -> T
         requires { length self.old.items ≡ len + 1 }
         ensures items { self.old.items ≡ self.new.items ++ result ∷ [] }

@@ -2,7 +2,7 @@ use crate::RecordArena;
 use chord_event::Memory;
 use std::cell::Cell;
 
-/// A record that counts its end.
+/// A record that counts its drops.
 struct Counted<'a> {
     number: u64,
     dropped: &'a Cell<u64>,

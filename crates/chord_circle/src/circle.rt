@@ -1,3 +1,4 @@
+//! The circle of identifiers: distances, intervals and finger starts.
 ghost use Rattle.std.specs.Prelude.{◌≡◌, ℕ, ◌+◌, ◌-◌, ◌%◌, ◌^◌, ◌<◌, ◌≤◌, ◌↔◌, IsTrue, IsSome, IfSome};
 ghost use Rattle.chord_circle.specs.Circle.{distance, between, in_half_open, finger_start};
 ghost use Rattle.chord_circle.specs.Names.{ident_of_name};
@@ -55,7 +56,7 @@ impl Circle {
         self.bits
     }
 
-    /// The identifier of a number, if the circle has that many places.
+    /// The identifier of a number, if it is below the number of places.
     pub fn ident(&self, raw: Raw) -> Option<Ident>
         ensures accepted { IsSome result ↔ raw < 2 ^ self.now }
         ensures value { IfSome result (λ ident. ident ≡ raw) }
@@ -67,7 +68,7 @@ impl Circle {
         }
     }
 
-    /// The identifier of the low bits of a number.
+    /// The identifier that the low bits of a number make.
     pub fn low_bits(&self, raw: Raw) -> Ident
         ensures value { result ≡ raw % 2 ^ self.now }
         ensures on_circle { result < 2 ^ self.now }
@@ -79,7 +80,7 @@ impl Circle {
         }
     }
 
-    /// How far one goes clockwise from `a` to `b`.
+    /// The number of places clockwise from `a` to `b`.
     pub fn distance(&self, a: Ident, b: Ident) -> Raw
         requires a { a < 2 ^ self.now }
         requires b { b < 2 ^ self.now }
@@ -92,8 +93,8 @@ impl Circle {
         }
     }
 
-    /// Where finger `i` of `a` begins: half the circle clockwise from `a` at the last one, a
-    /// quarter at the one before it, and one place at the first.
+    /// The start of finger `i` of `a` (Chord, SIGCOMM 2001): `2^(i-1)` places clockwise from `a`,
+    /// so half the circle for the last finger and one place for the first.
     pub fn add_power(&self, a: Ident, i: u32) -> Ident
         requires a { a < 2 ^ self.now }
         requires first { 1 ≤ i }

@@ -1,3 +1,4 @@
+//! Identifiers, which are places on a circle.
 ghost use Rattle.std.specs.Prelude.{◌≡◌};
 
 use std::marker::Model;

@@ -107,7 +107,7 @@ unfolding others initial_nodes
 others-apart sc n = filter-apart (λ x. x) _ (filter (is_initial sc) (range_with_len 0 (node_count sc)))
     (filter-apart (λ x. x) (is_initial sc) (range_with_len 0 (node_count sc)) (range-apart 0 (node_count sc)))
 
--- different nodes stand at different distances
+-- different nodes are at different distances
 ways-apart : (sc : Scenario) (n : ℕ) (xs : List ℕ) → IsInRange sc → n < node_count sc → ((x : ℕ) → Contains xs x → x < node_count sc)
     → AreApart (λ x. x) xs → AreApart (way sc n) xs
 ways-apart sc n [] ranges known all h = tt

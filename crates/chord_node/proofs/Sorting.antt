@@ -5,7 +5,7 @@ use Rattle.std.proofs.lemmas.Bool.Decides.{nat_tests}
 use Rattle.chord_event.proofs.Members.{contains_none, contains_here, contains_there, contains_cons}
 use Rattle.chord_node.specs.Ring.{put_by, sorted_by}
 
--- each element is less than those that stand after it
+-- each element is less than all later ones
 abbrev pub IsAscending : (ℕ → ℕ) → List ℕ → Type 0
 IsAscending measure [] = Unit {0}
 IsAscending measure (x ∷ xs) = ((y : ℕ) → Contains xs y → measure x < measure y) × IsAscending measure xs

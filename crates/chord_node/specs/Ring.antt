@@ -17,7 +17,7 @@ abbrev pub sorted_by : (ℕ → ℕ) → List ℕ → List ℕ
 sorted_by measure [] = []
 sorted_by measure (x ∷ xs) = put_by measure x (sorted_by measure xs)
 
--- how far node x stands clockwise from node n
+-- the clockwise distance of node x from node n
 abbrev pub way : Scenario → (n x : ℕ) → ℕ
 way sc n x = distance sc.bits (ident_of sc n) (ident_of sc x)
 
@@ -29,7 +29,8 @@ others sc n = filter (λ x. not (x == n)) (initial_nodes sc)
 unfoldable pub clockwise : Scenario → (n : ℕ) → List ℕ
 clockwise sc n = sorted_by (way sc n) (others sc n)
 
--- finger i of node n: the first node met at a distance of 2 ^ (i - 1) or more, or n itself if the circle ends before
+-- finger i of node n: the first node met at a distance of 2 ^ (i - 1) or more, or n itself if there is none; this is
+-- the successor of the finger's start, defined without the start
 abbrev pub first_at : Scenario → (n least : ℕ) → List ℕ → ℕ
 first_at sc n least met = unwrap_or (find (λ x. nat_le least (way sc n x)) met) n
 

@@ -1,13 +1,13 @@
 //! How far a node goes before it gives up.
 
-/// How many requests a lookup sends at most, and an attempt to join after its first one.
+/// The most requests of a lookup, and of an attempt to join after its first request.
 pub const MOST_STEPS: u32 = 128;
 
-/// How many timeouts a lookup outlives: at the next one it is given up.
+/// The most timeouts that a lookup survives. The next one ends it.
 pub const MOST_TIMEOUTS: u32 = 8;
 
-/// How many lookups of its users a node works on at once.
+/// The most lookups of its users that a node works on at once.
 pub const MOST_USER_LOOKUPS: usize = 60;
 
-/// How many failures an attempt to join outlives: at the next one the node gives up.
+/// The most failures that an attempt to join survives. At the next one the node gives up.
 pub const MOST_FAILURES: u32 = 7;

@@ -1,3 +1,4 @@
+//! The states of the nodes at the start of a run.
 ghost use Rattle.std.specs.Prelude.{◌≡◌, ℕ, ◌==◌, ◌+◌, ◌-◌, ◌^◌, ◌<◌, ◌≤◌, not, filter, length, map, slice_get, take, All, IfOk, OnOk};
 ghost use Rattle.std.specs.List.{range_with_len};
 ghost use Rattle.std.specs.List.Sorted.{IsNonDecreasingBy, IsPermutation};
@@ -12,7 +13,7 @@ use chord_event::{Listed, Memory};
 use chord_scenario::{Churn, Scenario, Span};
 use std::alloc::Global;
 
-/// A node that one meets going clockwise, and how far away it stands.
+/// A node that is met going clockwise, and its distance.
 #[derive(Clone, Copy, Drop)]
 struct Met {
     way: Raw,
@@ -32,7 +33,7 @@ fn members_at_start(alloc: Global, scenario: &Scenario) -> Result<Vec<u32>, Memo
     Ok(nodes)
 }
 
-/// The other ones of these nodes.
+/// These nodes without one of them.
 fn all_but(alloc: Global, nodes: &[u32], node: u32) -> Result<Vec<u32>, Memory>
     ensures { IfOk result (λ rest. rest.items ≡ filter (λ x. not (x == node)) nodes.now) }
 {
@@ -45,7 +46,7 @@ fn all_but(alloc: Global, nodes: &[u32], node: u32) -> Result<Vec<u32>, Memory>
     Ok(rest)
 }
 
-/// How far these nodes stand from a node.
+/// The clockwise distances of these nodes from a node.
 fn ways(alloc: Global, scenario: &Scenario, node: u32, nodes: &[u32]) -> Result<Vec<Met>, Memory>
     requires node { node < node_count scenario.now }
     requires known { All (λ x. x < node_count scenario.now) nodes.now }
@@ -86,7 +87,8 @@ fn clockwise(
     Ok(met)
 }
 
-/// The first of the nodes that is met at a distance or later, or the node itself if none is.
+/// The first of the nodes that is met at this distance or more, or the node itself if there is
+/// none.
 fn first_at(node: u32, least: Raw, met: &[Met]) -> u32
     ensures { result ≡ first_tagged node least met.now }
 {
@@ -125,8 +127,8 @@ fn fingers(
     Ok(fingers)
 }
 
-/// How many timers a member has at the start: two, one for its own lookups if the scenario has
-/// these, and one for the end of its life if it is a churn node.
+/// The number of timers of a member at the start: two, one more for its generated lookups if the
+/// scenario has these, and one more for the end of its life if it is a churn node.
 fn timer_count(scenario: &Scenario, node: u32) -> u64
     requires { node < node_count scenario.now }
     ensures { result ≡ length (timers scenario.now node) }

@@ -14,7 +14,7 @@ use Rattle.chord_queue.specs.EventKey.{event_key}
 use Rattle.chord_queue.specs.declared.waiting.Waiting.{Waiting}
 use Rattle.chord_queue.specs.declared.pending.Pending.TheInside.{Inside}
 
--- what stands at each place
+-- what is at each place
 abbrev pub Events : Type 0
 Events = ℕ → Option (Event Body)
 
@@ -25,7 +25,7 @@ Entry = Waiting ℕ
 abbrev pub waiting_key : Entry → Key
 waiting_key w = w.key.0
 
--- by key, turned round, and then by place
+-- by key, reversed, and then by place
 abbrev pub waiting_cmp : Entry → Entry → Ordering
 waiting_cmp a b = ordering_then (key_cmp (waiting_key b) (waiting_key a)) (nat_cmp a.place b.place)
 
@@ -49,7 +49,7 @@ pending_of p = in_key_order (events_at (get p.events) (heap_items p.heap))
 abbrev pub IsPlaced : Events → Entry → Type 0
 IsPlaced s w = IsSomeAnd (s w.place) (λ e. e.key ≡ waiting_key w)
 
--- the heap's entries have keys of their own, and places with events of these keys; no other place has an event
+-- no two of the heap's entries have one key, and their places have events of these keys; no other place has an event
 pub record IsPlacedHeap (p : Inside) : Type 0 where
   pub ordered : IsHeap waiting_cmp (heap_items p.heap)
   pub placed : AllByRecursion (IsPlaced (get p.events)) (heap_items p.heap)

@@ -1,3 +1,4 @@
+//! All events that are still to come.
 ghost use Rattle.std.specs.Prelude.{◌≡◌, ◌≢◌, ◌↔◌, [], ◌∷◌, ◌++◌, slice_get, option_map, IfOk, IfErr, MatchOption, OnOk};
 ghost use Rattle.std.specs.List.{AllPairs, Contains, filter};
 ghost use Rattle.std.specs.List.Sorted.{IsPermutation, IsSorted};
@@ -19,6 +20,7 @@ use std::marker::Model;
 /// The events that are still to come, which contracts see as their list in the order of their keys.
 #[derive(Drop)]
 pub struct Pending {
+    // Keys in a heap and events in a slab, so that an insertion moves keys and not events.
     heap: BinaryHeap<Waiting<usize>>,
     events: Slab<Event>,
     alloc: Global,
@@ -48,14 +50,15 @@ impl Pending {
         }
     }
 
-    /// What holds of all pending events.
+    /// All pending events are in the order of their keys.
     pub fn recall_order(&self)
         ensures { InKeyOrder event_key self.now }
     {
+        // A no-op for the machine: it hands the prover what the type keeps.
         let _ = &self.alloc;
     }
 
-    /// Adds an event. It comes back if an allocation failed.
+    /// Adds an event, or returns it if an allocation fails.
     pub fn insert(&mut self, event: Event) -> Result<(), Event>
         requires { IsNewKey event_key event.key self.old }
         ensures ok { OnOk result (self.new ≡ put_in_order event_key event self.old) }
@@ -72,7 +75,7 @@ impl Pending {
         }
     }
 
-    /// Adds events. After an error it is open which of them were added.
+    /// Adds events. After an error some of them may have been added: no caller goes on after that.
     pub fn insert_all(&mut self, events: Vec<Event>) -> Result<(), Memory>
         requires { AllPairs (λ a b. a.key ≢ b.key) (self.old ++ events.items) }
         ensures same { OnOk result ((x : AnEvent ABody) → Contains self.new x ↔ Contains (self.old ++ events.items) x) }
@@ -98,7 +101,7 @@ impl Pending {
         Some(waiting.key.0.time)
     }
 
-    /// Takes the first event out.
+    /// Takes the first event.
     pub fn pop_first(&mut self) -> Option<Event>
         ensures { MatchOption result ((self.old ≡ []) × (self.new ≡ [])) (λ first. self.old ≡ first ∷ self.new) }
     {
@@ -110,6 +113,7 @@ impl Pending {
     pub fn up_to(&self, horizon: u64) -> Result<Vec<Event>, Memory>
         ensures { IfOk result (λ copies. copies.items ≡ before event_key horizon self.now) }
     {
+        // This looks at every pending event, since a heap is not in order. No engine calls it.
         let mut due = due_before(&self.heap, self.alloc, horizon)?;
         let mut copies = Vec::new(self.alloc);
         while let Some(waiting) = due.pop() {

@@ -1,4 +1,4 @@
-//! The random words of the nodes: each node draws from a stream of its own, at places that it counts.
+//! The random words of the nodes: each node draws from its own stream, at places that it counts.
 #![tactic(auto)]
 
 ghost use Rattle.std.specs.Prelude.{◌≡◌, ◌+◌, ◌%◌, ◌<◌, ◌≤◌};
@@ -44,7 +44,7 @@ impl Stream {
         self.generator_at(place).next_word()
     }
 
-    /// The words at a place and at the next one. Drawing them together costs what one of them costs.
+    /// The words at a place and at the next one. Both together cost as much as one.
     #[tactic(auto, unfolding(crate::specs::Word::word))]
     pub fn pair_at(&self, place: u64) -> (u32, u32)
         ensures first { result.0 ≡ word self.now.seed self.now.node place }
@@ -70,7 +70,7 @@ impl Stream {
         generator
     }
 
-    /// The number below `n` that the word at a place gives: the word modulo `n`.
+    /// A number below `n`: the word at a place modulo `n`.
     pub fn below(&self, place: u64, n: u32) -> u32
         requires { 1 ≤ n }
         ensures value { result ≡ word self.now.seed self.now.node place % n }
