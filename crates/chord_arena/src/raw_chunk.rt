@@ -1,4 +1,4 @@
-//! Raw memory of a chunk, the only code that follows pointers.
+//! The raw memory of a chunk.
 ghost use Rattle.std.specs.Prelude.{◌≡◌, ℕ, ◌+◌, ◌<◌, ◌≤◌, List, [], ◌∷◌, ◌++◌, length, slice_get, Some, IfOk};
 ghost use Rattle.std.specs.Vec.Ownership.{FitsInBlock};
 ghost use Rattle.chord_arena.specs.Ownership.{chunk_owned, chunk_lent};

@@ -1,4 +1,4 @@
--- Tables that say where so many steps lead.
+-- Tables that say where a number of steps leads.
 use Rattle.std.proofs.Common.{
   ◌≡◌,
   ◌↔◌,

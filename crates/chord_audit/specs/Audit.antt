@@ -60,7 +60,7 @@ best_successor state n = find (λ m. is_member (state m)) (state n).succ
 abbrev pub is_dead : (ℕ → NodeState) → ℕ → Bool
 is_dead state n = is_member (state n) && is_none (best_successor state n)
 
--- where so many steps lead
+-- where this number of steps leads
 abbrev pub after : (next : ℕ → Option ℕ) → (steps n : ℕ) → Option ℕ
 after next zero n = Some n
 after next (suc steps) n = option_and_then next (after next steps n)
@@ -70,7 +70,7 @@ abbrev pub is_at : Option ℕ → ℕ → Bool
 is_at None n = false
 is_at (Some m) n = m == n
 
--- whether steps lead back to the node, at least one and at most so many
+-- whether at least one step and at most this many lead back to the node
 abbrev pub comes_back : (next : ℕ → Option ℕ) → (most n : ℕ) → Bool
 comes_back next most n = list_any (λ steps. is_at (after next steps n) n) (range_with_len 1 most)
 
@@ -107,7 +107,7 @@ is_passed sc x a (b ∷ rest) = lies_between sc a x b || is_passed sc x b rest
 abbrev pub is_passed_over : Setup → (ℕ → NodeState) → (x : ℕ) → Bool
 is_passed_over sc state x = list_any (λ n. is_member (state n) && is_passed sc x n (state n).succ) (nodes sc)
 
--- whether x is a member that no member's list passes over
+-- whether x is a member that no member's list skips
 abbrev pub is_principal : Setup → (ℕ → NodeState) → (x : ℕ) → Bool
 is_principal sc state x = is_member (state x) && not (is_passed_over sc state x)
 

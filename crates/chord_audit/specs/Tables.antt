@@ -42,11 +42,11 @@ is_marked marks n = slice_index_or marks n false
 abbrev pub node_at : List (Option ℕ) → ℕ → Option ℕ
 node_at table n = slice_index_or table n None
 
--- all nodes that the table names are below so many
+-- all nodes that the table names are below this number
 abbrev pub LeadBelow : ℕ → List (Option ℕ) → Type 0
 LeadBelow n table = All (λ way. IfSome way (λ m. m < n)) table
 
--- the table says where so many steps of another lead
+-- the table says where this number of steps by another table leads
 pub record IsPower (steps : ℕ) (best table : List (Option ℕ)) : Type 0 where
   pub each : length table ≡ length best
   pub leads : (n : ℕ) → n < length best → node_at table n ≡ after (node_at best) steps n

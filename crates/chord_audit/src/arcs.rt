@@ -1,3 +1,4 @@
+//! Ways round the circle, and the ranks that they cover.
 ghost use Rattle.std.specs.Prelude.{◌≡◌, ℕ, ◌<◌, ◌&&◌, ◌||◌, IfOk, false, length, map, nat_lt};
 ghost use Rattle.std.specs.List.{range_with_len};
 ghost use Rattle.chord_audit.specs.Tables.{covers, is_inside};
@@ -5,17 +6,17 @@ ghost use Rattle.chord_audit.specs.Tables.{covers, is_inside};
 use chord_event::Memory;
 use std::alloc::Global;
 
-/// Ways round the circle, from one rank up to another, and which ranks they cover.
+/// Ways round the circle, each from one rank to another, kept by the ranks that they cover.
 #[derive(Drop)]
 pub(crate) struct Arcs {
-    /// The ways that begin before rank 0 cover the ranks below this.
+    /// The ways that come round past the last rank cover the ranks below this.
     pub first: usize,
     /// The ways that begin at a rank cover those after it and below this.
     pub far: Vec<usize>,
 }
 
 impl Arcs {
-    /// No way over so many ranks.
+    /// No ways, over `ranks` ranks.
     pub fn new(alloc: Global, ranks: usize) -> Result<Arcs, Memory>
         ensures length { IfOk result (λ arcs. length arcs.far.items ≡ ranks) }
         ensures none { IfOk result (λ arcs. (k : ℕ) → covers arcs k ≡ false) }

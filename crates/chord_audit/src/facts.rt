@@ -1,3 +1,4 @@
+//! The audit itself, from the tables of a ring.
 ghost use Rattle.std.specs.Prelude.{◌≡◌, ℕ, ◌<◌, ◌^◌, ◌&&◌, IfOk, count_by, is_none, length, not};
 ghost use Rattle.std.specs.List.{All, list_any, range_with_len};
 ghost use Rattle.chord_scenario.specs.World.{node_count};
@@ -13,8 +14,8 @@ use chord_node::NodeState;
 use chord_scenario::Scenario;
 use std::alloc::Global;
 
-/// The facts of a ring whose nodes are in these states, one for each node of the scenario, at a time
-/// in microseconds. The work grows with the entries of all lists, and with n log n for n nodes.
+/// The facts of a ring at a time in microseconds. There is one state for each node of the scenario.
+/// The work grows with the entries of all lists, and with n log n for n nodes.
 pub fn audit(
     alloc: Global,
     scenario: &Scenario,
@@ -39,7 +40,7 @@ pub fn audit(
     })
 }
 
-/// How many nodes are marked.
+/// The number of marked nodes.
 fn count_marked(marks: &[bool]) -> u32
     requires { length marks.now < 2 ^ 32 }
     ensures { result ≡ count_by (is_marked marks.now) (range_with_len 0 (length marks.now)) }
@@ -53,7 +54,7 @@ fn count_marked(marks: &[bool]) -> u32
     count
 }
 
-/// How many members have no best successor.
+/// The number of members without a best successor.
 fn count_dead(members: &[bool], best: &[Option<u32>]) -> u32
     requires few { length members.now < 2 ^ 32 }
     requires best { length best.now ≡ length members.now }
@@ -68,7 +69,7 @@ fn count_dead(members: &[bool], best: &[Option<u32>]) -> u32
     count
 }
 
-/// Whether the rank of some node of a ring is skipped.
+/// Whether the rank of some ring node is skipped.
 fn any_skipped(ring: &[bool], ranks: &[usize], skipped: &[bool]) -> bool
     requires ranks { length ranks.now ≡ length ring.now }
     requires within { All (λ rank. rank < length skipped.now) ranks.now }
@@ -82,7 +83,7 @@ fn any_skipped(ring: &[bool], ranks: &[usize], skipped: &[bool]) -> bool
     false
 }
 
-/// How many members have a rank that is not passed.
+/// The number of members whose rank is not skipped by a list.
 fn count_principals(members: &[bool], ranks: &[usize], passed: &[bool]) -> u32
     requires few { length members.now < 2 ^ 32 }
     requires ranks { length ranks.now ≡ length members.now }

@@ -1,3 +1,4 @@
+//! The ranks that successors and lists skip.
 ghost use Rattle.std.specs.Prelude.{◌≡◌, ℕ, ◌<◌, ◌||◌, IfOk, length};
 ghost use Rattle.std.specs.List.{All};
 ghost use Rattle.chord_audit.specs.Tables.{covers, is_inside_list, is_marked, is_passed_rank, is_skipped_rank, LeadBelow};
@@ -32,7 +33,8 @@ pub(crate) fn skipped_ranks(
     arcs.covered(alloc)
 }
 
-/// Which ranks lie between two neighbours of the list of a marked node, which the node leads.
+/// Which ranks lie between two neighbours of the list of a marked node. The node itself is the
+/// first of the list.
 pub(crate) fn passed_ranks(
     alloc: Global,
     ranks: &[usize],
@@ -55,7 +57,7 @@ pub(crate) fn passed_ranks(
     arcs.covered(alloc)
 }
 
-/// Adds the ways between the neighbours of a list that a node leads.
+/// Adds the ways between the neighbours of a list, with the leader as its first.
 fn add_list(arcs: &mut Arcs, ranks: &[usize], leader: usize, list: &[u32])
     requires ranks { All (λ rank. rank < length arcs.old.far.items) ranks.now }
     requires leader { leader < length ranks.now }

@@ -1,3 +1,4 @@
+//! The order of the nodes on the circle.
 ghost use Rattle.std.specs.Prelude.{◌≡◌, ◌<◌, IfOk, Contains, length, map, slice_index};
 ghost use Rattle.std.specs.List.Sorted.{IsNonDecreasing};
 ghost use Rattle.chord_scenario.specs.World.{ident_of};
@@ -9,7 +10,7 @@ use chord_event::Memory;
 use chord_scenario::Scenario;
 use std::alloc::Global;
 
-/// Where each node stands in the order of the identifiers.
+/// The rank of each node in the order of the identifiers.
 pub(crate) fn ranks_of(alloc: Global, scenario: &Scenario) -> Result<Vec<usize>, Memory>
     ensures { IfOk result (λ ranks. AreRanks scenario.now ranks.items) }
 {
@@ -24,7 +25,7 @@ pub(crate) fn ranks_of(alloc: Global, scenario: &Scenario) -> Result<Vec<usize>,
     Ok(ranks)
 }
 
-/// Where each node stands on the circle.
+/// The place of each node on the circle.
 fn idents_of(alloc: Global, scenario: &Scenario) -> Result<Vec<Raw>, Memory>
     ensures { IfOk result (λ idents. idents.items ≡ map (ident_of scenario.now) (nodes scenario.now)) }
 {

@@ -1,3 +1,4 @@
+//! The nodes that best successors lead back to themselves.
 ghost use Rattle.std.specs.Prelude.{◌≡◌, ℕ, ◌<◌, ◌≤◌, ◌^◌, ◌↔◌, Some, IfOk, length, true, map, option_and_then};
 ghost use Rattle.std.specs.List.{list_any};
 ghost use Rattle.chord_audit.specs.Audit.{after, is_at};
@@ -6,8 +7,8 @@ ghost use Rattle.chord_audit.specs.Tables.{is_marked, node_at, IsPower, LeadBelo
 use chord_event::Memory;
 use std::alloc::Global;
 
-/// Which nodes come back to themselves, where `best` says to which node each leads. All nodes that
-/// more steps lead to than there are nodes come back, and no others do.
+/// Which nodes come back to themselves when each node leads to the one that `best` names. These are
+/// the nodes to which more steps lead than there are nodes.
 pub(crate) fn ring_of(alloc: Global, best: &[Option<u32>]) -> Result<Vec<bool>, Memory>
     requires few { length best.now < 2 ^ 32 }
     requires lead { LeadBelow (length best.now) best.now }
@@ -18,7 +19,7 @@ pub(crate) fn ring_of(alloc: Global, best: &[Option<u32>]) -> Result<Vec<bool>, 
     landed(alloc, &far)
 }
 
-/// Where more steps lead than there are nodes.
+/// Where each node leads in more steps than there are nodes.
 fn far_steps(alloc: Global, best: &[Option<u32>]) -> Result<Vec<Option<u32>>, Memory>
     requires few { length best.now < 2 ^ 32 }
     requires lead { LeadBelow (length best.now) best.now }
@@ -26,6 +27,7 @@ fn far_steps(alloc: Global, best: &[Option<u32>]) -> Result<Vec<Option<u32>>, Me
 {
     let mut far = Vec::from_slice(alloc, best)?;
     let mut steps: usize = 1;
+    // Doubling takes n log n steps, and keeps no marks as a walk would.
     while steps <= best.len() {
         far = twice(alloc, &far)?;
         steps *= 2;
@@ -33,7 +35,7 @@ fn far_steps(alloc: Global, best: &[Option<u32>]) -> Result<Vec<Option<u32>>, Me
     Ok(far)
 }
 
-/// Where twice as many steps lead.
+/// Where each node leads in twice as many steps.
 fn twice(alloc: Global, steps: &[Option<u32>]) -> Result<Vec<Option<u32>>, Memory>
     requires { LeadBelow (length steps.now) steps.now }
     ensures { IfOk result (λ twice. twice.items ≡ map (option_and_then (node_at steps.now)) steps.now) }
@@ -49,7 +51,7 @@ fn twice(alloc: Global, steps: &[Option<u32>]) -> Result<Vec<Option<u32>>, Memor
     Ok(twice)
 }
 
-/// To which nodes some way leads.
+/// Which nodes some way leads to.
 fn landed(alloc: Global, ways: &[Option<u32>]) -> Result<Vec<bool>, Memory>
     requires { LeadBelow (length ways.now) ways.now }
     ensures length { IfOk result (λ marks. length marks.items ≡ length ways.now) }

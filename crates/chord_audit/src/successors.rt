@@ -1,3 +1,4 @@
+//! Members and their best successors.
 ghost use Rattle.std.specs.Prelude.{◌≡◌, ◌<◌, IfOk, length, map, find};
 ghost use Rattle.std.specs.List.{All};
 ghost use Rattle.chord_audit.specs.Audit.{is_member};

@@ -1,3 +1,4 @@
+//! What an audit knows of each node.
 ghost use Rattle.std.specs.Prelude.{◌≡◌, IfOk, length};
 ghost use Rattle.std.specs.List.{All};
 ghost use Rattle.chord_scenario.specs.World.{node_count};
@@ -14,8 +15,8 @@ use chord_scenario::Scenario;
 use std::alloc::Global;
 
 /// What an audit knows of each node: whether it is a member, its best successor, whether it is on a
-/// ring, and its rank in the order of the identifiers; and of each rank: whether a ring member skips
-/// it, and whether a member's list passes over it.
+/// ring, and its rank in the order of the identifiers. And of each rank: whether a ring member
+/// skips it, and whether a member's list skips it.
 #[derive(Drop)]
 pub(crate) struct Tables {
     pub members: Vec<bool>,

@@ -38,7 +38,7 @@ name = "n6"
 id = 6
 "#;
 
-/// What each node knows: nothing if it is down, else its list.
+/// What each node knows: nothing if it is down, otherwise its list.
 type Ring<'a> = [Option<&'a [u32]>; 4];
 
 /// The rings, and the audit of each.

@@ -1,4 +1,4 @@
--- The events that a run starts with are sound, and have keys of their own.
+-- The events that a run starts with are sound, and no two have one key.
 use Rattle.std.proofs.Common.{
   ◌≡◌,
   ◌≢◌,
@@ -137,7 +137,7 @@ commands-are sc ranges e c =
       sound = record { target = is.node; origin = omega arith; body = command_bodies sc from.source.1.action is.action };
     })
 
--- numbered events have keys of their own
+-- no two numbered events have one key
 numbers-apart : {A : Type 0} (f : ℕ × A → Event Body) (shift first : ℕ) (xs : List A) → ((p : ℕ × A) → (f p).key.number ≡ p.0 + shift)
     → AllPairs (λ (a b : Event Body). a.key ≢ b.key) (map f (enumerate_from first xs))
 numbers-apart f shift first [] h = AllPairs_none (λ (a b : Event Body). a.key ≢ b.key)

@@ -8,7 +8,7 @@ abbrev pub multiples : (period n : ℕ) → List ℕ
 multiples period zero = []
 multiples period (suc n) = multiples period n ++ (n + 1) * period ∷ []
 
--- an audit stands at each positive multiple of the period below the duration, and at the duration
+-- there is an audit at each positive multiple of the period below the duration, and at the duration
 abbrev pub audit_times : Scenario → List ℕ
 audit_times sc = multiples sc.audit ((sc.duration - 1) / sc.audit) ++ sc.duration ∷ []
 

@@ -8,8 +8,8 @@ use Rattle.chord_trace.specs.Report.{IsReportOf}
 use Rattle.chord_trace.specs.Texts.{pieces_text}
 use Rattle.chord_machine.specs.Chord.{chord}
 
--- the trace of the first so many events, taken one at a time in the order of their keys; if no event may follow, with
--- the audits that are left
+-- the trace of the first events up to this number, taken one at a time in the order of their keys; if no event may
+-- follow, with the remaining audits
 abbrev pub trace_after : Scenario → (events : ℕ) → List Piece
 trace_after sc events = trace (chord sc) (history (chord sc) events)
 

@@ -1,3 +1,4 @@
+//! The clock of the audits.
 ghost use Rattle.std.specs.Prelude.{◌≡◌, ◌<◌, ◌≤◌, ◌∷◌, length, IfOk, MatchOption};
 ghost use Rattle.std.specs.List.{AllByRecursion};
 ghost use Rattle.chord_machine.specs.AuditTimes.{IsAscending, audit_times};
@@ -39,7 +40,7 @@ impl AuditClock {
         Ok(AuditClock { times, next: 0 })
     }
 
-    /// Takes the first audit out, if it is due by this time.
+    /// Takes the first audit, if it is due by this time.
     pub fn take_due(&mut self, time: u64) -> Option<u64>
         ensures { MatchOption result ((self.new ≡ self.old) × AllByRecursion (λ t. time < t) self.old) (λ due. (self.old ≡ due ∷ self.new) × (due ≤ time)) }
     {

@@ -8,7 +8,7 @@ ghost use Rattle.chord_model.specs.Laws.{AuditsSeeAll, EndsAreWhole, EventsClose
 ghost use Rattle.chord_scenario.specs.declared.scenario.Scenario.{Scenario};
 ghost use Rattle.chord_scenario.specs.Range.{IsInRange};
 
-/// Each event that is ever made has a key of its own.
+/// No two events that are ever made have the same key.
 pub fn keys_are_distinct()
     ensures { (sc : Scenario) → IsInRange sc → KeysAreDistinct (chord sc) }
 {}
@@ -33,7 +33,7 @@ pub fn histories_are_sound()
     ensures { (sc : Scenario) → IsInRange sc → HistoriesAreSound sc }
 {}
 
-/// Within the event limit no counter of a node outgrows what the rule table may be asked about.
+/// Within the event limit no counter of a node outgrows what the rule table accepts.
 pub fn room_is_left()
     ensures { (sc : Scenario) → IsInRange sc → RoomIsLeft sc }
 {}
@@ -63,7 +63,7 @@ pub fn history_is_legal()
     ensures { (sc : Scenario) → IsInRange sc → HistoryIsLegal (chord sc) }
 {}
 
-/// It has as many events as were asked for, or as many as there are.
+/// It has as many events as requested, or as many as there are.
 pub fn history_is_whole()
     ensures { (sc : Scenario) → IsInRange sc → HistoryIsWhole (chord sc) }
 {}
@@ -73,7 +73,7 @@ pub fn ends_are_whole()
     ensures { (sc : Scenario) → IsInRange sc → EndsAreWhole (chord sc) }
 {}
 
-/// What a run puts out is never taken back.
+/// What a run has output is never taken back.
 pub fn trace_grows()
     ensures { (sc : Scenario) → IsInRange sc → TraceGrows (chord sc) }
 {}

@@ -10,7 +10,7 @@ pub fn horizons_may_open()
     ensures { (sc : Scenario) → IsInRange sc → HorizonsMayOpen (chord sc) }
 {}
 
-/// What a part runs behind a possible history is possible.
+/// What a part runs after a possible history is possible.
 pub fn part_runs_are_possible()
     ensures { (sc : Scenario) → IsInRange sc → PartRunsArePossible (chord sc) }
 {}
@@ -25,12 +25,12 @@ pub fn waiting_moves()
     ensures { (sc : Scenario) → IsInRange sc → WaitingMoves (chord sc) }
 {}
 
-/// Parts that were run by themselves leave what one event at a time leaves.
+/// Parts that were run independently leave what one event at a time leaves.
 pub fn parts_commute()
     ensures { (sc : Scenario) → IsInRange sc → PartsCommute (chord sc) }
 {}
 
-/// The workers' steps run each part by itself.
+/// The workers' steps run each part independently.
 pub fn steps_run_parts()
     ensures { (sc : Scenario) → IsInRange sc → StepsRunParts (chord sc) }
 {}
@@ -40,7 +40,8 @@ pub fn windows_commute()
     ensures { (sc : Scenario) → IsInRange sc → WindowsCommute (chord sc) }
 {}
 
-/// A window after the first events leaves the first events again, as many more as its parts ran.
+/// A window after the first events of the run leaves first events of the run again: as many more as
+/// its parts ran.
 pub fn windows_leave_histories()
     ensures { (sc : Scenario) → IsInRange sc → WindowsLeaveHistories (chord sc) }
 {}
@@ -50,7 +51,7 @@ pub fn limit_is_found()
     ensures { (sc : Scenario) → IsInRange sc → LimitIsFound (chord sc) }
 {}
 
-/// A window adds the pieces of its events, behind the audits that are due.
+/// A window adds the pieces of its events, after the audits that are due.
 pub fn windows_add_pieces()
     ensures { (sc : Scenario) → IsInRange sc → WindowsAddPieces (chord sc) }
 {}

@@ -1,4 +1,4 @@
--- The fifteen faults of a scenario: each is one question of the whole of both texts, and the first answer counts.
+-- The fifteen faults of a scenario: each is one question about both texts as a whole, and the first fault counts.
 use Rattle.std.specs.Prelude.{
   ℕ,
   ◌+◌,
@@ -100,7 +100,7 @@ time_after_end duration ss = section_fault TimeAfterEnd (λ s. is_command s.at &
 unfoldable pub bad_latency_row : List Row → Option ScenarioFault
 bad_latency_row rows = row_fault BadLatencyRow is_bad_row rows
 
--- a join by way of the node itself, or a row that names one node twice
+-- a join through the node itself, or a row that names one node twice
 abbrev pub joins_itself : Section → Bool
 joins_itself s =
     is_command s.at && is_join (operation_at s.members)
@@ -148,7 +148,7 @@ questions top rows =
     ∷ latency_below_window (number_at key.WindowUs top) (number_at key.LatencyUs top) nodes rows
     ∷ []
 
--- the first answer
+-- the first fault
 abbrev pub first_answer : List (Option ScenarioFault) → Option ScenarioFault
 first_answer = first_some (λ answer. answer)
 
@@ -160,6 +160,6 @@ file_fault top rows = first_answer (questions top rows)
 unfoldable pub document : List ℕ → Option Members
 document text = if is_utf8 text then parse_document text else None
 
--- the fault of two texts, if they have one: that the first is no document comes before the other questions
+-- the fault of two texts, if they have one: whether the first is a TOML document comes before the other questions
 unfoldable pub scenario_fault : List ℕ → List ℕ → Option ScenarioFault
 scenario_fault toml csv = option_map_or (λ top. file_fault top (rows_of csv)) (document toml) (Some NotToml)

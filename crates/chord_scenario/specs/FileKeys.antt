@@ -54,7 +54,7 @@ optional k form = record { 0 = k; 1 = form; 2 = Optional }
 abbrev pub interval : Form
 interval = Whole 1 1000000000
 
--- the keys at top, where circles have at most so many bits, files at most so many nodes, and these keys of the profile's own
+-- the keys at top, by the most bits of a circle, the most nodes of a file, and the keys that only this profile has
 abbrev pub top_keys_of : (most_bits most_nodes : ℕ) → (own : List Entry) → List Entry
 top_keys_of most_bits most_nodes own =
     required key.Profile (Whole 1 2)
@@ -116,7 +116,7 @@ command_keys profile =
     ∷ record { 0 = key.Key; 1 = Identifier (most_digits profile); 2 = ForLookup }
     ∷ []
 
--- the keys of the table at a place
+-- the keys of the table at a place; a profile other than the number 2 has the keys of the first
 abbrev pub keys_at : (profile : ℕ) → Place → List Entry
 keys_at profile place.Top = top_keys profile
 keys_at profile place.Churn = churn_keys

@@ -62,12 +62,12 @@ pub record HasLatencies (nodes : List Node) (rows : List Row) (cells : List ℕ)
   pub cell : (a b : List ℕ) (i j : ℕ) → index_of a nodes ≡ Some i → index_of b nodes ≡ Some j
       → slice_index cells (i * length nodes + j) ≡ unwrap_or (row_latency a b rows) 0
 
--- the cells of a square for n nodes; no cells stand for zeros
+-- the cells of a square for n nodes; no cells mean zeros
 abbrev pub square_or_zeros : (n : ℕ) → (cells : List ℕ) → List ℕ
 square_or_zeros n [] = replicate (n * n) 0
 square_or_zeros n (cell ∷ cells) = cell ∷ cells
 
--- what a square of n by n says of two different nodes: its cell, or the default if that is 0
+-- the latency of two different nodes by a square of n by n: its cell, or the default if that is 0
 abbrev pub latency_in : List ℕ → ℕ → ℕ → ℕ → ℕ → ℕ
 latency_in cells n default i j =
     if slice_index cells (i * n + j) == 0 then default else slice_index cells (i * n + j)

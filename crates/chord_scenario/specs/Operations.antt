@@ -1,9 +1,9 @@
--- What a command may ask of its node, and the words for it.
+-- What a command may ask of its node, and the names of it.
 use Rattle.std.specs.Prelude.{ℕ, Bool, true, false, List, codes, bytes_eq, Option, Some, None, if◌then◌else◌}
 use Rattle.chord_scenario.specs.declared.operation.Operation.{Operation}
 use Rattle.chord_scenario.specs.declared.operation.Operation.TheVariants.{Join, Crash, Lookup}
 
--- the operation that a word names
+-- the operation of this name
 abbrev pub operation_named : List ℕ → Option Operation
 operation_named word =
     if bytes_eq (codes "join") word then Some Join

@@ -1,4 +1,5 @@
--- What holds of every scenario.
+-- What holds of every scenario. The greatest numbers are those of the second profile: no engine has a use for the
+-- tighter ones of the first.
 use Rattle.std.specs.Prelude.{ℕ, ◌≡◌, ◌≢◌, ◌+◌, ◌*◌, ◌<◌, ◌≤◌, ◌^◌, true, length, count_by, IfSome, IsSome}
 use Rattle.std.specs.List.{All}
 use Rattle.chord_scenario.specs.declared.setting.Action.{Action}
@@ -9,7 +10,7 @@ use Rattle.chord_scenario.specs.declared.setting.Span.{Span}
 use Rattle.chord_scenario.specs.Setup.{Setup}
 use Rattle.chord_scenario.specs.World.{node_count, ident_of, is_churn_node, latency}
 
--- a span of at least one microsecond and at most so many
+-- a span of times from at least one microsecond to at most this many
 pub record IsSpanUpTo (most : ℕ) (span : Span) : Type 0 where
   pub positive : 1 ≤ span.least
   pub ordered : span.least ≤ span.greatest
@@ -28,7 +29,7 @@ pub record IsInterval (time : ℕ) : Type 0 where
   pub least : 1 ≤ time
   pub greatest : time ≤ 1000000000
 
--- what a command asks is asked of nodes and places that are there
+-- the nodes and places that a command names are there
 abbrev pub IsActionOf : Setup → Action → Type 0
 IsActionOf sc (action.Join via) = via < node_count sc
 IsActionOf sc action.Crash = Unit {0}
@@ -39,7 +40,7 @@ pub record IsCommandOf (sc : Setup) (command : Command) : Type 0 where
   pub node : command.node < node_count sc
   pub action : IsActionOf sc command.action
 
--- the numbers of a scenario lie in the ranges of the file format
+-- the numbers of a scenario are in the ranges of the file format
 pub record NumbersInRange (sc : Setup) : Type 0 where
   pub bits_least : 3 ≤ sc.bits
   pub bits_greatest : sc.bits ≤ 128
@@ -60,7 +61,7 @@ pub record NumbersInRange (sc : Setup) : Type 0 where
   pub loss : sc.loss ≤ 1000000
   pub spread : sc.spread ≤ 1000000000
 
--- the nodes stand apart on the circle
+-- no two nodes are at one place of the circle
 pub record NodesInRange (sc : Setup) : Type 0 where
   pub least : 2 ≤ node_count sc
   pub greatest : node_count sc ≤ 4096
@@ -68,7 +69,7 @@ pub record NodesInRange (sc : Setup) : Type 0 where
   pub apart : (i j : ℕ) → i < node_count sc → j < node_count sc → ident_of sc i ≡ ident_of sc j → i ≡ j
   pub initial : sc.list + 1 ≤ count_by (λ n. n.initial) sc.nodes
 
--- messages take their time, and between different nodes at least a window
+-- messages take time, and between different nodes at least a window
 pub record LatenciesInRange (sc : Setup) : Type 0 where
   pub square : length sc.latencies ≡ node_count sc * node_count sc
   pub positive : (from to : ℕ) → 1 ≤ latency sc from to

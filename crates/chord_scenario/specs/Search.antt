@@ -7,7 +7,7 @@ use Rattle.chord_scenario.specs.declared.key.Place.TheVariants as place
 use Rattle.chord_scenario.specs.declared.fault.ScenarioFault.{ScenarioFault}
 use Rattle.chord_scenario.specs.Sections.{Section}
 
--- the first answer of a question asked of each in turn
+-- the first result of a question asked of each item in turn
 abbrev pub first_some : {A B : Type 0} → (A → Option B) → List A → Option B
 first_some ask [] = None
 first_some ask (x ∷ xs) = option_or (ask x) (first_some ask xs)

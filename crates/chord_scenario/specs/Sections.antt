@@ -1,4 +1,4 @@
--- The tables of a scenario file, each with the place where it stands.
+-- The tables of a scenario file, each with its place.
 use Rattle.std.specs.Prelude.{ℕ, ◌+◌, List, [], ◌∷◌, ◌++◌, Option, Some}
 use Rattle.toml.specs.Data.{Data, table, array, Items, no_items, item, Members}
 use Rattle.chord_scenario.specs.declared.key.Place.{Place}

@@ -90,7 +90,7 @@ node_at k nodes ms = unwrap_or (index_of (name_at k ms) nodes) 0
 abbrev pub operation_at : Members → Option Operation
 operation_at ms = option_and_then operation_named (text_at key.Do ms)
 
--- what a command asks by its operation; a command without one is refused, and here taken for a lookup
+-- what a command asks by its operation; a command without one is refused elsewhere, and counts as a lookup here
 abbrev pub action_by : (bits : ℕ) → List Node → Members → Option Operation → Action
 action_by bits nodes ms (Some operation.Join) = Join (node_at key.Via nodes ms)
 action_by bits nodes ms (Some operation.Crash) = Crash

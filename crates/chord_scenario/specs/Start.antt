@@ -31,11 +31,11 @@ command_event number command = record {
 unfoldable pub command_events : Setup → List (Event Body)
 command_events sc = map (λ p. command_event p.0 p.1) (enumerate_from 1 sc.commands)
 
--- a period, and up to the jitter more
+-- a span from a period to the period plus the jitter
 abbrev pub jittered : Setup → (period : ℕ) → Span
 jittered sc period = record { least = period; greatest = period + sc.jitter }
 
--- only if the scenario has lookups of the nodes' own
+-- only if the scenario has generated lookups
 abbrev pub traffic_timers : Option Span → List (Span × Body)
 traffic_timers None = []
 traffic_timers (Some gap) = (gap, body.TrafficTick 1) ∷ []

@@ -91,7 +91,7 @@ identifier_of (integer (pos n)) = Some n
 identifier_of (string digits) = hexadecimal digits
 identifier_of _ = None
 
--- the value is no text of more than so many digits
+-- the value is no text of more than this many digits
 abbrev pub has_digits : ℕ → Data → Bool
 has_digits most d = option_map_or (λ digits. nat_le (length digits) most) (as_str d) true
 

@@ -2,7 +2,7 @@
 use Rattle.std.specs.Prelude.{ℕ, ◌==◌, ◌+◌, ◌*◌, Bool, false, List, [], length, map, slice_get, slice_index, option_map, unwrap_or, if◌then◌else◌}
 use Rattle.chord_scenario.specs.Setup.{Setup}
 
--- how many nodes there are
+-- the number of nodes
 abbrev pub node_count : Setup → ℕ
 node_count sc = length sc.nodes
 
@@ -10,7 +10,7 @@ node_count sc = length sc.nodes
 unfoldable pub name_of : Setup → ℕ → List ℕ
 name_of sc i = unwrap_or (option_map (λ n. n.name) (slice_get sc.nodes i)) []
 
--- where node i stands on the circle
+-- the place of node i on the circle
 unfoldable pub ident_of : Setup → ℕ → ℕ
 ident_of sc i = slice_index (map (λ n. n.ident) sc.nodes) i
 
@@ -28,6 +28,6 @@ latency_between sc from to =
     let given = slice_index sc.latencies (from * length sc.nodes + to) in
     if given == 0 then sc.latency else given
 
--- how long a message is on its way, which is 1 to the node itself
+-- the latency of a message in microseconds: 1 to the node itself
 unfoldable pub latency : Setup → (from to : ℕ) → ℕ
 latency sc from to = if from == to then 1 else latency_between sc from to

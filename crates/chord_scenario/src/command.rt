@@ -19,7 +19,7 @@ use chord_circle::{Circle, Ident};
 use std::alloc::{AllocError, Global};
 use toml::Table;
 
-/// The number of the node that a key names.
+/// The number of the node whose name is at a key.
 fn node_at(names: &Names<'_>, table: &Table, key: FileKey) -> u32
     ensures { result ≡ node_at key names.now.nodes.now (table_view table.now) }
 {

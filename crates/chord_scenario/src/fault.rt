@@ -1,3 +1,4 @@
+//! Why a scenario is refused.
 ghost use Rattle.std.specs.Prelude.{◌≡◌};
 
 use crate::key::{FileKey, Place};
@@ -5,10 +6,12 @@ use crate::name::Name;
 use std::alloc::AllocError;
 use std::fmt;
 
-/// Why a scenario is refused. Nodes are counted from 1.
+/// Why a scenario is refused. Nodes are counted from 1, since the numbers go into a text. Other
+/// node numbers are `u32` from 0. `SameId` and `LatencyBelowWindow` have names, since the scenario
+/// is gone when their text is printed.
 #[derive(Drop)]
 pub enum ScenarioFault {
-    /// The scenario text is not UTF-8, or no TOML document.
+    /// The scenario text is not UTF-8, or not a TOML document.
     NotToml,
     /// A table has a key that it may not have.
     UnknownKey(Place),
@@ -30,9 +33,9 @@ pub enum ScenarioFault {
     TooFewInitial,
     /// A command is given at the end of the run, or later.
     TimeAfterEnd(Place),
-    /// A row has not three fields, or its third is no latency.
+    /// A row does not have three fields, or its third is no latency.
     BadLatencyRow(Place),
-    /// A node joins by way of itself, or a row names one node twice.
+    /// A node joins through itself, or a row names one node twice.
     SelfLink(Place),
     /// A row names the two nodes of an earlier one.
     SameLinkTwice(Place),

@@ -6,8 +6,8 @@ ghost use Rattle.chord_scenario.specs.Sections.{key_of, place_in};
 
 use std::fmt;
 
-/// Where a table of the scenario file or a row of the latency file stands. Nodes, commands and rows
-/// are counted from 1.
+/// The place of a table of the scenario file, or of a row of the latency file. Nodes, commands and
+/// rows are counted from 1.
 #[derive(Clone, Copy, Debug, PartialEq, Eq)]
 pub enum Place {
     Top,
@@ -116,13 +116,13 @@ pub(crate) enum Form {
     /// A whole number from the first to the second.
     Whole(u64, u64),
     Text,
-    /// One of the words `join`, `crash` and `lookup`.
+    /// One of `join`, `crash` and `lookup`.
     Operation,
     Boolean,
-    /// A whole number, or a text of at most so many hexadecimal digits.
+    /// A whole number, or a text of at most this many hexadecimal digits.
     Identifier(usize),
     Table,
-    /// An array of tables, whose number lies from the first to the second.
+    /// An array of tables, whose length is from the first number to the second.
     Tables(usize, usize),
 }
 
@@ -131,7 +131,7 @@ pub(crate) enum Form {
 pub(crate) enum Presence {
     Required,
     Optional,
-    /// Where a node has `churn = true`.
+    /// In a file with a node that has `churn = true`.
     ForChurn,
     /// In a command that joins.
     ForJoin,
@@ -313,8 +313,8 @@ static COMMAND_KEYS: [Entry; 5] = [AT, DO, NODE, VIA, KEY];
 /// The keys of a command in the second profile.
 static LONG_COMMAND_KEYS: [Entry; 5] = [AT, DO, NODE, VIA, LONG_KEY];
 
-/// The keys of the table at a place, in order. A profile that is not the second is taken for the
-/// first.
+/// The keys of the table at a place, in order. A `profile` other than the number 2 is checked with
+/// the keys of the first profile.
 pub(crate) fn keys_at(profile: u64, place: Place) -> &'static [Entry]
     ensures { result.now ≡ keys_at profile place }
 {

@@ -1,3 +1,4 @@
+//! The square of latencies that a latency file gives.
 ghost use Rattle.std.specs.Prelude.{◌≡◌, ◌⊎◌, ◌+◌, ◌*◌, ◌^◌, false, Some, None, IfOk, IfErr, length, slice_index, ◌<◌, ◌≤◌};
 ghost use Rattle.chord_scenario.specs.Rows.{rows_of};
 ghost use Rattle.chord_scenario.specs.Latencies.{HasLatencies, square_or_zeros, KeepsEnds, keeps_unknown, keeps_bad_row};
@@ -43,7 +44,7 @@ fn ends_of(row: &Option<RowLink>) -> Ends
     }
 }
 
-/// The cell of two nodes in a square for n of them.
+/// The index of the cell of two nodes in a square for n of them.
 pub(crate) fn cell_of(n: usize, i: usize, j: usize) -> usize
     requires row { i < n }
     requires column { j < n }
@@ -54,7 +55,7 @@ pub(crate) fn cell_of(n: usize, i: usize, j: usize) -> usize
     i * n + j
 }
 
-/// What a square for n nodes holds for two of them. No cells stand for a square of zeros.
+/// What a square for n nodes has for two of them. An empty list means a square of zeros.
 pub(crate) fn cell_at(cells: &[u32], n: usize, i: usize, j: usize) -> u32
     requires row { i < n }
     requires column { j < n }
@@ -67,7 +68,7 @@ pub(crate) fn cell_at(cells: &[u32], n: usize, i: usize, j: usize) -> u32
     cells[cell_of(n, i, j)]
 }
 
-/// The square of latencies that rows give, without cells if there are no rows, or the first row
+/// The square of latencies that rows give, which is empty if there are no rows, or the first row
 /// that names the pair of an earlier one.
 pub(crate) fn latencies(alloc: Global, rows: &Rows<'_>) -> Result<Vec<u32>, ScenarioFault>
     requires few { length rows.now.names.nodes.now ≤ 4096 }
@@ -78,6 +79,7 @@ pub(crate) fn latencies(alloc: Global, rows: &Rows<'_>) -> Result<Vec<u32>, Scen
     ensures refused { IfErr result (λ e. (e ≡ ScenarioFault.Memory) ⊎ (same_link_twice (rows_of rows.now.text.now) ≡ Some e)) }
 {
     if rows.is_empty() {
+        // No square without rows: for 4,096 nodes it would take 64 MiB.
         return Ok(Vec::new(alloc));
     }
     let n = rows.names.nodes.len();
@@ -86,6 +88,7 @@ pub(crate) fn latencies(alloc: Global, rows: &Rows<'_>) -> Result<Vec<u32>, Scen
         let ends = ends_of(row);
         let place = cell_of(n, ends.first as usize, ends.second as usize);
         let mirrored = cell_of(n, ends.second as usize, ends.first as usize);
+        // A latency is at least 1, so 0 means that no row has named the pair yet.
         if cells[place] != 0 {
             return Err(ScenarioFault::SameLinkTwice(Place::Row(i + 1)));
         }

@@ -93,7 +93,7 @@ pub(crate) fn time_after_end(duration: u64, tables: &[PlacedTable<'_>]) -> Optio
     None
 }
 
-/// Whether a row has not three fields, or its third is no latency.
+/// Whether a row does not have three fields, or its third is no latency.
 fn is_bad_row(row: &Option<RowLink>) -> bool
     ensures { result ≡ keeps_bad_row row.now }
 {
@@ -115,7 +115,7 @@ fn bad_in_rows(rows: &[Option<RowLink>]) -> Option<ScenarioFault>
     None
 }
 
-/// The first row that has not three fields, or whose third is no latency.
+/// The first row that does not have three fields, or whose third is no latency.
 #[tactic(auto, unfolding(crate::specs::Faults::bad_latency_row))]
 pub(crate) fn bad_latency_row(rows: &Rows<'_>) -> Option<ScenarioFault>
     ensures { result ≡ bad_latency_row (rows_of rows.now.text.now) }
@@ -123,7 +123,7 @@ pub(crate) fn bad_latency_row(rows: &Rows<'_>) -> Option<ScenarioFault>
     bad_in_rows(&rows.links)
 }
 
-/// Whether a table is a command to join by way of the node itself.
+/// Whether a table is a command to join through the node itself.
 fn joins_itself(table: &PlacedTable<'_>) -> bool
     ensures { result ≡ joins_itself (section_of table.now) }
 {
@@ -132,7 +132,7 @@ fn joins_itself(table: &PlacedTable<'_>) -> bool
         && name_at(table.table, FileKey::Node) == name_at(table.table, FileKey::Via)
 }
 
-/// The first command to join by way of the node itself.
+/// The first command to join through the node itself.
 fn self_link_in_commands(tables: &[PlacedTable<'_>]) -> Option<ScenarioFault>
     ensures { result ≡ section_fault SelfLink joins_itself (map section_of tables.now) }
 {

@@ -1,3 +1,4 @@
+//! Names of nodes.
 ghost use Rattle.std.specs.Prelude.{◌≡◌, ℕ, List, string_bytes, IfOk};
 
 use std::alloc::{AllocError, Global};
@@ -18,7 +19,7 @@ impl Model for Name {
 }
 
 impl Name {
-    /// A name of its own.
+    /// A copy of a text as a name.
     pub fn new(alloc: Global, text: &str) -> Result<Self, AllocError>
         ensures { IfOk result (λ n. n ≡ text.now) }
     {

@@ -1,3 +1,4 @@
+//! Nodes by name.
 ghost use Rattle.std.specs.Prelude.{◌≡◌, ◌<◌, ◌^◌, length, IfOk};
 ghost use Rattle.chord_scenario.specs.Settings.{index_of};
 ghost use Rattle.chord_scenario.specs.Faults.{is_unknown};
@@ -7,7 +8,7 @@ use crate::setting::Node;
 use std::alloc::{AllocError, Global};
 use std::collections::BTreeMap;
 
-/// Maps the name of each node to its number, and one that several have to the first.
+/// Maps the name of each node to its number. A name that several nodes have is mapped to the first.
 fn index(alloc: Global, nodes: &[Node]) -> Result<BTreeMap<Vec<u8>, u32>, AllocError>
     requires { length nodes.now < 2 ^ 32 }
     ensures { IfOk result (Indexes nodes.now) }

@@ -1,3 +1,4 @@
+//! Pairs of nodes that are nearer than a window is long.
 ghost use Rattle.std.specs.Prelude.{◌≡◌, ◌+◌, ◌*◌, ◌<◌, length, drop, find, nat_lt, slice_get, Some, None, IfOk, option_copied};
 ghost use Rattle.chord_scenario.specs.Rows.{rows_of};
 ghost use Rattle.chord_scenario.specs.Latencies.{HasLatencies, square_or_zeros, latency_in};
@@ -10,7 +11,8 @@ use crate::row::Rows;
 use crate::setting::Node;
 use std::alloc::{AllocError, Global};
 
-/// What a square for n nodes says of two different ones: its cell, or the default if that is 0.
+/// The latency of two different nodes by a square for n nodes: its cell, or the default if that is
+/// 0.
 pub(crate) fn latency_in(cells: &[u32], n: usize, default: u64, i: usize, j: usize) -> u64
     requires row { i < n }
     requires column { j < n }

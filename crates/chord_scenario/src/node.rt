@@ -1,3 +1,4 @@
+//! The nodes of a scenario file.
 ghost use Rattle.std.specs.Prelude.{◌≡◌, ◌<◌, ◌^◌, IfOk, IfSome, map, option_and_then};
 ghost use Rattle.std.specs.List.{All};
 ghost use Rattle.chord_scenario.specs.Values.{data_at, identifier_of};

@@ -14,14 +14,14 @@ use crate::setting::Node;
 use chord_circle::Ident;
 use std::alloc::{AllocError, Global};
 
-/// Whether a byte may stand in a name.
+/// Whether a name may contain this byte.
 fn is_name_byte(byte: u8) -> bool
     ensures { result ≡ is_name_byte byte }
 {
     byte.is_ascii_alphanumeric() || byte == b'.' || byte == b'_' || byte == b'-'
 }
 
-/// Whether each byte may stand in a name.
+/// Whether a name may contain each of these bytes.
 fn are_name_bytes(bytes: &[u8]) -> bool
     ensures { result ≡ list_all is_name_byte bytes.now }
 {

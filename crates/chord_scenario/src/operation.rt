@@ -1,3 +1,4 @@
+//! The operations of commands.
 ghost use Rattle.std.specs.Prelude.{◌≡◌};
 ghost use Rattle.toml.specs.View.{table_view};
 ghost use Rattle.chord_scenario.specs.Operations.{operation_named};

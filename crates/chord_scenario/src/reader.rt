@@ -1,3 +1,4 @@
+//! Reading a scenario from its two texts.
 ghost use Rattle.std.specs.Prelude.{◌≡◌, ◌⊎◌, Some, None, IfOk, IfErr, map, length, ◌≤◌};
 ghost use Rattle.chord_scenario.specs.declared.key.FileKey.TheVariants as key;
 ghost use Rattle.chord_scenario.specs.Values.{number_at};
@@ -201,8 +202,8 @@ fn assembled(circle: Circle, top: &Table, nodes: Vec<Node>, linked: Linked) -> S
     }
 }
 
-/// Reads a scenario from the text of a scenario file and that of a latency file. Otherwise answers
-/// the first fault of the texts, or that an allocation failed.
+/// Reads a scenario from the text of a scenario file and that of a latency file. Returns the first
+/// fault of the texts, or `Memory` if an allocation fails.
 pub fn read_scenario(alloc: Global, toml: &[u8], csv: &[u8]) -> Result<Scenario, ScenarioFault>
     ensures accepted { IfOk result (Accepts toml.now csv.now) }
     ensures refused { IfErr result (λ e. (e ≡ ScenarioFault.Memory) ⊎ (scenario_fault toml.now csv.now ≡ Some e)) }

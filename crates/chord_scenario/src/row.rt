@@ -1,3 +1,4 @@
+//! The rows of a latency file.
 ghost use Rattle.std.specs.Prelude.{◌≡◌, ◌==◌, true, IfOk, Some, length, map, option_map};
 ghost use Rattle.csv.specs.Records.{fields_of};
 ghost use Rattle.std.specs.Char.{is_ascii_digit};
@@ -39,9 +40,10 @@ fn records(
             Ok(row) => rows.push(kept_link(names, &row))?,
             Err(e) => match e.kind() {
                 ErrorKind::OutOfMemory => return Err(AllocError),
-                // A reader over memory never fails, though no contract of the csv crate says so.
+                // Counted as a failed allocation. It never happens: a reader over memory does not
+                // fail, though no contract of the csv crate says so.
                 ErrorKind::Io(_) => return Err(AllocError),
-                // A flexible reader takes records of all lengths, and bytes need no decoding.
+                // A flexible reader takes records of any length, and bytes need no decoding.
                 ErrorKind::UnequalLengths { .. }
                 | ErrorKind::Utf8 { .. }
                 | ErrorKind::Serialize(_)

@@ -1,3 +1,4 @@
+//! Scenarios, as a run reads them.
 ghost use Rattle.std.specs.Prelude.{◌≡◌, ◌<◌, ◌≤◌, ◌^◌, length, slice_get, Some};
 ghost use Rattle.chord_scenario.specs.Range.{IsInRange};
 ghost use Rattle.chord_scenario.specs.World.{node_count, name_of, ident_of, is_initial, is_churn_node, latency};
@@ -30,8 +31,8 @@ pub struct Scenario {
     pub(crate) lookups: Option<Span>,
     pub(crate) nodes: Vec<Node>,
     pub(crate) commands: Vec<Command>,
-    /// For each node in turn its latency to each node, and 0 if no row names the two; without
-    /// cells if there are no rows.
+    /// For each node in turn its latency to each node, and 0 if no row names the two. Empty if
+    /// there are no rows.
     pub(crate) latencies: Vec<u32>,
 }
 
@@ -48,14 +49,15 @@ impl Model for Scenario {
 }
 
 impl Scenario {
-    /// What holds of every scenario.
+    /// All numbers of a scenario are in range.
     pub fn recall_range(&self)
         ensures { IsInRange self.now }
     {
+        // A no-op for the machine: it hands the prover what the type keeps.
         let _ = &self.circle;
     }
 
-    /// Which rules the world follows.
+    /// The profile: 1 is a lossless network with fixed latencies, 2 adds loss and delay.
     pub fn profile(&self) -> u32
         ensures { result ≡ self.now.profile }
     {
@@ -83,56 +85,58 @@ impl Scenario {
         self.seed
     }
 
-    /// How long a run lasts.
+    /// How long a run lasts, in microseconds.
     pub fn duration(&self) -> u64
         ensures { result ≡ self.now.duration }
     {
         self.duration
     }
 
-    /// How long a window of a run is at most: no message between different nodes takes less.
+    /// The greatest length of a window, in microseconds. No message between different nodes takes
+    /// less.
     pub fn window(&self) -> u64
         ensures { result ≡ self.now.window }
     {
         self.window
     }
 
-    /// The latency between two nodes that no row names, in microseconds.
+    /// The latency between two nodes that no row names, in microseconds. It has its unit in its
+    /// name because `latency` is the function of two nodes.
     pub fn latency_us(&self) -> u64
         ensures { result ≡ self.now.latency }
     {
         self.latency
     }
 
-    /// How long a node waits for the answer to a request.
+    /// How long a node waits for the reply to a request, in microseconds.
     pub fn timeout(&self) -> u64
         ensures { result ≡ self.now.timeout }
     {
         self.timeout
     }
 
-    /// The time from one audit to the next.
+    /// The time from one audit to the next, in microseconds.
     pub fn audit(&self) -> u64
         ensures { result ≡ self.now.audit }
     {
         self.audit
     }
 
-    /// The time from one stabilization of a node to its next, without the jitter.
+    /// The time from one stabilization of a node to its next in microseconds, without the jitter.
     pub fn stabilize(&self) -> u64
         ensures { result ≡ self.now.stabilize }
     {
         self.stabilize
     }
 
-    /// The time from one finger look-up of a node to its next, without the jitter.
+    /// The time from one finger lookup of a node to its next in microseconds, without the jitter.
     pub fn finger(&self) -> u64
         ensures { result ≡ self.now.finger }
     {
         self.finger
     }
 
-    /// How much later than its period a timer may come.
+    /// How much later than its period a timer may come, in microseconds.
     pub fn jitter(&self) -> u64
         ensures { result ≡ self.now.jitter }
     {
@@ -146,16 +150,15 @@ impl Scenario {
         self.max_events
     }
 
-    /// How many of a million messages between different nodes are lost, which is 0 in the first
-    /// profile.
+    /// The number of lost messages per million between different nodes: 0 in the first profile.
     pub fn loss(&self) -> u64
         ensures { result ≡ self.now.loss }
     {
         self.loss
     }
 
-    /// How much longer than its latency a message between different nodes may take, which is 0 in the
-    /// first profile.
+    /// How much longer than its latency a message between different nodes may take, in
+    /// microseconds: 0 in the first profile.
     pub fn spread(&self) -> u64
         ensures { result ≡ self.now.spread }
     {
@@ -169,7 +172,7 @@ impl Scenario {
         self.churn
     }
 
-    /// How long a node waits between lookups of its own, if the scenario has these.
+    /// How long a node waits between its generated lookups, if the scenario has these.
     pub fn lookups(&self) -> Option<Span>
         ensures { result ≡ self.now.lookups }
     {
@@ -192,7 +195,7 @@ impl Scenario {
         self.nodes[node as usize].name.as_str()
     }
 
-    /// Where a node stands on the circle.
+    /// The place of a node on the circle.
     pub fn ident(&self, node: u32) -> Ident
         requires { node < node_count self.now }
         ensures value { result ≡ ident_of self.now node }
@@ -228,7 +231,7 @@ impl Scenario {
         self.nodes[node as usize].churn
     }
 
-    /// How many commands there are.
+    /// The number of commands, as the length of their list.
     pub fn commands(&self) -> usize
         ensures { result ≡ length self.now.commands }
     {
@@ -243,7 +246,7 @@ impl Scenario {
         self.commands[place]
     }
 
-    /// How long a message from one node to another is on its way, which is 1 to the node itself.
+    /// The latency of a message from one node to another in microseconds: 1 to the node itself.
     #[tactic(auto, unfolding(crate::specs::World::latency))]
     pub fn latency(&self, from: u32, to: u32) -> u64
         requires from { from < node_count self.now }

@@ -1,3 +1,4 @@
+//! The tables of a scenario file.
 ghost use Rattle.std.specs.Prelude.{◌≡◌, ◌++◌, IfOk, OnOk, map, option_map};
 ghost use Rattle.toml.specs.View.{table_view, view, items_view};
 ghost use Rattle.chord_scenario.specs.Sections.{section_of, table_at, tables_among, tables_of, sections};
@@ -7,7 +8,7 @@ use crate::value::value_at;
 use std::alloc::{AllocError, Global};
 use toml::{Table, Value};
 
-/// A table of a scenario file and the place where it stands.
+/// A table of a scenario file and its place.
 #[derive(Clone, Copy)]
 pub(crate) struct PlacedTable<'a> {
     pub at: Place,

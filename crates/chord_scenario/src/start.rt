@@ -1,3 +1,4 @@
+//! The events that a run starts with.
 ghost use Rattle.std.specs.Prelude.{◌≡◌, ◌+◌, ◌<◌, ◌^◌, ◌++◌, [], ◌∷◌, map, IfOk, OnOk};
 ghost use Rattle.std.specs.List.{enumerate_from};
 ghost use Rattle.chord_scenario.specs.Range.{IsSpanUpTo};
@@ -47,7 +48,7 @@ fn push_commands(events: &mut Vec<Event>, commands: &[Command]) -> Result<(), Me
 }
 
 impl Scenario {
-    /// A period, and up to the jitter more.
+    /// A span from a period to the period plus the jitter, in microseconds.
     fn jittered(&self, period: u64) -> Span
         requires { period < 2 ^ 32 }
         ensures { result ≡ jittered self.now period }
@@ -110,7 +111,8 @@ impl Scenario {
     }
 
     /// The events that a run starts with: the commands, numbered from 1 in the order of the file,
-    /// and then the first timers of each node that is a member at the start.
+    /// and then the first timers of each node that is a member at the start. The list is a plain
+    /// `Vec`, since an engine takes it apart at once.
     #[tactic(auto, unfolding(crate::specs::Start::start_events, crate::specs::Start::command_events))]
     pub fn start_events(&self, alloc: Global) -> Result<Vec<Event>, Memory>
         ensures { IfOk result (λ events. events.items ≡ start_events self.now) }

@@ -128,14 +128,14 @@ pub(crate) fn identifier_of(value: &Value) -> Option<Raw>
     }
 }
 
-/// Whether a number lies in a range.
+/// Whether a number is in a range.
 fn is_between(least: u64, greatest: u64, number: u64) -> bool
     ensures { result ≡ is_between least greatest number }
 {
     least <= number && number <= greatest
 }
 
-/// Whether a value is no text of more than so many digits.
+/// Whether a value is no text of more than this many digits.
 fn has_digits(most: usize, value: &Value) -> bool
     ensures { result ≡ has_digits most (view value.now) }
 {
