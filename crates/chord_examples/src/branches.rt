@@ -1,5 +1,5 @@
-//! Runs that take the branches which the other examples pass by. Each of these branches may refuse memory, and no
-//! clause could say that it refuses none without need: so each is taken once.
+//! Runs that take the branches which the other examples do not. An allocation may fail in each of these branches, and
+//! no clause could say that a branch does not fail without need: so each is taken once.
 use crate::playing::{Played, SERIAL, play_text, play_texts, shown};
 use chord_circle::{Circle, Ident};
 use chord_event::{Answer, Body, Listed, Memory};
@@ -10,7 +10,7 @@ use std::fmt::Write as _;
 use std::process::Abort;
 use std::test::Fail;
 
-/// Where n6 joins, the nodes that n0 names have crashed. After that n0 knows no way on, five times more.
+/// When n6 joins, the nodes that n0 names have crashed. After that n0 knows no next node, five times more.
 const JOIN_STUCK: &str = r#"profile = 1
 bits = 3
 seed = 1
@@ -73,7 +73,7 @@ const JOIN_STUCK_REPORT: &str = "events 31\n\
     ringless 1\n\
     insufficient 1\n";
 
-/// The plans that these runs are carried out by.
+/// The plans of these runs.
 const PLANS: [Plan; 2] = [
     SERIAL,
     Plan {
@@ -135,8 +135,9 @@ fn fourteen_crashes(alloc: Global) -> Result<String, AllocError> {
     Ok(text)
 }
 
-/// Nodes that n0 asks, when each drops the request, and when n0 has waited long enough. n0 has the fingers n1, n1, n1,
-/// n2, n4, n8 and n16. It asks the farthest ahead of the key, and then its first successor that is not to be avoided.
+/// Nodes that n0 asks, the time at which each drops the request, and the time of the timeout at n0. n0 has the fingers
+/// n1, n1, n1, n2, n4, n8 and n16. It asks the farthest before the key, and then its first successor that is not to be
+/// avoided.
 const ASKED: [(u32, u32, u32); 9] = [
     (8, 110, 140),
     (4, 150, 180),
@@ -178,8 +179,8 @@ fn a_lookup_of_nine_timeouts(rt: HostRuntime) -> Result<(), Fail> {
     Ok(())
 }
 
-/// A ring of n0 and n131, into which n130 to n1 join one after another. Each of them knows nobody but the node
-/// after it, so that n1 has to ask all on the way to a key.
+/// A ring of n0 and n131, into which n130 to n1 join one after another. Each of them knows only the node after it, so
+/// that n1 has to ask all nodes on the way to a key.
 fn chain(alloc: Global) -> Result<String, AllocError> {
     let mut text = String::new(alloc);
     text.push_str(

@@ -1,4 +1,4 @@
-//! Runs by crews: workers in threads of their own.
+//! Runs by crews: workers in their own threads.
 ghost use Rattle.std.specs.Prelude.{◌≡◌, ◌<◌, ◌≤◌, None, Some, true, slice_get, IfOk};
 ghost use Rattle.chord_window.specs.Ordering.{ArePartsDone, HasEachOnce};
 ghost use Rattle.chord_window.specs.PartRuns.{IsHorizon};
@@ -22,14 +22,14 @@ use std::sync::{Mutex, Wait};
 use std::test::Fail;
 use std::thread::Threads;
 
-/// What a crew left: the text of its trace, and its report, or why it did not end.
+/// The result of a crew: the text of its trace, and its report, or why it did not end.
 #[derive(Drop)]
 pub struct Ran {
     pub trace: Vec<u8>,
     pub outcome: Result<Report, RunError>,
 }
 
-/// Runs a scenario by so many workers.
+/// Runs a scenario by `workers` workers.
 fn run_by<T: AllocGlobal + Threads + Wait + Sync, G: Gate + Sync>(
     rt: &T,
     scenario: &Scenario,
@@ -48,7 +48,7 @@ fn run_by<T: AllocGlobal + Threads + Wait + Sync, G: Gate + Sync>(
     }
 }
 
-/// Two lookups at one time, of a run that allows so many events.
+/// Two lookups at one time, in a run that allows `allowed` events.
 pub fn two_lookups(alloc: Global, allowed: u32) -> Result<Scenario, Fail> {
     let settings = format!(in alloc; "{SETTINGS}max_events = {allowed}\n")?;
     let text = text_of(alloc, settings.as_str(), THREE, TWO_LOOKUPS)?;
@@ -94,8 +94,9 @@ fn two_workers_pass_in_pairs(rt: HostRuntime) -> Result<(), Fail> {
     Ok(())
 }
 
-/// What a window leaves is written before the next one begins: the two lookups' lines after the first, the answers'
-/// after the third, the audit at the end. The gate is told the parts in the order in which the one worker draws them.
+/// What a window leaves is written before the next one begins: the lines of the two lookups after the first, those of
+/// the replies after the third, the audit at the end. The gate is passed the parts in the order in which the one worker
+/// draws them.
 #[test]
 fn each_window_is_put_out_at_its_end(rt: HostRuntime) -> Result<(), Fail> {
     let alloc = rt.alloc();
@@ -166,7 +167,7 @@ fn one_worker_alone(rt: HostRuntime) -> Result<(), Fail> {
     Ok(())
 }
 
-/// Two seats draw five times in turn, and are joined. The snapshot shows the joined seat to the contract.
+/// Two seats draw five times alternately, and are joined. The snapshot shows the joined seat to the contract.
 fn draw_in_turn(alloc: Global) -> Result<([Option<u32>; 5], Snapshot<Seat>), Memory>
     ensures allowance { IfOk result (λ r. r.1.value.allowance ≡ 2) }
     ensures exhausted { IfOk result (λ r. slice_get r.0 3 ≡ Some None → slice_get r.0 4 ≡ Some None → r.1.value.is_exhausted ≡ true) }

@@ -1,4 +1,4 @@
-//! Crews whose nodes are divided anew before each window, or whose threads may not all start.
+//! Crews whose nodes are divided again before each window, or whose threads may not all start.
 ghost use Rattle.std.specs.Prelude.{◌≡◌, ◌<◌, ◌≤◌, length};
 
 use crate::crews::{Ran, two_lookups};
@@ -19,7 +19,7 @@ use std::sync::atomic::{AtomicU64, Ordering};
 use std::test::Fail;
 use std::thread::Threads;
 
-/// What a dealer answers, of a ring of three nodes.
+/// What a dealer returns for a ring of three nodes.
 #[derive(Clone, Copy)]
 enum Answer {
     ByTurns,
@@ -41,7 +41,7 @@ fn answered(alloc: Global, answer: Answer) -> Result<Division, Memory> {
     }
 }
 
-/// A dealer with two answers in turn. It notes the loads that it is told.
+/// A dealer that returns two results alternately. It notes the loads that it is passed.
 #[derive(Drop)]
 struct InTurn {
     alloc: Global,
@@ -78,7 +78,7 @@ impl Dealer for InTurn {
     }
 }
 
-/// Runs a scenario by so many workers, with the divisions of a dealer.
+/// Runs a scenario by `workers` workers, with the divisions of a dealer.
 fn run_dealt<T: AllocGlobal + Threads + Wait + Sync, D: Dealer, G: Gate + Sync>(
     rt: &T,
     scenario: &Scenario,
@@ -97,12 +97,12 @@ fn run_dealt<T: AllocGlobal + Threads + Wait + Sync, D: Dealer, G: Gate + Sync>(
     }
 }
 
-/// Whether a trace is so many bytes of that of the two lookups.
+/// Whether a trace is the first `taken` bytes of that of the two lookups.
 fn is_beginning(trace: &[u8], taken: usize) -> bool {
     trace.len() == taken && TRACE.as_bytes().starts_with(trace)
 }
 
-/// The dealer is asked before each of the four windows, and told what each node has handled by then.
+/// The dealer is asked before each of the four windows, and passed what each node has handled so far.
 #[test]
 fn a_dealer_is_told_the_loads(rt: HostRuntime) -> Result<(), Fail> {
     let scenario = two_lookups(rt.alloc(), 50)?;
@@ -115,8 +115,8 @@ fn a_dealer_is_told_the_loads(rt: HostRuntime) -> Result<(), Fail> {
     Ok(())
 }
 
-/// A division that does not fit the ring ends the run, and so does one that memory refuses. What was put out before
-/// stays.
+/// A division that does not fit the ring ends the run, and so does one for which an allocation fails. What was written
+/// before stays.
 #[test]
 fn a_dealer_without_a_division_ends_the_run(rt: HostRuntime) -> Result<(), Fail> {
     let scenario = two_lookups(rt.alloc(), 50)?;
@@ -181,8 +181,8 @@ impl Starter for RefusesStart {
     }
 }
 
-/// The four windows have two starts each. A refused one ends the run: what the windows before left stays, and no
-/// other start is asked for.
+/// The four windows have two starts each. A refused one ends the run: what earlier windows left stays, and the starter
+/// is not asked again.
 #[test]
 fn a_refused_start_ends_the_run(rt: HostRuntime) -> Result<(), Fail> {
     let alloc = rt.alloc();
@@ -223,7 +223,7 @@ fn a_refused_start_ends_the_run(rt: HostRuntime) -> Result<(), Fail> {
     Ok(())
 }
 
-/// The node with the greatest load goes first, each to the part with the least load by then.
+/// The node with the greatest load goes first, each to the part with the least load so far.
 #[test]
 fn loads_are_evened_out(rt: HostRuntime) -> Result<(), Fail> {
     let mut dealer = Balanced::new(rt.alloc(), 2);
@@ -252,7 +252,7 @@ const EVEN_LOOKUPS: &str = "[[command]]\nat_us = 100\ndo = \"lookup\"\nnode = \"
     [[command]]\nat_us = 105\ndo = \"lookup\"\nnode = \"n4\"\nkey = 1\n\
     [[command]]\nat_us = 110\ndo = \"lookup\"\nnode = \"n6\"\nkey = 2\n";
 
-/// A dealer that evens out the parts, and keeps the loads that it was told last.
+/// A dealer that evens out the parts, and keeps the loads that it was last passed.
 #[derive(Drop)]
 struct Keeping {
     balanced: Balanced,

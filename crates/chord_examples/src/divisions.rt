@@ -1,3 +1,4 @@
+//! Divisions, and runs with divisions that do not fit.
 ghost use Rattle.std.specs.Prelude.{◌≡◌};
 
 use crate::playing::{SETTINGS, THREE, text_of};

@@ -1,4 +1,4 @@
-//! What holds of a run by whatever engine it goes.
+//! What holds of a run by any engine.
 use crate::crews::two_lookups;
 use crate::engines::{ENGINES, Engine, Shape, run_by};
 use crate::examples::EXAMPLES;
@@ -20,7 +20,7 @@ const PAIR: Shape = Shape {
     workers: 2,
 };
 
-/// A writer with room for some bytes, of which it takes at most so many in a call. After that it fails, or takes
+/// A writer with room for some bytes, which takes a limited number of them in a call. After that it fails, or takes
 /// nothing.
 #[derive(Drop)]
 struct Bounded {
@@ -50,7 +50,7 @@ impl Write for Bounded {
     }
 }
 
-/// Each example has the trace and the report that it has by the rules, by whatever engine, parts and workers.
+/// Each example has the trace and the report that it has by the rules, with any engine, parts and workers.
 #[test]
 fn examples_by_engines(rt: HostRuntime) -> Result<(), Fail> {
     let alloc = rt.alloc();
@@ -81,7 +81,7 @@ fn examples_by_engines(rt: HostRuntime) -> Result<(), Fail> {
 }
 
 /// A writer that takes some bytes, one by one or in whole pieces, and then fails or takes nothing, has taken just that
-/// beginning of the trace; one with room for all of it has it all.
+/// beginning of the trace. A writer with room for the whole trace has all of it.
 #[test]
 fn writers_that_fail_by_engines(rt: HostRuntime) -> Result<(), Fail> {
     let alloc = rt.alloc();

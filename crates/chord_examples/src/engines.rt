@@ -1,4 +1,4 @@
-//! The engines by which a run can go, one beside another.
+//! The engines, behind one function.
 ghost use Rattle.std.specs.Prelude.{◌≡◌, ◌<◌, ◌≤◌, false};
 ghost use Rattle.chord_trace.specs.Watched.{has_failed};
 
@@ -13,16 +13,16 @@ use std::io::Write;
 use std::sync::Wait;
 use std::thread::Threads;
 
-/// How a run goes.
+/// How a run is carried out.
 #[derive(Clone, Copy, Debug, PartialEq, Eq, Drop)]
 pub enum Engine {
     /// One event at a time.
     Serial,
     /// By windows, on one thread, the steps of the workers in a mixed order.
     Picked,
-    /// By windows, the workers in threads of their own.
+    /// By windows, the workers in their own threads.
     Crew,
-    /// The same, with the nodes dealt anew before each window.
+    /// The same, with the nodes dealt again before each window.
     Dealt,
 }
 
@@ -36,8 +36,7 @@ pub struct Shape {
     pub workers: u32,
 }
 
-/// A dealer that turns the parts round: the nodes are dealt in turn, and each of them goes one part further before
-/// each window.
+/// A dealer that rotates the parts: the nodes are dealt in turn, and before each window each of them moves one part on.
 #[derive(Drop)]
 pub struct TurningDealer {
     pub alloc: Global,
@@ -70,7 +69,7 @@ fn part_after(part: u32, parts: u32) -> u32 {
     if next < parts { next } else { 0 }
 }
 
-/// Runs a scenario by an engine: writes its trace, and answers its report.
+/// Runs a scenario by an engine: writes its trace, and returns its report.
 pub fn run_by<T: Threads + Wait + Sync, W: Write>(
     rt: &T,
     alloc: Global,

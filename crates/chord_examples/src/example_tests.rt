@@ -62,7 +62,7 @@ fn sixty_lookups_and_one_more(rt: HostRuntime) -> Result<(), Fail> {
     Ok(())
 }
 
-/// A row of the latency text holds both ways.
+/// A row of the latency text holds in both directions.
 #[test]
 fn a_latency_of_its_own(rt: HostRuntime) -> Result<(), Fail> {
     let alloc = rt.alloc();

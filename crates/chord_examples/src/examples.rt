@@ -14,7 +14,7 @@ pub struct Example {
     pub report: &'static str,
 }
 
-/// Two nodes that stand opposite each other.
+/// Two nodes opposite each other.
 const TWO_NODES: &str = "[[node]]\n\
     name = \"n0\"\n\
     id = 0\n\

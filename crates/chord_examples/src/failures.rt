@@ -1,3 +1,4 @@
+//! Plays whose readers fail or whose texts are too long.
 use crate::playing::{Played, SERIAL, SETTINGS, THREE, play_text, play_texts, text_of};
 use chord_play::{PlayFault, Text, load, play};
 use chord_scenario::ScenarioFault;
@@ -17,7 +18,7 @@ pub const TRACE: &str = "100 n0 lookup 4\n100 n3 lookup 1\n\
     120 n0 found 4 n0 hops=1 timeouts=0 us=20\n\
     200 audit members=3 dead=0 ring=3 ordered=yes principals=3 sufficient=yes\n";
 
-/// A reader that hands a text out byte by byte, and fails where the text is to end.
+/// A reader that gives a text byte by byte, and then fails instead of ending.
 #[derive(Drop)]
 struct Halting<'a> {
     text: &'a [u8],
@@ -42,7 +43,7 @@ impl Read for Halting<'_> {
     }
 }
 
-/// Plays the two lookups from readers that hand out single bytes, of each text as many as are given.
+/// Plays the two lookups from readers that give single bytes, and only a beginning of each text.
 fn play_halting<T: AllocGlobal + Threads + Wait + Sync>(
     rt: &T,
     toml: Halting<'_>,
@@ -90,7 +91,7 @@ fn readers_that_fail(rt: HostRuntime) -> Result<(), Fail> {
     Ok(())
 }
 
-/// Readers that hand out single bytes are read to their ends.
+/// Readers that give single bytes are read to their ends.
 #[test]
 fn readers_of_single_bytes(rt: HostRuntime) -> Result<(), Fail> {
     let alloc = rt.alloc();
@@ -124,8 +125,8 @@ fn latency_texts_that_are_too_long(rt: HostRuntime) -> Result<(), Fail> {
     Ok(())
 }
 
-/// If both texts have a fault, the scenario text's is told; a fault of the scenario is told only of
-/// two texts that were read.
+/// If both texts have a fault, that of the scenario text is returned. A fault of the scenario is returned only if both
+/// texts were read.
 #[test]
 fn faults_of_both_texts(rt: HostRuntime) -> Result<(), Fail> {
     let alloc = rt.alloc();

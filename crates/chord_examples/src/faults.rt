@@ -1,3 +1,4 @@
+//! Texts of scenarios, each with its first fault.
 use crate::reading::NAMED;
 use chord_scenario::read_scenario;
 use std::test::Fail;
@@ -35,7 +36,7 @@ key = 1
 
 const GOOD: &str = "ok nodes=3 commands=1";
 
-/// The base with a text in place of another, and the answer.
+/// The base with one text replaced by another, and the result.
 const CHANGES: [(&str, &str, &str); 106] = [
     ("", "", GOOD),
     ("[[node]]", "[[nod", "S1 NotToml"),
@@ -416,7 +417,7 @@ const LIMITS: [(&str, &str, &str); 23] = [
     ("at_us = 100", "at_us = -1", "S5 OutOfRange command 1 at_us"),
 ];
 
-/// Latency texts of the base, and the answer.
+/// Latency texts of the base, and the result.
 const ROWS: [(&str, &str); 22] = [
     ("n0,n3,15", GOOD),
     ("\n\nn0,n3,15\n\n\"n1\",n3,\"20\"\r\n", GOOD),
@@ -476,7 +477,7 @@ fn limits_of_numbers(rt: HostRuntime) -> Result<(), Fail> {
     Ok(())
 }
 
-/// Texts cut short, no text, and as many nodes as there may be and one more.
+/// Texts cut short, no text, and the most nodes allowed and one more.
 #[test]
 fn ends_of_texts(rt: HostRuntime) -> Result<(), Fail> {
     let short = answer(&rt, b"profile = 1\n", b"")?;
@@ -517,7 +518,7 @@ fn ends_of_texts(rt: HostRuntime) -> Result<(), Fail> {
     Ok(())
 }
 
-/// Two nodes, and each number the least that it may be.
+/// Two nodes, and each number the least that is allowed.
 const LEAST: &str = r#"profile = 1
 bits = 3
 list = 1
@@ -550,7 +551,7 @@ fn least_of_each(rt: HostRuntime) -> Result<(), Fail> {
     Ok(())
 }
 
-/// As many commands as there may be, and one more.
+/// The most commands allowed, and one more.
 #[test]
 fn many_commands(rt: HostRuntime) -> Result<(), Fail> {
     let mut text = String::from_str(rt.alloc(), BASE)?;

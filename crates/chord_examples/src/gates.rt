@@ -19,7 +19,7 @@ fn eight_notes() -> [AtomicU64; 8] {
     ]
 }
 
-/// Holds the first of two passes until the second has come, and notes the worker of each.
+/// Blocks the first of two passes until the second has come, and notes the worker of each.
 #[derive(Drop)]
 pub struct PairGate {
     pub passes: AtomicU64,
@@ -61,7 +61,7 @@ impl Gate for PairGate {
     }
 }
 
-/// A writer that counts the bytes that it takes where others can see them.
+/// A writer that counts the bytes that it takes. Others can see the count.
 #[derive(Drop)]
 pub struct Counting<'a> {
     pub taken: &'a AtomicU64,
@@ -78,7 +78,7 @@ impl Write for Counting<'_> {
     }
 }
 
-/// Notes at each of the first eight passes which part it is of, and how many bytes a writer has taken so far.
+/// Notes for each of the first eight passes its part, and how many bytes a writer has taken so far.
 #[derive(Drop)]
 pub struct SizeGate<'a> {
     pub taken: &'a AtomicU64,
@@ -110,7 +110,7 @@ impl Gate for SizeGate<'_> {
     }
 }
 
-/// Counts the passes under a lock, for which it holds a handle that may wait.
+/// Counts the passes under a lock, for which it holds a wait handle.
 #[derive(Drop)]
 pub struct CountGate<T> {
     pub rt: T,

@@ -1,3 +1,4 @@
+//! One window of a world, run by one worker on the calling thread.
 ghost use Rattle.std.specs.Prelude.{IfOk};
 ghost use Rattle.chord_window.specs.Ordering.{ArePartsDone};
 ghost use Rattle.chord_window.specs.PartRuns.{IsHorizon};
@@ -9,7 +10,7 @@ use chord_scenario::Scenario;
 use chord_window::{Done, World};
 use std::alloc::Global;
 
-/// Runs the next window of a world by one worker, on the thread that calls, and answers what the parts leave.
+/// Runs the next window of a world by one worker on the calling thread, and returns what the parts leave.
 pub fn window_by_one(
     alloc: Global,
     scenario: &Scenario,

@@ -11,10 +11,10 @@ use std::sync::Wait;
 use std::test::Fail;
 use std::thread::Threads;
 
-/// How many plans there are.
+/// The number of plans.
 const PLANS: u64 = 40;
 
-/// From how many seeds a random scenario is made.
+/// The number of seeds from which a random scenario is made.
 const SEEDS: u64 = 44;
 
 /// The plan of this number: 1, 2, 3, 8 or 64 workers, 1, 2, 7 or 512 parts, and one split or the other.
@@ -44,8 +44,8 @@ fn plan_of(number: u64) -> Plan {
     }
 }
 
-/// By workers, three plans for each and all plans among them, the examples have the traces and the reports that they
-/// have one event at a time.
+/// With three plans for each, and all plans among these, the examples have the traces and the reports that they have
+/// one event at a time.
 #[test]
 fn examples_by_plans(rt: HostRuntime) -> Result<(), Fail> {
     let alloc = rt.alloc();
@@ -94,7 +94,7 @@ fn plans_differ_in_what_fails(rt: HostRuntime) -> Result<(), Fail> {
     Ok(())
 }
 
-/// Whether a random scenario leaves the same by a plan as one event at a time, if it is accepted.
+/// Whether a random scenario, if it is accepted, leaves the same by a plan as one event at a time.
 fn is_same<T: AllocGlobal + Threads + Wait + Sync>(
     rt: &T,
     texts: &RandomTexts,

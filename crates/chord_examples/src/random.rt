@@ -158,7 +158,7 @@ fn write_commands(text: &mut String, dice: &mut Dice, shape: Shape) -> Result<()
     Ok(())
 }
 
-/// Latencies of their own for some pairs of nodes.
+/// Rows with latencies for some pairs of nodes.
 fn write_latencies(text: &mut String, dice: &mut Dice, shape: Shape) -> Result<(), Fail> {
     for first in 0..shape.nodes {
         for second in 0..first {
@@ -179,7 +179,7 @@ pub struct RandomTexts {
     pub csv: String,
 }
 
-/// The next random scenario, which lasts so many microseconds or up to twice as long. Not each is accepted.
+/// The next random scenario, which lasts `shortest` microseconds or up to twice as long. Some are not accepted.
 pub fn random_texts(alloc: Global, dice: &mut Dice, shortest: u32) -> Result<RandomTexts, Fail>
     requires { (0 < shortest) × (shortest ≤ 3000) }
 {

@@ -1,3 +1,4 @@
+//! Scenarios as they are read.
 use crate::faults::BASE;
 use chord_event::{Body, Event, Key};
 use chord_scenario::{Action, read_scenario};

@@ -1,3 +1,4 @@
+//! The ring at the start, and what its nodes know.
 use crate::playing::{SETTINGS, THREE, text_of};
 use chord_circle::{Circle, Raw};
 use chord_node::initial_ring;
@@ -31,7 +32,7 @@ fn the_first_ring(rt: HostRuntime) -> Result<(), Fail> {
     Ok(())
 }
 
-/// Nodes without identifiers stand where their names have them: a at 134, b at 233 and c at 132 of 256.
+/// Nodes without identifiers are at the places of their names: a at 134, b at 233 and c at 132 of 256.
 const NAMED: &str = "profile = 1\nbits = 8\nseed = 1\nlatency_us = 10\n";
 
 #[test]
@@ -60,7 +61,7 @@ fn a_ring_of_names(rt: HostRuntime) -> Result<(), Fail> {
     Ok(())
 }
 
-/// Between equal ends lie all other places, and the ends of a half-open interval differ.
+/// Between equal ends are all other places, and the ends of a half-open interval differ.
 #[test]
 fn between_at_the_ends(rt: HostRuntime) {
     let Some(circle) = Circle::new(3) else {
@@ -80,7 +81,7 @@ fn between_at_the_ends(rt: HostRuntime) {
     assert!(rt; Circle::new(2).is_none() && Circle::new(129).is_none());
 }
 
-/// On the widest circle the last place stands next to the first.
+/// On the widest circle the last place is next to the first.
 #[test]
 fn the_widest_circle(rt: HostRuntime) {
     let Some(circle) = Circle::new(128) else {

@@ -1,3 +1,4 @@
+//! Step answers on the ring of three.
 ghost use Rattle.std.specs.Prelude.{◌≡◌, true};
 ghost use Rattle.chord_node.specs.Invariant.{AllNodes};
 

@@ -29,7 +29,7 @@ struct Told {
     report: String,
 }
 
-/// The scenario of an example, in the second profile and with these settings beside its own.
+/// The scenario of an example in the second profile, with these settings in addition to its own.
 fn in_second_profile(alloc: Global, own: &str, example: &Example) -> Result<Scenario, Fail> {
     let settings = format!(in alloc; "{own}{}", example.settings)?;
     let text = text_of(alloc, settings.as_str(), example.nodes, example.commands)?;
@@ -114,7 +114,7 @@ const LOSE_ALL: Example = Example {
         insufficient 0\nlosses 1\n",
 };
 
-/// A lookup of n3 by way of n0, which has crashed.
+/// A lookup of n3 through n0, which has crashed.
 const SILENT: Example = Example {
     name: "words of the sender",
     settings: SETTINGS,
@@ -133,7 +133,7 @@ const SILENT: Example = Example {
         insufficient 1\nlosses 0\n",
 };
 
-/// A lost message uses its number up, makes no event and leaves a line; the words of a message are its sender's.
+/// A lost message uses up its number, makes no event and leaves a line. The random words of a message are its sender's.
 #[test]
 fn messages_that_are_lost_or_late(rt: HostRuntime) -> Result<(), Fail> {
     let alloc = rt.alloc();
@@ -160,8 +160,8 @@ fn messages_that_are_lost_or_late(rt: HostRuntime) -> Result<(), Fail> {
     Ok(())
 }
 
-/// A request and its reply each take their latency and a spread of their sender's. Ahead of it in a stream stand the words of
-/// the node's two timers, and the word that might have lost the message.
+/// A request and its reply each take their latency and a spread drawn by their sender. Before it in the stream come the
+/// words of the node's two timers, and the word that could have lost the message.
 #[test]
 fn spreads_are_added(rt: HostRuntime) -> Result<(), Fail> {
     let alloc = rt.alloc();
@@ -178,7 +178,7 @@ fn spreads_are_added(rt: HostRuntime) -> Result<(), Fail> {
     Ok(())
 }
 
-/// The base in the second profile with a text in place of another, and the answer.
+/// The base in the second profile with one text replaced by another, and the result.
 const CHANGES: [(&str, &str, &str); 17] = [
     ("", "", "ok nodes=3 commands=1"),
     (
@@ -293,7 +293,7 @@ fn the_widest_identifier(rt: HostRuntime) -> Result<(), Fail> {
     Ok(())
 }
 
-/// A ring of so many nodes, each with its number for an identifier, in which the first node looks one up.
+/// A ring of `nodes` nodes, each with its number as identifier, in which the first node looks one up.
 fn ring_of(alloc: Global, bits: u32, nodes: u32) -> Result<String, Fail> {
     let mut text = format!(in alloc;
         "profile = 2\nbits = {bits}\nseed = 1\nlatency_us = 10\nlist = 16\nduration_us = 300\n\
@@ -309,8 +309,8 @@ fn ring_of(alloc: Global, bits: u32, nodes: u32) -> Result<String, Fail> {
     Ok(text)
 }
 
-/// As many nodes as there may be, in 512 parts and by eight workers, leave what one event at a time leaves. The lookup of
-/// n0 goes 2048, 512, 256, 128, 32, 16, 4, 2 and 1 places on, to the node ahead of the owner. One node more is refused.
+/// The most nodes allowed, in 512 parts and by eight workers, leave what one event at a time leaves. The lookup of n0
+/// goes 2048, 512, 256, 128, 32, 16, 4, 2 and 1 places on, to the node before the owner. One node more is refused.
 #[test]
 fn as_many_nodes_as_there_may_be(rt: HostRuntime) -> Result<(), Fail> {
     let alloc = rt.alloc();

@@ -1,3 +1,4 @@
+//! The random streams of the nodes in a run.
 use crate::playing::{SETTINGS, THREE, play_text, text_of};
 use chord_stream::Stream;
 use std::test::Fail;
@@ -7,8 +8,8 @@ fn has_line(trace: &str, line: &str) -> bool {
     trace.lines().any(|it| it == line)
 }
 
-/// Each node draws from a stream of its own: the first keys that three nodes look up differ. The four words
-/// ahead of a node's first key go into its three first timers and the timer that is set again.
+/// Each node draws from its own stream: the first keys that three nodes look up differ. The four words before a node's
+/// first key go into its three first timers and the timer that is set again.
 #[test]
 fn each_node_has_its_own_stream(rt: HostRuntime) -> Result<(), Fail> {
     let alloc = rt.alloc();
@@ -26,7 +27,7 @@ fn each_node_has_its_own_stream(rt: HostRuntime) -> Result<(), Fail> {
     Ok(())
 }
 
-/// A crash leaves a node where it was in its stream.
+/// A crash does not change a node's place in its stream.
 #[test]
 fn a_crash_keeps_the_place_in_the_stream(rt: HostRuntime) -> Result<(), Fail> {
     let alloc = rt.alloc();

@@ -1,3 +1,4 @@
+//! Random scenarios, divisions and picks.
 ghost use Rattle.std.specs.Prelude.{◌<◌};
 
 use crate::random::{Dice, RandomTexts, random_texts};
@@ -9,10 +10,10 @@ use chord_window::{Division, run_picked};
 use std::alloc::Global;
 use std::test::Fail;
 
-/// How many triples of a scenario, a division and picks are run.
+/// The number of triples of a scenario, a division and picks that are run.
 const TRIPLES: u64 = 50;
 
-/// So many numbers below the bound.
+/// `length` numbers below the bound.
 fn random_list(alloc: Global, dice: &mut Dice, length: u32, bound: u32) -> Result<Vec<u32>, Fail>
     requires { 0 < bound }
 {
@@ -70,7 +71,7 @@ fn run_triple(alloc: Global, seed: u64) -> Result<Option<Both>, Fail> {
     }))
 }
 
-/// Random scenarios leave the same by windows as one event at a time, whatever the division, the workers and the picks.
+/// Random scenarios leave the same by windows as one event at a time, with any division, workers and picks.
 #[test]
 fn random_triples(rt: HostRuntime) -> Result<(), Fail> {
     let alloc = rt.alloc();

@@ -1,3 +1,4 @@
+//! Runs by windows with picks.
 ghost use Rattle.std.specs.Prelude.{◌≡◌, ◌<◌, ◌≤◌, OnOk};
 ghost use Rattle.chord_window.specs.PartRuns.{IsDone, IsHorizon};
 ghost use Rattle.chord_window.specs.Worlds.{IsWorldOf};
@@ -15,7 +16,7 @@ use chord_window::{
 use std::alloc::Global;
 use std::test::Fail;
 
-/// How the nodes are dealt to parts, and the workers and the picks of a run by windows.
+/// A run by windows: how the nodes are dealt to parts, the workers and the picks.
 #[derive(Drop)]
 struct Way {
     split: Split,
@@ -24,7 +25,7 @@ struct Way {
     picks: &'static [u32],
 }
 
-/// What a run by windows left: the text of its trace, and its report and steps, or why it did not end.
+/// The result of a run by windows: the text of its trace, and its report and steps, or why it did not end.
 #[derive(Drop)]
 struct Ran {
     trace: Vec<u8>,
@@ -68,7 +69,7 @@ fn run_way(alloc: Global, scenario: &Scenario, way: &Way) -> Result<Ran, Memory>
     })
 }
 
-/// A pick that names no worker is passed over, and after the picks the lowest worker that can go takes the step.
+/// A pick that names no worker is skipped, and after the picks the lowest worker that can take a step takes it.
 #[test]
 fn steps_as_they_are_picked(rt: HostRuntime) -> Result<(), Fail> {
     let alloc = rt.alloc();
@@ -207,8 +208,8 @@ fn parts_put_together(rt: HostRuntime) -> Result<(), Fail> {
     Ok(())
 }
 
-/// A world that is divided anew has the count, the states and the next window that it had, and one part
-/// with all nodes has what two parts had. A division of four nodes is refused.
+/// A world that is divided again has the count, the states and the next window that it had, and one part with all nodes
+/// has what two parts had. A division of four nodes is refused.
 #[test]
 fn a_world_divided_anew(rt: HostRuntime) -> Result<(), Fail> {
     let alloc = rt.alloc();

@@ -1,4 +1,5 @@
--- Histories: which events a run takes, one at a time, and what it puts out. A history lists its events, the newest first.
+-- Histories: which events a run takes, one at a time, and what it outputs. A history lists its events, the newest
+-- first: it grows at its head, which is what inductions go by. Traces are oldest first.
 use Rattle.std.specs.Prelude.{
   ℕ,
   zero,
@@ -62,7 +63,7 @@ module _ {State Body Piece : Type 0} (m : Machine State Body Piece) where
   all_events [] = m.start_events
   all_events (e ∷ h) = (effect_after h e).events ++ all_events h
 
-  -- those of them that the history has not taken. A key tells an event from all others
+  -- those of them that the history has not taken; a key identifies an event
   abbrev pub pending : List (Event Body) → List (Event Body)
   pending h = filter (λ e. not (has_key e.key h)) (all_events h)
 
@@ -71,13 +72,13 @@ module _ {State Body Piece : Type 0} (m : Machine State Body Piece) where
   IsPossible [] = ⊤
   IsPossible (e ∷ h) = IsPossible h × Contains (pending h) e
 
-  -- e is the one event that may follow: the least that is pending, below the duration
+  -- e is the one event that may follow: the least pending one, below the duration
   pub record IsNext (h : List (Event Body)) (e : Event Body) : Type 0 where
     pub waits : Contains (pending h) e
     pub first : (x : Event Body) → Contains (pending h) x → IsAtMost e.key x.key
     pub in_time : e.key.time < m.duration
 
-  -- each event was the one that might follow those before it
+  -- each event was the one that could follow those before it
   abbrev pub IsLegal : List (Event Body) → Type 0
   IsLegal [] = ⊤
   IsLegal (e ∷ h) = IsLegal h × IsNext h e
@@ -111,7 +112,7 @@ module _ {State Body Piece : Type 0} (m : Machine State Body Piece) where
   abbrev pub open_audits : List (Event Body) → List ℕ
   open_audits h = filter (λ t. list_all (λ e. nat_lt e.key.time t) h) m.audit_times
 
-  -- an audit stands ahead of the first event of its time or later
+  -- an audit comes before the first event of its time or later
   abbrev pub output : List (Event Body) → List Piece
   output [] = []
   output (e ∷ h) = output h ++ (map (audit_at h) (filter (λ t. nat_le t e.key.time) (open_audits h)) ++ (effect_after h e).piece ∷ [])

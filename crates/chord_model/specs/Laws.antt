@@ -72,7 +72,7 @@ use Rattle.chord_model.specs.Windows.{
 use Rattle.chord_model.specs.Schedules.{Run, horizon_from, begun, Goes, all_sealed, lowest}
 
 module _ {State Body Piece : Type 0} (m : Machine State Body Piece) where
-  -- Each event that is ever made has a key of its own, in whatever order the events are taken.
+  -- No two events that are ever made have the same key, in whatever order the events are taken.
   abbrev pub KeysAreDistinct : Type 0
   KeysAreDistinct = (h : List (Event Body)) → IsPossible m h → AllPairs (λ (a b : Event Body). a.key ≢ b.key) (all_events m h)
 
@@ -114,7 +114,7 @@ module _ {State Body Piece : Type 0} (m : Machine State Body Piece) where
   abbrev pub LegalIsPossible : Type 0
   LegalIsPossible = (h : List (Event Body)) → IsLegal m h → IsPossible m h
 
-  -- The events of a legal history stand in the order of their keys.
+  -- The events of a legal history are in the order of their keys.
   abbrev pub LegalIsAscending : Type 0
   LegalIsAscending = (h : List (Event Body)) → IsLegal m h → AllPairs (λ (a b : Event Body). IsBefore b.key a.key) h
 
@@ -126,11 +126,11 @@ module _ {State Body Piece : Type 0} (m : Machine State Body Piece) where
   abbrev pub HistoryIsLegal : Type 0
   HistoryIsLegal = (k : ℕ) → IsLegal m (history m k)
 
-  -- It has as many events as were asked for, or none may follow.
+  -- It has as many events as requested, or none may follow.
   abbrev pub HistoryIsWhole : Type 0
   HistoryIsWhole = (k : ℕ) → (length (history m k) ≡ k) ⊎ ((e : Event Body) → IsNext m (history m k) e → ⊥)
 
-  -- What was put out is never taken back.
+  -- What was output is never taken back.
   abbrev pub TraceGrows : Type 0
   TraceGrows = (k : ℕ) → IsPrefix (trace m (history m k)) (trace m (history m (k + 1)))
 
@@ -142,7 +142,8 @@ module _ {State Body Piece : Type 0} (m : Machine State Body Piece) where
   abbrev pub EventsCloseAudits : Type 0
   EventsCloseAudits = (h : List (Event Body)) (e : Event Body) → open_audits m (e ∷ h) ≡ filter (λ t. nat_lt e.key.time t) (open_audits m h)
 
-  -- A window may follow h: `time` is the least at which an event is pending, and the horizon lies above it, by at most the lookahead.
+  -- A window may follow h: `time` is the least time of a pending event, and the horizon is above it, by at most the
+  -- lookahead.
   pub record MayOpen (h : List (Event Body)) (time horizon : ℕ) : Type 0 where
     pub legal : IsLegal m h
     pub reached : (e : Event Body) × Contains (pending m h) e × (e.key.time ≡ time)
@@ -151,7 +152,7 @@ module _ {State Body Piece : Type 0} (m : Machine State Body Piece) where
     pub ahead : horizon ≤ time + m.lookahead
     pub in_time : horizon ≤ m.duration
 
-  -- What a part runs behind a possible history is possible.
+  -- What a part runs after a possible history is possible.
   abbrev pub PartRunsArePossible : Type 0
   PartRunsArePossible =
       (d : Division) (h : List (Event Body)) (horizon p : ℕ) (ran : List (Event Body)) → IsPossible m h → IsPartRun m d h horizon p ran
@@ -188,7 +189,7 @@ module _ {State Body Piece : Type 0} (m : Machine State Body Piece) where
     pub states : (n : ℕ) → n < m.nodes → state m (ran (part_of d n) ++ h) n ≡ state m (taken ++ h) n
     -- the parts add to the trace what the one run does
     pub pieces : (p : ℕ) → p < d.parts → pieces_since m h (ran p) ≡ filter (λ b. part_of d b.0.target == p) (pieces_since m h taken)
-    -- an event is pending if it was so before, or a part made it, and it is due at the horizon or later
+    -- an event is pending if it was pending before or a part made it, and it is due at the horizon or later
     pub mail : (x : Event Body)
         → Contains (pending m (taken ++ h)) x
         ↔ ((Contains (pending m h) x ⊎ ((p : ℕ) × (p < d.parts) × Contains (made_since m h (ran p)) x)) × (horizon ≤ x.key.time))
@@ -197,7 +198,7 @@ module _ {State Body Piece : Type 0} (m : Machine State Body Piece) where
         → Contains (pending m (taken ++ h)) x
         ↔ (Contains (pending m (ran (part_of d x.target) ++ h)) x ⊎ ((p : ℕ) × (p < d.parts) × (p ≢ part_of d x.target) × Contains (made_since m h (ran p)) x))
 
-  -- Lists of parts that were each run by themselves, until none waits there, do so, whoever ran them.
+  -- Lists of parts that were each run independently, until none waits there, do so, whoever ran them.
   abbrev pub PartsCommute : Type 0
   PartsCommute =
       (d : Division) → Divides d m.nodes → (h : List (Event Body)) (time horizon : ℕ) → MayOpen h time horizon
@@ -216,7 +217,7 @@ module _ {State Body Piece : Type 0} (m : Machine State Body Piece) where
       (d : Division) → Divides d m.nodes → (h : List (Event Body)) (time horizon : ℕ) → MayOpen h time horizon
       → (picks : List ℕ) → IsClosed d (after_picks m d (opened h horizon) picks) → Commutes d h horizon (ran_by (after_picks m d (opened h horizon) picks))
 
-  -- A window after the first k events leaves the first events again, as many more as its parts ran.
+  -- A window after the first k events leaves first events of the run again: as many more as its parts ran.
   abbrev pub WindowsLeaveHistories : Type 0
   WindowsLeaveHistories =
       (d : Division) → Divides d m.nodes → (k time horizon : ℕ) → MayOpen (history m k) time horizon
@@ -235,7 +236,7 @@ module _ {State Body Piece : Type 0} (m : Machine State Body Piece) where
   HorizonsMayOpen = (h : List (Event Body)) (e : Event Body) → IsLegal m h → next m h ≡ Some e
       → MayOpen h e.key.time (horizon_from m e.key.time) × All (λ t. (t ≤ e.key.time) ⊎ (horizon_from m e.key.time ≤ t)) m.audit_times
 
-  -- In a window without an audit the pieces of its events follow each other, behind the audits that are due.
+  -- In a window without an audit the pieces of its events follow each other, after the audits that are due.
   abbrev pub WindowsAddPieces : Type 0
   WindowsAddPieces =
       (h : List (Event Body)) (time horizon : ℕ) → MayOpen h time horizon → All (λ t. (t ≤ time) ⊎ (horizon ≤ t)) m.audit_times

@@ -17,8 +17,8 @@ module _ {State Body Piece : Type 0} (m : Machine State Body Piece) where
   abbrev pub horizon_after : List (Event Body) → Option ℕ
   horizon_after h = option_map (λ (e : Event Body). horizon_from m e.key.time) (next m h)
 
-  -- after n events of part p: the states that its nodes are seen in, what waits, what it made for the horizon or later, and the
-  -- pieces of its events
+  -- after n events of part p: the states that its nodes are seen in, the events that wait, those that it made for the
+  -- horizon or later, and the pieces of its events
   pub record IsPartAt (d : Division) (h : List (Event Body)) (horizon p n : ℕ) (seen : ℕ → State) (wait mail : List (Event Body))
       (pieces : List Piece) : Type 0 where
     pub runs : IsPartRun m d h horizon p (part_run d h horizon p n)

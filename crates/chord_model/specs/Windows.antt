@@ -1,4 +1,4 @@
--- Windows: workers draw parts of the nodes and run the events of each part by itself, up to a horizon.
+-- Windows: workers draw parts of the nodes and run the events of each part independently, up to a horizon.
 use Rattle.std.specs.Prelude.{
   ℕ,
   zero,
@@ -69,7 +69,7 @@ opened h horizon = record {
   part = λ _. record { ran = []; sealed = false };
 }
 
--- what one worker does at once
+-- one step of a worker
 pub data Step (Body : Type 0) : Type 0 where
   Drew : (part : ℕ) → Step Body
   Ran : (part : ℕ) → (event : Event Body) → Step Body
@@ -106,7 +106,7 @@ abbrev pub merged : {Body : Type 0} → (ℕ → List (Event Body)) → ℕ → 
 merged ran zero = []
 merged ran (suc p) = merge (ran p) (merged ran p)
 
--- how many they are
+-- the number of these events
 abbrev pub events_run : {Body : Type 0} → (ℕ → List (Event Body)) → ℕ → ℕ
 events_run ran zero = 0
 events_run ran (suc p) = length (ran p) + events_run ran p
@@ -143,7 +143,7 @@ module _ {State Body Piece : Type 0} (m : Machine State Body Piece) where
   next_step d w None = drawing d w
   next_step d w (Some p) = Some (running p (least (waiting d w.history w.horizon p (w.part p).ran)))
 
-  -- one step of one worker; one that can take no step is passed over
+  -- one step of one worker; a worker that can take no step is skipped
   abbrev pub after_option : Window Body → ℕ → Option (Step Body) → Window Body
   after_option w worker None = w
   after_option w worker (Some s) = after_step w worker s

@@ -1,4 +1,4 @@
--- What an engine has at hand: lists of states and of events that are those after the first events of the run.
+-- What an engine has: lists of states and of events that are those after the first events of the run.
 use Rattle.std.specs.Prelude.{ℕ, ◌≡◌, ◌≢◌, ◌<◌, ◌++◌, List, [], ◌∷◌, length, ◌↔◌, slice_index_or}
 use Rattle.std.specs.List.{All, AllPairs, Contains}
 use Rattle.chord_event.specs.declared.event.Event.{Event}
@@ -23,7 +23,7 @@ module _ {State Body Piece : Type 0} (m : Machine State Body Piece) where
   event_pieces [] = []
   event_pieces (e ∷ h) = event_pieces h ++ (effect_after m h e).piece ∷ []
 
-  -- the states and the events at hand are those after the first so many events of the run
+  -- the states and the events are those after the first `count` events of the run
   pub record IsWorld (states : List State) (events : List (Event Body)) (count : ℕ) : Type 0 where
     pub long : length (history m count) ≡ count
     pub states_are : AreStatesAfter (history m count) states

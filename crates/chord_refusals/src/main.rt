@@ -1,12 +1,12 @@
-//! Does what takes memory and starts threads: single calls of the library, and whole runs by each engine. A script
-//! refuses each piece of memory in turn, and each start of a thread (`tools/refusals`).
+//! Does what allocates and starts threads: single calls of the library, and whole runs by each engine. A script makes
+//! each allocation fail in turn, and each start of a thread (`tools/refusals`).
 //!
 //!     chord_refusals [TASK]
 //!     chord_refusals list
 //!
-//! Without a word all tasks are done; `list` prints their names. The status is 0 if all is done; 3
-//! if an allocation failed, or 4 if the start of a thread was, and all that is promised of it
-//! stands; and 1, with a line that says what is wrong, if something else stands.
+//! Without an argument all tasks are done. `list` prints their names. The status is 0 if all is done; 3 if an
+//! allocation failed, or 4 if a thread could not be started, and all that is promised of this held; and 1, with a line
+//! that says what is wrong, if a promise did not hold.
 #![tactic(auto)]
 
 mod queues;
@@ -29,7 +29,7 @@ fn print_line(rt: &impl Print, line: &str) -> Result<(), Stop> {
     println!(rt; "{line}").map_err(|_error| Stop::Wrong("cannot print"))
 }
 
-/// Does the task that the words of the process name, or all; or prints the names of all.
+/// Does the task that the arguments name, or all tasks, or prints their names.
 fn obey<T: AllocGlobal + Env + Print + Threads + Wait + Sync>(rt: &T) -> Result<(), Stop> {
     let Ok(words) = env::args(rt) else {
         return Err(Stop::Memory);

@@ -1,4 +1,4 @@
-//! Calls of the queues and the arena that hand back what they cannot take.
+//! Calls of the queues and the arena that return what they cannot take.
 ghost use Rattle.std.specs.Prelude.{◌≡◌, []};
 
 use crate::stop::{Stop, holds};
@@ -23,8 +23,8 @@ fn event_at(time: u64) -> Event
     }
 }
 
-/// Puts two events among the pending ones, and copies the earlier one, which goes among others. One that is refused
-/// comes back, and the others are pending as they were.
+/// Adds two events to the pending ones, and a copy of the earlier one to others. An event that is refused comes back,
+/// and the others are pending as they were.
 pub fn insert_and_copy(alloc: Global) -> Result<(), Stop> {
     let mut pending = Pending::new(alloc);
     if let Err(back) = pending.insert(event_at(7)) {
@@ -46,7 +46,7 @@ pub fn insert_and_copy(alloc: Global) -> Result<(), Stop> {
     holds(others.first_time() == Some(5), "another event is copied")
 }
 
-/// Puts two events into the queue of a window.
+/// Adds two events to the queue of a window.
 pub fn push_two(alloc: Global) -> Result<(), Stop> {
     let mut queue = WindowQueue::new(alloc);
     if let Err(back) = queue.push(event_at(7)) {
@@ -63,7 +63,7 @@ pub fn push_two(alloc: Global) -> Result<(), Stop> {
     holds(least == Some(event_at(5).key), "another event is the least")
 }
 
-/// Makes room for three chunks of records, after one. The record that is there stays, and the room too.
+/// Makes room for three chunks of records, after one. The record so far stays, and the room too.
 pub fn reserve_chunks(alloc: Global) -> Result<(), Stop> {
     let mut arena = RecordArena::new(alloc);
     arena.reserve(1)?;

@@ -5,7 +5,7 @@ use chord_trace::Watched;
 use std::sync::Wait;
 use std::thread::Threads;
 
-/// The examples that are run: lookups, a crash and a join while one is on its way, and a join that fails.
+/// The examples that are run: lookups, a crash and a join while a message is on its way, and a join that fails.
 const NAMES: [&str; 3] = [
     "two lookups",
     "a crash and a join at one instant",
@@ -25,8 +25,8 @@ pub fn run_examples<T: AllocGlobal + Threads + Wait + Sync>(
     Ok(())
 }
 
-/// Runs an example by an engine, in two parts by two workers, to a writer that has its room ahead. What it took is a
-/// beginning of the trace, whatever the run answers; a run that ends has written the trace, and has its report.
+/// Runs an example by an engine, in two parts by two workers, with a writer that has its room ahead. What it took is a
+/// beginning of the trace, whatever the run returns. A run that ends has written the trace, and has its report.
 fn run_example<T: AllocGlobal + Threads + Wait + Sync>(
     rt: &T,
     engine: Engine,

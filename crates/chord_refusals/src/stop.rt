@@ -1,16 +1,17 @@
+//! Why a task stops.
 use chord_event::{Memory, RunError};
 use chord_play::PlayFault;
 use chord_scenario::ScenarioFault;
 use std::alloc::AllocError;
 
-/// Why a call did not end with its answer.
+/// Why a call did not end with its result.
 #[derive(Clone, Copy, Debug, PartialEq, Eq, Drop)]
 pub enum Stop {
-    /// An allocation failed, and what is promised of it stands.
+    /// An allocation failed, and what is promised of that held.
     Memory,
-    /// The start of a thread was refused, and what is promised of it stands.
+    /// A thread could not be started, and what is promised of that held.
     Worker,
-    /// It did something else than is promised: what.
+    /// It did something else than is promised, as the text says.
     Wrong(&'static str),
 }
 

@@ -1,4 +1,4 @@
-//! Calls that make a scenario of texts, and what a scenario begins with.
+//! Calls that make a scenario from texts, and the start of a run from a scenario.
 use crate::stop::{Stop, holds, holds_written};
 use chord_examples::{Example, text_of};
 use chord_node::initial_ring;
@@ -9,7 +9,7 @@ use std::alloc::Global;
 use std::sync::Wait;
 use std::thread::Threads;
 
-/// A latency text that names one pair, at the latency that it has anyway.
+/// A latency text with one pair, at the latency that it has anyway.
 const LATENCY: &[u8] = b"n0,n3,10\n";
 
 /// Loads the scenario of an example.
@@ -45,7 +45,7 @@ pub fn play_example<T: AllocGlobal + Threads + Wait + Sync>(
     Ok(())
 }
 
-/// Makes the start events and the ring of a scenario, and copies each of them. What is copied stays as it was.
+/// Makes the start events and the ring of a scenario, and copies each of them. The originals stay as they were.
 pub fn copy_the_start(alloc: Global, scenario: &Scenario) -> Result<(), Stop> {
     let events = scenario.start_events(alloc)?;
     for event in events.iter() {

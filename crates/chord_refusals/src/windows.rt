@@ -11,7 +11,7 @@ use chord_scenario::Scenario;
 use chord_window::{Division, World, exchange, run_part};
 use std::alloc::Global;
 
-/// Makes divisions of three nodes: by turns, in blocks, a copy, and one that evens loads out.
+/// Makes divisions of three nodes: dealt in turn, in blocks, a copy, and one that evens out loads.
 pub fn divide_three(alloc: Global) -> Result<(), Stop> {
     let dealt = Division::dealt(alloc, 3, 2)?;
     let blocks = Division::blocks(alloc, 3, 2)?;
@@ -23,8 +23,8 @@ pub fn divide_three(alloc: Global) -> Result<(), Stop> {
     holds(balanced.part_of(2) == 1, "the loads are not evened out")
 }
 
-/// Runs one part of a world's first window. After a refusal the world and the queue are as they were, so that the part
-/// can be run again.
+/// Runs one part of a world's first window. After a failed allocation the world and the queue are as they were, so that
+/// the part can be run again.
 fn run_first(alloc: Global, scenario: &Scenario, world: &World, horizon: u64) -> Result<(), Stop>
     requires world { IsWorldOf scenario.now world.now }
     requires horizon { IsHorizon world.now horizon }
@@ -44,7 +44,7 @@ fn run_first(alloc: Global, scenario: &Scenario, world: &World, horizon: u64) ->
 }
 
 /// Runs the first window of a scenario by hand: its parts by one worker, then all of them at once, and divides the
-/// world that they leave anew.
+/// world that they leave again.
 pub fn run_by_hand(alloc: Global, scenario: &Scenario) -> Result<(), Stop> {
     scenario.recall_range();
     let blocks = Division::blocks(alloc, scenario.nodes(), 2)?;

@@ -157,9 +157,9 @@ fn is_out_of_range(bits: u64, table: &PlacedTable<'_>, entry: &Entry) -> bool
 {
     match value_at(table.table, entry.0) {
         Some(value) => {
+            // The 0 of a value that is no whole number does not matter: another question refuses
+            // it.
             !(is_in_range(bits, entry.1, value)
-                // The 0 of a value that is no number does not matter: it was refused as a wrong
-                // type.
                 && agrees(table.table, entry.0, whole(value).unwrap_or(0)))
         }
         None => false,
