@@ -97,7 +97,7 @@ same_test true b f g = sym (f refl)
 same_test false true f g = g refl
 same_test false false f g = refl
 
--- what follows from what a clause says of an answer
+-- what follows from what a clause says of a result
 pub ok_then : {A E : Type 0} (r : Result A E) (P Q : A → Type 0) → IfOk r P → ((x : A) → P x → Q x) → IfOk r Q
 ok_then (Ok x) P Q p f = f x p
 ok_then (Err e) P Q p f = tt

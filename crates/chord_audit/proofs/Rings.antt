@@ -66,7 +66,7 @@ passes next a b n m h = passed (after next a n) refl
     passed None e = let none : after next (a + b) n ≡ None = after_none next a b n e in absurd cc
     passed (Some q) e = (q, e, sym (after_then next a b n q e) ∙ h)
 
--- who comes back comes back after as many steps as one likes
+-- a node that comes back comes back after arbitrarily many steps
 pub comes_later : (next : ℕ → Option ℕ) (p n : ℕ) → 1 ≤ p → after next p n ≡ Some n → (k : ℕ) → (j : ℕ) × (k ≤ j) × (after next j n ≡ Some n)
 comes_later next p n some h zero = (0, omega arith, refl)
 comes_later next p n some h (suc k) =
@@ -74,7 +74,7 @@ comes_later next p n some h (suc k) =
     let far : k ≤ on.0 = on.1 in
     (on.0 + p, omega arith, after_then next on.0 p n n on.2 ∙ h)
 
--- so there is one from which so many steps lead to it
+-- so there is one from which this number of steps leads to it
 pub led_to : (next : ℕ → Option ℕ) (p n k : ℕ) → 1 ≤ p → after next p n ≡ Some n → (y : ℕ) × (j : ℕ) × (after next j n ≡ Some y) × (after next k y ≡ Some n)
 led_to next p n k some h =
     let on = comes_later next p n some h k in

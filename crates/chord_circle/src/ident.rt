@@ -3,7 +3,8 @@ ghost use Rattle.std.specs.Prelude.{◌≡◌};
 
 use std::marker::Model;
 
-/// The machine number that holds an identifier or a distance.
+/// The machine number that holds an identifier or a distance. It is public because contracts of
+/// other crates name it.
 pub type Raw = u128;
 
 /// An identifier: a place on a circle, which contracts see as its number.

@@ -1,4 +1,4 @@
--- What a seat's view tells of all views.
+-- What a seat's view implies for all views.
 use Rattle.std.proofs.Common.{◌≡◌, ℕ, ◌<◌, ◌≤◌, min, true, cond, eqb, List, [], get_or, sym, ap, ◌∙◌, eq-eqb, ne_eqb, arith}
 use Rattle.std.proofs.Math.Decide.{dec_lt, ℕ_discrete}
 use mathlib.Core.Option.{some, some-injective}

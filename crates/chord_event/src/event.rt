@@ -5,7 +5,8 @@ use crate::body::Body;
 use crate::error::Memory;
 use crate::key::Key;
 
-/// An event, and the number of the node at which it happens.
+/// An event, and the number of the node at which it happens. It is generic in its body, so that the
+/// laws of `chord_model` are about any machine.
 #[derive(Drop)]
 pub struct Event<B = Body> {
     pub key: Key,

@@ -52,7 +52,7 @@ node = "n6"
 via = "n0"
 "#;
 
-/// Two timeouts and six answers of no use are eight failures: the answers of n0 come every 20 from 240 on.
+/// Two timeouts and six useless replies are eight failures: the replies of n0 come every 20 us from 240 on.
 const JOIN_STUCK_TRACE: &str = "50 n1 crash\n\
     50 n3 crash\n\
     100 n6 join n0\n\

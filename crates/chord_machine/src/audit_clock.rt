@@ -8,7 +8,8 @@ use chord_scenario::Scenario;
 use std::alloc::Global;
 use std::marker::Model;
 
-/// The times of the audits that are still to come, in microseconds, the first one first.
+/// The times of the audits that are still to come, in microseconds, in order. It is public because
+/// contracts of other crates name it.
 #[derive(Drop)]
 pub struct AuditClock {
     times: Vec<u64>,

@@ -1,4 +1,4 @@
--- Lists in the order of keys are told by what they contain.
+-- Lists in the order of keys are determined by what they contain.
 use Rattle.std.proofs.Common.{◌≡◌, ◌≢◌, ℕ, suc, ◌<◌, List, [], ◌∷◌, ◌++◌, reverse, refl, ap, sym, ◌∙◌, subst, arith, ⊎_elim, ◌↔◌}
 use mathlib.Core.List.{reverse-cons}
 use Rattle.std.specs.Prelude.{◌==◌}
@@ -50,7 +50,7 @@ module _ {A : Type 0} (key : A → Key) where
       (AllPairs_at (λ (a b : A). IsBefore (key a) (key b)) x xs up y later) (AllPairs_at (λ (a b : A). IsBefore (key a) (key b)) y ys vp x after)))
       (contains_cons x y ys d)) (contains_cons y x xs c)
 
-  -- what stands behind the head is no head
+  -- what comes after the head is no head
   in_tail : (x : A) (xs ys : List A) → AllPairs (λ (a b : A). IsBefore (key a) (key b)) (x ∷ xs) → (z : A) → Contains xs z → Contains (x ∷ ys) z → Contains ys z
   in_tail x xs ys up z c d =
       ⊎_elim (λ e. absurd (let b : IsBefore (key x) (key z) = AllPairs_at (λ (a b : A). IsBefore (key a) (key b)) x xs up z c

@@ -93,7 +93,7 @@ module _ {State Body Piece : Type 0} (m : Machine State Body Piece) where
             let differ : length h ≢ length (e ∷ t) = other in
             let r = ih (omega arith) in (e ∷ r.0, ap (λ z. e ∷ z) r.1)
 
-    -- the events below t stand first, and the others follow
+    -- the events below t come first, and the others follow
     pub below_splits : (t : ℕ) (h : List (Event Body)) → IsLegal m h → (v : List (Event Body)) × (h ≡ v ++ below t h)
         × ((x : Event Body) → Contains v x → t ≤ x.key.time)
     below_splits t [] l = ([], refl, λ x c. absurd (contains_none x c))

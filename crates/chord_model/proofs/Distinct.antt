@@ -1,4 +1,4 @@
--- Each event that is ever made has a key of its own.
+-- No two events that are ever made have the same key.
 use Rattle.std.proofs.Math.Nat.{mul-suc}
 use Rattle.std.proofs.Common.{length, ◌*◌, ⊎_elim, ◌≡◌, ◌≢◌, ℕ, ◌+◌, ◌<◌, ◌≤◌, List, [], ◌∷◌, ap, sym, ◌∙◌, subst, arith, inl, inr, ◌⊎◌, eq-eqb}
 use Rattle.std.proofs.lemmas.Bool.{ne_eqb, cond-true, cond-false, cases_eq}

@@ -180,7 +180,7 @@ module _ {State Body Piece : Type 0} (m : Machine State Body Piece) {Sound : ℕ
           )))
           (cases_eq x.target e.target)
 
-      -- it has a key of its own
+      -- no other event has its key
       pub made_new : (x y : Event Body) → Contains (m.effect (seen e.target) e).events x → Contains wait y → x.key ≢ y.key
       made_new x y c k = made_fresh m w (part_run m d h horizon p n ++ h) here e (facts.0).known x y (made_is x c)
           (waiting_parts m d h horizon p (part_run m d h horizon p n) y ((r.waits y).0 k)).0.known

@@ -112,7 +112,7 @@ module _ {State Body Piece : Type 0} (m : Machine State Body Piece) where
   abbrev pub open_audits : List (Event Body) → List ℕ
   open_audits h = filter (λ t. list_all (λ e. nat_lt e.key.time t) h) m.audit_times
 
-  -- an audit comes before the first event of its time or later
+  -- the pieces of a history; an audit comes before the first event of its time or later
   abbrev pub output : List (Event Body) → List Piece
   output [] = []
   output (e ∷ h) = output h ++ (map (audit_at h) (filter (λ t. nat_le t e.key.time) (open_audits h)) ++ (effect_after h e).piece ∷ [])

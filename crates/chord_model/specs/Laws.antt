@@ -174,7 +174,8 @@ module _ {State Body Piece : Type 0} (m : Machine State Body Piece) where
       ↔ ((Contains (waiting m d h horizon p ran) x × (x ≢ e))
       ⊎ (Contains (effect_after m (ran ++ h) e).events x × (part_of d x.target ≡ p) × (x.key.time < horizon)))
 
-  -- The lists that the parts ran leave what one event at a time leaves.
+  -- The lists that the parts ran leave what one event at a time leaves. Some fields follow from others: engines cite
+  -- each of them, so a shorter record would need lemmas that every engine imports.
   pub record Commutes (d : Division) (h : List (Event Body)) (horizon : ℕ) (ran : ℕ → List (Event Body)) : Type 0 where
     -- `taken` is what the one run takes from h up to the horizon
     pub taken : List (Event Body)

@@ -218,7 +218,7 @@ fn initial_state(
 }
 
 /// The states of all nodes at the start of a run, by their numbers: the members know the ring, all
-/// other nodes are down.
+/// other nodes are down. The list is a plain `Vec`, since an engine takes it apart at once.
 pub fn initial_ring(alloc: Global, scenario: &Scenario) -> Result<Vec<NodeState>, Memory>
     ensures { IfOk result (λ states. states.items ≡ initial_ring scenario.now) }
 {

@@ -24,8 +24,8 @@ use Rattle.chord_ops.specs.Turns.{called, kind_of, noted, sent, when_some}
 use Rattle.chord_ops.proofs.Sending.{called_as, sent_as}
 use Rattle.chord_ops.proofs.KeptRules.{none_of}
 
--- the lines name nodes of the scenario alone; with the lookups, each of which may yet leave a line, they are so many
--- at most
+-- the lines name only nodes of the scenario; with the lookups, each of which may still leave a line, this is their
+-- number at most
 pub record AreNotes (sc : Scenario) (n : ℕ) (lines : List Line) (lookups : List Lookup) : Type 0 where
   pub named : All (IsLineOf sc) lines
   pub few : length lines + length lookups ≤ n
@@ -110,7 +110,7 @@ noted_called sc n to asked wanted turn at h =
     (λ delay place late near. one_more sc n h)
     (λ place near. noted_line sc n (line.Lose (kind_of asked) to) turn (one_node sc to at) h)
 
--- the lines of lookups that are given up name no node
+-- the lines of abandoned lookups name no node
 
 lost_with : (sc : Scenario) (wanted : Aim) (time : ℕ) (lookup : Lookup) (rest : List Line) → All (IsLineOf sc) rest
     → All (IsLineOf sc) (cons_option (lost_for wanted time lookup) rest)
@@ -138,7 +138,7 @@ lost_alone_few : (wanted : Aim) (time : ℕ) (lookup : Lookup) → length (optio
 lost_alone_few aim.User time lookup = omega arith
 lost_alone_few (aim.Finger index) time lookup = omega arith
 
--- the line of a lookup that is given up
+-- the line of an abandoned lookup
 pub notes_lost : (sc : Scenario) (n time : ℕ) (lookup : Lookup) (lines : List Line) (lookups : List Lookup) → AreNotes sc n lines lookups
     → AreNotes sc (n + 1) (lines ++ option_to_list (lost_line time lookup)) lookups
 notes_lost sc n time lookup lines lookups h =

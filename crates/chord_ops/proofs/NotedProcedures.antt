@@ -207,7 +207,7 @@ noted_for_attempt sc n step turn noted h =
     noted_when_some sc (n + 1) (λ _. Unit {0}) turn.state.join _ turn (known turn.state.join)
     (one_more sc n h) (λ attempt _. noted attempt)
 
--- each lookup that is given up leaves its line
+-- each abandoned lookup leaves its line
 pub noted_stranded : (sc : Scenario) (n via : ℕ) (turn : Turn) → via < node_count sc → HasNoted sc n turn → HasNoted sc (n + 1 + 1) (stranded sc via turn)
 unfolding stranded
 noted_stranded sc n via turn at h =

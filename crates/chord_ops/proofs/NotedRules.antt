@@ -360,7 +360,7 @@ noted_replied sc n k sender step None turn at out h noted =
     (noted_line sc n (line.Late k sender) turn (one_node sc sender at) h)
 noted_replied sc n k sender step (Some call) turn at out h noted = noted call out
 
--- the call that a reply answers is of a node of the scenario
+-- the call that a reply belongs to is of a node of the scenario
 call_answered : (sc : Scenario) (k : MessageKind) (number : ℕ) (s : NodeState) → IsNodeState sc s → IfSome (answered_call k number s) (IsCall sc)
 call_answered sc k number s is = IfSome-answered_call (IsCall sc) k number s is.calls.each
 

@@ -1,3 +1,4 @@
+//! The faults of a simulation.
 ghost use Rattle.std.specs.Prelude.{◌≡◌};
 ghost use Rattle.chord_play.specs.Faults.{fault_of_text};
 

@@ -53,7 +53,7 @@ apart_back : (xs ys : List (Event Body)) → AreApart (xs ++ ys) → AreApart ys
 apart_back [] ys all = all
 apart_back (x ∷ xs) ys all = apart_back xs ys (AllPairs_rest (λ (a b : Event Body). a.key ≢ b.key) x (xs ++ ys) all)
 
--- events in key order have keys of their own
+-- no two events in key order have one key
 pub ordered_apart : (es : List (Event Body)) → InKeyOrder event_key es → AreApart es
 ordered_apart [] o = AllPairs_none (λ (a b : Event Body). a.key ≢ b.key)
 ordered_apart (e ∷ es) o = AllPairs_cons (λ (a b : Event Body). a.key ≢ b.key) e es

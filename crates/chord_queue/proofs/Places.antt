@@ -56,7 +56,7 @@ use Rattle.chord_queue.proofs.Inserting.{is_in, contained}
 abbrev pub AreDistinct : List Entry → Type 0
 AreDistinct ws = IsDistinct is_same_key (map waiting_key ws)
 
--- the entries have keys of their own, and places with events of these keys
+-- no two entries have one key, and their places have events of these keys
 pub record Held (s : Events) (ws : List Entry) : Type 0 where
   pub placed : AllByRecursion (IsPlaced s) ws
   pub distinct : AreDistinct ws

@@ -1,4 +1,4 @@
--- What a sound table holds at its keys: each fact is found by its key, wherever that stands among the keys of the table.
+-- What a sound table holds at its keys: each fact is found by its key, wherever that is among the keys of the table.
 use Rattle.std.proofs.Common.{◌≡◌, subst, ap, ℕ, ◌==◌, Bool, true, false, List, [], ◌∷◌, bytes_eq, find, Option, Some, unwrap_or, inl, inr}
 use Rattle.std.specs.List.{AllByRecursion}
 use Rattle.std.specs.Option.{option_and_then}

@@ -30,7 +30,7 @@ use Rattle.chord_scenario.proofs.NodeFacts.{no_repeat, enough_initial, a_node_ch
 use Rattle.chord_scenario.proofs.SoundSections.{IsSound, sound_sections, holds_in_file}
 use Rattle.chord_scenario.proofs.TopFacts.{profile_fits, bits_fit, numbers_fit, churn_there, churn_in_range, lookups_in_range, few_nodes, few_commands}
 
--- no question has an answer
+-- no question finds a fault
 answers_none : (qs : List (Option ScenarioFault)) → first_answer qs ≡ None → AllByRecursion (λ q. q ≡ None) qs
 answers_none [] h = tt
 answers_none (q ∷ qs) h = let (here, rest) = or_none q (first_answer qs) h in (here, answers_none qs rest)
@@ -71,7 +71,7 @@ keys_fit profile bits top h =
       nodes = few_nodes profile bits churns top s (number_at key.Bits top);
     }
 
--- nodes of other numbers stand at other places
+-- nodes of other numbers are at other places
 met : (nodes : List Node) (i j : ℕ) → same_id nodes ≡ None → i < j → j < length nodes
     → get_or (map (λ n. n.ident) nodes) i 0 ≡ get_or (map (λ n. n.ident) nodes) j 0 → ⊥
 unfolding same_id

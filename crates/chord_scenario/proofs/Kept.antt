@@ -1,4 +1,4 @@
--- What is kept of a row answers as the row does.
+-- What is kept of a row gives the same results as the row.
 use Rattle.std.proofs.Common.{◌≡◌, ◌∙◌, ap, refl, ℕ, ◌+◌, Bool, true, false, ◌||◌, List, [], ◌∷◌, map, find, Option, Some, None, option_map, bytes_eq, inl, inr}
 use Rattle.std.specs.Option.{is_none, option_map_or}
 use Rattle.std.specs.List.{enumerate_from}

@@ -44,7 +44,7 @@ use Rattle.chord_scenario.proofs.DistinctNames.{index_of-own}
 not_zero : (v n : ℕ) → v ≡ n → 1 ≤ n → (v == 0) ≡ false
 not_zero v n e h = grind (arith, nat_tests)
 
--- a cell of 0 stands for the default
+-- a cell of 0 means the default
 zero_default : (a b : List ℕ) (rows : List Row) (v default : ℕ) → AreGood rows → v ≡ unwrap_or (row_latency a b rows) 0
     → cond (v == 0) default v ≡ unwrap_or (row_latency a b rows) default
 zero_default a b rows v default good is = by_case (find (names_pair a b) rows) refl

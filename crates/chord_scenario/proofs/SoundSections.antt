@@ -80,7 +80,7 @@ sound_each profile bits churns (s ∷ ss) known missing wrong out =
       sound_each profile bits churns ss known.1 ms ws os,
     )
 
--- no question of keys has an answer, so each table is sound
+-- no question of keys finds a fault, so each table is sound
 pub sound_sections : (profile bits : ℕ) (ss : List Section) → first_answer (key_questions profile bits ss) ≡ None
     → AllByRecursion (IsSound profile bits (list_any is_churn_section ss)) ss
 unfolding unknown_key missing_key wrong_type out_of_range

@@ -1,4 +1,4 @@
-//! The tables of a scenario file: where they stand, which keys they have, and what each key holds.
+//! The tables of a scenario file: their places, their keys, and what each key holds.
 
 ghost use Rattle.std.specs.Prelude.{◌≡◌};
 ghost use Rattle.chord_scenario.specs.FileKeys.{keys_at, key_name};
@@ -139,7 +139,7 @@ pub(crate) enum Presence {
     ForLookup,
 }
 
-/// The tables that stand in one array.
+/// The tables of one array.
 #[derive(Clone, Copy, Debug, PartialEq, Eq)]
 pub(crate) enum Group {
     Nodes,
@@ -245,6 +245,7 @@ const COMMANDS: Entry = Entry(
     Presence::Optional,
 );
 
+// One list for each profile, of entries that are named once: so the differences are easy to see.
 /// The keys at top in the first profile.
 static TOP_KEYS: [Entry; 17] = [
     PROFILE, BITS, LIST, SEED, DURATION, WINDOW, LATENCY, TIMEOUT, AUDIT, STABILIZE, FINGER,

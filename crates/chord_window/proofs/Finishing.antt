@@ -31,12 +31,12 @@ use Rattle.chord_window.specs.Worlds.{IsWorldOf}
 use Rattle.chord_window.proofs.CopyFacts.{no_copies, seen_first}
 use Rattle.chord_window.proofs.Openings.{due_apart, due_waits, window_may_open}
 
--- what is said if there is none
+-- what follows if there is none
 pub none_after : {A : Type 0} (o : Option A) (P : Type 0) → o ≡ None → IfNone o P → P
 none_after None P e h = h
 none_after (Some x) P e h = absurd cc
 
--- what is said if there is one
+-- what follows if there is one
 pub some_after : {A : Type 0} (o : Option A) (P : A → Type 0) (x : A) → o ≡ Some x → IfSome o P → P x
 some_after None P x e h = absurd cc
 some_after (Some y) P x e h = let same : y ≡ x = cc in subst P same h

@@ -194,7 +194,7 @@ begins sc d workers h horizon picks some number more g goes =
     (ap (λ b. if b then begun (chord sc) (number + 1) (left_by d (opened h horizon).history (ran_by (opened h horizon))) else Within number
     (opened h horizon)) (unsealed (opened h horizon) d.parts 0 some refl)) goes
 
--- the answer of one step more
+-- the result of one step more
 pub told_more : (before now : List Taken) (taken : List (ℕ × Step Body)) (worker : ℕ) (step : Step Body) (answered : AStep)
     → now ≡ before ++ map shown taken → shown_step step ≡ answered
     → now ++ record { worker = worker; step = answered } ∷ [] ≡ before ++ map shown (taken ++ (worker, step) ∷ [])

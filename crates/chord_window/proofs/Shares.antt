@@ -83,7 +83,7 @@ put_moves x (y ∷ ys) = go (is_before x.key y.key) (put_moves x ys)
         (IsPermutation-sym (y ∷ (x ∷ ys)) (x ∷ (y ∷ ys)) (IsPermutation-middle (y ∷ []) x ys))
         (IsPermutation-cons y (x ∷ ys) (put_in_order block_key x ys) rest)
 
--- blocks with keys of their own can be put in order
+-- blocks of which no two have one key can be put in order
 in_order : (blocks : List Block) → AllPairs (λ (a b : Block). a.key ≢ b.key) blocks
     → (ordered : List Block) × InKeyOrder block_key ordered × IsPermutation blocks ordered
 in_order [] apart = ([], tt, IsPermutation-refl [])

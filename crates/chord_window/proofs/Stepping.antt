@@ -96,7 +96,7 @@ use Rattle.chord_window.specs.PartRuns.{HasHandled, IsNextKey, IsReady, IsRunnin
 use Rattle.chord_window.specs.Worlds.{IsWorldOf}
 use Rattle.chord_window.proofs.Sorting.{apart_end}
 
--- an event in the middle of a list with keys of their own
+-- an event in the middle of a list in which no two have one key
 module _ (xs ys : List (Event Body)) (e : Event Body) (all : AreApart (xs ++ e ∷ ys)) where
   pub middle_there : (x : Event Body) → Contains (xs ++ ys) x → Contains (xs ++ e ∷ ys) x × (x ≢ e)
   middle_there x c = ⊎_elim

@@ -17,6 +17,7 @@ pub enum DivisionFault {
     PartOutOfRange,
 }
 
+// The names of the variants. The program never prints them: it makes its divisions itself.
 impl fmt::Display for DivisionFault {
     fn fmt<W: fmt::Write>(&self, f: &mut fmt::Formatter<W>) -> fmt::Result {
         match self {

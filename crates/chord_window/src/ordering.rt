@@ -30,6 +30,7 @@ pub fn in_part_order(alloc: Global, parts: u32, dones: Vec<Done>) -> Result<Vec<
     requires once { HasEachOnce parts (parts_of dones.items) }
     ensures { IfOk result (λ list. AreInOrder dones.items parts list.items) }
 {
+    // All that follows goes by part order, which makes its proof an induction over the parts.
     let slots = place(alloc, parts, dones)?;
     take_out(alloc, slots)
 }

@@ -1,4 +1,4 @@
--- What `document` and `scenario_of` answer, said of the two texts.
+-- What `document` and `scenario_of` return, as facts of the two texts.
 use Rattle.std.proofs.Common.{◌≡◌, ◌∙◌, ◌⊎◌, sym, ap, ℕ, List, Result, Ok, Err, IfOk, Some, None, inl, inr, rules}
 use Rattle.std.proofs.lemmas.Result.{IfErr-weaker}
 use Rattle.toml.specs.Data.{Members}
