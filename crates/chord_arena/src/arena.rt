@@ -127,7 +127,7 @@ impl<T> RecordArena<T> {
         self.chunks[index / CHUNK_PLACES].get(index % CHUNK_PLACES)
     }
 
-    /// How many records there are.
+    /// The number of records.
     pub fn len(&self) -> usize
         ensures { result ≡ length self.now.items }
     {

@@ -7,7 +7,7 @@ use std::alloc::{AllocError, Allocator};
 use std::marker::{Model, PhantomData, Send, Sync};
 use std::mem::{align_of, size_of};
 
-/// The memory of a chunk: its records, the room behind them and the right to free it all. No other
+/// The memory of a chunk: its records, the room after them and the right to free it all. No other
 /// code follows a pointer. Contracts see the records as `items`, and how many fit as `places`; the
 /// holder keeps both counts and the allocator.
 ///

@@ -93,10 +93,10 @@ noughts zero node = omega arith
 noughts (suc n) zero = omega arith
 noughts (suc n) (suc node) = noughts n node
 
--- a list of noughts has no other number
+-- a list of zeros has no other number
 pub all_nought : (n node : ℕ) (list : List ℕ) → list ≡ replicate n 0 → get_or list node 0 ≤ 0
 all_nought n node list is = subst (λ l. get_or l node 0 ≤ 0) (sym is) (noughts n node)
 
--- and is as long as was asked
+-- and has the requested length
 pub as_long : (n : ℕ) (list : List ℕ) → list ≡ replicate n 0 → length list ≡ n
 as_long n list is = ap length is ∙ length-replicate n 0

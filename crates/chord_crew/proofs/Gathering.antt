@@ -1,4 +1,4 @@
--- What one worker and the others hand on, put together.
+-- The joined results of one worker and the others.
 use Rattle.std.proofs.Common.{
   ◌≡◌,
   ℕ,
@@ -64,7 +64,7 @@ results_joined sc w horizon first mine seat list more all seat_is all_is a b = r
   each = subst (All (IsResult sc w horizon)) (sym all_is) (All-append (IsResult sc w horizon) list more a.each b.each);
 }
 
--- what the others and one more worker hand on is what the joined seat's worker would
+-- the results of the others and one more worker are those of a worker with the joined seat
 pub gathered_joined : (sc : Scenario) (w : World) (horizon : ℕ) (first mine : SeatState) (others : Result Gathered RunError) (shift : Shift) (whole : Gathered)
     → IfOk others (IsGathered sc w horizon first)
     → IsShift sc w horizon mine shift

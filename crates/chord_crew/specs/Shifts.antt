@@ -23,7 +23,7 @@ pub record AreResults (sc : Scenario) (w : World) (horizon : ℕ) (parts : List 
   pub parts_are : parts_of list ≡ parts
   pub each : All (IsResult sc w horizon) list
 
--- what these parts leave, but for the last
+-- what these parts leave, except for the last
 pub record AreButLast (sc : Scenario) (w : World) (horizon : ℕ) (parts : List ℕ) (list : List Done) : Type 0 where
   pub last : ℕ
   pub parts_are : parts_of list ++ last ∷ [] ≡ parts

@@ -28,7 +28,7 @@ module _ {A : Type 0} (key_of : A → Key) where
   put_at_in x y ys rest z on false (inl s) = inr (inl s)
   put_at_in x y ys rest z on false (inr h) = elim (on h) [ inl s ↦ inl s | inr k ↦ inr (inr k) ]
 
-  -- what is in the list once x was put in it
+  -- what is in the list after x was inserted
   pub in_put : (x : A) (xs : List A) (z : A) → IsIn z (put_in_order key_of x xs) → (z ≡ x) ⊎ IsIn z xs
   in_put x [] z h = h
   in_put x (y ∷ ys) z h = put_at_in x y ys (put_in_order key_of x ys) z (in_put x ys z) (is_before (key_of x) (key_of y)) h
@@ -44,7 +44,7 @@ module _ {A : Type 0} (key_of : A → Key) where
   put_in x [] z h = h
   put_in x (y ∷ ys) z h = in_put_at x y ys (put_in_order key_of x ys) z (put_in x ys z) (is_before (key_of x) (key_of y)) h
 
-  -- what holds of x and of all items holds once x is among them
+  -- what holds of x and of all items holds after x was inserted
   pub all_put : (P : A → Type 0) (x : A) (xs : List A) → P x → AllByRecursion P xs → AllByRecursion P (put_in_order key_of x xs)
   all_put P x xs here all =
       all_from P (put_in_order key_of x xs) (λ z h. elim (in_put x xs z h) [ inl s ↦ subst P (sym s) here | inr k ↦ all_in P xs all z k ])
@@ -72,7 +72,7 @@ module _ {A : Type 0} (key_of : A → Key) where
         ordered,
       )
 
-  -- an item of a new key may be put in
+  -- an item with a new key may be inserted
   pub ordered_put : (x : A) (xs : List A) → InKeyOrder key_of xs → IsNewKey key_of (key_of x) xs → InKeyOrder key_of (put_in_order key_of x xs)
   ordered_put x [] o new = (tt, tt)
   ordered_put x (y ∷ ys) o new = ordered_at x y ys (put_in_order key_of x ys) (in_put x ys) (ordered_put x ys o.1 new.1) o new.0

@@ -13,12 +13,12 @@ pub fn keys_are_distinct()
     ensures { (sc : Scenario) → IsInRange sc → KeysAreDistinct (chord sc) }
 {}
 
-/// What is pending is what was made and not taken.
+/// The pending events are those that were made and not taken.
 pub fn pending_is_the_rest()
     ensures { (sc : Scenario) → IsInRange sc → PendingIsTheRest (chord sc) }
 {}
 
-/// An event that is taken is pending no more, and what it makes is.
+/// An event that is taken is no longer pending, and the events that it makes are.
 pub fn pending_moves()
     ensures { (sc : Scenario) → IsInRange sc → PendingMoves (chord sc) }
 {}

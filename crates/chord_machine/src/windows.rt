@@ -20,7 +20,8 @@ pub fn others_come_later()
     ensures { (sc : Scenario) → IsInRange sc → OthersComeLater (chord sc) }
 {}
 
-/// An event that a part ran waits there no more, and what it made for the part below the horizon does.
+/// An event that a part ran no longer waits there, and what it made for the part below the horizon
+/// does.
 pub fn waiting_moves()
     ensures { (sc : Scenario) → IsInRange sc → WaitingMoves (chord sc) }
 {}

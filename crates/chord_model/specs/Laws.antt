@@ -76,7 +76,7 @@ module _ {State Body Piece : Type 0} (m : Machine State Body Piece) where
   abbrev pub KeysAreDistinct : Type 0
   KeysAreDistinct = (h : List (Event Body)) → IsPossible m h → AllPairs (λ (a b : Event Body). a.key ≢ b.key) (all_events m h)
 
-  -- What is pending is what was made and not taken.
+  -- The pending events are those that were made and not taken.
   abbrev pub PendingIsTheRest : Type 0
   PendingIsTheRest = (h : List (Event Body)) → IsPossible m h → (x : Event Body) → Contains (pending m h) x ↔ (Contains (all_events m h) x × (Contains h x → ⊥))
 
@@ -84,7 +84,7 @@ module _ {State Body Piece : Type 0} (m : Machine State Body Piece) where
   abbrev pub NextIsFound : Type 0
   NextIsFound = (h : List (Event Body)) → IsPossible m h → (e : Event Body) → (next m h ≡ Some e) ↔ IsNext m h e
 
-  -- After an event, it is pending no more, and what it made is.
+  -- After an event is taken, it is no longer pending, and the events that it made are.
   abbrev pub PendingMoves : Type 0
   PendingMoves =
       (h : List (Event Body)) (e : Event Body) → IsPossible m (e ∷ h) → (x : Event Body)
@@ -165,7 +165,8 @@ module _ {State Body Piece : Type 0} (m : Machine State Body Piece) where
       → (p : ℕ) (ran : List (Event Body)) → IsPartRun m d h horizon p ran → (x : Event Body) → Contains (made_since m h ran) x
       → (x.key.origin ≢ 2 + x.target → horizon ≤ x.key.time) × (x.key.origin ≡ 2 + x.target → part_of d x.target ≡ p)
 
-  -- After an event of a part, it waits there no more, and of what it made the events for the part below the horizon do.
+  -- After a part has run an event, it no longer waits there, and of what it made the events for the part below the
+  -- horizon do.
   abbrev pub WaitingMoves : Type 0
   WaitingMoves =
       (d : Division) (h : List (Event Body)) (horizon p : ℕ) (ran : List (Event Body)) (e : Event Body) → IsPossible m h

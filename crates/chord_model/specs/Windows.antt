@@ -120,12 +120,12 @@ module _ {State Body Piece : Type 0} (m : Machine State Body Piece) where
   abbrev pub waiting : Division → List (Event Body) → ℕ → ℕ → List (Event Body) → List (Event Body)
   waiting d h horizon p ran = filter (λ e. part_of d e.target == p && nat_lt e.key.time horizon) (pending m (ran ++ h))
 
-  -- the list of a part that runs the least event that waits there, one after another
+  -- the list of a part that runs the least waiting event again and again
   abbrev pub IsPartRun : Division → List (Event Body) → ℕ → ℕ → List (Event Body) → Type 0
   IsPartRun d h horizon p [] = ⊤
   IsPartRun d h horizon p (e ∷ ran) = IsPartRun d h horizon p ran × (least (waiting d h horizon p ran) ≡ Some e)
 
-  -- and does so until none waits there
+  -- and goes on until none waits there
   pub record IsSealedRun (d : Division) (h : List (Event Body)) (horizon p : ℕ) (ran : List (Event Body)) : Type 0 where
     pub runs : IsPartRun d h horizon p ran
     pub done : waiting d h horizon p ran ≡ []

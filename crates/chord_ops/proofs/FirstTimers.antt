@@ -16,7 +16,7 @@ use Rattle.chord_ops.specs.FirstTurns.{IsNew, first_turn}
 use Rattle.chord_ops.specs.Procedures.{armed, finger_armed, life_armed, stabilize_armed, traffic_armed}
 use Rattle.chord_ops.specs.Turns.{timer_made, when_some}
 
--- the first timers of a node, if these are the scenario's lookups and times of churn
+-- the first timers of a node, when these are the scenario's lookups and times of churn
 abbrev timers_with : Scenario → (lookups : Option Span) → (is_churn : Bool) → (churn : Option Churn) → List (Span × Body)
 timers_with sc lookups is_churn churn =
     (jittered sc sc.stabilize, body.StabilizeTick 1)
@@ -67,7 +67,7 @@ unfolding stabilize_armed finger_armed timer_made
 armed_at sc s None churn = armed_with sc s None (is_churn_node sc s.me) churn
 armed_at sc s (Some gap) churn = armed_with sc s (Some gap) (is_churn_node sc s.me) churn
 
--- a state that is given the figures that it has is as it was
+-- a state whose fields are set to their own values is as it was
 restored : (s : NodeState) (epoch place count : ℕ) → epoch ≡ s.epoch → place ≡ s.place → count ≡ s.count
     → record s { epoch = epoch; place = place; count = count } ≡ s
 restored s epoch place count e p c = rw (e, p, c) refl

@@ -1,4 +1,4 @@
--- What holds of a message that is sent, and of a call, however late the message arrives and if it is lost.
+-- What holds of a message that is sent, and of a call, however late the message arrives, and also if it is lost.
 use Rattle.std.proofs.Common.{ℕ, ◌+◌, ◌≤◌, Bool, true, false, ◌∷◌, ◌++◌, [], arith}
 use Rattle.std.specs.Prelude.{if◌then◌else◌}
 use Rattle.chord_event.specs.declared.body.Body.{Body}

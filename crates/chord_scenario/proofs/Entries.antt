@@ -53,7 +53,7 @@ module _ {profile bits : ℕ} {churns : Bool} {s : Section} (sound : IsSound pro
   pub not_out : (e : Entry) → Lists e → is_out_of_range bits s e ≡ false
   not_out e is = of_found (λ x. is_out_of_range bits s x ≡ false) (λ x. bytes_eq (key_name e.0) (key_name x.0)) (keys_at profile s.at) e is sound.fitting
 
-  -- a number that has to be there is in range, and agrees with the others of the table
+  -- a required number is in range, and agrees with the others of the table
   pub required_fits : (k : FileKey) (least greatest : ℕ) → Lists (required k (Whole least greatest)) → Fits least greatest (number_at k s.members)
   required_fits k least greatest is =
       let e = required k (Whole least greatest) in
@@ -64,14 +64,14 @@ module _ {profile bits : ℕ} {churns : Bool} {s : Section} (sound : IsSound pro
       let e = required k (Whole least greatest) in
       number_agrees (is_in_range bits (Whole least greatest)) (agrees s.members k) (data_at k s.members) (not_missing e is) (not_out e is)
 
-  -- one that may be there is in range if its default is
+  -- an optional number is in range if its default is
   pub optional_fits : (k : FileKey) (least greatest default : ℕ) → Lists (optional k (Whole least greatest)) → Fits least greatest default
       → Fits least greatest (number_or default k s.members)
   optional_fits k least greatest default is own =
       default_fits bits least greatest default (λ d. agrees s.members k (unwrap_or (as_whole d) 0)) (data_at k s.members) own
       (not_out (optional k (Whole least greatest)) is)
 
-  -- a value that has to be there is there, and has its type
+  -- a required value is there, and has its type
   pub has_typed : (e : Entry) → Lists e → is_required churns s e.2 ≡ true → (d : Data) × (data_at e.0 s.members ≡ Some d) × (has_type e.1 d ≡ true)
   has_typed e is must = there_typed (has_type e.1) (data_at e.0 s.members) (rw must at (not_missing e is)) (not_wrong e is)
 

@@ -52,7 +52,7 @@ find-kept keep test own same n (r ∷ rows) =
       | inr other ↦ rw (same r, other) (find-kept keep test own same (n + 1) rows)
     ]
 
--- the first row of which a question holds, by what is kept
+-- the first row of which a question holds, found from what is kept
 pub row_fault-kept : (fault : Place → ScenarioFault) (keep : Row → Option RowLink) (test : Option RowLink → Bool) (own : Row → Bool)
     → ((r : Row) → test (keep r) ≡ own r) → (rows : List Row)
     → row_fault fault test (map keep rows) ≡ row_fault fault own rows

@@ -140,7 +140,7 @@ between-fits least greatest n h =
     let (low, high) = and_parts (nat_le least n) (nat_le n greatest) h in
     record { low = leb-true least n low; high = leb-true n greatest high }
 
--- a number that has to be there
+-- a required number
 pub number_fits : (bits least greatest : ℕ) (agrees : Data → Bool) (o : Option Data) → is_none o ≡ false
     → option_map_or (λ d. not (is_in_range bits (Whole least greatest) d && agrees d)) o false ≡ false
     → Fits least greatest (unwrap_or (option_and_then as_whole o) 0)
@@ -149,7 +149,7 @@ number_fits bits least greatest agrees (Some d) there h =
     let (fits, agree) = and_parts (is_in_range bits (Whole least greatest) d) (agrees d) (not_false _ h) in
     between-fits least greatest (unwrap_or (as_whole d) 0) (whole_fits bits least greatest 0 d fits)
 
--- and one that may be there, with its default
+-- and an optional one, with its default
 pub default_fits : (bits least greatest default : ℕ) (agrees : Data → Bool) (o : Option Data) → Fits least greatest default
     → option_map_or (λ d. not (is_in_range bits (Whole least greatest) d && agrees d)) o false ≡ false
     → Fits least greatest (unwrap_or (option_and_then as_whole o) default)
@@ -165,7 +165,7 @@ pub number_agrees : (fits : Data → Bool) (agrees : ℕ → Bool) (o : Option D
 number_agrees fits agrees None there h = absurd (false≢true (sym there))
 number_agrees fits agrees (Some d) there h = (and_parts (fits d) (agrees (unwrap_or (as_whole d) 0)) (not_false _ h)).1
 
--- the value that has to be there has its type
+-- a required value has its type
 pub there_typed : (typed : Data → Bool) (o : Option Data) → is_none o ≡ false → option_map_or (λ d. not (typed d)) o false ≡ false
     → (d : Data) × (o ≡ Some d) × (typed d ≡ true)
 there_typed typed None there h = absurd (false≢true (sym there))

@@ -1,4 +1,4 @@
--- The tables of a scenario file: the keys of each in order, what each may hold and when it has to be there.
+-- The tables of a scenario file: the keys of each in order, what each may hold and when it is required.
 use Rattle.std.specs.Prelude.{ℕ, List, [], ◌∷◌, ◌++◌, ◌==◌, codes, if◌then◌else◌}
 use Rattle.chord_scenario.specs.declared.key.Place.{Place}
 use Rattle.chord_scenario.specs.declared.key.Place.TheVariants as place

@@ -36,7 +36,7 @@ has_unlisted profile p (member name d ms) = not (is_listed profile p name) || ha
 unfoldable pub unknown_key : ℕ → List Section → Option ScenarioFault
 unknown_key profile ss = section_fault UnknownKey (λ s. has_unlisted profile s.at s.members) ss
 
--- a key that has to be there is not
+-- a required key is missing
 abbrev pub is_churn_section : Section → Bool
 is_churn_section s = is_node s.at && truth_at key.Churn s.members
 

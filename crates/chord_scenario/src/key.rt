@@ -126,7 +126,7 @@ pub(crate) enum Form {
     Tables(usize, usize),
 }
 
-/// When a key has to be there.
+/// When a key is required.
 #[derive(Clone, Copy, Debug, PartialEq, Eq)]
 pub(crate) enum Presence {
     Required,
@@ -168,7 +168,7 @@ impl Group {
     }
 }
 
-/// A key of a table, with what it may hold and when it has to be there.
+/// A key of a table, with what it may hold and when it is required.
 #[derive(Clone, Copy, Debug, PartialEq, Eq)]
 pub(crate) struct Entry(pub FileKey, pub Form, pub Presence);
 

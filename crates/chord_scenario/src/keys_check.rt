@@ -72,7 +72,7 @@ fn has_churn_node(tables: &[PlacedTable<'_>]) -> bool
     false
 }
 
-/// Whether a key has to be there.
+/// Whether a key is required.
 fn is_required(churns: bool, table: &PlacedTable<'_>, presence: Presence) -> bool
     ensures { result ≡ is_required churns (section_of table.now) presence }
 {
@@ -85,14 +85,14 @@ fn is_required(churns: bool, table: &PlacedTable<'_>, presence: Presence) -> boo
     }
 }
 
-/// Whether a key has to be there and is not.
+/// Whether a required key is missing.
 fn is_missing(churns: bool, table: &PlacedTable<'_>, entry: &Entry) -> bool
     ensures { result ≡ is_missing churns (section_of table.now) entry.now }
 {
     is_required(churns, table, entry.2) && value_at(table.table, entry.0).is_none()
 }
 
-/// The first key of a table that has to be there and is not.
+/// The first required key that a table lacks.
 fn missing_in(profile: u64, churns: bool, table: &PlacedTable<'_>) -> Option<ScenarioFault>
     ensures { result ≡ key_fault_in profile MissingKey (is_missing churns) (section_of table.now) }
 {
@@ -103,7 +103,7 @@ fn missing_in(profile: u64, churns: bool, table: &PlacedTable<'_>) -> Option<Sce
     }
 }
 
-/// The first key that has to be there and is not.
+/// The first required key that is missing.
 #[tactic(auto, unfolding(crate::specs::KeyFaults::missing_key))]
 pub(crate) fn missing_key(profile: u64, tables: &[PlacedTable<'_>]) -> Option<ScenarioFault>
     ensures { result ≡ missing_key profile (map section_of tables.now) }
@@ -151,7 +151,7 @@ pub(crate) fn wrong_type(profile: u64, tables: &[PlacedTable<'_>]) -> Option<Sce
     None
 }
 
-/// Whether a value is outside its range, or does not agree with another of its table.
+/// Whether a value is outside its range, or does not agree with another value of its table.
 fn is_out_of_range(bits: u64, table: &PlacedTable<'_>, entry: &Entry) -> bool
     ensures { result ≡ is_out_of_range bits (section_of table.now) entry.now }
 {

@@ -11,7 +11,7 @@ use crate::key::Place;
 use crate::row::{RowLink, Rows};
 use std::alloc::Global;
 
-/// The numbers of the nodes that a row names, and its latency.
+/// The numbers of the nodes that a row names, and its latency in microseconds.
 #[derive(Clone, Copy)]
 pub(crate) struct Ends {
     pub first: u32,

@@ -12,7 +12,7 @@ use csv::{ByteRecord, ErrorKind, ReaderBuilder};
 use std::alloc::{AllocError, Global};
 
 /// What is kept of a row of three fields: the numbers of its two nodes, if they are nodes,
-/// whether both have one name, and its latency, if it is one.
+/// whether both have one name, and its latency in microseconds, if it is one.
 #[derive(Clone, Copy, Drop)]
 pub(crate) struct RowLink {
     pub first: Option<u32>,

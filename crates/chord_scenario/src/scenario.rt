@@ -179,7 +179,7 @@ impl Scenario {
         self.lookups
     }
 
-    /// How many nodes there are.
+    /// The number of nodes.
     pub fn nodes(&self) -> u32
         ensures { result ≡ node_count self.now }
     {

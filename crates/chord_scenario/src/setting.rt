@@ -14,7 +14,7 @@ pub struct Node {
     pub churn: bool,
 }
 
-/// The times from one to another, both among them.
+/// The times from `least` to `greatest`, both included.
 #[derive(Clone, Copy, Debug, PartialEq, Eq, Drop)]
 pub struct Span {
     pub least: u64,
@@ -36,7 +36,7 @@ pub enum Action {
     Lookup { key: Ident },
 }
 
-/// A command, and when it is given to which node.
+/// A command: its time, its node and what it asks.
 #[derive(Clone, Copy, Debug, PartialEq, Eq, Drop)]
 pub struct Command {
     pub at: u64,

@@ -93,7 +93,7 @@ use Rattle.chord_trace.specs.Tally.{IsTallyOf, taken}
 use Rattle.chord_trace.specs.Texts.{pieces_text}
 use Rattle.chord_trace.specs.Writing.{AppendsFront}
 
--- another list of the same events serves as well
+-- another list of the same events does as well
 world_same : (sc : Scenario) (states : List NodeState) (xs ys : List (Event Body)) (count : ℕ) → ((x : Event Body) → Contains ys x ↔ Contains xs x)
     → AreApart ys → IsWorld (chord sc) states xs count → IsWorld (chord sc) states ys count
 world_same sc states xs ys count same apart w = record {

@@ -1,4 +1,4 @@
--- The greatest and the least of numbers: of two lists together, and by how many numbers lie past it.
+-- The greatest and the least of numbers: of two lists together, and by how many numbers are past it.
 use Rattle.std.proofs.Common.{
   ◌≡◌,
   ◌≢◌,
@@ -85,7 +85,7 @@ none_above (n ∷ ns) k le =
     let not_lt : nat_lt k n ≡ false = let small : n ≤ k = omega (arith, le, most) in grind (arith, nat_tests) in
     omega (arith, above-cons k n ns, ap (λ c. cond {A = ℕ} c 1 0) not_lt, none_above ns k (omega (arith, le, most)))
 
--- numbers that lie alike past each bound have one greatest
+-- lists with the same count of numbers past each bound have the same greatest number
 pub same_greatest : (xs ys : List ℕ) → ((k : ℕ) → above k xs ≡ above k ys) → greatest xs ≡ greatest ys
 same_greatest xs ys same =
     let one = greatest-le xs (greatest ys) (same (greatest ys) ∙ none_above ys (greatest ys) (omega arith)) in
@@ -124,7 +124,7 @@ le-least x xs k none = go (nat_lt x k) refl
         let high : k ≤ x = grind (arith, nat_tests) in
         le-fold x k xs high (omega (arith, none, below-cons k x xs))
 
--- as many numbers that lie alike past each bound have one least
+-- lists of one length with the same count of numbers past each bound have the same least number
 pub same_least : (xs ys : List ℕ) → length xs ≡ length ys → ((k : ℕ) → below k xs ≡ below k ys) → least xs ≡ least ys
 same_least [] [] len same = refl
 same_least [] (y ∷ ys) len same = absurd (omega (arith, len))

@@ -1,4 +1,4 @@
--- How many times lie below an entry of a map, and up to it.
+-- The number of times below an entry of a map, and up to it.
 use Rattle.std.proofs.Common.{◌≡◌, ◌∙◌, ℕ, ◌+◌, ◌<◌, true, false, cond, nat_le, nat_lt, List, [], ◌∷◌, ◌++◌, refl, ap, subst, arith}
 use Rattle.std.specs.List.{AllByRecursion}
 use Rattle.std.specs.List.Sorted.{IsStrictlySortedBy}
@@ -26,7 +26,7 @@ none_past k (e ∷ es) above =
       counted-cons (λ time. nat_le time k) e es ∙ rw (not_le, rest.1) refl,
     )
 
--- what all have, the one in between has
+-- what all entries have, the one in between has
 at_middle : (P : ℕ → Type 0) (before : List (ℕ × ℕ)) (e : ℕ × ℕ) (rest : List (ℕ × ℕ)) → AllByRecursion P (keys_of (before ++ e ∷ rest)) → P e.0
 at_middle P [] e rest all = all.0
 at_middle P (x ∷ before) e rest all = at_middle P before e rest all.1

@@ -1,4 +1,4 @@
--- What one step of a worker makes of a window.
+-- The window after one step of a worker.
 use Rattle.std.proofs.Common.{
   ◌≡◌,
   ◌≢◌,
