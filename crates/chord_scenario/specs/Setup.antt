@@ -22,7 +22,8 @@ pub record Setup : Type 0 where
   pub finger : ℕ
   pub jitter : ℕ
   pub max_events : ℕ
-  -- in the second profile: how many of a million messages are lost, and how much longer than the latency one may take
+  -- in the second profile: the chance in millionths that a message is lost, and how much longer than its latency it may
+  -- take
   pub loss : ℕ
   pub spread : ℕ
   pub churn : Option Churn

@@ -90,7 +90,7 @@ pub(crate) fn small_number_at(table: &Table, key: FileKey) -> u32
     number_at(table, key) as u32
 }
 
-/// The number at a key, and another one if the key holds none.
+/// The number at a key, and the default if the key holds none.
 pub(crate) fn number_or(table: &Table, key: FileKey, default: u64) -> u64
     ensures { result ≡ number_or default key (table_view table.now) }
 {

@@ -157,8 +157,7 @@ fn is_out_of_range(bits: u64, table: &PlacedTable<'_>, entry: &Entry) -> bool
 {
     match value_at(table.table, entry.0) {
         Some(value) => {
-            // The 0 of a value that is no whole number does not matter: another question refuses
-            // it.
+            // A value that is no whole number counts as 0 here: another question refuses it.
             !(is_in_range(bits, entry.1, value)
                 && agrees(table.table, entry.0, whole(value).unwrap_or(0)))
         }

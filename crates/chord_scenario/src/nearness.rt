@@ -11,8 +11,7 @@ use crate::row::Rows;
 use crate::setting::Node;
 use std::alloc::{AllocError, Global};
 
-/// The latency of two different nodes by a square for n nodes: its cell, or the default if that is
-/// 0.
+/// The latency of two different nodes by a square for n nodes: its cell, or the default for a 0.
 pub(crate) fn latency_in(cells: &[u32], n: usize, default: u64, i: usize, j: usize) -> u64
     requires row { i < n }
     requires column { j < n }

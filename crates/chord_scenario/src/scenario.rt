@@ -150,7 +150,8 @@ impl Scenario {
         self.max_events
     }
 
-    /// The number of lost messages per million between different nodes: 0 in the first profile.
+    /// The chance, in millionths, that a message between different nodes is lost: 0 in the first
+    /// profile.
     pub fn loss(&self) -> u64
         ensures { result ≡ self.now.loss }
     {
