@@ -127,7 +127,7 @@ pub(crate) fn run_workers<R: Threads + Wait + Sync, S: Starter, G: Gate + Sync>(
     )
 }
 
-/// Runs the last worker, who takes the seat that is left.
+/// Runs the last worker, with the seat that is left.
 fn run_last<R: Threads + Wait + Sync, S: Starter, G: Gate + Sync>(
     rt: &R,
     run: &WindowRun<'_, G>,

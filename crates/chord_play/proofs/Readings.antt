@@ -1,4 +1,4 @@
--- What was read, and the faults of a simulation that come of it.
+-- What was read, and the faults of a simulation that result.
 use Rattle.std.proofs.Common.{◌≡◌, ◌≢◌, ℕ, List, [], ◌++◌, Option, Some, None, append-nil}
 use Rattle.std.specs.Io.KnownBytes.{Consumes, IsAtEnd}
 use Rattle.chord_play.specs.Faults.{fault_of_scenario}

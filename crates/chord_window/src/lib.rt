@@ -1,4 +1,4 @@
-//! The simulator by windows: each part of the nodes runs its events up to a horizon by itself.
+//! The simulator by windows: each part of the nodes runs its events up to a horizon independently.
 #![tactic(auto)]
 
 mod copies;
