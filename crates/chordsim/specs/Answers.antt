@@ -1,9 +1,12 @@
--- What the program answers.
+-- What the program prints, and the status that it ends with.
 use Rattle.std.specs.Io.KnownBytes.{Appends}
-use Rattle.std.specs.Prelude.{ℕ, List, [], ◌++◌, codes, decimal, length, string_bytes, Option, Result, Ok, Err}
+use Rattle.std.specs.Prelude.{◌≡◌, ◌⊎◌, ℕ, List, [], ◌++◌, codes, decimal, length, string_bytes, Option, Result, Ok, Err}
 use Rattle.std.specs.List.{flat_map, range_with_len}
 use Rattle.std.specs.Option.{option_map_or}
 use Rattle.chord_machine.specs.Run.{IsReport}
+use Rattle.clap.specs.Words.{kind_of}
+use Rattle.clap.specs.declared.error.kind.ErrorKind.{ErrorKind}
+use Rattle.clap.specs.declared.error.kind.ErrorKind.TheVariants as kind
 use Rattle.chord_play.specs.declared.fault.PlayFault.{PlayFault}
 use Rattle.chord_play.specs.declared.fault.PlayFault.TheVariants as fault
 use Rattle.chord_play.specs.declared.text.Text.{Text}
@@ -24,7 +27,7 @@ use Rattle.chordsim.specs.declared.words.WordFault.TheVariants as word
 
 -- What is printed
 
--- what `check` says of a scenario
+-- what `check` prints of a scenario
 abbrev pub check_text : Scenario → List ℕ
 check_text sc = codes "ok nodes=" ++ decimal (node_count sc) ++ codes " commands=" ++ decimal (length sc.commands) ++ codes "\n"
 
@@ -32,28 +35,28 @@ check_text sc = codes "ok nodes=" ++ decimal (node_count sc) ++ codes " commands
 abbrev pub ident_line : Scenario → (node : ℕ) → List ℕ
 ident_line sc node = node_name sc node ++ codes " " ++ decimal (ident_of sc node) ++ codes "\n"
 
--- what `ids` says of a scenario
+-- what `ids` prints of a scenario
 abbrev pub ids_text : Scenario → List ℕ
 ids_text sc = flat_map (ident_line sc) (range_with_len 0 (node_count sc))
 
--- what is said of a scenario
+-- the answer to a question about a scenario
 abbrev pub told : Question → Scenario → List ℕ
 told question.Counts = check_text
 told question.Idents = ids_text
 
--- the text of the scenario that the two files give went out
+-- the text of the scenario that the two files give was written
 pub record IsAnswered (text : Scenario → List ℕ) (scenario latency old new : Option (List ℕ)) : Type 0 where
   pub setup : Scenario
   pub given : Gives scenario latency setup
   pub out : Appends old new (text setup)
 
--- its first bytes went out
+-- its first bytes were written
 pub record HasAnswered (text : Scenario → List ℕ) (scenario latency old new : Option (List ℕ)) : Type 0 where
   pub setup : Scenario
   pub given : Gives scenario latency setup
   pub front : AppendsFront old new (text setup)
 
--- the report of the scenario that the two files give went out
+-- the report of the scenario that the two files give was written
 pub record IsReported (scenario latency old new : Option (List ℕ)) : Type 0 where
   pub setup : Scenario
   pub given : Gives scenario latency setup
@@ -61,7 +64,7 @@ pub record IsReported (scenario latency old new : Option (List ℕ)) : Type 0 wh
   pub right : IsReport setup report
   pub out : Appends old new (report_text report)
 
--- its first bytes went out
+-- its first bytes were written
 pub record HasReported (scenario latency old new : Option (List ℕ)) : Type 0 where
   pub setup : Scenario
   pub given : Gives scenario latency setup
@@ -69,7 +72,7 @@ pub record HasReported (scenario latency old new : Option (List ℕ)) : Type 0 w
   pub right : IsReport setup report
   pub front : AppendsFront old new (report_text report)
 
--- What an order that is not carried out ends with
+-- The status of an order that is not carried out
 
 -- the files that an order names
 abbrev pub files_of : Order → Files
@@ -77,25 +80,37 @@ files_of (order.Check files) = files
 files_of (order.Ids files) = files
 files_of (order.Run files plan trace) = files
 
--- the name of the file of a text, which is empty where there is none
+-- the name of the file of a text, which is empty if the order names none
 abbrev pub name_of : Text → Files → List ℕ
 name_of text.Scenario files = string_bytes files.scenario
 name_of text.Latency files = option_map_or string_bytes files.latency []
 
--- the status that the program ends with
+-- the exit status for a fault
 abbrev pub status_of : PlayFault → ℕ
 status_of (fault.Run error) = 3
 status_of (fault.Scenario fault) = 1
 status_of (fault.Read text) = 1
 status_of (fault.TooLong text) = 1
 
--- 0 where the order was carried out
+-- 0 if the order was carried out
 abbrev pub status_of_outcome : {A : Type 0} → Result A PlayFault → ℕ
 status_of_outcome (Ok done) = 0
 status_of_outcome (Err fault) = status_of fault
 
--- the status for words that are no order
+-- the arguments ask for a text: with `--help` or `--version`
+abbrev pub IsShown : WordFault → Type 0
+IsShown (word.Refused error) = (kind_of error ≡ kind.DisplayHelp) ⊎ (kind_of error ≡ kind.DisplayVersion)
+IsShown word.NotText = ⊥
+IsShown word.Memory = ⊥
+
+-- the status for what clap returns in place of an order
+abbrev pub status_of_kind : ErrorKind → ℕ
+status_of_kind kind.DisplayHelp = 0
+status_of_kind kind.DisplayVersion = 0
+status_of_kind other = 2
+
+-- the status for arguments that give no order
 abbrev pub status_of_words : WordFault → ℕ
-status_of_words (word.Refused text) = 2
+status_of_words (word.Refused error) = status_of_kind (kind_of error)
 status_of_words word.NotText = 2
 status_of_words word.Memory = 3

@@ -25,7 +25,7 @@ WasRead scenario = (scenario.failed ≡ false) × IsShort scenario.had
 abbrev pub IsUntouched : Reading → Type 0
 IsUntouched latency = (latency.failed ≡ false) × (latency.left ≡ latency.had)
 
--- the fault is one of the two texts, as they were read; an error of the run is none of theirs
+-- the fault is that of one of the two texts, as they were read; an error of the run says nothing of them
 abbrev pub IsFaultOf : (scenario latency : Reading) → PlayFault → Type 0
 IsFaultOf scenario latency (fault.Read text.Scenario) = (scenario.failed ≡ true) × IsUntouched latency
 IsFaultOf scenario latency (fault.Read text.Latency) = (latency.failed ≡ true) × WasRead scenario

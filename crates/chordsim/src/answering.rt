@@ -1,4 +1,4 @@
-//! The commands, from the readers of their files to the writers of what they print.
+//! The commands over any readers and writers: what they read, what they write, and the fault that they return.
 ghost use Rattle.std.specs.Io.KnownBytes.{Keeps};
 ghost use Rattle.std.specs.Prelude.{◌≡◌, ◌⊎◌, false, true, Err, Ok, IfErr, IfOk, OnOk};
 ghost use Rattle.chord_machine.specs.Run.{trace_text};
@@ -17,7 +17,7 @@ use std::io::{self, Read, Write};
 use std::sync::Wait;
 use std::thread::Threads;
 
-/// Reads the two files, and prints the answer to a question about their scenario.
+/// Reads the two files, and writes the answer to a question about their scenario.
 pub fn tell<R: Read, Q: Read, W: Write>(
     alloc: Global,
     question: Question,
@@ -43,8 +43,8 @@ pub fn tell<R: Read, Q: Read, W: Write>(
     Ok(())
 }
 
-/// Reads the two files and runs their scenario: its trace goes to a writer of its own, which is flushed
-/// at the end, and after that its report to the output.
+/// Reads the two files and runs their scenario. The trace goes to a writer of its own, which is flushed at the end;
+/// then the report goes to the output.
 pub fn run<T: AllocGlobal + Threads + Wait + Sync, R: Read, Q: Read, V: Write, W: Write>(
     rt: &T,
     scenario: &mut Watched<R>,
@@ -77,7 +77,7 @@ pub fn run<T: AllocGlobal + Threads + Wait + Sync, R: Read, Q: Read, V: Write, W
     Ok(())
 }
 
-/// The error of a run whose writer failed, where this failed.
+/// Turns an error of a writer into the error of a run whose writer failed.
 pub fn or_write_fault<T: Drop>(outcome: io::Result<T>) -> Result<T, PlayFault>
     ensures ok { IfOk outcome (λ value. result ≡ Ok value) }
     ensures err { IfErr outcome (λ e. result ≡ Err (PlayFault.Run RunError.Write)) }

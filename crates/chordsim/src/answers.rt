@@ -6,7 +6,7 @@ ghost use Rattle.chordsim.specs.Answers.{check_text, ident_line, ids_text, told}
 use chord_scenario::Scenario;
 use std::alloc::{AllocError, Global};
 
-/// What is asked of an accepted scenario.
+/// A question about an accepted scenario.
 #[derive(Clone, Copy, Debug, PartialEq, Eq, Drop)]
 pub enum Question {
     /// How many nodes and commands it has (`check`).

@@ -1,4 +1,4 @@
-//! The commands of the program, as clap reads them.
+//! The command line of the program, for clap to read.
 ghost use Rattle.std.specs.Prelude.{◌≡◌, false, IfOk};
 ghost use Rattle.clap.specs.Words.{app_of, rule_of};
 ghost use Rattle.chordsim.specs.Commands.{IsSplitNames, SplitNames, check_app, ids_app, latency_rule, parts_rule, run_app, scenario_rule, serial_rule, split_rule, trace_rule, workers_rule};
@@ -6,12 +6,19 @@ ghost use Rattle.chordsim.specs.Commands.{IsSplitNames, SplitNames, check_app, i
 use clap::{Arg, ArgAction, Command, value_parser};
 use std::alloc::{AllocError, Global};
 
-/// All commands: what they are and which options they have, in the text of a wish for help.
+/// The version that `--version` prints. CHANGELOG.md says what is in it.
+const VERSION: &str = "0.1.0";
+
+/// The whole command line, which writes the texts for `--help` and `--version`, and refuses arguments that name
+/// no command.
 pub fn whole_command<'a>(alloc: Global) -> Result<Command<'a>, AllocError> {
     Command::new(alloc, "chordsim")
-        .about("Simulates a Chord ring that is given by a scenario file")
+        .version(VERSION)
+        .about(
+            "Simulates a ring of the Chord protocol under churn, as a scenario file describes it",
+        )
         .after_help(
-            "Times are in microseconds. The status is 0 where all is done, 1 where a file is refused, 2 where the words are refused, 3 where a run fails.",
+            "All times are in microseconds. Exit status: 0 on success, 1 if a file is refused, 2 if the arguments are refused, 3 if a run fails.",
         )
         .subcommand_required(true)
         .subcommand(check_command(alloc)?)?
@@ -26,7 +33,7 @@ pub fn check_command<'a>(alloc: Global) -> Result<Command<'a>, AllocError>
 {
     Command::new(alloc, "check")
         .bin_name("chordsim check")?
-        .about("Says whether the files give a scenario, and how many nodes and commands it has")
+        .about("Checks the files, and prints how many nodes and commands the scenario has")
         .arg(scenario_argument(alloc))?
         .arg(latency_argument(alloc))
 }
@@ -38,9 +45,7 @@ pub fn ids_command<'a>(alloc: Global) -> Result<Command<'a>, AllocError>
 {
     Command::new(alloc, "ids")
         .bin_name("chordsim ids")?
-        .about(
-            "Prints the name and the identifier of each node, in decimal, in the order of the file",
-        )
+        .about("Prints the name and the decimal identifier of each node, in file order")
         .arg(scenario_argument(alloc))?
         .arg(latency_argument(alloc))
 }
@@ -68,7 +73,7 @@ fn scenario_argument<'a>(alloc: Global) -> Arg<'a>
     Arg::new(alloc, "scenario")
         .long("scenario")
         .value_name("FILE")
-        .help("Scenario file, in TOML, of at most 16777216 bytes")
+        .help("Scenario file: TOML, at most 16777216 bytes")
         .required(true)
         .action(ArgAction::Set)
 }
@@ -81,7 +86,7 @@ fn latency_argument<'a>(alloc: Global) -> Arg<'a>
         .long("latency")
         .value_name("FILE")
         .help(
-            "Latency file, in CSV, of at most 16777216 bytes: rows of two names and the microseconds between them [default: no rows]",
+            "Latency file: CSV, at most 16777216 bytes, rows of two node names and the microseconds between them [default: no rows]",
         )
         .action(ArgAction::Set)
 }
@@ -93,7 +98,7 @@ fn workers_argument<'a>(alloc: Global) -> Arg<'a>
     Arg::new(alloc, "workers")
         .long("workers")
         .value_name("COUNT")
-        .help("Number of workers, 1 to 64 [default: 1]")
+        .help("Number of worker threads, 1 to 64 [default: 1]")
         .action(ArgAction::Set)
         .value_parser(value_parser!(u32).range(1..=64))
 }
@@ -105,7 +110,7 @@ fn parts_argument<'a>(alloc: Global) -> Arg<'a>
     Arg::new(alloc, "parts")
         .long("parts")
         .value_name("COUNT")
-        .help("Number of parts that the nodes are dealt to, 1 to 512 [default: 1]")
+        .help("Number of parts that the nodes are divided into, 1 to 512 [default: 1]")
         .action(ArgAction::Set)
         .value_parser(value_parser!(u32).range(1..=512))
 }
@@ -120,7 +125,7 @@ fn split_argument<'a>(alloc: Global) -> Arg<'a>
         .long("split")
         .value_name("WAY")
         .help(
-            "How the nodes are dealt to the parts: in turn, or in blocks of neighbours in the file [default: rr]",
+            "How the nodes are divided: rr deals them out in turn, block keeps neighbours in the file together [default: rr]",
         )
         .action(ArgAction::Set)
         .value_parser(SPLITS.as_slice())
@@ -132,9 +137,7 @@ fn serial_argument<'a>(alloc: Global) -> Arg<'a>
 {
     Arg::new(alloc, "serial")
         .long("serial")
-        .help(
-            "Runs one event at a time, on one thread, and passes over --workers, --parts and --split",
-        )
+        .help("Runs one event at a time on one thread, and ignores --workers, --parts and --split")
         .action(ArgAction::SetTrue)
 }
 
@@ -146,7 +149,7 @@ fn trace_argument<'a>(alloc: Global) -> Arg<'a>
         .long("trace")
         .value_name("FILE")
         .help(
-            "File for the trace, made anew before the scenario is read: what it held is lost, an input file too [default: standard output]",
+            "File for the trace; its old content is lost, even if the scenario is then refused [default: standard output]",
         )
         .action(ArgAction::Set)
 }

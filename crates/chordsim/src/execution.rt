@@ -1,4 +1,4 @@
-//! What the program does with an order: opens its files, hands them on, and says how it went.
+//! Carries out an order: opens its files, hands them on, and reports the outcome.
 ghost use Rattle.std.specs.Prelude.{◌≡◌, ◌⊎◌, false, IfErr, IfOk};
 ghost use Rattle.std.specs.Io.Buffered.{writer_inner};
 ghost use Rattle.std.specs.Process.{exit_status};
@@ -8,33 +8,67 @@ use crate::answering::{or_write_fault, run, tell};
 use crate::answers::Question;
 use crate::latency_file::LatencyFile;
 use crate::order::{Files, Order};
-use crate::status::conclude;
+use crate::status::{conclude, refuse_trace};
 use chord_event::RunError;
 use chord_play::{Plan, PlayFault, Text};
 use chord_trace::Watched;
 use std::alloc::Global;
 use std::io::{BufWriter, Read, Write};
+use std::os::unix::fs::MetadataExt;
 use std::process::ExitCode;
 use std::rt::Files as FileSystem;
 use std::sync::Wait;
 use std::thread::Threads;
 use std::{fs, io};
 
-/// Carries out the order, and answers the status of the program: 0 where all is done, 1 where a file is
-/// refused, 3 where the run failed. What is printed goes to the console.
+/// Carries out the order, and returns the exit status: 0 on success, 1 if a file is refused, 2 if the trace would
+/// overwrite an input file, 3 if the run fails. What is printed goes to the console.
 pub fn carry_out<T: FileSystem + AllocGlobal + Threads + Wait + Sync, C: Print + Eprint>(
     rt: &T,
     console: &C,
     order: Order,
 ) -> ExitCode
-    ensures { (exit_status result ≡ 0) ⊎ (exit_status result ≡ 1) ⊎ (exit_status result ≡ 3) }
+    ensures { (exit_status result ≡ 0) ⊎ (exit_status result ≡ 1) ⊎ (exit_status result ≡ 2) ⊎ (exit_status result ≡ 3) }
 {
+    if let Some(text) = overwritten_by_trace(rt, &order) {
+        return refuse_trace(console, order.files(), text);
+    }
     let outcome = perform(rt, console, &order);
     conclude(console, order.files(), outcome)
 }
 
-/// Carries out the order, and answers why not. The files are opened in this order: the scenario's, the
-/// latency file, and the file of the trace, which is made anew. What is printed goes to the console.
+/// The input file that the trace of the order would overwrite.
+fn overwritten_by_trace(rt: &impl FileSystem, order: &Order) -> Option<Text> {
+    let Order::Run {
+        files,
+        trace: Some(trace),
+        ..
+    } = order
+    else {
+        return None;
+    };
+    if is_same_file(rt, trace, &files.scenario) {
+        return Some(Text::Scenario);
+    }
+    match &files.latency {
+        Some(latency) if is_same_file(rt, trace, latency) => Some(Text::Latency),
+        _ => None,
+    }
+}
+
+/// Whether both paths lead to one regular file, by links too. Other files, such as a terminal or `/dev/null`, are
+/// not emptied when they are opened, so they may be named twice.
+fn is_same_file(rt: &impl FileSystem, first: &str, second: &str) -> bool {
+    match (fs::metadata(rt, first), fs::metadata(rt, second)) {
+        (Ok(first), Ok(second)) => {
+            first.is_file() && first.dev() == second.dev() && first.ino() == second.ino()
+        }
+        _ => false,
+    }
+}
+
+/// Opens the files and carries out the order. The files are opened in this order: the scenario file, the latency
+/// file, and the file for the trace, which is created or emptied. What is printed goes to the console.
 pub fn perform<T: FileSystem + AllocGlobal + Threads + Wait + Sync, C: Print>(
     rt: &T,
     console: &C,
@@ -57,6 +91,8 @@ pub fn perform<T: FileSystem + AllocGlobal + Threads + Wait + Sync, C: Print>(
                 run_to(rt, &mut scenario, &mut latency, plan, file, &mut output)
             }
             None => {
+                // Both writers hand each piece to the console at once, and the trace is flushed before the report
+                // begins, so the two texts do not mix.
                 let trace = io::writer(console);
                 run_to(rt, &mut scenario, &mut latency, plan, trace, &mut output)
             }
@@ -66,7 +102,7 @@ pub fn perform<T: FileSystem + AllocGlobal + Threads + Wait + Sync, C: Print>(
 
 type Texts<F> = (Watched<F>, Watched<LatencyFile<F>>);
 
-/// Opens the two files, the scenario's first.
+/// Opens the two files, the scenario file first.
 fn open<T: FileSystem>(rt: &T, files: &Files) -> Result<Texts<T::File>, PlayFault>
     ensures scenario_sound { IfOk result (λ texts. has_failed texts.0 ≡ false) }
     ensures latency_sound { IfOk result (λ texts. has_failed texts.1 ≡ false) }
@@ -84,7 +120,7 @@ fn open<T: FileSystem>(rt: &T, files: &Files) -> Result<Texts<T::File>, PlayFaul
     Ok((Watched::new(scenario), Watched::new(latency)))
 }
 
-/// Runs with a buffer in front of the writer of the trace. Where the run fails, the buffer is emptied as it is
+/// Runs with a buffer in front of the writer of the trace. If the run fails, the buffer is written when it is
 /// dropped.
 fn run_to<T: AllocGlobal + Threads + Wait + Sync, R: Read, Q: Read, V: Write + Drop, W: Write>(
     rt: &T,
@@ -102,7 +138,7 @@ fn run_to<T: AllocGlobal + Threads + Wait + Sync, R: Read, Q: Read, V: Write + D
     run(rt, scenario, latency, plan, &mut trace, output)
 }
 
-/// A buffer in front of a writer. It can only be refused for want of memory.
+/// A buffer in front of a writer. The only error is a failed allocation.
 fn buffered<V: Write + Drop>(alloc: Global, writer: V) -> Result<BufWriter<V>, PlayFault>
     ensures memory { IfErr result (λ fault. fault ≡ PlayFault.Run RunError.Memory) }
     ensures inner { IfOk result (λ buffer. writer_inner buffer ≡ writer) }

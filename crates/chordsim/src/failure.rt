@@ -1,3 +1,4 @@
+//! Faults of orders, as standard error shows them.
 ghost use Rattle.std.specs.Prelude.{◌≡◌};
 ghost use Rattle.chordsim.specs.Answers.{status_of};
 
@@ -9,7 +10,7 @@ use std::fmt::{self, Display};
 /// The status of a run that failed.
 pub const FAILED: u8 = 3;
 
-/// Why an order could not be carried out, as standard error is told.
+/// Why an order could not be carried out, as standard error shows it.
 #[derive(Drop)]
 pub struct Failure<'a> {
     pub files: &'a Files,
@@ -17,7 +18,7 @@ pub struct Failure<'a> {
 }
 
 impl Failure<'_> {
-    /// The status that the program ends with: 1 for refused files, and 3 for a failed run.
+    /// The exit status: 1 for refused files, and 3 for a failed run.
     pub fn status(&self) -> u8
         ensures { result ≡ status_of self.now.fault }
     {
@@ -39,7 +40,7 @@ impl Display for Failure<'_> {
     }
 }
 
-/// A run that failed, as standard error is told: the error's number and name.
+/// A run that failed, as standard error shows it: the number and the name of its error.
 #[derive(Drop)]
 pub struct FailedRun(pub RunError);
 

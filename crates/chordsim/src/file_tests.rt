@@ -1,3 +1,4 @@
+//! Orders carried out on files.
 use crate::execution::{carry_out, perform};
 use crate::order::{Files, Order};
 use chord_event::RunError;
@@ -44,7 +45,7 @@ key = 1
 pub const TRACE: &str = "100 n3 lookup 1\n120 n3 found 1 n1 hops=1 timeouts=0 us=20\n\
     200 audit members=3 dead=0 ring=3 ordered=yes principals=3 sufficient=yes\n";
 
-/// The trace where a message takes 15 between n0 and n3.
+/// The trace if a message takes 15 us between n0 and n3.
 const SLOW_TRACE: &str = "100 n3 lookup 1\n130 n3 found 1 n1 hops=1 timeouts=0 us=30\n\
     200 audit members=3 dead=0 ring=3 ordered=yes principals=3 sufficient=yes\n";
 
@@ -89,7 +90,7 @@ fn run_to<T: FileSystem + Print + AllocGlobal + Threads + Wait + Sync>(
     Ok(perform(rt, rt, &Order::Run { files, plan, trace }))
 }
 
-/// What the file held before is gone.
+/// The old content of the file is gone.
 #[test]
 fn a_trace_goes_to_its_file(rt: HostRuntime) -> Result<(), Fail> {
     fs::write(&rt, "plain.toml", RING)?;
@@ -102,7 +103,7 @@ fn a_trace_goes_to_its_file(rt: HostRuntime) -> Result<(), Fail> {
     remove(&rt, &["plain.toml", "plain.trace"])
 }
 
-/// The file is the same by workers.
+/// Workers write the same file.
 #[test]
 fn a_trace_by_workers(rt: HostRuntime) -> Result<(), Fail> {
     fs::write(&rt, "crew.toml", RING)?;
@@ -134,7 +135,7 @@ fn a_latency_file_is_read(rt: HostRuntime) -> Result<(), Fail> {
     remove(&rt, &["slow.toml", "slow.csv", "slow.trace"])
 }
 
-/// The scenario is opened first, then the latency file, and the trace is made last.
+/// The scenario file is opened first, then the latency file, and the file for the trace last.
 #[test]
 fn files_are_opened_in_order(rt: HostRuntime) -> Result<(), Fail> {
     let neither = files_of(&rt, "none.toml", Some("none.csv"))?;
@@ -151,7 +152,7 @@ fn files_are_opened_in_order(rt: HostRuntime) -> Result<(), Fail> {
     remove(&rt, &["alone.toml"])
 }
 
-/// The trace is made before the scenario is read.
+/// The file for the trace is emptied before the scenario is read.
 #[test]
 fn a_refused_scenario_leaves_an_empty_trace(rt: HostRuntime) -> Result<(), Fail> {
     fs::write(&rt, "refused.toml", "profile = 1\n")?;

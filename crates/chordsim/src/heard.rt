@@ -25,7 +25,7 @@ impl Heard {
         }
     }
 
-    /// What stands on standard output and on standard error.
+    /// What was printed on standard output and on standard error.
     pub fn into_texts(self) -> (Vec<u8>, Vec<u8>) {
         (self.output.into_inner(), self.error.into_inner())
     }

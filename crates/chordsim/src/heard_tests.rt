@@ -1,3 +1,4 @@
+//! Orders carried out on files, with both standard streams heard.
 use crate::execution::carry_out;
 use crate::file_tests::{RING, SERIAL, TRACE, files_of, remove};
 use crate::heard::Heard;
@@ -7,6 +8,7 @@ use crate::tests::read;
 use crate::words::WordFault;
 use std::alloc::Global;
 use std::fs;
+use std::os::unix::fs::symlink;
 use std::process::{Abort, ExitCode};
 use std::test::Fail;
 
@@ -150,7 +152,65 @@ fn disks_that_are_full(rt: HostRuntime) -> Result<(), Fail> {
     remove(&rt, &["full.toml"])
 }
 
-/// What the words of this line are refused with.
+/// A trace never overwrites the files that the scenario is read from, by links to them either.
+#[test]
+fn traces_that_name_an_input(rt: HostRuntime) -> Result<(), Fail> {
+    fs::write(&rt, "own.toml", RING)?;
+    fs::write(&rt, "own.csv", "n0,n3,15\n")?;
+    symlink(&rt, "own.toml", "own.link")?;
+    fs::hard_link(&rt, "own.csv", "own.second")?;
+    for (trace, error) in [
+        (
+            "own.toml",
+            "error: --trace names the scenario file: own.toml\n",
+        ),
+        (
+            "./own.toml",
+            "error: --trace names the scenario file: own.toml\n",
+        ),
+        (
+            "own.link",
+            "error: --trace names the scenario file: own.toml\n",
+        ),
+        (
+            "own.csv",
+            "error: --trace names the latency file: own.csv\n",
+        ),
+        (
+            "own.second",
+            "error: --trace names the latency file: own.csv\n",
+        ),
+    ] {
+        let order = Order::Run {
+            files: files_of(&rt, "own.toml", Some("own.csv"))?,
+            plan: SERIAL,
+            trace: Some(String::from_str(rt.alloc(), trace)?),
+        };
+        let heard = Heard::new(rt.alloc(), false);
+        let status = carry_out(&rt, &heard, order);
+        told(&rt, heard, status, 2, "", error)?;
+    }
+    assert!(rt; fs::read_to_string(&rt, "own.toml")?.as_str() == RING);
+    assert!(rt; fs::read_to_string(&rt, "own.csv")?.as_str() == "n0,n3,15\n");
+    remove(&rt, &["own.toml", "own.csv", "own.link", "own.second"])
+}
+
+/// A device may be named twice: it is not emptied. Here it is the latency file, without rows, and takes the trace.
+#[test]
+fn a_device_that_is_named_twice(rt: HostRuntime) -> Result<(), Fail> {
+    fs::write(&rt, "device.toml", RING)?;
+    let order = Order::Run {
+        files: files_of(&rt, "device.toml", Some("/dev/null"))?,
+        plan: SERIAL,
+        trace: Some(String::from_str(rt.alloc(), "/dev/null")?),
+    };
+    let heard = Heard::new(rt.alloc(), false);
+    let status = carry_out(&rt, &heard, order);
+    told(&rt, heard, status, 0, REPORT, "")?;
+    remove(&rt, &["device.toml"])
+}
+
+/// What the arguments of this line are refused with.
 fn refusal(rt: &(impl AllocGlobal + Abort), line: &str) -> Result<WordFault, Fail> {
     match read(rt, line)? {
         Ok(_) => {
@@ -165,27 +225,49 @@ fn refusal(rt: &(impl AllocGlobal + Abort), line: &str) -> Result<WordFault, Fai
 fn words_that_are_no_order(rt: HostRuntime) -> Result<(), Fail> {
     for (fault, wanted, error) in [
         (WordFault::Memory, 3, "failed: 1 Memory\n"),
-        (WordFault::NotText, 2, "a word is no UTF-8 text\n"),
+        (
+            WordFault::NotText,
+            2,
+            "error: an argument is not UTF-8 text\n",
+        ),
     ] {
         let heard = Heard::new(rt.alloc(), false);
         let status = refuse(&heard, fault);
         told(&rt, heard, status, wanted, "", error)?;
     }
+    let heard = Heard::new(rt.alloc(), false);
+    let status = refuse(&heard, refusal(&rt, "chordsim")?);
+    let (said, complained) = texts(rt.alloc(), heard)?;
+    assert!(rt; status == ExitCode::from(2) && said.is_empty(), "{said}");
+    assert!(rt;
+        complained.contains("requires a subcommand but one was not provided"),
+        "{complained}"
+    );
+    Ok(())
+}
+
+#[test]
+fn texts_that_are_asked_for(rt: HostRuntime) -> Result<(), Fail> {
     for (line, part) in [
         ("chordsim --help", "\n  check "),
-        ("chordsim --help", "\n  ids "),
-        ("chordsim --help", "\n  run "),
+        ("chordsim -h", "\n  ids "),
+        ("chordsim help", "\n  run "),
         ("chordsim check --help", "Usage: chordsim check "),
         ("chordsim ids --help", "Usage: chordsim ids "),
-        ("chordsim run --help", "Usage: chordsim run "),
-        ("chordsim run --help", "what it held is lost"),
-        ("chordsim", "requires a subcommand but one was not provided"),
+        ("chordsim run --help", "its old content is lost"),
+        ("chordsim --version", "chordsim 0.1.0\n"),
     ] {
         let heard = Heard::new(rt.alloc(), false);
         let status = refuse(&heard, refusal(&rt, line)?);
         let (said, complained) = texts(rt.alloc(), heard)?;
-        assert!(rt; status == ExitCode::from(2) && said.is_empty(), "{line}");
-        assert!(rt; complained.contains(part), "{line}: {complained}");
+        assert!(rt;
+            status == ExitCode::SUCCESS && complained.is_empty(),
+            "{line}"
+        );
+        assert!(rt; said.contains(part), "{line}: {said}");
+        let closed = Heard::new(rt.alloc(), true);
+        let status = refuse(&closed, refusal(&rt, line)?);
+        told(&rt, closed, status, 3, "", "failed: 4 Write\n")?;
     }
     Ok(())
 }

@@ -1,3 +1,4 @@
+//! The latency file, which may be left out.
 ghost use Rattle.std.specs.Io.{ReadsAtMost};
 ghost use Rattle.std.specs.Io.KnownBytes.{ReadConsumes};
 ghost use Rattle.chordsim.specs.LatencyFiles.{left_in};
@@ -5,7 +6,7 @@ ghost use Rattle.chordsim.specs.LatencyFiles.{left_in};
 use std::io;
 use std::io::Read;
 
-/// The latency file, where the words name one, and otherwise an empty text.
+/// The latency file if the arguments name one, and otherwise an empty text.
 #[derive(Drop)]
 pub enum LatencyFile<F> {
     Absent,

@@ -1,16 +1,17 @@
+//! Orders: what the arguments of the program ask for.
 ghost use Rattle.std.specs.Prelude.{◌≡◌};
 ghost use Rattle.chordsim.specs.Answers.{files_of, name_of};
 
 use chord_play::{Plan, Text};
 
-/// What the words of the program ask for.
+/// What the arguments of the program ask for.
 #[derive(Debug, Drop)]
 pub enum Order {
-    /// To say whether the files give a scenario.
+    /// Check the files, and print how many nodes and commands the scenario has.
     Check(Files),
-    /// To print the identifier of each node.
+    /// Print the identifier of each node.
     Ids(Files),
-    /// To run the scenario, with the trace to the file of this name or else to standard output.
+    /// Run the scenario. The trace goes to the file of this name, or to standard output.
     Run {
         files: Files,
         plan: Plan,
@@ -39,7 +40,7 @@ pub struct Files {
 }
 
 impl Files {
-    /// The name of the file of a text, which is empty where there is none.
+    /// The name of the file of a text, which is empty if the order names none.
     pub fn name(&self, text: Text) -> &str
         ensures { result.now ≡ name_of text self.now }
     {

@@ -1,4 +1,4 @@
-//! The words of the process.
+//! The arguments of the process.
 ghost use Rattle.std.specs.Prelude.{◌≡◌, ◌≢◌};
 ghost use Rattle.std.specs.IoError.{error_kind};
 
@@ -8,13 +8,13 @@ use std::env;
 use std::io::{Error, ErrorKind};
 use std::rt::Env;
 
-/// The order that the words of the process give.
+/// Reads the order that the arguments of the process give.
 pub fn read_process(rt: &(impl Env + AllocGlobal)) -> Result<Order, WordFault> {
     let words = env::args(rt).map_err(unread)?.collect(rt.alloc())?;
     read_words(rt.alloc(), words)
 }
 
-/// Why the words of the process were not read: memory was refused, or one of them is no text.
+/// Why the arguments of the process were not read: an allocation failed, or one of them is not UTF-8 text.
 fn unread(error: Error) -> WordFault
     ensures memory { error_kind error ≡ ErrorKind.OutOfMemory → result ≡ WordFault.Memory }
     ensures no_text { error_kind error ≢ ErrorKind.OutOfMemory → result ≡ WordFault.NotText }

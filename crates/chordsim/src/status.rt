@@ -1,16 +1,17 @@
-//! What the program says on standard error, and the status that it ends with.
-ghost use Rattle.std.specs.Prelude.{◌≡◌};
+//! Exit statuses, and what standard error says beside them.
+ghost use Rattle.std.specs.Prelude.{◌≡◌, ◌⊎◌};
 ghost use Rattle.std.specs.Process.{exit_status};
-ghost use Rattle.chordsim.specs.Answers.{status_of_outcome, status_of_words};
+ghost use Rattle.chordsim.specs.Answers.{IsShown, status_of_outcome, status_of_words};
 
 use crate::failure::{FAILED, FailedRun, Failure};
 use crate::order::Files;
 use crate::words::WordFault;
 use chord_event::RunError;
-use chord_play::PlayFault;
+use chord_play::{PlayFault, Text};
+use std::fmt::Display;
 use std::process::ExitCode;
 
-/// The status for an order, and the reason on standard error where it was not carried out.
+/// The status of an order. If it was not carried out, standard error says why.
 pub fn conclude(rt: &impl Eprint, files: &Files, outcome: Result<(), PlayFault>) -> ExitCode
     ensures { exit_status result ≡ status_of_outcome outcome }
 {
@@ -24,19 +25,23 @@ pub fn conclude(rt: &impl Eprint, files: &Files, outcome: Result<(), PlayFault>)
     }
 }
 
-/// The status for words that are no order, and the reason on standard error, which is where the answer
-/// to a wish for help goes too.
-pub fn refuse(rt: &impl Eprint, fault: WordFault) -> ExitCode
-    ensures { exit_status result ≡ status_of_words fault }
+/// The status of arguments that give no order, and the reason on standard error. The text that `--help` or
+/// `--version` asks for goes to standard output.
+pub fn refuse(rt: &(impl Print + Eprint), fault: WordFault) -> ExitCode
+    ensures { (exit_status result ≡ status_of_words fault) ⊎ (IsShown fault × (exit_status result ≡ 3)) }
 {
     match fault {
         WordFault::Refused(error) => {
-            let _ = eprint!(rt; "{error}");
-            ExitCode::from(REFUSED_WORDS)
+            if error.use_stderr() {
+                let _ = eprint!(rt; "{error}");
+                ExitCode::from(REFUSED_ARGUMENTS)
+            } else {
+                show(rt, error)
+            }
         }
         WordFault::NotText => {
-            let _ = eprintln!(rt; "a word is no UTF-8 text");
-            ExitCode::from(REFUSED_WORDS)
+            let _ = eprintln!(rt; "error: an argument is not UTF-8 text");
+            ExitCode::from(REFUSED_ARGUMENTS)
         }
         WordFault::Memory => {
             let _ = eprintln!(rt; "{}", FailedRun(RunError::Memory));
@@ -45,5 +50,31 @@ pub fn refuse(rt: &impl Eprint, fault: WordFault) -> ExitCode
     }
 }
 
-/// The status of words that are refused.
-const REFUSED_WORDS: u8 = 2;
+/// Prints a text on standard output: status 0, or 3 if it cannot be printed.
+fn show(rt: &(impl Print + Eprint), text: impl Display + Drop) -> ExitCode
+    ensures { (exit_status result ≡ 0) ⊎ (exit_status result ≡ 3) }
+{
+    match print!(rt; "{text}") {
+        Ok(()) => ExitCode::from(0),
+        Err(_) => {
+            let _ = eprintln!(rt; "{}", FailedRun(RunError::Write));
+            ExitCode::from(FAILED)
+        }
+    }
+}
+
+/// The status of a run whose trace would overwrite this input file, and the reason on standard error.
+pub fn refuse_trace(rt: &impl Eprint, files: &Files, text: Text) -> ExitCode
+    ensures { exit_status result ≡ 2 }
+{
+    let name = files.name(text);
+    let what = match text {
+        Text::Scenario => "scenario",
+        Text::Latency => "latency",
+    };
+    let _ = eprintln!(rt; "error: --trace names the {what} file: {name}");
+    ExitCode::from(REFUSED_ARGUMENTS)
+}
+
+/// The status of arguments that are refused.
+const REFUSED_ARGUMENTS: u8 = 2;

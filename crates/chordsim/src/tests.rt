@@ -1,3 +1,4 @@
+//! Arguments, answers and the texts of faults.
 use crate::answers::{Question, answer};
 use crate::failure::Failure;
 use crate::order::{Files, Order};
@@ -9,7 +10,7 @@ use clap::error::ErrorKind;
 use std::process::Abort;
 use std::test::Fail;
 
-/// What the words of this line give.
+/// What the arguments of this line give.
 pub fn read(rt: &(impl AllocGlobal + Abort), line: &str) -> Result<Result<Order, WordFault>, Fail> {
     let alloc = rt.alloc();
     let mut words = Vec::new(alloc);
@@ -19,7 +20,7 @@ pub fn read(rt: &(impl AllocGlobal + Abort), line: &str) -> Result<Result<Order,
     Ok(read_words(alloc, words))
 }
 
-/// Asserts that the words are refused for this reason.
+/// Asserts that the arguments are refused for this reason.
 fn refused(rt: &(impl AllocGlobal + Abort), line: &str, kind: ErrorKind) -> Result<(), Fail> {
     let outcome = read(rt, line)?;
     let reason = match &outcome {
@@ -72,7 +73,7 @@ fn options_that_are_refused(rt: HostRuntime) -> Result<(), Fail> {
     Ok(())
 }
 
-/// Asserts that the words ask to check, or to print identifiers, from these files.
+/// Asserts that the arguments name these files.
 fn asked(
     rt: &(impl AllocGlobal + Abort),
     line: &str,
@@ -102,7 +103,7 @@ fn files_that_are_named(rt: HostRuntime) -> Result<(), Fail> {
     Ok(())
 }
 
-/// Asserts that the words ask for a run by this plan, with the trace to the file of this name.
+/// Asserts that the arguments ask for a run by this plan, with the trace to the file of this name.
 fn planned(
     rt: &(impl AllocGlobal + Abort),
     line: &str,
@@ -216,7 +217,7 @@ fn wide_identifiers(rt: HostRuntime) -> Result<(), Fail> {
     Ok(())
 }
 
-/// Asserts what standard error and the status say of the fault.
+/// Asserts the line on standard error, and the status, of a fault.
 fn failed(
     rt: &(impl AllocGlobal + Abort),
     fault: PlayFault,

@@ -1,3 +1,4 @@
+//! The arguments of the program, read by clap.
 ghost use Rattle.std.specs.Prelude.{◌≡◌, ◌↔◌, Some, IsTrue, true, map, codes, is_some, option_map, string_bytes, [], OnOk, IfOk, IfErr, IfSome};
 ghost use Rattle.clap.specs.Words.{fault_of, first_of, first_value, found_of, kind_of, matches_of, one_of, one_text, rows_of, takes};
 ghost use Rattle.clap.specs.declared.error.kind.ErrorKind.TheVariants.{OutOfMemory};
@@ -12,14 +13,14 @@ use clap::error::ErrorKind;
 use clap::{ArgMatches, Error};
 use std::alloc::{AllocError, Global};
 
-/// Why the words of the program are no order.
+/// Why the arguments of the program give no order.
 #[derive(Debug, Drop)]
 pub enum WordFault {
-    /// They are refused, with this text; so is a wish for help, which is the text.
+    /// Clap refuses them, with this text. For `--help` and `--version` it is the text that they ask for.
     Refused(Error),
-    /// One of them is no UTF-8 text.
+    /// One of them is not UTF-8 text.
     NotText,
-    /// A growth was refused.
+    /// An allocation failed.
     Memory,
 }
 
@@ -43,8 +44,8 @@ impl From<Error> for WordFault {
     }
 }
 
-/// Reads the words of the program, its name first: `check`, `ids` or `run`, and then its options.
-/// Words that clap does not take are refused, and so is a wish for help.
+/// Reads the arguments of the program, its name first, then `check`, `ids` or `run`, and then options.
+/// Arguments that clap does not take are refused; so are `--help` and `--version`, with the text to print.
 pub fn read_words(alloc: Global, words: Vec<String>) -> Result<Order, WordFault>
     ensures order { IfOk result (IsOrderOf (map string_bytes words.items)) }
     ensures taken { TakesWords (map string_bytes words.items) → IfErr result (λ e. e ≡ WordFault.Memory) }
@@ -52,8 +53,7 @@ pub fn read_words(alloc: Global, words: Vec<String>) -> Result<Order, WordFault>
     order_in(alloc, words.as_slice())
 }
 
-/// The order of these words. The word after the program's name picks the command, which reads the
-/// words from there on.
+/// The order of these arguments. The one after the program's name picks the command, which reads the rest.
 fn order_in(alloc: Global, words: &[String]) -> Result<Order, WordFault>
     ensures order { IfOk result (IsOrderOf (map string_bytes words.now)) }
     ensures taken { TakesWords (map string_bytes words.now) → IfErr result (λ e. e ≡ WordFault.Memory) }
@@ -142,7 +142,7 @@ fn has_text(matches: &ArgMatches<'_>, id: &str, text: &str) -> bool
     }
 }
 
-/// The number that the option was given, and 1 where it was not.
+/// The number that the option was given, and 1 without the option.
 fn count_in(matches: &ArgMatches<'_>, id: &str) -> u32
     requires { IfSome (one_text (found_of matches.now) id.now) (IsCountUpTo 512) }
     ensures { result ≡ count_or_one (one_of id.now (rows_of (found_of matches.now))) }
@@ -169,7 +169,7 @@ fn text_in(alloc: Global, matches: &ArgMatches<'_>, id: &str) -> Result<Option<S
     }
 }
 
-/// Why the whole command refuses words that name none of its commands.
+/// Why the whole command line refuses arguments that name none of its commands.
 fn refusal(alloc: Global, words: &[String]) -> WordFault {
     match refused(alloc, words) {
         Ok(fault) => fault,
