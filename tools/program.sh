@@ -1,0 +1,41 @@
+# What ./chordsim, tools/renew_release and tools/check_release share: what the program is made of, and where it is kept.
+# The script that reads this file has set `top` to the folder of the repository.
+
+# The folder of the program that the repository keeps, the folder of the one that ./chordsim has built, and what rt makes.
+release=$top/release/x86_64-linux
+built=$top/out
+made=$top/crates/chordsim/out/chordsim
+
+# Prints the crates that the program is made of, each below those that depend on it.
+crates_of_program() {
+    awk '
+        function add(crate,   names, count, i) {
+            if (!(crate in below) || crate in added) return
+            added[crate]
+            count = split(below[crate], names, " ")
+            for (i = 1; i <= count; i++) add(names[i])
+            print crate
+        }
+        { sub(/#.*/, "") }
+        split($0, line, ":") == 2 { split(line[1], name, " "); below[name[1]] = line[2] }
+        END { add("chordsim") }
+    ' "$top/crates.txt"
+}
+
+# Prints a sum of the sources of the program: code, definitions and proofs. Crates of tests are not among them.
+sum_of_sources() {
+    (
+        cd "$top/crates" || exit 1
+        {
+            cat ../crates.txt
+            # The names of crates and files have no blanks.
+            find $(crates_of_program) \( -name out -o -name must-fail \) -prune -o \
+                \( -name '*.rt' -o -name '*.antt' \) -print | LC_ALL=C sort | xargs sha256sum
+        } | sha256sum | cut -d ' ' -f 1
+    )
+}
+
+# Whether the folder has a program of the sources with this sum.
+is_of_sources() {
+    [ -x "$1/chordsim" ] && [ "$(cat "$1/chordsim.sources" 2> /dev/null)" = "$2" ]
+}

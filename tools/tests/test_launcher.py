@@ -1,0 +1,188 @@
+"""The script ./chordsim, tools/renew_release and tools/check_release, with a stand-in for rt that proves nothing."""
+
+import os
+import shutil
+import subprocess
+import tempfile
+import threading
+import time
+import unittest
+from pathlib import Path
+
+TOP = Path(__file__).resolve().parents[2]
+SCRIPTS = ["chordsim", "tools/program.sh", "tools/renew_release", "tools/check_release"]
+
+CRATES = """# NAME: the libraries that it stands on
+low: sha1
+chordsim may_wait=5: low clap
+tests_alone: low chordsim
+"""
+
+# Like rt: `lib` is refused in a program's folder, `run` builds the libraries below and runs the program. It notes each
+# call. What it builds prints its arguments, and the source that it is made of.
+STAND_IN = """#!/bin/sh
+echo "$* in $(basename "$PWD")" >> "$CALLS"
+case $1 in
+run)
+    [ -z "${RT_FAILS:-}" ] || { echo "no proof"; exit 1; }
+    sleep "${RT_TAKES:-0}"
+    echo "crate low: modules loaded=0 checked=1"
+    mkdir -p out
+    { echo '#!/bin/sh'; echo "echo built of $(cat src/main.rt): \\"\\$@\\""; } > out/chordsim
+    chmod +x out/chordsim ;;
+*) echo "rt: this crate is a program: use rt run" >&2; exit 2 ;;
+esac
+"""
+
+
+class Launcher(unittest.TestCase):
+    """A repository of one program and the library below it."""
+
+    def setUp(self) -> None:
+        """No program is there, and rt is the stand-in."""
+        folder = tempfile.TemporaryDirectory()
+        self.addCleanup(folder.cleanup)
+        self.top = Path(folder.name) / "a repository"
+        for name in SCRIPTS:
+            (self.top / name).parent.mkdir(parents=True, exist_ok=True)
+            shutil.copy(TOP / name, self.top / name)
+        (self.top / "crates.txt").write_text(CRATES, encoding="utf-8")
+        for crate, file in (("low", "lib"), ("chordsim", "main"), ("tests_alone", "main")):
+            (self.top / "crates" / crate / "src").mkdir(parents=True)
+            (self.top / "crates" / crate / "src" / f"{file}.rt").write_text("first\n", encoding="utf-8")
+        self.calls = Path(folder.name) / "calls"
+        self.tools = Path(folder.name) / "bin"
+        self.tools.mkdir()
+        (self.tools / "rt").write_text(STAND_IN, encoding="utf-8")
+        (self.tools / "rt").chmod(0o755)
+        self.path = f"{self.tools}:{os.environ['PATH']}"
+
+    def start(self, script: str, *arguments: str, **more: str) -> subprocess.CompletedProcess[str]:
+        """Starts a script of the repository."""
+        environment = {"PATH": self.path, "CALLS": str(self.calls), **more}
+        command = [str(self.top / script), *arguments]
+        return subprocess.run(command, env=environment, capture_output=True, text=True, check=False, timeout=60)
+
+    def without_rt(self) -> None:
+        """Takes rt away, and whatever else has that name."""
+        (self.tools / "rt").unlink()
+        folders = [folder for folder in self.path.split(":") if not (Path(folder) / "rt").exists()]
+        self.path = ":".join(folders)
+
+    def builds(self) -> int:
+        """How often rt was called."""
+        return len(self.calls.read_text(encoding="utf-8").splitlines()) if self.calls.exists() else 0
+
+    def change(self, crate: str, file: str, text: str) -> None:
+        """Writes another source."""
+        (self.top / "crates" / crate / "src" / file).write_text(text, encoding="utf-8")
+
+    def test_builds_once(self) -> None:
+        """The first start builds and says so; the second starts the program at once, from another folder too."""
+        first = self.start("chordsim", "run", "two words")
+        self.assertEqual((first.returncode, first.stdout), (0, "built of first: run two words\n"))
+        self.assertIn("proving and building", first.stderr)
+        self.assertIn("low is proved", first.stderr)
+        second = self.start("chordsim", "check")
+        self.assertEqual((second.returncode, second.stdout, second.stderr), (0, "built of first: check\n", ""))
+        self.assertEqual(self.builds(), 1)
+
+    def test_changed_source(self) -> None:
+        """A change of a crate below builds again; one of a crate of tests does not."""
+        self.start("chordsim")
+        self.change("tests_alone", "main.rt", "second\n")
+        self.start("chordsim")
+        self.assertEqual(self.builds(), 1)
+        self.change("chordsim", "main.rt", "second\n")
+        self.assertEqual(self.start("chordsim").stdout, "built of second:\n")
+        self.change("low", "lib.rt", "third\n")
+        self.start("chordsim")
+        self.assertEqual(self.builds(), 3)
+
+    def test_release(self) -> None:
+        """A release of these sources is started without rt; a stale one is not, but its --help is."""
+        self.assertEqual(self.start("tools/renew_release").returncode, 0)
+        shutil.rmtree(self.top / "out")
+        self.assertEqual(self.start("tools/check_release").returncode, 0)
+        self.without_rt()
+        self.assertEqual(self.start("chordsim", "ids").stdout, "built of first: ids\n")
+        self.change("low", "lib.rt", "second\n")
+        stale = self.start("chordsim", "ids")
+        self.assertEqual((stale.returncode, stale.stdout), (125, ""))
+        self.assertIn("no rt", stale.stderr)
+        for asked in (["--help"], ["run", "--help"], ["--version"], ["help", "run"]):
+            with self.subTest(asked=asked):
+                text = f"built of first: {' '.join(asked)}\n"
+                self.assertEqual(self.start("chordsim", *asked).stdout, text)
+        self.assertEqual(self.builds(), 1)
+
+    def test_stale_release(self) -> None:
+        """Where there is rt, sources that differ from the release's are built."""
+        self.start("tools/renew_release")
+        self.change("low", "lib.rt", "second\n")
+        self.assertIn("proving and building", self.start("chordsim").stderr)
+        self.assertEqual(self.builds(), 2)
+
+    def test_check_release(self) -> None:
+        """The gate refuses another program, another digest and other sources."""
+        self.start("tools/renew_release")
+        release = self.top / "release" / "x86_64-linux"
+        made = self.top / "crates" / "chordsim" / "out" / "chordsim"
+        kept = made.read_bytes()
+        made.write_bytes(kept + b"#")
+        self.assertIn("not the program that was built", self.start("tools/check_release").stderr)
+        made.write_bytes(kept)
+        digest = release / "chordsim.sha256"
+        digest.write_text(digest.read_text(encoding="utf-8").replace("a", "b"), encoding="utf-8")
+        self.assertIn("another program's", self.start("tools/check_release").stderr)
+        self.start("tools/renew_release")
+        self.assertEqual(self.start("tools/check_release").returncode, 0)
+        self.change("low", "lib.rt", "second\n")
+        refused = self.start("tools/check_release")
+        self.assertEqual(refused.returncode, 1)
+        self.assertIn("not of these sources", refused.stderr)
+
+    def test_no_kit(self) -> None:
+        """With nothing built and without rt the status is 125, and the line says what to do."""
+        self.without_rt()
+        for asked in ("check", "--help"):
+            refused = self.start("chordsim", asked)
+            self.assertEqual((refused.returncode, refused.stdout), (125, ""))
+            self.assertIn("put the bin folder of the Rattle kit on PATH", refused.stderr)
+
+    def test_failed_build(self) -> None:
+        """A build that fails names the log, which has what rt printed, and leaves nothing that is started."""
+        failed = self.start("chordsim", "check", RT_FAILS="1")
+        self.assertEqual((failed.returncode, failed.stdout), (125, ""))
+        self.assertIn(str(self.top / "out" / "build.log"), failed.stderr)
+        self.assertIn("no proof", (self.top / "out" / "build.log").read_text(encoding="utf-8"))
+        self.assertEqual(self.start("chordsim", "check").returncode, 0)
+
+    def test_two_starts(self) -> None:
+        """Of two starts at once one builds, and the other waits for it."""
+        outcomes: list[subprocess.CompletedProcess[str]] = []
+        start = lambda: outcomes.append(self.start("chordsim", RT_TAKES="0.5"))  # noqa: E731
+        threads = [threading.Thread(target=start) for _ in range(2)]
+        for thread in threads:
+            thread.start()
+            time.sleep(0.2)
+        for thread in threads:
+            thread.join()
+        self.assertEqual([outcome.stdout for outcome in outcomes], ["built of first:\n"] * 2)
+        self.assertEqual(self.builds(), 1)
+        self.assertTrue(any("waiting for another start" in outcome.stderr for outcome in outcomes))
+
+    def test_where(self) -> None:
+        """--where builds nothing, --build builds; both print the path alone."""
+        absent = self.start("chordsim", "--where")
+        self.assertEqual((absent.returncode, absent.stdout), (125, ""))
+        self.assertEqual(self.builds(), 0)
+        path = f"{self.top / 'out' / 'chordsim'}\n"
+        self.assertEqual(self.start("chordsim", "--build").stdout, path)
+        self.assertEqual(self.start("chordsim", "--where").stdout, path)
+        self.assertEqual(self.start("chordsim", "--build").stdout, path)
+        self.assertEqual(self.builds(), 1)
+
+
+if __name__ == "__main__":
+    unittest.main()
