@@ -12,57 +12,37 @@ program=${CHORDSIM:-$top/chordsim}
 work=$(mktemp -d)
 trap 'rm -rf "$work"' EXIT
 
-# A random scenario of 3 to 8 nodes with churn, lookups and commands; $1 is its seed.
-random_scenario() {
-    awk -v state="$1" '
-    function below(bound) { state = state * 16807 % 2147483647; return state % bound }
-    BEGIN {
-        for (i = 0; i < 10; i++) below(2)
-        nodes = 3 + below(6); bits = 4 + below(5); size = 2 ^ bits; list = 1 + below(2)
-        window = 1 + below(30); duration = 800 + below(800)
-        printf "profile = 1\nbits = %d\nlist = %d\nseed = %d\n", bits, list, below(1000000)
-        printf "duration_us = %d\nwindow_us = %d\nlatency_us = %d\n", duration, window, window + below(40)
-        printf "timeout_us = %d\naudit_us = %d\n", 20 + below(150), 100 + below(500)
-        printf "stabilize_us = %d\nfinger_us = %d\njitter_us = %d\n", 50 + below(300), 50 + below(300), below(30)
-        least = 20 + below(100)
-        printf "[lookups]\ngap_min_us = %d\ngap_max_us = %d\n", least, least + below(200)
-        churn = below(2)
-        if (churn) {
-            least = 200 + below(500)
-            printf "[churn]\nlife_min_us = %d\nlife_max_us = %d\n", least, least + below(500)
-            least = 50 + below(200)
-            printf "down_min_us = %d\ndown_max_us = %d\n", least, least + below(200)
-        }
-        ident = below(size); step = 2 * below(size / 2) + 1
-        for (i = 0; i < nodes; i++) {
-            printf "[[node]]\nname = \"n%d\"\nid = %d\n", i, (ident + i * step) % size
-            if (i <= list || below(2)) print "initial = true"
-            if (churn && below(2)) print "churn = true"
-        }
-        for (commands = below(12); commands > 0; commands--) {
-            node = below(nodes); kind = below(4)
-            printf "[[command]]\nat_us = %d\nnode = \"n%d\"\n", below(duration), node
-            if (kind == 0) print "do = \"crash\""
-            else if (kind == 1) printf "do = \"join\"\nvia = \"n%d\"\n", (node + 1 + below(nodes - 1)) % nodes
-            else printf "do = \"lookup\"\nkey = %d\n", below(size)
-        }
-    }'
+# Runs the scenario $scenario, with the latency file $links if there is one. The trace goes to the file $1, and the report
+# and the status to $1.report. A random scenario may have more events than it allows (status 3).
+play() {
+    trace=$1
+    shift
+    status=0
+    "$program" run --scenario "$scenario" ${links:+--latency "$links"} "$@" --trace "$trace" > "$trace.report" 2>&1 ||
+        status=$?
+    echo "status $status" >> "$trace.report"
 }
 
-# Runs the scenario $1 by each plan, and compares what it leaves with the run of one event at a time.
+# Runs a scenario by each plan, and compares what it writes with the run of one event at a time. Runs that fail have to
+# fail alike; their traces end at different events.
 compare() {
-    "$program" run --scenario "$1" --serial --trace "$work/serial" > "$work/serial.report"
+    scenario=$1
+    links=${2:-}
+    play "$work/serial" --serial
+    if [ "$status" != 0 ] && [ "$status" != 3 ]; then
+        cat "$work/serial.report" >&2
+        exit 1
+    fi
     for workers in 1 2 3 8 64; do
         for parts in 1 2 7 512; do
             for split in rr block; do
-                "$program" run --scenario "$1" --workers $workers --parts $parts --split $split \
-                    --trace "$work/crew" > "$work/crew.report"
-                cmp "$work/serial" "$work/crew"
+                play "$work/crew" --workers $workers --parts $parts --split $split
                 cmp "$work/serial.report" "$work/crew.report"
+                [ "$status" != 0 ] || cmp "$work/serial" "$work/crew"
             done
         done
     done
-    echo "$1: the same by 40 plans, $(wc -c < "$work/serial") bytes of trace"
+    echo "$scenario: the same by 40 plans, $(wc -c < "$work/serial") bytes of trace"
 }
 
 if [ $# -eq 0 ] || { [ "$1" = -r ] && [ $# -ne 2 ]; }; then
@@ -71,8 +51,8 @@ if [ $# -eq 0 ] || { [ "$1" = -r ] && [ $# -ne 2 ]; }; then
 elif [ "$1" = -r ]; then
     seed=1
     while [ "$seed" -le "$2" ]; do
-        random_scenario "$seed" > "$work/random$seed.toml"
-        compare "$work/random$seed.toml"
+        "$top/tools/generate" --random "$seed" --links "$work/links.csv" -o "$work/random$seed.toml"
+        compare "$work/random$seed.toml" "$work/links.csv"
         seed=$((seed + 1))
     done
 else

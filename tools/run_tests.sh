@@ -1,13 +1,21 @@
 #!/bin/sh
-# Runs the tests of the tools. What the plots need is installed from Debian's packages where it is not there; where that cannot
+# Runs the tests of the tools. What the plots need is installed from Debian's packages if it is not there; if that cannot
 # be, the tests of plots are skipped.
 #
 #   tools/run_tests.sh
 #
-# CHORDSIM names another program than the built one (a whole path).
+# The program is that of the variable CHORDSIM, else the one that is built of these sources. Without one the tests that
+# need it are skipped.
 set -eu
 top=$(CDPATH='' cd -- "$(dirname -- "$0")/.." && pwd)
-export CHORDSIM="${CHORDSIM:-$top/crates/chordsim/out/chordsim}"
+# The launcher sums up all sources, so that it is asked once here and not by each test.
+[ -n "${CHORDSIM:-}" ] || CHORDSIM=$("$top/chordsim" --where 2> /dev/null) || CHORDSIM=
+if [ -n "$CHORDSIM" ]; then
+    export CHORDSIM
+else
+    unset CHORDSIM
+    echo "tools: there is no program of these sources: what needs it is not tested" >&2
+fi
 python=/usr/bin/python3
 [ -x "$python" ] || python=python3
 

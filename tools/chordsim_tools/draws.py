@@ -11,7 +11,7 @@ from decimal import ROUND_HALF_EVEN, Context, Decimal
 from itertools import accumulate
 from random import Random
 
-from chordsim_tools.command_line import Progress
+from chordsim_tools.cli import Progress
 from chordsim_tools.quantities import decimal_of, span_of, time_of
 
 TWENTY_DIGITS = Context(prec=20, rounding=ROUND_HALF_EVEN)
@@ -39,12 +39,12 @@ class Draws:
         return least + self.below(greatest - least + 1)
 
     def key(self, bits: int) -> int:
-        """A number below 2^bits, from two words, or four where there are more than 64 bits."""
+        """A number below 2^bits, from two words, or four if there are more than 64 bits."""
         wide = self.half_words(2) if bits <= 64 else self.half_words(4)
         return wide >> (-bits % 64)
 
     def half_words(self, count: int) -> int:
-        """The number that so many times 32 bits write, the first ones the highest."""
+        """The number that `count` times 32 bits write, the first ones the highest."""
         number = 0
         for _ in range(count):
             number = number << 32 | self.word() % 2**32
@@ -55,7 +55,7 @@ class Draws:
         return -TWENTY_DIGITS.ln(TWENTY_DIGITS.divide(Decimal(self.word() + 1), Decimal(WORD)))
 
     def split(self, count: int) -> list["Draws"]:
-        """So many streams of their own. A greater count gives the same ones first."""
+        """`count` streams of their own. A greater count gives the same ones first."""
         return [Draws(self.word()) for _ in range(count)]
 
 
@@ -104,25 +104,26 @@ def distribution_of(text: str) -> Distribution | None:
     match name, parts:
         case "exp", [mean]:
             micros = time_of(mean)
-            return Exponential(micros) if is_length(micros) else None
+            return Exponential(micros) if micros is not None and is_length(micros) else None
         case "pareto", [alpha, least]:
             number, micros = decimal_of(alpha), time_of(least)
-            fits = number is not None and Decimal("0.1") <= number <= 100 and is_length(micros)
-            return Pareto(number, micros) if fits else None
+            if number is None or micros is None or not (Decimal("0.1") <= number <= 100 and is_length(micros)):
+                return None
+            return Pareto(number, micros)
         case "uniform", [span]:
             ends = span_of(span)
             return Uniform(*ends) if ends is not None and is_length(ends[0]) and is_length(ends[1]) else None
     return None
 
 
-def is_length(micros: int | None) -> bool:
+def is_length(micros: int) -> bool:
     """Whether a time is one that a life can take."""
-    return micros is not None and 1 <= micros <= GREATEST_TIME
+    return 1 <= micros <= GREATEST_TIME
 
 
 @dataclass(frozen=True)
 class Zipf:
-    """Keys by Zipf's law: of so many keys the one at place k, from 1, is drawn in proportion to 1 / k^exponent."""
+    """Keys by Zipf's law: of `count` keys the one at place k, from 1, is drawn in proportion to 1 / k^exponent."""
 
     exponent: Decimal
     count: int
@@ -165,10 +166,10 @@ class Keys:
 def weights(law: Zipf) -> list[int]:
     """The weights of all keys, in their order."""
     made: list[int] = []
-    with Progress("keys whose shares are reckoned") as progress:
+    with Progress("keys whose shares are computed", law.count) as progress:
         for place in range(1, law.count + 1):
             made.append(weight(place, law.exponent))
-            progress.at(place, law.count)
+            progress.one_more()
     return made
 
 

@@ -1,56 +1,117 @@
-"""The values of options, each read with its range."""
+"""The values of options: what argparse reads them with, and their ranges where these depend on other options."""
 
+from argparse import ArgumentTypeError, Namespace
 from collections.abc import Callable
-from typing import TypeVar
+from dataclasses import dataclass
+from typing import Generic, NoReturn, TypeVar
 
-from chordsim_tools.command_line import BadWords
+from chordsim_tools.cli import Parser
 from chordsim_tools.quantities import time_of, time_text, whole_of
 
 T = TypeVar("T")
+GREATEST_SEED = 2**63 - 1
 
 
-class Words:
-    """The values of the options as they were given, without the two dashes; nothing for those that were not."""
+@dataclass(frozen=True)
+class Given(Generic[T]):
+    """The value of an option that was given, and the text that it was read from."""
 
-    def __init__(self, given: dict[str, str | None]) -> None:
-        """The words given."""
-        self.given = given
+    text: str
+    value: T
+
+
+def value(read: Callable[[str], T | None], wanted: str) -> Callable[[str], Given[T]]:
+    """A `type=` for argparse. The reader returns nothing for a text that is not wanted."""
+
+    def convert(text: str) -> Given[T]:
+        """The value with its text."""
+        result = read(text)
+        if result is None:
+            raise ArgumentTypeError(f"{wanted}, not {text!r}")
+        return Given(text, result)
+
+    return convert
+
+
+def whole(least: int, greatest: int) -> Callable[[str], Given[int]]:
+    """A number in a range."""
+    return value(within(whole_of, least, greatest), f"{least} to {greatest}")
+
+
+def a_whole() -> Callable[[str], Given[int]]:
+    """A number whose range depends on other options, so that `Options.whole` looks at it."""
+    return value(whole_of, "a whole number")
+
+
+def duration(least: int, greatest: int) -> Callable[[str], Given[int]]:
+    """A time in a range, in microseconds."""
+    return value(within(time_of, least, greatest), f"a time of {time_text(least)} to {time_text(greatest)}")
+
+
+def a_time() -> Callable[[str], Given[int]]:
+    """A time whose range depends on other options, so that `Options.time` looks at it."""
+    return value(time_of, "a time")
+
+
+def choice(*choices: str) -> Callable[[str], Given[str]]:
+    """One of a few texts."""
+    return value(lambda text: text if text in choices else None, " or ".join(choices))
+
+
+def within(read: Callable[[str], int | None], least: int, greatest: int) -> Callable[[str], int | None]:
+    """A reader that takes the values of a range alone."""
+
+    def read_in_range(text: str) -> int | None:
+        """The value, or nothing."""
+        number = read(text)
+        return number if number is not None and least <= number <= greatest else None
+
+    return read_in_range
+
+
+class Options:
+    """The options that were given, for checks that look at more than one of them."""
+
+    def __init__(self, args: Namespace, parser: Parser) -> None:
+        """What a parser has made of the arguments."""
+        self.args = args
+        self.parser = parser
+
+    def given(self, name: str) -> Given[T] | None:
+        """An option, if it was given."""
+        found: Given[T] | None = getattr(self.args, name.replace("-", "_"))
+        return found
 
     def has(self, name: str) -> bool:
         """Whether an option was given."""
-        return self.given[name] is not None
+        return self.given(name) is not None
 
-    def read(self, name: str, default: T, reader: Callable[[str], T | None], wanted: str) -> T:
-        """The value of an option, or the default. The wanted says what may be given."""
-        text = self.given[name]
-        if text is None:
-            return default
-        value = reader(text)
-        if value is None:
-            raise BadWords(f"--{name}: {wanted}, not {text!r}")
-        return value
+    def get(self, name: str, default: T) -> T:
+        """The value of an option, or the default."""
+        given: Given[T] | None = self.given(name)
+        return default if given is None else given.value
 
-    def count(self, name: str, default: int, least: int, greatest: int, why: str = "") -> int:
-        """A number in a range."""
-        return self.read(name, default, within(whole_of, least, greatest), f"{least} to {greatest}{why}")
+    def whole(self, name: str, default: int, least: int, greatest: int, why: str = "") -> int:
+        """A number in a range that other options set."""
+        return self.in_range(name, default, least, greatest, f"{least} to {greatest}{why}")
 
     def time(self, name: str, default: int, least: int, greatest: int, why: str = "") -> int:
-        """A time in a range, in microseconds."""
-        ends = f"{time_text(least)} to {time_text(greatest)}{why}"
-        return self.read(name, default, within(time_of, least, greatest), f"a time of {ends}")
+        """A time in a range that other options set, in microseconds."""
+        wanted = f"a time of {time_text(least)} to {time_text(greatest)}{why}"
+        return self.in_range(name, default, least, greatest, wanted)
+
+    def in_range(self, name: str, default: int, least: int, greatest: int, wanted: str) -> int:
+        """The value of an option, or the default."""
+        given: Given[int] | None = self.given(name)
+        if given is not None and not least <= given.value <= greatest:
+            self.refuse(name, f"{wanted}, not {given.text!r}")
+        return default if given is None else given.value
 
     def only_with(self, name: str, fits: bool, others: str) -> None:
         """Refuses an option that would change nothing."""
         if self.has(name) and not fits:
-            raise BadWords(f"--{name}: only with {others}")
+            self.refuse(name, f"only with {others}")
 
-
-def within(reader: Callable[[str], int | None], least: int, greatest: int) -> Callable[[str], int | None]:
-    """A reader that takes the values of a range alone."""
-
-    def read(text: str) -> int | None:
-        """The value, or nothing."""
-        value = reader(text)
-        return value if value is not None and least <= value <= greatest else None
-
-    return read
+    def refuse(self, name: str, text: str) -> NoReturn:
+        """Ends with status 2 and a line that names the option."""
+        self.parser.error(f"--{name}: {text}")

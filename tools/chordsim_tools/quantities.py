@@ -1,4 +1,4 @@
-"""How numbers, times and spans are written in the words of commands."""
+"""How numbers, times and spans are written in the arguments of commands."""
 
 import re
 from decimal import Decimal
@@ -19,7 +19,7 @@ def decimal_of(text: str) -> Decimal | None:
 
 
 def time_of(text: str) -> int | None:
-    """A time in microseconds: 250us, 20ms, 1.5s, 10m or plain microseconds; nothing where that is no whole number."""
+    """A time in microseconds: 250us, 20ms, 1.5s, 10m or plain microseconds; nothing if that is no whole number."""
     match = re.fullmatch(r"([0-9]{1,15})(?:\.([0-9]{1,9}))?(us|ms|s|m)?", text)
     if match is None:
         return None
@@ -29,7 +29,7 @@ def time_of(text: str) -> int | None:
 
 
 def span_of(text: str) -> tuple[int, int] | None:
-    """A span MIN..MAX of two times, or nothing where it is none or goes down."""
+    """A span MIN..MAX of two times, or nothing if it is none or goes down."""
     # A point stands before a digit in a time, so that two points side by side are the sign of a span.
     ends = [time_of(end) for end in text.split("..")]
     if len(ends) != 2 or ends[0] is None or ends[1] is None or ends[0] > ends[1]:

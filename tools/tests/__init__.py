@@ -1,1 +1,1 @@
-"""Tests of chordsim_tools: `cd tools && python3 -m unittest`, or `pytest tools/tests`."""
+"""Tests of chordsim_tools: `tools/run_tests.sh`, or `cd tools && python3 -m unittest tests.test_rules`."""

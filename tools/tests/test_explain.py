@@ -6,12 +6,11 @@ import tempfile
 from contextlib import redirect_stderr, redirect_stdout
 from io import StringIO
 from pathlib import Path
+from unittest import TestCase
 from unittest.mock import patch
 
-from chordsim_tools.explain import explanations, main
-from chordsim_tools.explain_files import Explanation
-
-from .functions import suite_of
+from chordsim_tools.explain.command import explanations, main
+from chordsim_tools.explain.files import Explanation
 
 # Lines 1 to 11 are the top, 12 to 16 [churn]; the nodes n0, n1 and n3 begin at 17, 21 and 25, the command at 29.
 TOP = """profile = 1
@@ -77,11 +76,6 @@ ROWS = [
 ]
 
 
-def load_tests(*_: object) -> object:
-    """For unittest."""
-    return suite_of(globals())
-
-
 def changed(*changes: tuple[str, str]) -> str:
     """The world with texts replaced by others."""
     text = WORLD
@@ -109,207 +103,198 @@ def told(scenario: str, rows: str, *words: str, program: str = "") -> tuple[int,
     return status, out.getvalue(), err.getvalue()
 
 
-def test_faults_of_the_scenario() -> None:
-    """Each fault with its line and column, and what was likely meant. None brings another fault with it."""
-    assert faults(WORLD) == []
-    for old, new, fault, line, column, hint in FAULTS:
-        found = faults(changed((old, new)))
-        assert (found[0].fault, found[0].line, found[0].column) == (fault, line, column), found
-        assert found[0].file == "world.toml"
-        assert hint is None or hint in found[0].hints, found
+class ExplainTest(TestCase):
+    """Each fault with its line and column, what was likely meant, and how it is told."""
 
+    def test_faults_of_the_scenario(self) -> None:
+        """Each fault with its line and column, and what was likely meant. None brings another fault with it."""
+        assert faults(WORLD) == []
+        for old, new, fault, line, column, hint in FAULTS:
+            with self.subTest(change=new):
+                found = faults(changed((old, new)))
+                assert (found[0].fault, found[0].line, found[0].column) == (fault, line, column), found
+                assert found[0].file == "world.toml"
+                assert hint is None or hint in found[0].hints, found
 
-def test_faults_of_rows() -> None:
-    """Each fault of the latency file with its line."""
-    for rows, fault, line, hint in ROWS:
-        found = faults(WORLD, rows)
-        assert (found[0].fault, found[0].line, found[0].file) == (fault, line, "links.csv"), found
-        assert hint is None or hint in found[0].hints, found
+    def test_faults_of_rows(self) -> None:
+        """Each fault of the latency file with its line."""
+        for rows, fault, line, hint in ROWS:
+            with self.subTest(rows=rows):
+                found = faults(WORLD, rows)
+                assert (found[0].fault, found[0].line, found[0].file) == (fault, line, "links.csv"), found
+                assert hint is None or hint in found[0].hints, found
 
+    def test_single_faults_stay_single(self) -> None:
+        """What only follows from another fault is left out: a number out of range, a name twice, a row of one node."""
+        for change in (("bits = 3", "bits = 65"), ("duration_us = 200", "duration_us = 0"), ("list = 2", "list = 0")):
+            assert len(faults(changed(change))) == 1
+        twin = '[[node]]\nname = "x"\n'
+        text = changed(("[[command]]", twin + twin + "[[command]]"), ("bits = 3", "bits = 64"))
+        assert [one.fault for one in faults(text)] == ["S7 SameName node 4 node 5"]
+        twice = faults(WORLD, "n0,n0,10\nn0,n0,10")
+        assert [one.fault for one in twice] == ["S13 SelfLink row 1", "S13 SelfLink row 2"]
 
-def test_single_faults_stay_single() -> None:
-    """What only follows from another fault is not said: a number out of range, one name twice, a row of one node."""
-    for change in (("bits = 3", "bits = 65"), ("duration_us = 200", "duration_us = 0"), ("list = 2", "list = 0")):
-        assert len(faults(changed(change))) == 1
-    twin = '[[node]]\nname = "x"\n'
-    text = changed(("[[command]]", twin + twin + "[[command]]"), ("bits = 3", "bits = 64"))
-    assert [one.fault for one in faults(text)] == ["S7 SameName node 4 node 5"]
-    assert [one.fault for one in faults(WORLD, "n0,n0,10\nn0,n0,10")] == ["S13 SelfLink row 1", "S13 SelfLink row 2"]
+    def test_misspelled_key(self) -> None:
+        """The unknown key and the missing one point to each other."""
+        unknown, missing = faults(changed(("stabilize_us", "stabilise_us")))
+        assert (unknown.fault, unknown.line) == ("S2 UnknownKey top", 10)
+        assert unknown.hints == ["did you mean `stabilize_us`?"]
+        assert missing.fault == "S3 MissingKey top stabilize_us"
+        assert missing.hints == ["`stabilise_us` stands there and is no key: did you mean `stabilize_us` by it?"]
 
+    def test_misspelled_heading(self) -> None:
+        """[[nodes]] beside [[node]], and in its place."""
+        (found,) = faults(changed(("[[command]]", '[[nodes]]\nname = "x"\n[[command]]')))
+        assert (found.fault, found.line, found.hints) == ("S2 UnknownKey top", 29, ["did you mean [[node]]?"])
+        unknown, missing = faults(WORLD.replace("[[node]]", "[[nodes]]"))
+        assert (unknown.line, unknown.hints) == (17, ["did you mean [[node]]?"])
+        assert missing.fault == "S3 MissingKey top node"
 
-def test_misspelled_key() -> None:
-    """The unknown key and the missing one point to each other."""
-    unknown, missing = faults(changed(("stabilize_us", "stabilise_us")))
-    assert (unknown.fault, unknown.line, unknown.hints) == ("S2 UnknownKey top", 10, ["did you mean `stabilize_us`?"])
-    assert missing.fault == "S3 MissingKey top stabilize_us"
-    assert missing.hints == ["`stabilise_us` stands there and is no key: did you mean `stabilize_us` by it?"]
+    def test_keys_of_the_other_profile(self) -> None:
+        """Keys of the network in profile 1, misspelled and below a heading; in profile 2 they are like all others."""
+        (found,) = faults(changed(("seed = 1", "seed = 1\nloss_ppm = 5")))
+        assert (found.fault, found.line, found.hints) == (
+            "S2 UnknownKey top", 5, ["profile 2 has `loss_ppm`: write profile = 2"]
+        )
+        assert "loss_ppm" not in found.allowed
+        (found,) = faults(changed(("seed = 1", "seed = 1\nspreads_us = 5")))
+        assert found.hints == ["did you mean `spread_us`? profile 2 has `spread_us`: write profile = 2"]
+        (found,) = faults(changed(("[churn]", "[churn]\nspread_us = 5")))
+        assert found.hints == ["profile 2 has `spread_us`: write profile = 2, and put it above the first heading"]
+        (found,) = faults(changed(("profile = 1", "profile = 2\nloss_pmm = 5")))
+        assert (found.hints, "loss_ppm, spread_us" in found.allowed) == (["did you mean `loss_ppm`?"], True)
+        (found,) = faults(changed(("profile = 1", "profile = 2"), ("[churn]", "[churn]\nspread_us = 5")))
+        assert found.hints == ["`spread_us` is a key of the top: put it above the first heading"]
+        unknown, wrong = faults(changed(("profile = 1", 'profile = "2"\nloss_ppm = 5')))
+        assert (unknown.fault, wrong.fault) == ("S2 UnknownKey top", "S4 WrongType top profile")
+        assert (wrong.allowed, wrong.hints) == ("an integer from 1 to 2", ["without quotes: profile = 2"])
+        assert faults(changed(("profile = 1", "profile = 2\nloss_ppm = 5\nspread_us = 5"))) == []
 
+    def test_ranges_of_both_profiles(self) -> None:
+        """What profile 1 refuses and profile 2 allows, and what both refuse."""
+        second = ("profile = 1", "profile = 2")
+        (found,) = faults(changed(("bits = 3", "bits = 65")))
+        assert (found.allowed, found.hints) == (
+            "an integer from 3 to 64", ["profile 2 allows up to 128: write profile = 2"]
+        )
+        (found,) = faults(changed(second, ("bits = 3", "bits = 129")))
+        assert (found.allowed, found.hints) == ("an integer from 3 to 128", [])
+        (found,) = faults(changed(("id = 3", 'id = "00000000000000003"')))
+        assert found.hints == [
+            '16 digits at most: "3"', "profile 2 allows up to 32 hexadecimal digits, and 128 bits: write profile = 2"
+        ]
+        assert "1 to 16 hexadecimal digits" in found.allowed
+        (found,) = faults(changed(second, ("id = 3", f'id = "{"3":0>33}"')))
+        assert (found.fault, found.hints) == ("S5 OutOfRange node 3 id", ['32 digits at most: "3"'])
+        assert "1 to 32 hexadecimal digits" in found.allowed
+        assert faults(changed(second, ("id = 3", f'id = "{"3":0>32}"'))) == []
+        more = "".join(f'[[node]]\nname = "x{i}"\n' for i in range(510))
+        (found,) = faults(changed(("[[command]]", more + "[[command]]"), ("bits = 3", "bits = 64")))
+        assert (found.fault, found.hints) == (
+            "S5 OutOfRange top node", ["profile 2 allows up to 4096 tables: write profile = 2"]
+        )
+        assert faults(changed(second, ("[[command]]", more + "[[command]]"), ("bits = 3", "bits = 64"))) == []
+        (found,) = faults(changed(("profile = 1", "profile = 3")))
+        assert (found.fault, found.allowed) == ("S5 OutOfRange top profile", "an integer from 1 to 2")
 
-def test_misspelled_heading() -> None:
-    """[[nodes]] beside [[node]], and in its place."""
-    (found,) = faults(changed(("[[command]]", '[[nodes]]\nname = "x"\n[[command]]')))
-    assert (found.fault, found.line, found.hints) == ("S2 UnknownKey top", 29, ["did you mean [[node]]?"])
-    unknown, missing = faults(WORLD.replace("[[node]]", "[[nodes]]"))
-    assert (unknown.line, unknown.hints, missing.fault) == (17, ["did you mean [[node]]?"], "S3 MissingKey top node")
+    def test_window_and_spread(self) -> None:
+        """A spread does not make a latency long enough."""
+        text = changed(("profile = 1", "profile = 2\nspread_us = 5"), ("window_us = 10", "window_us = 11"))
+        (found,) = faults(text)
+        assert found.fault == "S15 LatencyBelowWindow n0 n1"
+        assert found.hints[1:] == ["`spread_us` does not count here: a message may come without it"]
 
+    def test_rows_that_are_no_heading(self) -> None:
+        """A first row with a name or a number is none."""
+        for rows in ("n0;n1;10", "n0,n1", "x,y,5.5"):
+            assert not any("heading" in hint for one in faults(WORLD, rows) for hint in one.hints), rows
+        assert all("heading" in one.hints[0] for one in faults(WORLD, "node1;node2;us"))
 
-def test_keys_of_the_other_profile() -> None:
-    """Keys of the network in profile 1, misspelled and below a heading; in profile 2 they are keys like all others."""
-    (found,) = faults(changed(("seed = 1", "seed = 1\nloss_ppm = 5")))
-    assert (found.fault, found.line, found.hints) == (
-        "S2 UnknownKey top", 5, ["profile 2 has `loss_ppm`: write profile = 2"]
-    )
-    assert "loss_ppm" not in found.allowed
-    (found,) = faults(changed(("seed = 1", "seed = 1\nspreads_us = 5")))
-    assert found.hints == ["did you mean `spread_us`? profile 2 has `spread_us`: write profile = 2"]
-    (found,) = faults(changed(("[churn]", "[churn]\nspread_us = 5")))
-    assert found.hints == ["profile 2 has `spread_us`: write profile = 2, and put it above the first heading"]
-    (found,) = faults(changed(("profile = 1", "profile = 2\nloss_pmm = 5")))
-    assert (found.hints, "loss_ppm, spread_us" in found.allowed) == (["did you mean `loss_ppm`?"], True)
-    (found,) = faults(changed(("profile = 1", "profile = 2"), ("[churn]", "[churn]\nspread_us = 5")))
-    assert found.hints == ["`spread_us` is a key of the top: put it above the first heading"]
-    unknown, wrong = faults(changed(("profile = 1", 'profile = "2"\nloss_ppm = 5')))
-    assert (unknown.fault, wrong.fault) == ("S2 UnknownKey top", "S4 WrongType top profile")
-    assert (wrong.allowed, wrong.hints) == ("an integer from 1 to 2", ["without quotes: profile = 2"])
-    assert faults(changed(("profile = 1", "profile = 2\nloss_ppm = 5\nspread_us = 5"))) == []
+    def test_key_below_the_wrong_heading(self) -> None:
+        """A key of the top that stands in [churn]."""
+        unknown, missing = faults(changed(("seed = 1\n", ""), ("[churn]\n", "[churn]\nseed = 1\n")))
+        assert (unknown.fault, unknown.line) == ("S2 UnknownKey churn", 12)
+        assert unknown.hints == ["`seed` is a key of the top: put it above the first heading"]
+        assert missing.hints == ["it stands in churn, line 12: put it above the first heading"]
 
+    def test_one_bracket(self) -> None:
+        """[node] for [[node]], once (no array) and twice (no TOML)."""
+        text = TOP + NODES.split("[[node]]\n")[1].join(["[node]\n", ""])
+        (found,) = faults(text)
+        assert (found.fault, found.line) == ("S4 WrongType top node", 17)
+        assert found.hints == ["[node] is one table: begin each with the heading [[node]]"]
+        (found,) = faults(changed(("[[node]]", "[node]"), ("[[node]]", "[node]")))
+        assert (found.fault, found.line) == ("S1 NotToml", 21)
+        assert found.hints == ["begin each node with the heading [[node]], with two brackets on each side"]
 
-def test_ranges_of_both_profiles() -> None:
-    """What profile 1 refuses and profile 2 allows, and what both refuse."""
-    second = ("profile = 1", "profile = 2")
-    (found,) = faults(changed(("bits = 3", "bits = 65")))
-    assert (found.allowed, found.hints) == (
-        "an integer from 3 to 64", ["profile 2 allows up to 128: write profile = 2"]
-    )
-    (found,) = faults(changed(second, ("bits = 3", "bits = 129")))
-    assert (found.allowed, found.hints) == ("an integer from 3 to 128", [])
-    (found,) = faults(changed(("id = 3", 'id = "00000000000000003"')))
-    assert found.hints == [
-        '16 digits at most: "3"', "profile 2 allows up to 32 hexadecimal digits, and 128 bits: write profile = 2"
-    ]
-    assert "1 to 16 hexadecimal digits" in found.allowed
-    (found,) = faults(changed(second, ("id = 3", f'id = "{"3":0>33}"')))
-    assert (found.fault, found.hints) == ("S5 OutOfRange node 3 id", ['32 digits at most: "3"'])
-    assert "1 to 32 hexadecimal digits" in found.allowed
-    assert faults(changed(second, ("id = 3", f'id = "{"3":0>32}"'))) == []
-    more = "".join(f'[[node]]\nname = "x{i}"\n' for i in range(510))
-    (found,) = faults(changed(("[[command]]", more + "[[command]]"), ("bits = 3", "bits = 64")))
-    assert (found.fault, found.hints) == (
-        "S5 OutOfRange top node", ["profile 2 allows up to 4096 tables: write profile = 2"]
-    )
-    assert faults(changed(second, ("[[command]]", more + "[[command]]"), ("bits = 3", "bits = 64"))) == []
-    (found,) = faults(changed(("profile = 1", "profile = 3")))
-    assert (found.fault, found.allowed) == ("S5 OutOfRange top profile", "an integer from 1 to 2")
+    def test_several_at_once(self) -> None:
+        """In the order of S1 to S15, and within each in that of the places, the rows last."""
+        text = changed(
+            ("seed = 1", "seed = true"), ("finger_us = 1000", "finger_us = 0"), ("life_min_us = 5", "life_min = 5"),
+            ('name = "n1"', 'name = "n3"'), ("id = 3", "id = 9"), ("at_us = 100", "at_us = 300"),
+            ('node = "n0"', 'node = "n7"'),
+        )
+        assert [one.fault for one in faults(text, "n0,n3\nn0,n8,5\nn3,n0,10\nn0,n3,9")] == [
+            "S2 UnknownKey churn",
+            "S3 MissingKey churn life_min_us",
+            "S4 WrongType top seed",
+            "S5 OutOfRange top finger_us",
+            "S5 OutOfRange node 3 id",
+            "S7 SameName node 2 node 3",
+            "S9 UnknownNode command 1",
+            "S9 UnknownNode row 2",
+            "S11 TimeAfterEnd command 1",
+            "S12 BadLatencyRow row 1",
+            "S14 SameLinkTwice row 4",
+            "S15 LatencyBelowWindow n0 n3",
+        ]
 
+    def test_no_toml_and_broken_rows(self) -> None:
+        """Of a latency file beside a text that is no TOML only what it says by itself."""
+        assert [one.fault for one in faults("bits: 3", "n0,n1\na,a,5")] == [
+            "S1 NotToml", "S12 BadLatencyRow row 1", "S13 SelfLink row 2"
+        ]
 
-def test_window_and_spread() -> None:
-    """A spread does not make a latency long enough."""
-    text = changed(("profile = 1", "profile = 2\nspread_us = 5"), ("window_us = 10", "window_us = 11"))
-    (found,) = faults(text)
-    assert found.fault == "S15 LatencyBelowWindow n0 n1"
-    assert found.hints[1:] == ["`spread_us` does not count here: a message may come without it"]
+    def test_many_pairs_below_the_window(self) -> None:
+        """latency_us is named once for all pairs, each row by itself, in the order of their first pairs."""
+        found = faults(changed(("window_us = 10", "window_us = 20")), "n1,n3,19\nn0,n3,20")
+        assert [(one.fault, one.file, one.line) for one in found] == [
+            ("S15 LatencyBelowWindow n0 n1", "world.toml", 7), ("S15 LatencyBelowWindow n1 n3", "links.csv", 1)
+        ]
 
+    def test_texts_and_statuses(self) -> None:
+        """Accepted files, refused ones, some of each kind, and the words for a reader."""
+        assert told(WORLD, "n0,n1,10\n") == (0, "accepted: 3 nodes, 1 commands\n", "")
+        status, out, err = told(changed(("bits = 3", 'bits = "3"')), "n0,n1\nn0\nn1,n3\n", "--most", "2")
+        lines = out.splitlines()
+        assert (status, err, lines[0], lines[1]) == (1, "", "refused: S4 WrongType top bits", "4 faults:")
+        assert lines[3] == "1. S4 WrongType top bits"
+        assert lines[4].endswith("world.toml, line 2, column 8: `bits` has a value of another type")
+        assert lines[5:7] == ['   there:   "3"', "   allowed: an integer from 3 to 64"]
+        assert lines[7] == "   hint:    without quotes: bits = 3"
+        assert lines[-1] == "and 1 more of S12 BadLatencyRow"
 
-def test_rows_that_are_no_heading() -> None:
-    """A first row with a name or a number is none."""
-    for rows in ("n0;n1;10", "n0,n1", "x,y,5.5"):
-        assert not any("heading" in hint for one in faults(WORLD, rows) for hint in one.hints), rows
-    assert all("heading" in one.hints[0] for one in faults(WORLD, "node1;node2;us"))
+    def test_json(self) -> None:
+        """The same for other programs."""
+        status, out, _ = told(changed(("list = 2", "list = 17")), "", "--json")
+        said = json.loads(out)
+        assert (status, said["answer"], said["accepted"]) == (1, "refused: S5 OutOfRange top list", False)
+        (fault,) = said["faults"]
+        assert (fault["number"], fault["fault"]) == (1, "S5 OutOfRange top list")
+        assert (fault["place"], fault["key"]) == ("top", "list")
+        assert (fault["line"], fault["column"], fault["near"], fault["found"]) == (3, 8, False, "17")
+        assert fault["allowed"] == "an integer from 1 to 16"
+        assert json.loads(told(WORLD, "", "--json")[1])["accepted"] is True
 
+    def test_files_that_cannot_be_read(self) -> None:
+        """One line, with the name and the reason."""
+        err = StringIO()
+        with redirect_stderr(err):
+            assert main(["/nowhere/world.toml", "--alone"]) == 1
+        assert err.getvalue() == "refused: cannot read /nowhere/world.toml: No such file or directory\n"
 
-def test_key_below_the_wrong_heading() -> None:
-    """A key of the top that stands in [churn]."""
-    unknown, missing = faults(changed(("seed = 1\n", ""), ("[churn]\n", "[churn]\nseed = 1\n")))
-    assert (unknown.fault, unknown.line) == ("S2 UnknownKey churn", 12)
-    assert unknown.hints == ["`seed` is a key of the top: put it above the first heading"]
-    assert missing.hints == ["it stands in churn, line 12: put it above the first heading"]
-
-
-def test_one_bracket() -> None:
-    """[node] for [[node]], once (no array) and twice (no TOML)."""
-    text = TOP + NODES.split("[[node]]\n")[1].join(["[node]\n", ""])
-    (found,) = faults(text)
-    assert (found.fault, found.line) == ("S4 WrongType top node", 17)
-    assert found.hints == ["[node] is one table: begin each with the heading [[node]]"]
-    (found,) = faults(changed(("[[node]]", "[node]"), ("[[node]]", "[node]")))
-    assert (found.fault, found.line) == ("S1 NotToml", 21)
-    assert found.hints == ["begin each node with the heading [[node]], with two brackets on each side"]
-
-
-def test_several_at_once() -> None:
-    """In the order of S1 to S15, and within each in that of the places, the rows last."""
-    text = changed(
-        ("seed = 1", "seed = true"), ("finger_us = 1000", "finger_us = 0"), ("life_min_us = 5", "life_min = 5"),
-        ('name = "n1"', 'name = "n3"'), ("id = 3", "id = 9"), ("at_us = 100", "at_us = 300"),
-        ('node = "n0"', 'node = "n7"'),
-    )
-    assert [one.fault for one in faults(text, "n0,n3\nn0,n8,5\nn3,n0,10\nn0,n3,9")] == [
-        "S2 UnknownKey churn",
-        "S3 MissingKey churn life_min_us",
-        "S4 WrongType top seed",
-        "S5 OutOfRange top finger_us",
-        "S5 OutOfRange node 3 id",
-        "S7 SameName node 2 node 3",
-        "S9 UnknownNode command 1",
-        "S9 UnknownNode row 2",
-        "S11 TimeAfterEnd command 1",
-        "S12 BadLatencyRow row 1",
-        "S14 SameLinkTwice row 4",
-        "S15 LatencyBelowWindow n0 n3",
-    ]
-
-
-def test_no_toml_and_broken_rows() -> None:
-    """Of a latency file beside a text that is no TOML only what it says by itself."""
-    assert [one.fault for one in faults("bits: 3", "n0,n1\na,a,5")] == [
-        "S1 NotToml", "S12 BadLatencyRow row 1", "S13 SelfLink row 2"
-    ]
-
-
-def test_many_pairs_below_the_window() -> None:
-    """latency_us is named once for all pairs, each row by itself, in the order of their first pairs."""
-    found = faults(changed(("window_us = 10", "window_us = 20")), "n1,n3,19\nn0,n3,20")
-    assert [(one.fault, one.file, one.line) for one in found] == [
-        ("S15 LatencyBelowWindow n0 n1", "world.toml", 7), ("S15 LatencyBelowWindow n1 n3", "links.csv", 1)
-    ]
-
-
-def test_texts_and_statuses() -> None:
-    """Accepted files, refused ones, some of each kind, and the words for a reader."""
-    assert told(WORLD, "n0,n1,10\n") == (0, "accepted: 3 nodes, 1 commands\n", "")
-    status, out, err = told(changed(("bits = 3", 'bits = "3"')), "n0,n1\nn0\nn1,n3\n", "--most", "2")
-    lines = out.splitlines()
-    assert (status, err, lines[0], lines[1]) == (1, "", "refused: S4 WrongType top bits", "4 faults:")
-    assert lines[3] == "1. S4 WrongType top bits"
-    assert lines[4].endswith("world.toml, line 2, column 8: `bits` has a value of another type")
-    assert lines[5:7] == ['   there:   "3"', "   allowed: an integer from 3 to 64"]
-    assert lines[7] == "   hint:    without quotes: bits = 3"
-    assert lines[-1] == "and 1 more of S12 BadLatencyRow"
-
-
-def test_json() -> None:
-    """The same for other programs."""
-    status, out, _ = told(changed(("list = 2", "list = 17")), "", "--json")
-    said = json.loads(out)
-    assert (status, said["answer"], said["accepted"]) == (1, "refused: S5 OutOfRange top list", False)
-    (fault,) = said["faults"]
-    assert (fault["number"], fault["fault"]) == (1, "S5 OutOfRange top list")
-    assert (fault["place"], fault["key"]) == ("top", "list")
-    assert (fault["line"], fault["column"], fault["near"], fault["found"]) == (3, 8, False, "17")
-    assert fault["allowed"] == "an integer from 1 to 16"
-    assert json.loads(told(WORLD, "", "--json")[1])["accepted"] is True
-
-
-def test_files_that_cannot_be_read() -> None:
-    """One line, with the name and the reason."""
-    err = StringIO()
-    with redirect_stderr(err):
-        assert main(["/nowhere/world.toml", "--alone"]) == 1
-    assert err.getvalue() == "refused: cannot read /nowhere/world.toml: No such file or directory\n"
-
-
-def test_program_that_is_not_there() -> None:
-    """A program that is named has to be there."""
-    assert told(WORLD, "", program="/nowhere/chordsim") == (
-        3, "", "failed: CHORDSIM=/nowhere/chordsim: no program that can be run\n"
-    )
+    def test_program_that_is_not_there(self) -> None:
+        """A program that is named has to be there."""
+        assert told(WORLD, "", program="/nowhere/chordsim") == (
+            3, "", "failed: the program is missing: CHORDSIM=/nowhere/chordsim is no file that can be run\n"
+        )

@@ -6,14 +6,14 @@ import tempfile
 import tomllib
 from pathlib import Path
 from random import Random
-from unittest import mock
+from unittest import TestCase, mock
 
-from chordsim_tools.circle import Circle
-from chordsim_tools.generate import main
-from chordsim_tools.scenario import Churn, Command, Lookups, Scenario, read_scenario
-
-from .functions import suite_of
-from .programs import checked, ended, program
+from chordsim_tools.generate.command import main
+from chordsim_tools.generate.random_scenario import scenario_files
+from chordsim_tools.known import known
+from chordsim_tools.reference.circle import Circle
+from chordsim_tools.scenario.reading import Churn, Command, Lookups, Scenario, read_scenario
+from tests.support.programs import checked, ended, program
 
 TOOL = Path(__file__).resolve().parents[1] / "generate"
 REFUSED = [
@@ -64,12 +64,10 @@ REFUSED = [
     ("--node 8", "unrecognized arguments"),
     ("--seed 1 --seed 1", "--seed: given twice"),
     ("-o x", "-o: given twice"),
+    ("--random -1", "--random: 0 to 9223372036854775807"),
+    ("--random 1 --nodes 5", "--nodes: not with --random"),
+    ("--links x.csv", "--links: only with --random"),
 ]
-
-
-def load_tests(*_: object) -> object:
-    """For unittest."""
-    return suite_of(globals())
 
 
 def text_of(words: str) -> str:
@@ -89,242 +87,9 @@ def churn_of(scenario: Scenario, node: int) -> list[Command]:
     return [command for command in scenario.commands if command.node == node and command.do != "lookup"]
 
 
-def test_defaults() -> None:
-    """A ring as in examples/churn64.toml, without churn."""
-    ring = made("")
-    assert (ring.bits, ring.list, ring.seed, ring.max_events) == (32, 4, 1, 50_000_000)
-    assert (ring.duration_us, ring.audit_us) == (120_000_000, 5_000_000)
-    assert (ring.window_us, ring.latency_us, ring.timeout_us) == (20_000, 20_000, 200_000)
-    assert (ring.stabilize_us, ring.finger_us, ring.jitter_us) == (500_000, 250_000, 50_000)
-    assert [node.name for node in ring.nodes] == [f"n{i}" for i in range(64)]
-    assert all(node.initial and not node.churn for node in ring.nodes)
-    assert (ring.churn, ring.lookups, ring.commands) == (None, Lookups(500_000, 1_500_000), [])
-
-
-def test_all_plain_words() -> None:
-    """Each option's value stands where it belongs."""
-    ring = made(
-        "--profile 1 --nodes 9 --initial 6 --bits 8 --list 5 --duration 2s --window 1ms --latency 2ms --timeout 3ms "
-        "--audit 4ms --stabilize 5ms --finger 6ms --jitter 7ms --max-events 8 --seed 9 --lookup-gap 10ms..11ms "
-        "--churn-uniform 12ms..13ms 14ms..15ms --stay 1"
-    )
-    assert (ring.bits, ring.list, ring.seed, ring.max_events, ring.duration_us) == (8, 5, 9, 8, 2_000_000)
-    assert (ring.window_us, ring.latency_us, ring.timeout_us, ring.audit_us) == (1000, 2000, 3000, 4000)
-    assert (ring.stabilize_us, ring.finger_us, ring.jitter_us) == (5000, 6000, 7000)
-    assert ring.lookups == Lookups(10_000, 11_000)
-    assert ring.churn == Churn(12_000, 13_000, 14_000, 15_000)
-    assert [node.initial for node in ring.nodes] == [True] * 6 + [False] * 3
-    assert [node.churn for node in ring.nodes] == [False] + [True] * 8
-
-
-def test_second_profile() -> None:
-    """Loss and spread stand behind `max_events`; keys have up to 128 bits, and nodes are as many as may be."""
-    words = "--profile 2 --bits 128 --nodes 4096 --loss 20000 --spread 5ms --lookups 0.001 --duration 10s --seed 3"
-    ring = tomllib.loads(text_of(words))
-    assert [ring[key] for key in ("profile", "bits", "loss_ppm", "spread_us")] == [2, 128, 20_000, 5000]
-    assert list(ring)[12:15] == ["max_events", "loss_ppm", "spread_us"]
-    assert len(ring["node"]) == 4096
-    keys = [int(command["key"], 16) for command in ring["command"]]
-    assert keys and all(key >> 128 == 0 for key in keys) and any(key >> 120 for key in keys)
-    plain = tomllib.loads(text_of("--profile 2"))
-    assert (plain["loss_ppm"], plain["spread_us"]) == (0, 0)
-    assert text_of("--profile 1 --seed 1").split("\n", 4)[4] == text_of("--seed 1").split("\n", 4)[4]
-
-
-def test_defaults_that_follow() -> None:
-    """The timeout and the window go with the latency, the audits with the duration, the list with the initial nodes."""
-    ring = made("--nodes 3 --latency 1ms --duration 48us")
-    assert (ring.list, ring.window_us, ring.timeout_us, ring.audit_us) == (2, 1000, 10_000, 2)
-    assert made("--latency 1000s").timeout_us == 10**9
-    assert made("--duration 1000000s").audit_us == 10**9
-
-
-def test_names_of_one_identifier() -> None:
-    """Eight nodes fill a circle of eight places; the first of one identifier keeps that of its name."""
-    ring = made("--nodes 8 --bits 3")
-    assert sorted(node.ident for node in ring.nodes) == list(range(8))
-    assert ring.nodes[0].ident == Circle(3).identifier_of_name("n0")
-    assert "id = " not in text_of("--nodes 512 --bits 64")
-
-
-def test_drawn_churn() -> None:
-    """A node's lives and down times lie in their spans; those that stay do nothing."""
-    ring = made("--nodes 12 --lifetime uniform:3s..5s --down uniform:1s..2s --stay 3 --duration 60s --seed 4")
-    assert {command.node for command in ring.commands} == set(range(3, 12))
-    assert [command.at_us for command in ring.commands] == sorted(command.at_us for command in ring.commands)
-    for node in range(3, 12):
-        moves = churn_of(ring, node)
-        assert [move.do for move in moves] == (["crash", "join"] * len(moves))[: len(moves)]
-        assert 60 / 7 * 2 - 1 <= len(moves) <= 60 / 4 * 2 + 1
-        times = [0, *(move.at_us for move in moves)]
-        lives = [end - begin for begin, end in zip(times[::2], times[1::2])]
-        downs = [end - begin for begin, end in zip(times[1::2], times[2::2])]
-        assert all(3_000_000 <= life <= 5_000_000 for life in lives)
-        assert all(1_000_000 <= down <= 2_000_000 for down in downs)
-
-
-def test_lives_of_a_run_have_their_mean() -> None:
-    """Down times of exactly 1us, lives of 2s on the average: within 5%, 128 nodes in 100s crash 50 times each."""
-    ring = made("--nodes 128 --stay 0 --lifetime exp:2s --down uniform:1..1 --duration 100s")
-    crashes = len([command for command in ring.commands if command.do == "crash"])
-    assert abs(crashes / (128 * 50) - 1) < 0.05
-
-
 def ups(scenario: Scenario) -> dict[int, int]:
     """The nodes that are up at the start, with the time since which they are."""
     return {i: 0 for i, node in enumerate(scenario.nodes) if node.initial}
-
-
-def test_joins_go_through_nodes_that_are_up() -> None:
-    """Each drawn node to join through is up by the commands, and for a timeout where there is such a node."""
-    ring = made("--nodes 30 --initial 10 --stay 1 --lifetime exp:2s --down exp:1s --duration 60s --timeout 300ms")
-    up, fresh, vias = ups(ring), 0, set()
-    for command in ring.commands:
-        if command.do == "crash":
-            del up[command.node]
-            continue
-        settled = [node for node, since in up.items() if since == 0 or since + 300_000 <= command.at_us]
-        assert command.via in (settled or up)
-        fresh += command.via not in settled
-        vias.add(command.via)
-        up[command.node] = command.at_us
-    assert 0 in up and fresh == 0 and len(vias) > 20
-
-
-def test_joins_through_the_first() -> None:
-    """n0 is the node to join through, and n1 that of n0; also where nobody is up."""
-    first = made("--nodes 5 --stay 0 --lifetime exp:1s --down exp:1s --duration 30s --via first")
-    vias = {(command.node == 0, command.via) for command in first.commands if command.do == "join"}
-    assert vias == {(False, 0), (True, 1)}
-    alone = made("--nodes 2 --stay 0 --lifetime uniform:1s..1s --down uniform:1s..1s --duration 2500ms")
-    assert [(c.at_us, c.do, c.node, c.via) for c in alone.commands] == [
-        (1_000_000, "crash", 0, None), (1_000_000, "crash", 1, None),
-        (2_000_000, "join", 0, 1), (2_000_000, "join", 1, 0),
-    ]
-
-
-def test_arrivals() -> None:
-    """Nodes that are not initial join once in the span; with the program's churn through nodes that stay."""
-    ring = made("--nodes 40 --initial 8 --arrive 5s..5055ms")
-    assert sorted(command.node for command in ring.commands) == list(range(8, 40))
-    assert all(5_000_000 <= command.at_us <= 5_055_000 and command.via < 8 for command in ring.commands)
-    churn = made("--nodes 40 --initial 8 --stay 3 --churn-uniform 1s..2s 1s..2s")
-    assert {command.via for command in churn.commands} == {0, 1, 2}
-
-
-def test_drawn_lookups() -> None:
-    """As many as the rate says, within 5%; each while the node is up; keys of the law alone."""
-    churn = "--lifetime exp:10s --down exp:10s --stay 25"
-    ring = made(f"--nodes 50 --bits 64 --duration 100s --lookups 2 --keys zipf:1:20 {churn}")
-    up, count, keys = set(ups(ring)), 0, set()
-    for command in ring.commands:
-        if command.do == "lookup":
-            assert command.node in up
-            count += command.node < 25
-            keys.add(command.key)
-        else:
-            (up.remove if command.do == "crash" else up.add)(command.node)
-    assert ring.lookups is None
-    assert abs(count / (25 * 100 * 2) - 1) < 0.05
-    assert len(keys) == 20 and max(keys) >= 2**63
-
-
-def test_streams_of_their_own() -> None:
-    """Lookups do not change the lives, and more nodes change neither lives nor lookups of the others."""
-    words = "--lifetime exp:20s --down exp:5s --lookups 0.1 --via first --nodes"
-    few, more = made(f"{words} 20"), made(f"{words} 30")
-    assert [command for command in more.commands if command.node < 20] == few.commands
-    quiet = made("--lifetime exp:20s --down exp:5s --via first --nodes 20")
-    assert quiet.commands == [command for command in few.commands if command.do != "lookup"]
-
-
-def test_longer_run_begins_as_the_shorter() -> None:
-    """The commands of a minute are those of the first minute of two."""
-    words = "--nodes 20 --initial 9 --arrive 0..50s --lifetime exp:20s --down exp:5s --lookups 0.1 --duration"
-    short, long = made(f"{words} 60s"), made(f"{words} 120s")
-    assert short.commands == [command for command in long.commands if command.at_us < 60_000_000]
-    assert len(long.commands) > len(short.commands) > 50
-
-
-def test_same_words_same_bytes() -> None:
-    """In another process, with other hashes; another seed gives another file."""
-    words = "--nodes 20 --initial 5 --lifetime pareto:1.5:5s --lookups 0.5 --keys zipf:0.9:50"
-    for seed in ("1", "2"):
-        hashes = os.environ | {"PYTHONHASHSEED": seed}
-        there = subprocess.run([TOOL, *words.split()], env=hashes, capture_output=True, text=True, check=True)
-        assert there.stdout == text_of(words)
-    assert text_of(words + " --seed 2") != text_of(words)
-
-
-def test_head_says_the_words() -> None:
-    """The words of the head, given again, make the same file; the file's name is not among them."""
-    words = "--seed 7 --lifetime exp:9s --nodes 9 --churn-uniform 1s..2s 3s..4s".split()
-    assert ended(main, *words)[0] == 2
-    with tempfile.TemporaryDirectory() as folder:
-        name = Path(folder) / "a b.toml"
-        assert ended(main, *words[:-3], "-o", str(name)) == (0, "", "")
-        text = name.read_text()
-        assert list(Path(folder).iterdir()) == [name]
-    assert text.splitlines()[2] == "#   tools/generate --nodes 9 --seed 7 --lifetime exp:9s"
-    assert text == text_of("--nodes 9 --seed 7 --lifetime exp:9s")
-
-
-def test_refused_words() -> None:
-    """One line that names the option and its range, status 2, and no file."""
-    with tempfile.TemporaryDirectory() as folder:
-        for words, text in REFUSED:
-            status, out, err = ended(main, "-o", f"{folder}/x.toml", *words.split())
-            assert (status, out) == (2, ""), words
-            assert err.startswith("tools/generate: ") and text in err and err.count("\n") == 1, (words, err)
-        assert list(Path(folder).iterdir()) == []
-
-
-def test_files_that_cannot_be_written() -> None:
-    """A folder that is not there and a full disk: status 3, one line with the name, and nothing is left."""
-    with tempfile.TemporaryDirectory() as folder:
-        for name in (f"{folder}/none/x.toml", "/dev/full"):
-            status, out, err = ended(main, "-o", name)
-            assert (status, out) == (3, "")
-            assert err.startswith(f"failed: {name}: ") and err.count("\n") == 1
-        (Path(folder) / "x.toml").mkdir()
-        assert ended(main, "-o", f"{folder}/x.toml")[0] == 3
-        assert list(Path(folder).iterdir()) == [Path(folder) / "x.toml"]
-
-
-def test_disk_that_fills_up() -> None:
-    """Only 512 or 1024 bytes fit in a file: status 3, and of the part that was written nothing is left."""
-    with tempfile.TemporaryDirectory() as folder:
-        words = f"ulimit -f 1; exec {TOOL} --nodes 512 -o {folder}/x.toml"
-        there = subprocess.run(["sh", "-c", words], capture_output=True, text=True, check=False)
-        assert (there.returncode, there.stdout) == (3, "")
-        assert there.stderr == f"failed: {folder}/x.toml: File too large\n"
-        assert list(Path(folder).iterdir()) == []
-
-
-def test_interrupted() -> None:
-    """Ctrl-C before the file has its name: one line, status 130, and nothing is left."""
-    with tempfile.TemporaryDirectory() as folder, mock.patch("os.replace", side_effect=KeyboardInterrupt):
-        assert ended(main, "-o", f"{folder}/x.toml") == (130, "", "interrupted\n")
-        assert list(Path(folder).iterdir()) == []
-
-
-def test_closed_streams() -> None:
-    """Without standard output status 3; without standard error the same bytes as ever."""
-    there = subprocess.run(f"{TOOL} >&-", shell=True, stderr=subprocess.PIPE, text=True, check=False)
-    assert (there.returncode, there.stderr) == (3, "failed: standard output: Bad file descriptor\n")
-    there = subprocess.run(f"{TOOL} 2>&-", shell=True, stdout=subprocess.PIPE, text=True, check=False)
-    assert (there.returncode, there.stdout) == (0, text_of(""))
-    there = subprocess.run(f"{TOOL} -o /dev/full 2>/dev/full", shell=True, check=False)
-    assert there.returncode == 3
-
-
-def test_link() -> None:
-    """The file that a link names is written, and the link stays."""
-    with tempfile.TemporaryDirectory() as folder:
-        file, link = Path(folder) / "x.toml", Path(folder) / "link.toml"
-        link.symlink_to("x.toml")
-        assert ended(main, "-o", str(link)) == (0, "", "")
-        assert link.is_symlink() and not file.is_symlink() and file.read_text() == text_of("")
 
 
 def random_words(random: Random) -> list[str]:
@@ -361,29 +126,255 @@ def random_words(random: Random) -> list[str]:
     return given
 
 
-def test_random_words_are_accepted() -> None:
-    """Forty sets of words: `chordsim check` accepts what is written, with as many commands as the head counts."""
-    program()
-    random = Random(1)
-    with tempfile.TemporaryDirectory() as folder:
-        name = Path(folder) / "x.toml"
-        for _ in range(40):
-            words = random_words(random)
-            assert ended(main, *words, "-o", str(name)) == (0, "", ""), words
+class GenerateTest(TestCase):
+    """What is written, and what is refused."""
+
+    def test_defaults(self) -> None:
+        """A ring as in examples/churn64.toml, without churn."""
+        ring = made("")
+        assert (ring.bits, ring.list, ring.seed, ring.max_events) == (32, 4, 1, 50_000_000)
+        assert (ring.duration_us, ring.audit_us) == (120_000_000, 5_000_000)
+        assert (ring.window_us, ring.latency_us, ring.timeout_us) == (20_000, 20_000, 200_000)
+        assert (ring.stabilize_us, ring.finger_us, ring.jitter_us) == (500_000, 250_000, 50_000)
+        assert [node.name for node in ring.nodes] == [f"n{i}" for i in range(64)]
+        assert all(node.initial and not node.churn for node in ring.nodes)
+        assert (ring.churn, ring.lookups, ring.commands) == (None, Lookups(500_000, 1_500_000), [])
+
+    def test_all_plain_words(self) -> None:
+        """Each option's value stands where it belongs."""
+        ring = made(
+            "--profile 1 --nodes 9 --initial 6 --bits 8 --list 5 --duration 2s --window 1ms --latency 2ms "
+            "--timeout 3ms --audit 4ms --stabilize 5ms --finger 6ms --jitter 7ms --max-events 8 --seed 9 "
+            "--lookup-gap 10ms..11ms --churn-uniform 12ms..13ms 14ms..15ms --stay 1"
+        )
+        assert (ring.bits, ring.list, ring.seed, ring.max_events, ring.duration_us) == (8, 5, 9, 8, 2_000_000)
+        assert (ring.window_us, ring.latency_us, ring.timeout_us, ring.audit_us) == (1000, 2000, 3000, 4000)
+        assert (ring.stabilize_us, ring.finger_us, ring.jitter_us) == (5000, 6000, 7000)
+        assert ring.lookups == Lookups(10_000, 11_000)
+        assert ring.churn == Churn(12_000, 13_000, 14_000, 15_000)
+        assert [node.initial for node in ring.nodes] == [True] * 6 + [False] * 3
+        assert [node.churn for node in ring.nodes] == [False] + [True] * 8
+
+    def test_second_profile(self) -> None:
+        """Loss and spread stand behind `max_events`; keys have up to 128 bits, and nodes are as many as may be."""
+        words = "--profile 2 --bits 128 --nodes 4096 --loss 20000 --spread 5ms --lookups 0.001 --duration 10s --seed 3"
+        ring = tomllib.loads(text_of(words))
+        assert [ring[key] for key in ("profile", "bits", "loss_ppm", "spread_us")] == [2, 128, 20_000, 5000]
+        assert list(ring)[12:15] == ["max_events", "loss_ppm", "spread_us"]
+        assert len(ring["node"]) == 4096
+        keys = [int(command["key"], 16) for command in ring["command"]]
+        assert keys and all(key >> 128 == 0 for key in keys) and any(key >> 120 for key in keys)
+        plain = tomllib.loads(text_of("--profile 2"))
+        assert (plain["loss_ppm"], plain["spread_us"]) == (0, 0)
+        assert text_of("--profile 1 --seed 1").split("\n", 4)[4] == text_of("--seed 1").split("\n", 4)[4]
+
+    def test_defaults_that_follow(self) -> None:
+        """Timeout and window go with the latency, the audits with the duration, the list with the initial nodes."""
+        ring = made("--nodes 3 --latency 1ms --duration 48us")
+        assert (ring.list, ring.window_us, ring.timeout_us, ring.audit_us) == (2, 1000, 10_000, 2)
+        assert made("--latency 1000s").timeout_us == 10**9
+        assert made("--duration 1000000s").audit_us == 10**9
+
+    def test_names_of_one_identifier(self) -> None:
+        """Eight nodes fill a circle of eight places; the first of one identifier keeps that of its name."""
+        ring = made("--nodes 8 --bits 3")
+        assert sorted(node.ident for node in ring.nodes) == list(range(8))
+        assert ring.nodes[0].ident == Circle(3).identifier_of_name("n0")
+        assert "id = " not in text_of("--nodes 512 --bits 64")
+
+    def test_drawn_churn(self) -> None:
+        """A node's lives and down times lie in their spans; those that stay do nothing."""
+        ring = made("--nodes 12 --lifetime uniform:3s..5s --down uniform:1s..2s --stay 3 --duration 60s --seed 4")
+        assert {command.node for command in ring.commands} == set(range(3, 12))
+        assert [command.at_us for command in ring.commands] == sorted(command.at_us for command in ring.commands)
+        for node in range(3, 12):
+            moves = churn_of(ring, node)
+            assert [move.do for move in moves] == (["crash", "join"] * len(moves))[: len(moves)]
+            assert 60 / 7 * 2 - 1 <= len(moves) <= 60 / 4 * 2 + 1
+            times = [0, *(move.at_us for move in moves)]
+            lives = [end - begin for begin, end in zip(times[::2], times[1::2])]
+            downs = [end - begin for begin, end in zip(times[1::2], times[2::2])]
+            assert all(3_000_000 <= life <= 5_000_000 for life in lives)
+            assert all(1_000_000 <= down <= 2_000_000 for down in downs)
+
+    def test_lives_of_a_run_have_their_mean(self) -> None:
+        """Down times of exactly 1us, lives of 2s on the average: within 5%, 128 nodes in 100s crash 50 times each."""
+        ring = made("--nodes 128 --stay 0 --lifetime exp:2s --down uniform:1..1 --duration 100s")
+        crashes = len([command for command in ring.commands if command.do == "crash"])
+        assert abs(crashes / (128 * 50) - 1) < 0.05
+
+    def test_joins_go_through_nodes_that_are_up(self) -> None:
+        """Each drawn node to join through is up by the commands, and for a timeout where there is such a node."""
+        ring = made("--nodes 30 --initial 10 --stay 1 --lifetime exp:2s --down exp:1s --duration 60s --timeout 300ms")
+        up, fresh, vias = ups(ring), 0, set()
+        for command in ring.commands:
+            if command.do == "crash":
+                del up[command.node]
+                continue
+            settled = [node for node, since in up.items() if since == 0 or since + 300_000 <= command.at_us]
+            assert command.via in (settled or up)
+            fresh += command.via not in settled
+            vias.add(command.via)
+            up[command.node] = command.at_us
+        assert 0 in up and fresh == 0 and len(vias) > 20
+
+    def test_joins_through_the_first(self) -> None:
+        """n0 is the node to join through, and n1 that of n0; also where nobody is up."""
+        first = made("--nodes 5 --stay 0 --lifetime exp:1s --down exp:1s --duration 30s --via first")
+        vias = {(command.node == 0, command.via) for command in first.commands if command.do == "join"}
+        assert vias == {(False, 0), (True, 1)}
+        alone = made("--nodes 2 --stay 0 --lifetime uniform:1s..1s --down uniform:1s..1s --duration 2500ms")
+        assert [(c.at_us, c.do, c.node, c.via) for c in alone.commands] == [
+            (1_000_000, "crash", 0, None), (1_000_000, "crash", 1, None),
+            (2_000_000, "join", 0, 1), (2_000_000, "join", 1, 0),
+        ]
+
+    def test_arrivals(self) -> None:
+        """Nodes that are not initial join once in the span; with the program's churn through nodes that stay."""
+        ring = made("--nodes 40 --initial 8 --arrive 5s..5055ms")
+        assert sorted(command.node for command in ring.commands) == list(range(8, 40))
+        assert all(5_000_000 <= command.at_us <= 5_055_000 and known(command.via) < 8 for command in ring.commands)
+        churn = made("--nodes 40 --initial 8 --stay 3 --churn-uniform 1s..2s 1s..2s")
+        assert {command.via for command in churn.commands} == {0, 1, 2}
+
+    def test_drawn_lookups(self) -> None:
+        """As many as the rate says, within 5%; each while the node is up; keys of the law alone."""
+        churn = "--lifetime exp:10s --down exp:10s --stay 25"
+        ring = made(f"--nodes 50 --bits 64 --duration 100s --lookups 2 --keys zipf:1:20 {churn}")
+        up, count, keys = set(ups(ring)), 0, set()
+        for command in ring.commands:
+            if command.do == "lookup":
+                assert command.node in up
+                count += command.node < 25
+                keys.add(known(command.key))
+            else:
+                (up.remove if command.do == "crash" else up.add)(command.node)
+        assert ring.lookups is None
+        assert abs(count / (25 * 100 * 2) - 1) < 0.05
+        assert len(keys) == 20 and max(keys) >= 2**63
+
+    def test_streams_of_their_own(self) -> None:
+        """Lookups do not change the lives, and more nodes change neither lives nor lookups of the others."""
+        words = "--lifetime exp:20s --down exp:5s --lookups 0.1 --via first --nodes"
+        few, more = made(f"{words} 20"), made(f"{words} 30")
+        assert [command for command in more.commands if command.node < 20] == few.commands
+        quiet = made("--lifetime exp:20s --down exp:5s --via first --nodes 20")
+        assert quiet.commands == [command for command in few.commands if command.do != "lookup"]
+
+    def test_longer_run_begins_as_the_shorter(self) -> None:
+        """The commands of a minute are those of the first minute of two."""
+        words = "--nodes 20 --initial 9 --arrive 0..50s --lifetime exp:20s --down exp:5s --lookups 0.1 --duration"
+        short, long = made(f"{words} 60s"), made(f"{words} 120s")
+        assert short.commands == [command for command in long.commands if command.at_us < 60_000_000]
+        assert len(long.commands) > len(short.commands) > 50
+
+    def test_same_words_same_bytes(self) -> None:
+        """In another process, with other hashes; another seed gives another file."""
+        words = "--nodes 20 --initial 5 --lifetime pareto:1.5:5s --lookups 0.5 --keys zipf:0.9:50"
+        for seed in ("1", "2"):
+            hashes = os.environ | {"PYTHONHASHSEED": seed}
+            there = subprocess.run([TOOL, *words.split()], env=hashes, capture_output=True, text=True, check=True)
+            assert there.stdout == text_of(words)
+        assert text_of(words + " --seed 2") != text_of(words)
+
+    def test_head_says_the_words(self) -> None:
+        """The words of the head, given again, make the same file; the file's name is not among them."""
+        words = "--seed 7 --lifetime exp:9s --nodes 9 --churn-uniform 1s..2s 3s..4s".split()
+        assert ended(main, *words)[0] == 2
+        with tempfile.TemporaryDirectory() as folder:
+            name = Path(folder) / "a b.toml"
+            assert ended(main, *words[:-3], "-o", str(name)) == (0, "", "")
             text = name.read_text()
-            nodes, commands = text.count("[[node]]"), text.count("[[command]]")
-            assert checked(name) == f"ok nodes={nodes} commands={commands}\n", words
-            read_scenario(text.encode(), b"")
+            assert list(Path(folder).iterdir()) == [name]
+        assert text.splitlines()[2] == "#   tools/generate --nodes 9 --seed 7 --lifetime exp:9s"
+        assert text == text_of("--nodes 9 --seed 7 --lifetime exp:9s")
 
+    def test_refused_words(self) -> None:
+        """One line that names the option and its range, status 2, and no file."""
+        with tempfile.TemporaryDirectory() as folder:
+            for words, text in REFUSED:
+                with self.subTest(arguments=words):
+                    status, out, err = ended(main, "-o", f"{folder}/x.toml", *words.split())
+                    assert (status, out) == (2, "")
+                    assert err.startswith("tools/generate: ") and text in err and err.count("\n") == 1, err
+            assert list(Path(folder).iterdir()) == []
 
-def test_most_commands() -> None:
-    """Just below 100,000 commands are accepted: crashes and joins in turn, and the lookups between."""
-    program()
-    with tempfile.TemporaryDirectory() as folder:
-        name = Path(folder) / "x.toml"
-        words = "--nodes 50 --stay 0 --lifetime uniform:1s..1s --down uniform:1s..1s --duration 1990s -o".split()
-        assert ended(main, *words, str(name)) == (0, "", "")
-        assert checked(name) == "ok nodes=50 commands=99450\n"
-        assert ended(main, *words, str(name), "--lookups", "0.02")[0] == 2
-        assert ended(main, *words, str(name), "--nodes", "51")[0] == 2
-        assert checked(name) == "ok nodes=50 commands=99450\n"
+    def test_files_that_cannot_be_written(self) -> None:
+        """A folder that is not there and a full disk: status 3, one line with the name, and nothing is left."""
+        with tempfile.TemporaryDirectory() as folder:
+            for name in (f"{folder}/none/x.toml", "/dev/full"):
+                status, out, err = ended(main, "-o", name)
+                assert (status, out) == (3, "")
+                assert err.startswith(f"failed: {name}: ") and err.count("\n") == 1
+            (Path(folder) / "x.toml").mkdir()
+            assert ended(main, "-o", f"{folder}/x.toml")[0] == 3
+            assert list(Path(folder).iterdir()) == [Path(folder) / "x.toml"]
+
+    def test_disk_that_fills_up(self) -> None:
+        """Only 512 or 1024 bytes fit in a file: status 3, and of the part that was written nothing is left."""
+        with tempfile.TemporaryDirectory() as folder:
+            words = f"ulimit -f 1; exec {TOOL} --nodes 512 -o {folder}/x.toml"
+            there = subprocess.run(["sh", "-c", words], capture_output=True, text=True, check=False)
+            assert (there.returncode, there.stdout) == (3, "")
+            assert there.stderr == f"failed: {folder}/x.toml: File too large\n"
+            assert list(Path(folder).iterdir()) == []
+
+    def test_interrupted(self) -> None:
+        """Ctrl-C before the file has its name: one line, status 130, and nothing is left."""
+        with tempfile.TemporaryDirectory() as folder, mock.patch("os.replace", side_effect=KeyboardInterrupt):
+            assert ended(main, "-o", f"{folder}/x.toml") == (130, "", "interrupted\n")
+            assert list(Path(folder).iterdir()) == []
+
+    def test_closed_streams(self) -> None:
+        """Without standard output status 3; without standard error the same bytes as ever."""
+        there = subprocess.run(f"{TOOL} >&-", shell=True, stderr=subprocess.PIPE, text=True, check=False)
+        assert (there.returncode, there.stderr) == (3, "failed: standard output: Bad file descriptor\n")
+        there = subprocess.run(f"{TOOL} 2>&-", shell=True, stdout=subprocess.PIPE, text=True, check=False)
+        assert (there.returncode, there.stdout) == (0, text_of(""))
+        there = subprocess.run(f"{TOOL} -o /dev/full 2>/dev/full", shell=True, text=True, check=False)
+        assert there.returncode == 3
+
+    def test_link(self) -> None:
+        """The file that a link names is written, and the link stays."""
+        with tempfile.TemporaryDirectory() as folder:
+            file, link = Path(folder) / "x.toml", Path(folder) / "link.toml"
+            link.symlink_to("x.toml")
+            assert ended(main, "-o", str(link)) == (0, "", "")
+            assert link.is_symlink() and not file.is_symlink() and file.read_text() == text_of("")
+
+    def test_random_words_are_accepted(self) -> None:
+        """Forty sets of words: `chordsim check` accepts what is written, with as many commands as the head counts."""
+        program()
+        random = Random(1)
+        with tempfile.TemporaryDirectory() as folder:
+            name = Path(folder) / "x.toml"
+            for _ in range(40):
+                words = random_words(random)
+                assert ended(main, *words, "-o", str(name)) == (0, "", ""), words
+                text = name.read_text()
+                nodes, commands = text.count("[[node]]"), text.count("[[command]]")
+                assert checked(name) == f"ok nodes={nodes} commands={commands}\n", words
+                read_scenario(text.encode(), b"")
+
+    def test_random_scenarios(self) -> None:
+        """Both files of a seed are read, and are the same each time; two of four seeds have the second profile."""
+        with tempfile.TemporaryDirectory() as folder:
+            rows = Path(folder) / "links.csv"
+            for seed, profile in enumerate((1, 1, 2, 2, 1)):
+                with self.subTest(seed=seed):
+                    status, text, err = ended(main, "--random", str(seed), "--links", str(rows))
+                    assert (status, err, (text, rows.read_text())) == (0, "", scenario_files(seed))
+                    assert read_scenario(text.encode(), rows.read_bytes()).profile == profile
+                    assert ended(main, "--random", str(seed)) == (0, text, "")
+
+    def test_most_commands(self) -> None:
+        """Just below 100,000 commands are accepted: crashes and joins in turn, and the lookups between."""
+        program()
+        with tempfile.TemporaryDirectory() as folder:
+            name = Path(folder) / "x.toml"
+            words = "--nodes 50 --stay 0 --lifetime uniform:1s..1s --down uniform:1s..1s --duration 1990s -o".split()
+            assert ended(main, *words, str(name)) == (0, "", "")
+            assert checked(name) == "ok nodes=50 commands=99450\n"
+            assert ended(main, *words, str(name), "--lookups", "0.02")[0] == 2
+            assert ended(main, *words, str(name), "--nodes", "51")[0] == 2
+            assert checked(name) == "ok nodes=50 commands=99450\n"

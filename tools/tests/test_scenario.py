@@ -1,9 +1,10 @@
 """The refusals of docs/formats.md, section 4: each a change of examples/ring.toml."""
 
-from chordsim_tools.scenario import Refused, read_scenario
+from unittest import TestCase
 
-from .functions import suite_of
-from .worlds import RING, ring
+from chordsim_tools.cli import Refused
+from chordsim_tools.scenario.reading import read_scenario
+from tests.support.worlds import RING, ring
 
 N0 = 'name = "n0"\nid = 0\ninitial = true'
 N1 = 'name = "n1"\nid = 1'
@@ -42,11 +43,6 @@ ROWS = [
 ]
 
 
-def load_tests(*_: object) -> object:
-    """For unittest."""
-    return suite_of(globals())
-
-
 def fault(text: str, rows: str = "") -> str:
     """What the texts are refused for."""
     try:
@@ -56,32 +52,33 @@ def fault(text: str, rows: str = "") -> str:
     return "accepted"
 
 
-def test_changes_of_the_scenario() -> None:
-    """Each change has its fault."""
-    for old, new, text in CHANGES:
-        assert old in RING, old
-        assert fault(RING.replace(old, new, 1)) == text
+class ScenarioTest(TestCase):
+    """The faults of both files, and what is accepted."""
 
+    def test_changes_of_the_scenario(self) -> None:
+        """Each change has its fault."""
+        for old, new, text in CHANGES:
+            with self.subTest(change=new):
+                assert old in RING, old
+                assert fault(RING.replace(old, new, 1)) == text
 
-def test_empty_file() -> None:
-    """All keys are missing, and the first is named."""
-    assert fault("") == "S3 MissingKey top profile"
+    def test_empty_file(self) -> None:
+        """All keys are missing, and the first is named."""
+        assert fault("") == "S3 MissingKey top profile"
 
+    def test_rows(self) -> None:
+        """Each row has its fault."""
+        for rows, text in ROWS:
+            with self.subTest(rows=rows):
+                assert fault(RING, rows) == text
 
-def test_rows() -> None:
-    """Each row has its fault."""
-    for rows, text in ROWS:
-        assert fault(RING, rows) == text
+    def test_rows_that_are_accepted(self) -> None:
+        """Quotes, leading zeros, all three ends of lines, empty lines and a byte order mark."""
+        scenario = ring(rows='\ufeff"n0",n1,0000000012\r\n\r\nn3,"n0","25"\rn1,n3,17')
+        assert scenario.latencies == {(0, 1): 12, (1, 0): 12, (2, 0): 25, (0, 2): 25, (1, 2): 17, (2, 1): 17}
 
-
-def test_rows_that_are_accepted() -> None:
-    """Quotes, leading zeros, all three ends of lines, empty lines and a byte order mark."""
-    scenario = ring(rows='\ufeff"n0",n1,0000000012\r\n\r\nn3,"n0","25"\rn1,n3,17')
-    assert scenario.latencies == {(0, 1): 12, (1, 0): 12, (2, 0): 25, (0, 2): 25, (1, 2): 17, (2, 1): 17}
-
-
-def test_identifiers() -> None:
-    """An identifier is a number, a text of hexadecimal digits, or the head of the digest of the name."""
-    wide = ring(("bits = 3", "bits = 64"), ("id = 1", 'id = "ffffffffffffffff"'), (N3, N3.replace("id = 3\n", "")))
-    assert [node.ident for node in wide.nodes[:2]] == [0, 2**64 - 1]
-    assert wide.nodes[2].ident == 0x26C2CE28D0DF94C0  # sha1sum of n3
+    def test_identifiers(self) -> None:
+        """An identifier is a number, a text of hexadecimal digits, or the head of the digest of the name."""
+        wide = ring(("bits = 3", "bits = 64"), ("id = 1", 'id = "ffffffffffffffff"'), (N3, N3.replace("id = 3\n", "")))
+        assert [node.ident for node in wide.nodes[:2]] == [0, 2**64 - 1]
+        assert wide.nodes[2].ident == 0x26C2CE28D0DF94C0  # sha1sum of n3

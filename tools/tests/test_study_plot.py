@@ -5,17 +5,11 @@ import subprocess
 import sys
 import tempfile
 from pathlib import Path
-from unittest import SkipTest
+from unittest import SkipTest, TestCase
 
-from .functions import suite_of
-from .test_study_run import TOOL, call, study_folder
+from tests.test_study_run import TOOL, call, study_folder
 
 PLOTS = [f"{name}.{form}" for name in ("cost", "right", "times") for form in ("png", "svg")]
-
-
-def load_tests(*_: object) -> object:
-    """For unittest."""
-    return suite_of(globals())
 
 
 def plot(python: str, folder: Path, path: str = "") -> tuple[int, str]:
@@ -36,24 +30,26 @@ def python_with_packages() -> str:
     raise SkipTest("no Python here has numpy and matplotlib")
 
 
-def test_without_packages() -> None:
-    """One line that names them, status 3, and no plot."""
-    with study_folder() as folder, tempfile.TemporaryDirectory() as empty:
-        call(folder)
-        (Path(empty) / "matplotlib.py").write_text("raise ImportError\n")
-        status, told = plot(sys.executable, folder, empty)
-        assert status == 3 and told.count("\n") == 1 and "python3-numpy python3-matplotlib" in told
-        assert not list((folder / "study").glob("*.png"))
+class StudyPlotTest(TestCase):
+    """The six files."""
 
+    def test_without_packages(self) -> None:
+        """One line that names them, status 3, and no plot."""
+        with study_folder() as folder, tempfile.TemporaryDirectory() as empty:
+            call(folder)
+            (Path(empty) / "matplotlib.py").write_text("raise ImportError\n")
+            status, told = plot(sys.executable, folder, empty)
+            assert status == 3 and told.count("\n") == 1 and "python3-numpy python3-matplotlib" in told
+            assert not list((folder / "study").glob("*.png"))
 
-def test_same_bytes() -> None:
-    """Six files, the same each time, without a date."""
-    python = python_with_packages()
-    with study_folder() as folder:
-        call(folder)
-        assert plot(python, folder) == (0, "")
-        first = {name: (folder / "study" / name).read_bytes() for name in PLOTS}
-        assert plot(python, folder) == (0, "")
-        assert first == {name: (folder / "study" / name).read_bytes() for name in PLOTS}
-        assert all(b"<dc:date>" not in content for content in first.values())
-        assert all(content.startswith(b"\x89PNG") == name.endswith("png") for name, content in first.items())
+    def test_same_bytes(self) -> None:
+        """Six files, the same each time, without a date."""
+        python = python_with_packages()
+        with study_folder() as folder:
+            call(folder)
+            assert plot(python, folder) == (0, "")
+            first = {name: (folder / "study" / name).read_bytes() for name in PLOTS}
+            assert plot(python, folder) == (0, "")
+            assert first == {name: (folder / "study" / name).read_bytes() for name in PLOTS}
+            assert all(b"<dc:date>" not in content for content in first.values())
+            assert all(content.startswith(b"\x89PNG") == name.endswith("png") for name, content in first.items())

@@ -14,13 +14,12 @@ import time
 from collections.abc import Iterator
 from contextlib import contextmanager, redirect_stderr
 from pathlib import Path
-from unittest import SkipTest
+from unittest import TestCase
 from unittest.mock import patch
 
-from chordsim_tools.scenario import read_scenario
-from chordsim_tools.study import main
-
-from .functions import suite_of
+from chordsim_tools.scenario.reading import read_scenario
+from chordsim_tools.study.command import main
+from tests.support.programs import program
 
 TOP = Path(__file__).resolve().parents[2]
 TOOL = TOP / "tools" / "study"
@@ -65,11 +64,6 @@ esac
 """
 
 
-def load_tests(*_: object) -> object:
-    """For unittest."""
-    return suite_of(globals())
-
-
 @contextmanager
 def study_folder(study: str = STUDY) -> Iterator[Path]:
     """A folder with a study, its base and a program that answers each run alike."""
@@ -89,10 +83,10 @@ def words_of(folder: Path, *words: str) -> list[str]:
     return [sys.executable, str(TOOL), "run", str(folder / "study.toml"), "--jobs", "1", *words]
 
 
-def call(folder: Path, *words: str, program: Path | None = None) -> tuple[int, str]:
+def call(folder: Path, *words: str, chordsim: Path | None = None) -> tuple[int, str]:
     """The status of `tools/study run`, and the line that it says."""
     told = io.StringIO()
-    with patch.dict(os.environ, CHORDSIM=str(program or folder / "fake")), redirect_stderr(told):
+    with patch.dict(os.environ, CHORDSIM=str(chordsim or folder / "fake")), redirect_stderr(told):
         status = main(words_of(folder, *words)[2:])
     assert told.getvalue().count("\n") <= 1, told.getvalue()
     return status, told.getvalue().strip()
@@ -123,157 +117,9 @@ def left_overs(folder: Path) -> list[str]:
     return [str(path) for path in folder.rglob("*.part")]
 
 
-def chordsim() -> Path:
-    """The real program."""
-    named = Path(os.environ.get("CHORDSIM") or TOP / "crates" / "chordsim" / "out" / "chordsim")
-    if not named.is_file():
-        raise SkipTest("no chordsim: neither CHORDSIM nor crates/chordsim/out/chordsim is there")
-    return named.resolve()
-
-
-def test_rows_of_the_programs_own_answers() -> None:
-    """Four runs, each with the one lookup of the fake program."""
-    with study_folder() as folder:
-        assert call(folder) == (0, "")
-        rows = table(folder, "runs.csv")
-        assert [(row["list"], row["seed"]) for row in rows] == [("1", "1"), ("1", "2"), ("2", "1"), ("2", "2")]
-        assert {(row["events"], row["right"], row["us-p50"]) for row in rows} == {("4", "1", "20")}
-        manifest = json.loads((folder / "study" / "manifest.json").read_text())
-        assert (manifest["nodes"], manifest["study"], manifest["window_us"]) == (16, "study.toml", 3000000)
-        assert not left_overs(folder)
-
-
-def test_losses_of_the_second_profile() -> None:
-    """A column `losses` behind the report where a run has the second profile; of the others none are lost."""
-    for study, wanted in (
-        (STUDY.replace("list = [1, 2]", "profile = [1, 2]"), ["0", "0", "1", "1"]),
-        (STUDY.replace("list = [1, 2]", "profile = [2, 1]"), ["1", "1", "0", "0"]),
-        (STUDY.replace("list = [1, 2]", "profile = [2]\nloss_ppm = [0, 5]\nspread_us = [7]"), ["1", "1", "1", "1"]),
-    ):
-        with study_folder(study) as folder:
-            assert call(folder) == (0, "")
-            rows = table(folder, "runs.csv")
-            assert [row["losses"] for row in rows] == wanted
-            columns = list(rows[0])
-            assert columns[columns.index("ringless") :][:3] == ["ringless", "losses", "judged-lookups"]
-            assert {row["right"] for row in rows} == {"1"}
-    with study_folder(STUDY.replace("list = [1, 2]", "profile = [1]")) as folder:
-        assert call(folder) == (0, "") and "losses" not in table(folder, "runs.csv")[0]
-
-
-def test_what_failed_is_told_and_what_was_done_is_kept() -> None:
-    """The third run fails; the next call runs what is left, and the one after it nothing."""
-    with study_folder() as folder:
-        (folder / "fail").write_text("list = 2")
-        status, told = call(folder)
-        assert (status, told) == (3, "failed: list=2, seed=1: the program says: failed: 3 TooManyEvents")
-        assert not (folder / "study" / "runs.csv").exists() and runs_called(folder) == 3
-        (folder / "fail").write_text("nothing")
-        assert call(folder) == (0, "") and runs_called(folder) == 5
-        whole = (folder / "study" / "runs.csv").read_bytes()
-        assert call(folder) == (0, "") and runs_called(folder) == 5
-        assert whole.count(b"\n") == 5 and (folder / "study" / "runs.csv").read_bytes() == whole
-
-
-def test_changed_study_runs_only_what_is_new() -> None:
-    """One more seed: two runs more. Another base: all again. A result that is cut off: this one."""
-    with study_folder() as folder:
-        call(folder)
-        (folder / "study.toml").write_text(STUDY.replace("[1, 2]\n[", "[1, 2, 3]\n["))
-        assert call(folder) == (0, "") and runs_called(folder) == 6
-        (folder / "base.toml").write_text(BASE.replace("bits = 16", "bits = 17"))
-        assert call(folder) == (0, "") and runs_called(folder) == 12
-        (folder / "study" / "done" / "list=1,seed=2.json").write_text('{"made_of": "')
-        assert call(folder) == (0, "") and runs_called(folder) == 13
-
-
 def heed_interrupts() -> None:
     """Undoes that whoever started the tests ignores SIGINT, as a shell does for what runs in the background."""
     signal.signal(signal.SIGINT, signal.SIG_DFL)
-
-
-def test_interrupted_and_gone_on() -> None:
-    """SIGINT in the third run, at the tool alone: one line, status 130, no process is left; then it goes on."""
-    with study_folder() as folder:
-        (folder / "sleep").write_text("list = 2")
-        environment = os.environ | {"CHORDSIM": str(folder / "fake")}
-        tool = subprocess.Popen(
-            words_of(folder),
-            env=environment,
-            stderr=subprocess.PIPE,
-            text=True,
-            preexec_fn=heed_interrupts,
-        )
-        for _ in range(3000):
-            if (folder / "pid").exists() and (folder / "pid").read_text():
-                break
-            time.sleep(0.02)
-        tool.send_signal(signal.SIGINT)
-        _, told = tool.communicate(timeout=60)
-        assert (tool.returncode, told) == (130, "interrupted: the same words go on\n")
-        assert not Path("/proc", (folder / "pid").read_text().strip()).exists()
-        assert not (folder / "study" / "runs.csv").exists() and not left_overs(folder)
-        (folder / "sleep").write_text("nothing")
-        assert call(folder) == (0, "") and runs_called(folder) == 5
-
-
-def test_missing_program() -> None:
-    """No file, one that cannot be run, and one that is no program of this kind."""
-    with study_folder() as folder:
-        told = f"failed: the program is missing: CHORDSIM={folder}/gone is no file that can be run"
-        assert call(folder, program=folder / "gone") == (3, told)
-        (folder / "bad").write_text("#!/no/such/thing\n")
-        (folder / "bad").chmod(0o755)
-        status, told = call(folder, program=folder / "bad")
-        assert status == 3 and f"cannot run {folder}/bad" in told
-        status, told = call(folder, program=Path("/bin/echo"))
-        assert status == 3 and told.endswith("/echo ids: the output is not that of chordsim")
-
-
-def test_full_disk() -> None:
-    """At runs.csv, at the folder, and at a result (with a limit on the size of files)."""
-    with study_folder() as folder:
-        (folder / "study").mkdir()
-        (folder / "study" / "runs.csv.part").symlink_to("/dev/full")
-        status, told = call(folder)
-        assert (status, told) == (3, f"failed: cannot write {folder}/study/runs.csv: No space left on device")
-        assert not (folder / "study" / "runs.csv").exists() and not left_overs(folder)
-        assert call(folder) == (0, "") and runs_called(folder) == 4
-        status, told = call(folder, "-o", "/dev/null/out")
-        assert status == 3 and told.startswith("failed: cannot make the folder /dev/null/out")
-    with study_folder("window_us = 50000\n" + STUDY) as folder:
-        status, told = call_with_limit(folder, 4000)
-        assert (status, told.rpartition(": ")[2]) == (3, "File too large") and "list=1,seed=1.json" in told
-        assert [path.suffix for path in (folder / "study" / "done").iterdir()] == [".toml"] * 2
-
-
-def test_faults_of_words_and_files() -> None:
-    """Status 1 for a file, 2 for words."""
-    with study_folder("question = 1") as folder:
-        assert call(folder) == (1, f"refused: {folder}/study.toml: question has to be a text")
-        (folder / "study.toml").unlink()
-        assert call(folder)[0] == 1
-        told = io.StringIO()
-        with redirect_stderr(told):
-            try:
-                main(["run", "study.toml", "--jobs", "0"])
-            except SystemExit as end:
-                assert end.code == 2 and "--jobs: 1 to 1024 is wanted" in told.getvalue()
-            else:
-                raise AssertionError("0 jobs")
-
-
-def test_plot_and_report_want_a_study_that_was_run() -> None:
-    """No folder, and a table that was changed since."""
-    with study_folder() as folder:
-        call(folder)
-        runs = folder / "study" / "runs.csv"
-        for word in ("plot", "report"):
-            assert said(word, folder) == (1, f"refused: cannot read {folder}/manifest.json: No such file or directory")
-        assert said("report", folder / "study") == (0, "") and (folder / "study" / "report.md").is_file()
-        runs.write_text(runs.read_text().replace("\n1,1,4,", "\n1,1,5,"))
-        for word in ("plot", "report"):
-            assert said(word, folder / "study") == (1, f"refused: {runs} is not the one that manifest.json names")
 
 
 def said(word: str, folder: Path) -> tuple[int, str]:
@@ -289,65 +135,16 @@ def naive_right(scenario: str, trace: list[str]) -> int:
     idents = {node.name: node.ident for node in world.nodes}
     members = {node.name for node in world.nodes if node.initial}
     right = 0
-    for words in (line.split(" ") for line in trace):
+    for line in trace:
+        words = line.split(" ")
         if words[2] == "member":
             members.add(words[1])
         elif words[2] in ("crash", "stranded"):
             members.discard(words[1])
         elif words[2] == "found":
-            right += words[4] == min(members, key=lambda name: (idents[name] - int(words[3])) % 65536, default=None)
+            ways = {(idents[name] - int(words[3])) % 65536: name for name in members}
+            right += bool(ways) and words[4] == ways[min(ways)]
     return right
-
-
-def test_two_by_two_with_the_program() -> None:
-    """Each row has the numbers of the program's own report for the scenario with these values."""
-    program = chordsim()
-    study = STUDY.replace("list = [1, 2]", "list = [2, 4]\nstabilize_us = [100000, 500000]")
-    with study_folder(study) as folder:
-        assert call(folder, "--jobs", "2", program=program) == (0, "")
-        rows = table(folder, "runs.csv")
-        assert len(rows) == 8
-        wrong = 0
-        for row in rows:
-            text = BASE.replace("list = 2", f"list = {row['list']}").replace("seed = 7", f"seed = {row['seed']}")
-            text = text.replace("stabilize_us = 250000", f"stabilize_us = {row['stabilize_us']}")
-            (folder / "one.toml").write_text(text)
-            words = [program, "run", "--scenario", folder / "one.toml", "--serial"]
-            lines = subprocess.run(words, capture_output=True, text=True, check=True).stdout.splitlines()
-            report = dict(line.split(" ") for line in lines if not line[0].isdigit())
-            assert len(report) == 24 and {word: row[word] for word in report} == report
-            trace = [line for line in lines if line[0].isdigit()]
-            assert int(row["right"]) == naive_right(text, trace)
-            assert int(row["right"]) + int(row["wrong"]) == int(report["found"]) > 0
-            assert row["us-p50"] == report["us-median"]
-            wrong += int(row["wrong"])
-            audits = [line.split(" ")[2] for line in trace if line.split(" ")[1] == "audit"]
-            steps = steps_of(folder, row)
-            assert [f"members={step['members']}" for step in steps] == audits
-            for word in ("lookups", "found", "right"):
-                assert sum(int(step[word]) for step in steps) == int(row[word])
-        assert wrong > 0
-
-
-def test_both_profiles_with_the_program() -> None:
-    """The column `losses` counts the lines of lost messages, and is 0 in the first profile."""
-    program = chordsim()
-    base = BASE.replace("profile = 1", "profile = 2\nloss_ppm = 20000\nspread_us = 5000")
-    with study_folder(STUDY.replace("list = [1, 2]", "loss_ppm = [0, 20000]")) as folder:
-        (folder / "base.toml").write_text(base)
-        assert call(folder, program=program) == (0, "")
-        for row in table(folder, "runs.csv"):
-            text = base.replace("loss_ppm = 20000", f"loss_ppm = {row['loss_ppm']}")
-            (folder / "one.toml").write_text(text.replace("seed = 7", f"seed = {row['seed']}"))
-            words = [program, "run", "--scenario", folder / "one.toml", "--serial"]
-            lines = subprocess.run(words, capture_output=True, text=True, check=True).stdout.splitlines()
-            report = dict(line.split(" ") for line in lines if not line[0].isdigit())
-            assert len(report) == 25 and {word: row[word] for word in report} == report
-            assert len([line for line in lines if " lose " in line]) == int(row["losses"])
-            assert (row["losses"] == "0") == (row["loss_ppm"] == "0")
-    with study_folder(STUDY.replace("list = [1, 2]", "profile = [1, 2]")) as folder:
-        assert call(folder, program=program) == (0, "")
-        assert [row["losses"] for row in table(folder, "runs.csv")] == ["0"] * 4
 
 
 def steps_of(folder: Path, row: dict[str, str]) -> list[dict[str, str]]:
@@ -356,29 +153,211 @@ def steps_of(folder: Path, row: dict[str, str]) -> list[dict[str, str]]:
     return [line for line in table(folder, "series.csv") if all(line[key] == row[key] for key in keys)]
 
 
-def test_setting_that_the_program_refuses() -> None:
-    """Nothing is run, since the settings are checked first."""
-    with study_folder(STUDY.replace("[1, 2]\n[vary]\nlist = [1, 2]", "[1, 2]\n[vary]\nlist = [1, 17]")) as folder:
-        status, told = call(folder, program=chordsim())
-        assert (status, told) == (1, "refused: list=17, seed=1: the program says: refused: S5 OutOfRange top list")
-        assert not list((folder / "study" / "done").glob("*.json"))
+class StudyRunTest(TestCase):
+    """Tables, faults, interruptions, and what is done again."""
 
+    def test_rows_of_the_programs_own_answers(self) -> None:
+        """Four runs, each with the one lookup of the fake program."""
+        with study_folder() as folder:
+            assert call(folder) == (0, "")
+            rows = table(folder, "runs.csv")
+            assert [(row["list"], row["seed"]) for row in rows] == [("1", "1"), ("1", "2"), ("2", "1"), ("2", "2")]
+            assert {(row["events"], row["right"], row["us-p50"]) for row in rows} == {("4", "1", "20")}
+            manifest = json.loads((folder / "study" / "manifest.json").read_text())
+            assert (manifest["nodes"], manifest["study"], manifest["window_us"]) == (16, "study.toml", 3000000)
+            assert not left_overs(folder)
 
-def test_same_bytes_by_any_number_of_jobs() -> None:
-    """The tables and the manifest."""
-    program = chordsim()
-    with study_folder() as folder:
-        call(folder, "-o", str(folder / "one"), program=program)
-        call(folder, "-o", str(folder / "four"), "--jobs", "4", program=program)
-        for name in ("runs.csv", "series.csv", "manifest.json"):
-            assert (folder / "one" / name).read_bytes() == (folder / "four" / name).read_bytes()
+    def test_losses_of_the_second_profile(self) -> None:
+        """A column `losses` behind the report where a run has the second profile; of the others none are lost."""
+        for study, wanted in (
+            (STUDY.replace("list = [1, 2]", "profile = [1, 2]"), ["0", "0", "1", "1"]),
+            (STUDY.replace("list = [1, 2]", "profile = [2, 1]"), ["1", "1", "0", "0"]),
+            (STUDY.replace("list = [1, 2]", "profile = [2]\nloss_ppm = [0, 5]\nspread_us = [7]"), ["1", "1", "1", "1"]),
+        ):
+            with study_folder(study) as folder:
+                assert call(folder) == (0, "")
+                rows = table(folder, "runs.csv")
+                assert [row["losses"] for row in rows] == wanted
+                columns = list(rows[0])
+                assert columns[columns.index("ringless") :][:3] == ["ringless", "losses", "judged-lookups"]
+                assert {row["right"] for row in rows} == {"1"}
+        with study_folder(STUDY.replace("list = [1, 2]", "profile = [1]")) as folder:
+            assert call(folder) == (0, "") and "losses" not in table(folder, "runs.csv")[0]
 
+    def test_what_failed_is_told_and_what_was_done_is_kept(self) -> None:
+        """The third run fails; the next call runs what is left, and the one after it nothing."""
+        with study_folder() as folder:
+            (folder / "fail").write_text("list = 2")
+            status, told = call(folder)
+            assert (status, told) == (3, "failed: list=2, seed=1: the program says: failed: 3 TooManyEvents")
+            assert not (folder / "study" / "runs.csv").exists() and runs_called(folder) == 3
+            (folder / "fail").write_text("nothing")
+            assert call(folder) == (0, "") and runs_called(folder) == 5
+            whole = (folder / "study" / "runs.csv").read_bytes()
+            assert call(folder) == (0, "") and runs_called(folder) == 5
+            assert whole.count(b"\n") == 5 and (folder / "study" / "runs.csv").read_bytes() == whole
 
-def test_files_of_the_example() -> None:
-    """What examples/study keeps is what its manifest names."""
-    folder = TOP / "examples" / "study"
-    manifest = json.loads((folder / "manifest.json").read_text())
-    assert set(manifest["sha256"]) == {"study.toml", "base.toml", "plane.csv", "runs.csv", "series.csv"}
-    for name, digest in manifest["sha256"].items():
-        assert hashlib.sha256((folder / name).read_bytes()).hexdigest() == digest, name
-    assert len(table(TOP / "examples", "runs.csv")) == 120
+    def test_changed_study_runs_only_what_is_new(self) -> None:
+        """One more seed: two runs more. Another base: all again. A result that is cut off: this one."""
+        with study_folder() as folder:
+            call(folder)
+            (folder / "study.toml").write_text(STUDY.replace("[1, 2]\n[", "[1, 2, 3]\n["))
+            assert call(folder) == (0, "") and runs_called(folder) == 6
+            (folder / "base.toml").write_text(BASE.replace("bits = 16", "bits = 17"))
+            assert call(folder) == (0, "") and runs_called(folder) == 12
+            (folder / "study" / "done" / "list=1,seed=2.json").write_text('{"made_of": "')
+            assert call(folder) == (0, "") and runs_called(folder) == 13
+
+    def test_interrupted_and_gone_on(self) -> None:
+        """SIGINT in the third run, at the tool alone: one line, status 130, no process is left; then it goes on."""
+        with study_folder() as folder:
+            (folder / "sleep").write_text("list = 2")
+            environment = os.environ | {"CHORDSIM": str(folder / "fake")}
+            tool = subprocess.Popen(  # pylint: disable=subprocess-popen-preexec-fn
+                words_of(folder),
+                env=environment,
+                stderr=subprocess.PIPE,
+                text=True,
+                preexec_fn=heed_interrupts,
+            )
+            for _ in range(3000):
+                if (folder / "pid").exists() and (folder / "pid").read_text():
+                    break
+                time.sleep(0.02)
+            tool.send_signal(signal.SIGINT)
+            _, told = tool.communicate(timeout=60)
+            assert (tool.returncode, told) == (130, "interrupted: the same arguments go on\n")
+            assert not Path("/proc", (folder / "pid").read_text().strip()).exists()
+            assert not (folder / "study" / "runs.csv").exists() and not left_overs(folder)
+            (folder / "sleep").write_text("nothing")
+            assert call(folder) == (0, "") and runs_called(folder) == 5
+
+    def test_missing_program(self) -> None:
+        """No file, one that cannot be run, and one that is no program of this kind."""
+        with study_folder() as folder:
+            told = f"failed: the program is missing: CHORDSIM={folder}/gone is no file that can be run"
+            assert call(folder, chordsim=folder / "gone") == (3, told)
+            (folder / "bad").write_text("#!/no/such/thing\n")
+            (folder / "bad").chmod(0o755)
+            status, told = call(folder, chordsim=folder / "bad")
+            assert status == 3 and f"cannot run {folder}/bad" in told
+            status, told = call(folder, chordsim=Path("/bin/echo"))
+            assert status == 3 and told.endswith("/echo ids: the output is not that of chordsim")
+
+    def test_full_disk(self) -> None:
+        """At runs.csv, at the folder, and at a result (with a limit on the size of files)."""
+        with study_folder() as folder:
+            (folder / "study").mkdir()
+            (folder / "study" / "runs.csv.part").symlink_to("/dev/full")
+            status, told = call(folder)
+            assert (status, told) == (3, f"failed: cannot write {folder}/study/runs.csv: No space left on device")
+            assert not (folder / "study" / "runs.csv").exists() and not left_overs(folder)
+            assert call(folder) == (0, "") and runs_called(folder) == 4
+            status, told = call(folder, "-o", "/dev/null/out")
+            assert status == 3 and told.startswith("failed: cannot make the folder /dev/null/out")
+        with study_folder("window_us = 50000\n" + STUDY) as folder:
+            status, told = call_with_limit(folder, 4000)
+            assert (status, told.rpartition(": ")[2]) == (3, "File too large") and "list=1,seed=1.json" in told
+            assert [path.suffix for path in (folder / "study" / "done").iterdir()] == [".toml"] * 2
+
+    def test_faults_of_words_and_files(self) -> None:
+        """Status 1 for a file, 2 for words."""
+        with study_folder("question = 1") as folder:
+            assert call(folder) == (1, f"refused: {folder}/study.toml: question has to be a text")
+            (folder / "study.toml").unlink()
+            assert call(folder)[0] == 1
+            told = io.StringIO()
+            with redirect_stderr(told):
+                try:
+                    main(["run", "study.toml", "--jobs", "0"])
+                except SystemExit as end:
+                    assert end.code == 2 and "--jobs: 1 to 1024 is wanted" in told.getvalue()
+                else:
+                    raise AssertionError("0 jobs")
+
+    def test_plot_and_report_want_a_study_that_was_run(self) -> None:
+        """No folder, and a table that was changed since."""
+        with study_folder() as folder:
+            call(folder)
+            runs = folder / "study" / "runs.csv"
+            for word in ("plot", "report"):
+                missing = f"refused: cannot read {folder}/manifest.json: No such file or directory"
+                assert said(word, folder) == (1, missing)
+            assert said("report", folder / "study") == (0, "") and (folder / "study" / "report.md").is_file()
+            runs.write_text(runs.read_text().replace("\n1,1,4,", "\n1,1,5,"))
+            for word in ("plot", "report"):
+                assert said(word, folder / "study") == (1, f"refused: {runs} is not the one that manifest.json names")
+
+    def test_two_by_two_with_the_program(self) -> None:
+        """Each row has the numbers of the program's own report for the scenario with these values."""
+        chordsim = program()
+        study = STUDY.replace("list = [1, 2]", "list = [2, 4]\nstabilize_us = [100000, 500000]")
+        with study_folder(study) as folder:
+            assert call(folder, "--jobs", "2", chordsim=chordsim) == (0, "")
+            rows = table(folder, "runs.csv")
+            assert len(rows) == 8
+            wrong = 0
+            for row in rows:
+                text = BASE.replace("list = 2", f"list = {row['list']}").replace("seed = 7", f"seed = {row['seed']}")
+                text = text.replace("stabilize_us = 250000", f"stabilize_us = {row['stabilize_us']}")
+                (folder / "one.toml").write_text(text)
+                words = [str(chordsim), "run", "--scenario", str(folder / "one.toml"), "--serial"]
+                lines = subprocess.run(words, capture_output=True, text=True, check=True).stdout.splitlines()
+                report = dict(line.split(" ") for line in lines if not line[0].isdigit())
+                assert len(report) == 24 and {word: row[word] for word in report} == report
+                trace = [line for line in lines if line[0].isdigit()]
+                assert int(row["right"]) == naive_right(text, trace)
+                assert int(row["right"]) + int(row["wrong"]) == int(report["found"]) > 0
+                assert row["us-p50"] == report["us-median"]
+                wrong += int(row["wrong"])
+                audits = [line.split(" ")[2] for line in trace if line.split(" ")[1] == "audit"]
+                steps = steps_of(folder, row)
+                assert [f"members={step['members']}" for step in steps] == audits
+                for word in ("lookups", "found", "right"):
+                    assert sum(int(step[word]) for step in steps) == int(row[word])
+            assert wrong > 0
+
+    def test_both_profiles_with_the_program(self) -> None:
+        """The column `losses` counts the lines of lost messages, and is 0 in the first profile."""
+        chordsim = program()
+        base = BASE.replace("profile = 1", "profile = 2\nloss_ppm = 20000\nspread_us = 5000")
+        with study_folder(STUDY.replace("list = [1, 2]", "loss_ppm = [0, 20000]")) as folder:
+            (folder / "base.toml").write_text(base)
+            assert call(folder, chordsim=chordsim) == (0, "")
+            for row in table(folder, "runs.csv"):
+                text = base.replace("loss_ppm = 20000", f"loss_ppm = {row['loss_ppm']}")
+                (folder / "one.toml").write_text(text.replace("seed = 7", f"seed = {row['seed']}"))
+                words = [str(chordsim), "run", "--scenario", str(folder / "one.toml"), "--serial"]
+                lines = subprocess.run(words, capture_output=True, text=True, check=True).stdout.splitlines()
+                report = dict(line.split(" ") for line in lines if not line[0].isdigit())
+                assert len(report) == 25 and {word: row[word] for word in report} == report
+                assert len([line for line in lines if " lose " in line]) == int(row["losses"])
+                assert (row["losses"] == "0") == (row["loss_ppm"] == "0")
+        with study_folder(STUDY.replace("list = [1, 2]", "profile = [1, 2]")) as folder:
+            assert call(folder, chordsim=chordsim) == (0, "")
+            assert [row["losses"] for row in table(folder, "runs.csv")] == ["0"] * 4
+
+    def test_setting_that_the_program_refuses(self) -> None:
+        """Nothing is run, since the settings are checked first."""
+        with study_folder(STUDY.replace("[1, 2]\n[vary]\nlist = [1, 2]", "[1, 2]\n[vary]\nlist = [1, 17]")) as folder:
+            status, told = call(folder, chordsim=program())
+            assert (status, told) == (1, "refused: list=17, seed=1: the program says: refused: S5 OutOfRange top list")
+            assert not list((folder / "study" / "done").glob("*.json"))
+
+    def test_same_bytes_by_any_number_of_jobs(self) -> None:
+        """The tables and the manifest."""
+        chordsim = program()
+        with study_folder() as folder:
+            call(folder, "-o", str(folder / "one"), chordsim=chordsim)
+            call(folder, "-o", str(folder / "four"), "--jobs", "4", chordsim=chordsim)
+            for name in ("runs.csv", "series.csv", "manifest.json"):
+                assert (folder / "one" / name).read_bytes() == (folder / "four" / name).read_bytes()
+
+    def test_files_of_the_example(self) -> None:
+        """What examples/study keeps is what its manifest names."""
+        folder = TOP / "examples" / "study"
+        manifest = json.loads((folder / "manifest.json").read_text())
+        assert set(manifest["sha256"]) == {"study.toml", "base.toml", "plane.csv", "runs.csv", "series.csv"}
+        for name, digest in manifest["sha256"].items():
+            assert hashlib.sha256((folder / name).read_bytes()).hexdigest() == digest, name
+        assert len(table(TOP / "examples", "runs.csv")) == 120

@@ -1,0 +1,1 @@
+"""The tool `explain`: lists all faults of a scenario and its latency file."""

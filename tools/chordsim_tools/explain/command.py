@@ -1,0 +1,185 @@
+"""The command tools/explain."""
+
+import json
+from argparse import ArgumentTypeError, Namespace
+from collections import Counter
+from collections.abc import Iterator
+from dataclasses import asdict, dataclass
+
+from chordsim_tools.cli import Parser, Progress, run
+from chordsim_tools.explain.files import Explanation, Files
+from chordsim_tools.explain.positions import Positions
+from chordsim_tools.explain.program import answer_of
+from chordsim_tools.explain.toml import explained_toml
+from chordsim_tools.explain.wording import explained
+from chordsim_tools.files import put, read_input
+from chordsim_tools.program import find_program
+from chordsim_tools.scenario.faults import Document, faults_of
+from chordsim_tools.scenario.tables import GREATEST_SIZE, NotToml, parse_toml, rows_of
+
+PROG = "tools/explain"
+HELP = """\
+Lists all faults of a scenario and its latency file: for each one the line and column, what is there, what is allowed
+there and what was likely meant. The first line is that of `chordsim check`, `refused: ...`, or, for files that are
+accepted, `accepted: N nodes, M commands`. The faults follow in the order of docs/formats.md, section 4, so that the
+first one is the one that the program prints. What only follows from another fault is left out. A scenario that is no
+TOML is not looked into: the parser's first complaint is explained, and the rows of the latency file by themselves.
+
+The program is asked for its own line, if there is one: that of the variable CHORDSIM, else the one that is built of the
+repository's sources (none is built). If it prints another fault than the first one here, its line comes first, and is
+called unexplained. That can be for these reasons, since Python's tomllib reads TOML 1.0 and the program TOML 1.1:
+  - the program accepts times without seconds, seconds of 60 and the year 0, the escapes \\e and \\x41, and line feeds
+    and a last comma in inline tables; here they are no TOML (S1)
+  - the program refuses as no TOML what is nested deeper than 80; here that is another fault, or none
+Without the program the first line is that of this tool."""
+EXAMPLES = """\
+examples:
+  tools/explain world.toml                     all faults of a scenario
+  tools/explain world.toml links.csv           ... and of its latency file
+  tools/explain world.toml links.csv --most 3  at most three of each of the fifteen kinds
+  tools/explain world.toml --json              for other programs: `answer`, and `faults` with `line`, `column`, `hints`
+
+status: 0 the files are accepted; 1 they are refused, or cannot be read; 2 the arguments are wrong; 3 something failed
+(the program that CHORDSIM names is not there or does not end as it should, or standard output is full); 130 stopped by
+Ctrl-C"""
+
+
+@dataclass
+class Findings:
+    """What was found: the line of this tool, that of the program if it was asked, and the faults."""
+
+    answer: str
+    program_answer: str | None
+    faults: list[Explanation]
+    left_out: dict[str, int]
+
+    @property
+    def first_line(self) -> str:
+        """The program's own line, else the tool's."""
+        return self.answer if self.program_answer is None else self.program_answer
+
+    @property
+    def agrees(self) -> bool:
+        """Whether the program says the same."""
+        return self.first_line == self.answer
+
+
+def parsed(arguments: list[str]) -> Namespace:
+    """The arguments of the command line."""
+    parser = Parser(PROG, HELP, EXAMPLES)
+    parser.add_argument("scenario", metavar="SCENARIO", help="the scenario file (TOML)")
+    parser.add_argument("latency", metavar="LATENCY", nargs="?", help="the latency file (CSV)")
+    parser.add_argument("--json", action="store_true", help="print one JSON object, for other programs")
+    parser.add_argument("--most", metavar="N", type=count, help="print at most N faults of each kind (default: all)")
+    parser.add_argument("--alone", action="store_true", help="do not ask the program")
+    return parser.parse_args(arguments)
+
+
+def count(text: str) -> int:
+    """A number of 1 or more."""
+    if not text.isdecimal() or int(text) < 1:
+        raise ArgumentTypeError(f"{text!r} is no integer from 1 up")
+    return int(text)
+
+
+def explanations(scenario: bytes, latency: bytes, names: tuple[str, str]) -> tuple[Document, Iterator[Explanation]]:
+    """The two files as far as they can be read, and their faults in words, in order."""
+    rows = rows_of(latency)
+    try:
+        document = Document(parse_toml(scenario), rows)
+    except NotToml as fault:
+        first = explained_toml(fault, names[0], scenario)
+        document = Document(None, rows)
+        files = Files(*names, document, Positions(""))
+        return document, (one for part in ([first], in_words(document, files)) for one in part)
+    files = Files(*names, document, Positions(scenario.decode("utf-8")))
+    return document, in_words(document, files)
+
+
+def in_words(document: Document, files: Files) -> Iterator[Explanation]:
+    """The faults in words. On a long list a terminal sees how far it is."""
+    with Progress("faults ...") as progress:
+        for fault in faults_of(document):
+            yield explained(fault, files)
+            progress.one_more()
+
+
+def look(args: Namespace) -> Findings:
+    """Reads the files, finds the faults and asks the program."""
+    scenario = read_input(args.scenario, GREATEST_SIZE)
+    latency = read_input(args.latency, GREATEST_SIZE) if args.latency is not None else b""
+    program = None if args.alone else find_program(build=False)
+    said = None if program is None else answer_of(program, scenario, latency)
+    document, found = explanations(scenario, latency, (args.scenario, args.latency or "the latency file"))
+    kept: list[Explanation] = []
+    counts: Counter[str] = Counter()
+    left_out: Counter[str] = Counter()
+    for one in found:
+        kind = " ".join(one.fault.split()[:2])
+        counts[kind] += 1
+        if args.most is None or counts[kind] <= args.most:
+            kept.append(one)
+        else:
+            left_out[kind] += 1
+    accepted = f"accepted: {len(document.nodes)} nodes, {len(document.commands)} commands"
+    answer = f"refused: {kept[0].fault}" if kept else accepted
+    return Findings(answer, said, kept, dict(left_out))
+
+
+def in_text(findings: Findings) -> Iterator[str]:
+    """The lines for a reader."""
+    yield findings.first_line
+    if not findings.agrees:
+        yield from unexplained(findings)
+    total = len(findings.faults) + sum(findings.left_out.values())
+    if total > 1:
+        yield f"{total} faults:"
+    for number, one in enumerate(findings.faults, start=1):
+        yield ""
+        where = "" if one.line is None else f", {'near line' if one.near else 'line'} {one.line}"
+        where += "" if one.column is None else f", column {one.column}"
+        yield f"{number}. {one.fault}"
+        yield f"   {one.file}{where}: {one.what}"
+        yield f"   there:   {one.found}"
+        yield f"   allowed: {one.allowed}"
+        for hint in one.hints:
+            yield f"   hint:    {hint}"
+    for kind, number in findings.left_out.items():
+        yield ""
+        yield f"and {number} more of {kind}"
+
+
+def unexplained(findings: Findings) -> Iterator[str]:
+    """That the program prints something else, and why that can be."""
+    yield f"That is the program's answer, and this tool cannot explain it. Its own answer is: {findings.answer}"
+    if findings.answer == "refused: S1 NotToml":
+        yield "Perhaps the scenario has a form of TOML 1.1 (see --help) at the place that is named below."
+    elif findings.first_line == "refused: S1 NotToml":
+        yield "Perhaps the scenario has values nested deeper than 80."
+
+
+def in_json(findings: Findings) -> dict[str, object]:
+    """The object for other programs."""
+    return {
+        "answer": findings.first_line,
+        "accepted": findings.first_line.startswith("accepted"),
+        "faults": [{"number": number, **asdict(one)} for number, one in enumerate(findings.faults, start=1)],
+        "left_out": findings.left_out,
+        "tool_answer": findings.answer,
+        "program_answer": findings.program_answer,
+        "agrees": findings.agrees,
+    }
+
+
+def work(args: Namespace) -> int:
+    """Prints what was found, and returns the status."""
+    findings = look(args)
+    lines = [json.dumps(in_json(findings), indent=2)] if args.json else in_text(findings)
+    put("".join(line + "\n" for line in lines), None)
+    return 0 if findings.first_line.startswith("accepted") else 1
+
+
+def main(arguments: list[str]) -> int:
+    """The command."""
+    args = parsed(arguments)
+    return run(PROG, lambda: work(args), interrupted="stopped")

@@ -1,0 +1,239 @@
+"""Explains each fault: where it is, what is there, what is allowed, what was likely meant."""
+
+from collections.abc import Callable
+from typing import Any
+
+from chordsim_tools.explain import hints
+from chordsim_tools.explain.files import Explanation, Files, allowed_at, in_words, integers, path_of
+from chordsim_tools.explain.hints import heading_of, shown
+from chordsim_tools.explain.positions import Position
+from chordsim_tools.known import known
+from chordsim_tools.scenario.faults import Fault
+from chordsim_tools.scenario.tables import ACTIONS, BILLION, Key
+
+Parts = tuple[str, str, str, list[str]]
+"""What is wrong, what is there, what is allowed, and what was likely meant."""
+
+
+def explained(fault: Fault, files: Files) -> Explanation:
+    """A fault in words."""
+    what, found, allowed, likely = PARTS[fault.kind.split()[0]](fault, files)
+    if fault.place.startswith("row "):
+        position = Position(files.row(fault.place).line)
+        return explanation(fault, files.latency, position, what, found, allowed, likely)
+    path = path_of(fault.place)
+    position = files.positions.of_key(path)
+    if fault.kind == "S3 MissingKey" and fault.place == "top":
+        position = Position(1, near=True)
+    if fault.kind == "S2 UnknownKey":
+        position = files.positions.of_key((*path, fault.key))
+    elif fault.key and fault.kind != "S3 MissingKey":
+        position = files.positions.of_value((*path, fault.key))
+    return explanation(fault, files.scenario, position, what, found, allowed, likely)
+
+
+def explanation(
+    fault: Fault, file: str, position: Position, what: str, found: str, allowed: str, likely: list[str]
+) -> Explanation:
+    """The parts of an explanation together."""
+    return Explanation(
+        fault.text, file, position.line, position.column, position.near, fault.place, fault.key, what, found, allowed,
+        likely,
+    )
+
+
+def value_and_key(fault: Fault, files: Files) -> tuple[Any, Key, str, str]:
+    """The value of a fault's key, the key, how the value is written, and what is allowed there."""
+    place = files.place(fault.place)
+    key = place.key(fault.key)
+    value = place.table.get(fault.key)
+    raw = files.positions.raw((*path_of(fault.place), fault.key))
+    is_named = raw is None or "\n" in raw or isinstance(value, dict | list)
+    written = in_words(value) if is_named else shown(known(raw))
+    return value, key, written, allowed_at(key, files.document.top.usable("bits"))
+
+
+def unknown_key(fault: Fault, files: Files) -> Parts:
+    """S2."""
+    place = files.place(fault.place)
+    allowed = "the keys " + ", ".join(key.name for key in place.keys)
+    likely = hints.of_unknown_key(fault.key, fault.place, place.table, files.document.profile)
+    return f"`{shown(fault.key)}` is no key of {heading_of(fault.place)}", f"`{shown(fault.key)}`", allowed, likely
+
+
+def missing_key(fault: Fault, files: Files) -> Parts:
+    """S3."""
+    _, _, _, allowed = value_and_key(fault, files)
+    likely = hints.of_missing_key(fault.key, fault.place, files.place(fault.place).table, files.document.profile)
+    headings = [place.name for place in files.document.places if place.name != "top" and fault.key in place.table]
+    if fault.place == "top" and not likely and headings and fault.key not in ("node", "churn"):
+        line = files.line(headings[0], fault.key)
+        likely.append(f"it stands in {headings[0]}, {line}: put it above the first heading")
+    return f"`{fault.key}` is required in {heading_of(fault.place)}, and is not there", "nothing", allowed, likely
+
+
+def wrong_type(fault: Fault, files: Files) -> Parts:
+    """S4."""
+    value, key, written, allowed = value_and_key(fault, files)
+    if key.kind in ("table", "tables"):
+        written = in_words(value)
+    return f"`{key.name}` has a value of another type", written, allowed, hints.of_wrong_type(value, key, written)
+
+
+def out_of_range(fault: Fault, files: Files) -> Parts:
+    """S5."""
+    value, key, written, allowed = value_and_key(fault, files)
+    table = files.place(fault.place).table
+    wider = hints.of_profile(value, key, fault.place, files.document.profile)
+    if key.kind == "tables":
+        return f"there are too {'few' if len(value) < key.least else 'many'}", f"{len(value)} tables", allowed, wider
+    if key.name == "do":
+        meant = hints.close_to(value, ACTIONS)
+        return "`do` is no such word", written, allowed, [] if meant is None else [f'did you mean "{meant}"?']
+    if key.kind == "id":
+        likely = hints.of_id(value, files.document.top.usable("bits"), key.greatest)
+        return f"`{key.name}` is no identifier on this circle", written, allowed, likely + wider
+    if key.least <= value <= key.greatest and key.name == "audit_us":
+        least = -(-table["duration_us"] // 1_000_000)
+        likely = [f"a run has at most 1000000 audits, so for duration_us = {table['duration_us']} {least} is the least"]
+        return "there would be more than 1000000 audits", written, integers(least, BILLION), likely
+    if key.least <= value <= key.greatest:
+        other = key.name.replace("_max_", "_min_")
+        likely = [f"{other} = {table[other]} stands at {files.line(fault.place, other)}"]
+        return f"`{key.name}` is below `{other}`", written, integers(table[other], BILLION), likely
+    return f"`{key.name}` is out of range", written, allowed, hints.of_range(value, key) + wider
+
+
+def bad_name(fault: Fault, files: Files) -> Parts:
+    """S6."""
+    value, _, written, allowed = value_and_key(fault, files)
+    return "this is not allowed as a node's name", written, allowed, hints.of_name(value)
+
+
+def same_name(fault: Fault, files: Files) -> Parts:
+    """S7."""
+    _, _, written, _ = value_and_key(fault, files)
+    line = files.line(fault.other, "name")
+    return f"{fault.other} has this name already, at {line}", written, "a name that no other node has", []
+
+
+def same_id(fault: Fault, files: Files) -> Parts:
+    """S8."""
+    node, first = files.place(fault.place), files.place(fault.other)
+    ident = files.document.ident(node)
+    bits = files.document.top.usable("bits")
+    line = files.line(fault.other, "id" if "id" in first.table else "name")
+    likely = [
+        f"{place.name} has no `id`: it is made of the name, the first {bits} bits of the name's SHA-1 digest"
+        for place in (first, node)
+        if "id" not in place.table
+    ]
+    if likely:
+        likely.append("give it an `id`, or take more bits, or another name")
+    found = f"identifier {ident} (in hexadecimal {ident:x})"
+    what = f"{fault.other} has this identifier already, at {line}"
+    return what, found, "an identifier that no other node has", likely
+
+
+def unknown_node(fault: Fault, files: Files) -> Parts:
+    """S9."""
+    names = list(files.document.numbers)
+    if fault.place.startswith("row "):
+        row = files.row(fault.place)
+        name = row.fields[int(fault.key.removeprefix("field ")) - 1]
+        what = f"{fault.key} of the row is no node's name"
+        likely = hints.of_unknown_name(name, names)
+        if not likely and hints.is_heading(row, names):
+            likely = hints.of_bad_row(row, names)
+    else:
+        name = files.place(fault.place).table[fault.key]
+        what = f"`{fault.key}` is no node's name"
+        likely = hints.of_unknown_name(name, names)
+    return what, in_words(name), "the name of a node", likely
+
+
+def too_few_initial(_: Fault, files: Files) -> Parts:
+    """S10."""
+    entries = files.document.top.table["list"]
+    count = len([node for node in files.document.nodes if node.table.get("initial")])
+    more = entries + 1 - count
+    likely = [f"write initial = true at {more} more node{'s' if more > 1 else ''}"]
+    if len(files.document.nodes) < entries + 1:
+        likely = [f"there are only {len(files.document.nodes)} nodes: write more"]
+    if count >= 2:
+        likely.append(f"or list = {count - 1}")
+    found = f"list = {entries}, and {count} node{' is' if count == 1 else 's are'} initial"
+    return "too few nodes are members at the start", found, f"list + 1 = {entries + 1} initial nodes or more", likely
+
+
+def time_after_end(fault: Fault, files: Files) -> Parts:
+    """S11."""
+    _, _, written, _ = value_and_key(fault, files)
+    duration = files.document.top.table["duration_us"]
+    likely = [f"duration_us = {duration} stands at {files.line('top', 'duration_us')}"]
+    return "the command comes at the end of the run or after it", written, integers(0, duration - 1), likely
+
+
+def bad_row(fault: Fault, files: Files) -> Parts:
+    """S12."""
+    row = files.row(fault.place)
+    likely = hints.of_bad_row(row, files.document.numbers)
+    if len(row.fields) == 3:
+        allowed = f"1 to 10 digits of value 1 to {BILLION}, without sign and blanks"
+        return "the third field is no latency", in_words(row.fields[2]), allowed, likely
+    found = f'{len(row.fields)} field{"" if len(row.fields) == 1 else "s"}: {shown(",".join(row.fields))}'
+    return "the row has not three fields", found, "name,name,microseconds", likely
+
+
+def self_link(fault: Fault, files: Files) -> Parts:
+    """S13."""
+    if fault.place.startswith("row "):
+        row = files.row(fault.place)
+        return "the row names one node twice", shown(",".join(row.fields)), "two different nodes", []
+    _, _, written, _ = value_and_key(fault, files)
+    return "a node joins through itself", written, "the name of another node than `node`", []
+
+
+def same_link(fault: Fault, files: Files) -> Parts:
+    """S14."""
+    row, first = files.row(fault.place), files.row(fault.other)
+    what = f"{fault.other} names this pair already, at line {first.line}"
+    likely = ["a row holds in both directions"] if row.fields[:2] == first.fields[1::-1] else []
+    if row.fields[2] == first.fields[2]:
+        likely.append("both say the same: take one away")
+    return what, shown(",".join(row.fields)), "at most one row for each pair, in either order", likely
+
+
+def below_window(fault: Fault, files: Files) -> Parts:
+    """S15."""
+    top = files.document.top.table
+    pair = " and ".join(f'"{name}"' for name in fault.answer.split())
+    if fault.place.startswith("row "):
+        what, found = f"the latency of {pair} is below `window_us`", shown(",".join(files.row(fault.place).fields))
+    else:
+        what = f"the latency of {pair}" + ("" if fault.count == 1 else f" and of {fault.count - 1} more pairs")
+        what += " that no row names is below `window_us`"
+        found = f"latency_us = {top['latency_us']}"
+    allowed = f"window_us = {top['window_us']} or more"
+    likely = [f"raise it, or lower `window_us` ({files.line('top', 'window_us')})"]
+    if top.get("spread_us"):
+        likely.append("`spread_us` does not count here: a message may come without it")
+    return what, found, allowed, likely
+
+
+PARTS: dict[str, Callable[[Fault, Files], Parts]] = {
+    "S2": unknown_key,
+    "S3": missing_key,
+    "S4": wrong_type,
+    "S5": out_of_range,
+    "S6": bad_name,
+    "S7": same_name,
+    "S8": same_id,
+    "S9": unknown_node,
+    "S10": too_few_initial,
+    "S11": time_after_end,
+    "S12": bad_row,
+    "S13": self_link,
+    "S14": same_link,
+    "S15": below_window,
+}

@@ -1,0 +1,164 @@
+"""The command tools/generate."""
+
+from argparse import Namespace
+
+from chordsim_tools.cli import Parser, run
+from chordsim_tools.draws import distribution_of
+from chordsim_tools.files import put
+from chordsim_tools.generate.commands import Streams, commands_of
+from chordsim_tools.generate.plan import (
+    LENGTHS, LIVES, MOST_KEYS, RATES, Plan, check, gap_of, keys_wanted, law_of, length_span_of, rate_of,
+)
+from chordsim_tools.generate.random_scenario import scenario_files
+from chordsim_tools.generate.text import text_of
+from chordsim_tools.options import GREATEST_SEED, Given, Options, a_time, a_whole, choice, duration, value, whole
+from chordsim_tools.quantities import BILLION, span_of
+
+PROG = "tools/generate"
+HELP = """\
+Writes a scenario for chordsim. Without arguments it is a ring of 64 nodes, two minutes, each looking up a random key
+about once a second, without churn. What is written is accepted by `chordsim check`, and the same arguments make the
+same bytes.
+
+A TIME is written 250us, 20ms, 1.5s, 10m, or as plain microseconds; a SPAN of times as 20s..60s. The nodes are named
+n0, n1 and so on, as those of tools/latency are. If a name gives an identifier that an earlier node has, another is
+drawn. What is in round brackets at the end of an option's line is its default."""
+EPILOG = """\
+Churn in one of two forms, of all nodes but the first --stay:
+  by itself    --churn-uniform: the nodes have `churn = true`, and the program draws lives and down times.
+  by commands  --lifetime and --down: each node crashes at the end of a drawn life and joins again at the end of a drawn
+               down time. exp:MEAN is exponential, pareto:ALPHA:MIN longer than x with the probability (MIN/x)^ALPHA,
+               uniform:MIN..MAX is alike for all times of the span. Times are rounded up to whole microseconds. Lives of
+               initial nodes begin at 0.
+A join by command goes through a node that is up at its time and has been so for a timeout or from the start, drawn
+among these; if there is none, among those that are up; if none is, and with --via first, through the first other
+node of the file. With --churn-uniform only the nodes that stay are drawn, since nobody knows when the others are up.
+Nodes that are not initial join by a command at a time of the span --arrive, and live from then on.
+
+Lookups in two forms, also together:
+  by itself    --lookup-gap: each member looks up a random key, and again after a gap of the span.
+  by commands  --lookups: each node looks up at the times of a Poisson process, while it is up by the commands. (A node
+               that churns by itself gets its lookups also while it is down: the trace has lines `ignored lookup`.)
+               --keys zipf:S:COUNT draws COUNT keys once; the one at place k is looked up in proportion to 1/k^S.
+Lives, joins, lookups and identifiers are drawn from streams of their own, for each node: other lookups do not change
+the lives; more nodes do not change what is drawn for the others (but for the nodes that they join through); and a
+longer run begins as the shorter one (if --arrive is given).
+
+A small random scenario, which tries out as much as possible in little time: --random SEED, alone. It has 3 to 16 nodes,
+2 to 8 ms, mostly much churn and calls that time out; of four seeds the first two have profile 1, the others profile 2.
+Most have also a latency file of some pairs, which --links writes; without it the scenario stands by itself. The same
+SEED makes the same bytes.
+
+examples:
+  tools/generate -o ring.toml                                   a ring without churn
+  tools/generate --nodes 128 --bits 64 --churn-uniform 20s..60s 5s..15s --stay 2 --seed 11
+  tools/generate --nodes 256 --lifetime pareto:1.5:20s --down exp:10s --duration 5m -o heavy.toml
+  tools/generate --initial 8 --arrive 5s..5055ms --duration 1m  a storm of joins
+  tools/generate --profile 2 --loss 20000 --spread 5ms          two messages of a hundred are lost, the others late
+  tools/generate --lookups 0.5 --keys zipf:0.9:1000 --seed 3
+  tools/generate --random 7 --links links.csv -o any.toml
+A scenario that is run with a latency file wants a --window of at most the file's least latency and a --timeout above
+twice its greatest one; tools/latency says both when it writes the file.
+
+status: 0 the scenario is written; 2 the arguments are wrong, or ask for more than 100,000 commands; 3 the file could
+not be written. 130 interrupted. A file is whole or not there."""
+
+LENGTH = duration(1, BILLION)
+LIFE = value(distribution_of, LIVES)
+OPTIONS = (
+    ("profile", "N", whole(1, 2),
+     "the set of rules: 1, or 2 for a network with loss and spread, wider identifiers and more nodes (1)"),
+    ("nodes", "N", a_whole(), "2 to 512 nodes, in profile 2 to 4096, and at most 2^BITS (64)"),
+    ("initial", "N", a_whole(), "how many of them, the first ones, are members at the start: 2 to NODES (all)"),
+    ("bits", "N", a_whole(), "bits of an identifier: 3 to 64, in profile 2 to 128 (32)"),
+    ("list", "N", a_whole(),
+     "entries of a successor list: 1 to 16, and below the initial nodes (4, or as many as may be)"),
+    ("duration", "TIME", duration(1, 1000 * BILLION), "1us to 1000000s (120s)"),
+    ("window", "TIME", a_time(), "1us to 1000s, and at most the latency (the latency)"),
+    ("latency", "TIME", LENGTH, "latency of nodes that no latency file names: 1us to 1000s (20ms)"),
+    ("timeout", "TIME", LENGTH, "1us to 1000s (ten latencies)"),
+    ("audit", "TIME", a_time(), "time between audits: 1us to 1000s, at most 1,000,000 audits (a 24th of the duration)"),
+    ("stabilize", "TIME", LENGTH, "1us to 1000s (500ms)"),
+    ("finger", "TIME", LENGTH, "1us to 1000s (250ms)"),
+    ("jitter", "TIME", duration(0, BILLION), "0us to 1000s (50ms)"),
+    ("max-events", "N", whole(1, 50_000_000), "1 to 50000000 (50000000)"),
+    ("loss", "N", whole(0, 1_000_000), "profile 2 alone: messages lost of a million, 0 to 1000000 (0)"),
+    ("spread", "TIME", duration(0, BILLION),
+     "profile 2 alone: up to this much is added to each latency, 0us to 1000s (0us)"),
+    ("seed", "N", whole(0, GREATEST_SEED),
+     "of the simulated streams, and of all that is drawn here: 0 to 9223372036854775807 (1)"),
+    ("churn-uniform", "SPAN", value(length_span_of, f"two spans {LENGTHS}"),
+     "lives and down times that the program draws: two spans of 1us to 1000s"),
+    ("lifetime", "LAW", LIFE, f"lives drawn here: {LIVES}"),
+    ("down", "LAW", LIFE, "down times drawn here, in the same forms (exp:10s)"),
+    ("stay", "N", a_whole(), "how many nodes, the first ones, do not churn: 0 to NODES - 1 (2)"),
+    ("via", "WHICH", choice("random", "first"), "the node to join through: random or first (random)"),
+    ("arrive", "SPAN", value(span_of, "MIN..MAX, both below --duration"),
+     "when the nodes that are not initial join (the first half of the duration)"),
+    ("lookup-gap", "SPAN", value(gap_of, f"none or {LENGTHS}"),
+     "gaps of lookups: 1us to 1000s each, or none (500ms..1500ms, but none with --lookups)"),
+    ("lookups", "RATE", value(rate_of, RATES), f"lookups by commands, for each node and second: {RATES}"),
+    ("keys", "LAW", value(law_of, keys_wanted(MOST_KEYS)),
+     "their keys: uniform, or zipf:S:COUNT, S 0 to 10, COUNT 1 to 100000 and at most 2^BITS (uniform)"),
+)
+"""The options, in the order in which the head of the file names them."""
+
+
+def parser_of() -> Parser:
+    """The parser of the arguments."""
+    parser = Parser(PROG, HELP, EPILOG, strict=True)
+    for name, metavar, kind, meaning in OPTIONS:
+        if name == "churn-uniform":
+            parser.add_argument(f"--{name}", nargs=2, metavar=("LIFE_SPAN", "DOWN_SPAN"), type=kind, help=meaning)
+        else:
+            parser.add_argument(f"--{name}", metavar=metavar, type=kind, help=meaning)
+    add = parser.add_argument
+    seeds = whole(0, GREATEST_SEED)
+    add("--random", metavar="SEED", type=seeds, help="a small random scenario: 0 to 9223372036854775807")
+    add("--links", metavar="FILE", help="with --random: write its latency file, which may be empty, to this file")
+    add("-o", dest="file", metavar="FILE", help="write to this file, not to standard output")
+    return parser
+
+
+def arguments_again(args: Namespace) -> list[str]:
+    """The arguments in the order of the options, without the file."""
+    again: list[str] = []
+    for name, *_ in OPTIONS:
+        given: Given[object] | list[Given[object]] | None = getattr(args, name.replace("-", "_"))
+        if given is not None:
+            again += [f"--{name}", *(one.text for one in (given if isinstance(given, list) else [given]))]
+    return again
+
+
+def scenario_of(plan: Plan, arguments: list[str]) -> str:
+    """The text of the scenario that a plan asks for."""
+    streams = Streams(plan.top["seed"], plan.nodes)
+    return text_of(plan, streams, commands_of(plan, streams), arguments)
+
+
+def check_random(args: Namespace, parser: Parser) -> None:
+    """Refuses what does not go with a random scenario, or needs one."""
+    options = Options(args, parser)
+    options.only_with("links", options.has("random"), "--random")
+    others = [name for name, *_ in OPTIONS if options.has(name)]
+    if options.has("random") and others:
+        options.refuse(others[0], "not with --random")
+
+
+def write_random(seed: int, file: str | None, links: str | None) -> None:
+    """Writes a random scenario, and its latency file if one is named."""
+    scenario, rows = scenario_files(seed)
+    if links is not None:
+        put(rows, links)
+    put(scenario, file)
+
+
+def main(arguments: list[str]) -> int:
+    """The command."""
+    parser = parser_of()
+    args = parser.parse_args(arguments)
+    check_random(args, parser)
+    if args.random is not None:
+        return run(PROG, lambda: write_random(args.random.value, args.file, args.links))
+    plan = check(args, parser)
+    return run(PROG, lambda: put(scenario_of(plan, arguments_again(args)), args.file))

@@ -1,0 +1,175 @@
+"""The commands that tools/generate draws: crashes, joins and lookups."""
+
+from bisect import bisect_right
+from collections.abc import Iterator
+from decimal import Decimal
+from itertools import takewhile
+from typing import NamedTuple
+
+from chordsim_tools.cli import Failure, Progress
+from chordsim_tools.draws import TWENTY_DIGITS, Distribution, Draws, Keys
+from chordsim_tools.generate.plan import Plan
+
+GREATEST_COUNT = 100_000
+CRASH, JOIN, LOOKUP = range(3)
+"""What commands do, in the order in which commands of one time stand in the file."""
+
+
+class Command(NamedTuple):
+    """A command, with its node by number, and the node to join through or the key."""
+
+    at_us: int
+    do: int
+    node: int
+    rest: int = 0
+
+
+class Life(NamedTuple):
+    """A time from which on a node is up, and the time at which it is up no longer."""
+
+    begin: int
+    end: int
+
+
+class Streams:
+    """The streams of random numbers that a seed gives, each for one purpose: what one draws changes no other."""
+
+    def __init__(self, seed: int, nodes: int) -> None:
+        """The streams of this seed. Those of a node are the same whatever other nodes there are."""
+        self.idents, arrive, churn, self.via, self.keys, lookups = Draws(seed).split(6)
+        self.arrive = arrive.split(nodes)
+        self.churn = churn.split(nodes)
+        self.lookups = lookups.split(nodes)
+
+
+def commands_of(plan: Plan, streams: Streams) -> list[Command]:
+    """All commands of a plan, in the order of the file."""
+    lives = lives_of(plan, streams)
+    commands = moves_of(plan, lives, streams.via)
+    if plan.rate is not None:
+        commands += drawn_lookups(plan, plan.rate, lives, streams, GREATEST_COUNT - len(commands))
+    return sorted(commands)
+
+
+def lives_of(plan: Plan, streams: Streams) -> list[list[Life]]:
+    """For each node the times in which it is up, as far as commands say: a node that churns by itself stays up."""
+    lives: list[list[Life]] = []
+    room = GREATEST_COUNT
+    with Progress("nodes whose lives are drawn", plan.nodes) as progress:
+        for node in range(plan.nodes):
+            arrives = 0 if node < plan.initial else streams.arrive[node].between(*plan.arrive)
+            if plan.lifetime is not None and node >= plan.stay:
+                lives.append(drawn_lives(plan, plan.lifetime, arrives, streams.churn[node], room))
+            else:
+                lives.append([Life(arrives, plan.top["duration_us"])])
+            room -= len(lives[-1])
+            progress.one_more()
+    return lives
+
+
+def drawn_lives(plan: Plan, lifetime: Distribution, begin: int, draws: Draws, most: int) -> list[Life]:
+    """The lives of a node that crashes and comes up by commands."""
+    duration = plan.top["duration_us"]
+    lives: list[Life] = []
+    while begin < duration:
+        if len(lives) == most:
+            raise too_many("--lifetime")
+        end = begin + lifetime.draw(draws)
+        lives.append(Life(begin, min(end, duration)))
+        begin = end + plan.down.draw(draws)
+    return lives
+
+
+def moves_of(plan: Plan, lives: list[list[Life]], draws: Draws) -> list[Command]:
+    """The crashes and joins, in the order of their times."""
+    moves: list[Command] = []
+    for node, spans in enumerate(lives):
+        moves += [Command(life.end, CRASH, node) for life in spans if life.end < plan.top["duration_us"]]
+        moves += [Command(life.begin, JOIN, node) for life in spans[1 if node < plan.initial else 0 :]]
+    if len(moves) > GREATEST_COUNT:
+        raise too_many("--lifetime")
+    doors = Doors(plan, draws)
+    return [doors.open(move) for move in sorted(moves)]
+
+
+def too_many(option: str) -> Failure:
+    """The refusal of arguments that ask for too many commands."""
+    fewer = "a shorter --duration or fewer --nodes make fewer"
+    return Failure(2, f"{option}: more than {GREATEST_COUNT} commands; {fewer}")
+
+
+class Doors:
+    """The nodes that others may join through, as time goes on.
+
+    These are the nodes that are up by the commands; those that have been up for a timeout or from the start come
+    first, since a node that is still joining itself replies to no one. Of nodes that crash by themselves nothing is
+    known, so that they are no doors."""
+
+    def __init__(self, plan: Plan, draws: Draws) -> None:
+        """The doors at the start."""
+        self.plan = plan
+        self.draws = draws
+        self.settled = [node for node in range(plan.initial) if self.is_known(node)]
+        self.fresh: dict[int, int] = {}
+
+    def is_known(self, node: int) -> bool:
+        """Whether commands alone say when the node is up."""
+        return self.plan.churn is None or node < self.plan.stay
+
+    def open(self, move: Command) -> Command:
+        """The command with its door, if it is a join; and what it changes of the doors."""
+        self.settle(move.at_us - self.plan.top["timeout_us"])
+        if move.do == CRASH:
+            if move.node in self.settled:
+                self.settled.remove(move.node)
+            self.fresh.pop(move.node, None)
+            return move
+        door = self.choose(move.node)
+        if self.is_known(move.node):
+            self.fresh[move.node] = move.at_us
+        return move._replace(rest=door)
+
+    def settle(self, since: int) -> None:
+        """Those that have joined by this time are taken for members."""
+        old = list(takewhile(lambda node: self.fresh[node] <= since, self.fresh))
+        for node in old:
+            del self.fresh[node]
+        self.settled += old
+
+    def choose(self, node: int) -> int:
+        """The door for a node: the first other node of the file, if none is to be drawn or none is up."""
+        doors = self.settled or list(self.fresh)
+        if self.plan.via == "first" or not doors:
+            return 0 if node != 0 else 1
+        return doors[self.draws.below(len(doors))]
+
+
+def drawn_lookups(
+    plan: Plan, rate: Decimal, lives: list[list[Life]], streams: Streams, most: int
+) -> list[Command]:
+    """The lookups of all nodes, each while it is up. They are drawn for the whole run, so that churn moves none."""
+    seconds = Decimal(plan.top["duration_us"]) / 1_000_000
+    if rate * plan.nodes * seconds > 10 * GREATEST_COUNT:
+        raise too_many("--lookups")
+    keys = Keys(plan.top["bits"], plan.keys, streams.keys)
+    lookups: list[Command] = []
+    with Progress("nodes whose lookups are drawn", plan.nodes) as progress:
+        for node, spans in enumerate(lives):
+            begins = [life.begin for life in spans]
+            for at_us, key in lookups_of_node(plan, rate, keys, streams.lookups[node]):
+                place = bisect_right(begins, at_us) - 1
+                if place >= 0 and at_us < spans[place].end:
+                    lookups.append(Command(at_us, LOOKUP, node, key))
+                if len(lookups) > most:
+                    raise too_many("--lookups")
+            progress.one_more()
+    return lookups
+
+
+def lookups_of_node(plan: Plan, rate: Decimal, keys: Keys, draws: Draws) -> Iterator[tuple[int, int]]:
+    """Times and keys of a Poisson process."""
+    gap = TWENTY_DIGITS.divide(Decimal(1_000_000), rate)
+    time = TWENTY_DIGITS.multiply(gap, draws.waiting())
+    while time < plan.top["duration_us"]:
+        yield int(time), keys.draw(draws)
+        time = TWENTY_DIGITS.add(time, TWENTY_DIGITS.multiply(gap, draws.waiting()))

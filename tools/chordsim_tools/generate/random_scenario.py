@@ -1,0 +1,114 @@
+"""Random scenarios and latency files, the same for the same seed."""
+
+from random import Random
+
+BITS = {1: [3, 4, 5, 6, 8, 16, 31, 32, 33, 63, 64], 2: [3, 4, 5, 6, 8, 32, 33, 64, 65, 96, 97, 127, 128]}
+"""The bits of the scenarios of each profile."""
+
+
+def scenario_files(seed: int) -> tuple[str, str]:
+    """A scenario and a latency file that chordsim accepts: few nodes, much churn, calls that time out.
+
+    Two of four seeds have the second profile, one of them an even seed and one an odd one.
+    """
+    dice = Random(seed)
+    profile = 1 + seed // 2 % 2
+    bits = dice.choice(BITS[profile])
+    nodes = dice.randint(3, min(2**bits, dice.choice([4, 8, 16])))
+    entries = dice.randint(1, min(16, nodes - 1, dice.choice([1, 2, 3, 5])))
+    window = dice.randint(1, 20)
+    latency = window + dice.randint(0, 20)
+    duration = dice.randint(2000, 8000)
+    is_churning = dice.random() < 0.6
+    idents = dice.sample(range(2**bits), nodes) if bits < 20 else distinct(dice, 2**bits, nodes)
+    initial = set(dice.sample(range(nodes), dice.randint(entries + 1, nodes)))
+    network = network_of(dice, latency) if profile == 2 else {}
+    reach = latency + network.get("spread_us", 0)
+    top = {"profile": profile} | settings(dice, bits, entries, window, latency, reach, duration) | network
+    text = "".join(f"{key} = {value}\n" for key, value in top.items())
+    text += tables(dice, is_churning)
+    for i, ident in enumerate(idents):
+        text += node_table(dice, i, ident, i in initial, is_churning)
+    for _ in range(dice.choice([0, 5, 20, 60])):
+        text += command_table(dice, nodes, duration, 2**bits)
+    return text, rows(dice, nodes, window)
+
+
+def distinct(dice: Random, size: int, count: int) -> list[int]:
+    """`count` different numbers below a size that is too large for a sample."""
+    numbers: dict[int, None] = {}
+    while len(numbers) < count:
+        numbers[dice.randrange(size)] = None
+    return list(numbers)
+
+
+def settings(
+    dice: Random, bits: int, entries: int, window: int, latency: int, reach: int, duration: int
+) -> dict[str, int]:
+    """The keys of the top table that both profiles have. The reach is the latency with the spread."""
+    timeout = dice.choice([dice.randint(1, 40), 2 * reach + dice.randint(1, 100)])
+    return {
+        "bits": bits,
+        "list": entries,
+        "seed": dice.choice([0, 1, dice.getrandbits(31), dice.getrandbits(63)]),
+        "duration_us": duration,
+        "window_us": window,
+        "latency_us": latency,
+        "timeout_us": timeout,
+        "audit_us": dice.randint(50, 700),
+        "stabilize_us": dice.randint(30, 500),
+        "finger_us": dice.randint(30, 500),
+        "jitter_us": dice.randint(0, 40),
+        "max_events": dice.choice([50_000_000, dice.randint(1, 3000)]) if dice.random() < 0.2 else 50_000_000,
+    }
+
+
+def network_of(dice: Random, latency: int) -> dict[str, int]:
+    """Loss and spread, if the scenario has them: all messages lost, some or none, and late by some latencies."""
+    loss = dice.choice([0, 1_000_000, dice.randint(1, 200_000), dice.randint(1, 50_000), dice.randint(1, 50_000)])
+    spread = dice.choice([0, 1, dice.randint(0, latency), dice.randint(0, 5 * latency)])
+    keys = {"loss_ppm": loss, "spread_us": spread}
+    return {key: value for key, value in keys.items() if dice.random() < 0.85}
+
+
+def tables(dice: Random, is_churning: bool) -> str:
+    """The tables [churn] and [lookups], if the scenario has them."""
+    text = ""
+    if is_churning:
+        life, down = dice.randint(100, 1500), dice.randint(1, 400)
+        text += f"[churn]\nlife_min_us = {life}\nlife_max_us = {life + dice.randint(0, 900)}\n"
+        text += f"down_min_us = {down}\ndown_max_us = {down + dice.randint(0, 300)}\n"
+    if dice.random() < 0.7:
+        gap = dice.randint(1, 200)
+        text += f"[lookups]\ngap_min_us = {gap}\ngap_max_us = {gap + dice.randint(0, 200)}\n"
+    return text
+
+
+def node_table(dice: Random, place: int, ident: int, is_initial: bool, is_churning: bool) -> str:
+    """The table of a node."""
+    text = f'[[node]]\nname = "n{place}"\nid = "{ident:x}"\n'
+    if is_initial:
+        text += "initial = true\n"
+    if is_churning and dice.random() < 0.6:
+        text += "churn = true\n"
+    return text
+
+
+def command_table(dice: Random, nodes: int, duration: int, size: int) -> str:
+    """The table of a command."""
+    node = dice.randrange(nodes)
+    do = dice.choice(["crash", "join", "lookup", "lookup"])
+    text = f'[[command]]\nat_us = {dice.randrange(duration)}\ndo = "{do}"\nnode = "n{node}"\n'
+    if do == "join":
+        text += f'via = "n{(node + dice.randint(1, nodes - 1)) % nodes}"\n'
+    if do == "lookup":
+        text += f'key = "{dice.randrange(size):x}"\n'
+    return text
+
+
+def rows(dice: Random, nodes: int, window: int) -> str:
+    """The rows of a latency file, which name about every third pair, or none."""
+    if dice.random() < 0.4:
+        return ""
+    pairs = [(a, b) for a in range(nodes) for b in range(a) if dice.random() < 0.3]
+    return "".join(f"n{a},n{b},{dice.randint(window, window + 60)}\n" for a, b in pairs)

@@ -1,0 +1,1 @@
+"""The tool `latency`: writes latency files."""

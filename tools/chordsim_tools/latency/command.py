@@ -1,0 +1,183 @@
+"""The command tools/latency."""
+
+import csv
+import io
+import math
+import re
+from argparse import Namespace
+from statistics import median_low
+
+from chordsim_tools.cli import Failure, Parser, Refused, run, say
+from chordsim_tools.draws import Draws
+from chordsim_tools.files import put, read_input
+from chordsim_tools.latency.measured import UNITS, Latencies, latencies_of, read_lines, read_matrix
+from chordsim_tools.options import GREATEST_SEED, Options, a_whole, choice, duration, whole
+from chordsim_tools.scenario.tables import GREATEST_SIZE, parse_toml
+
+PROG = "tools/latency"
+HELP = """\
+Writes a latency file for chordsim: a row a,b,microseconds for each pair of nodes, from measured round trips or of hosts
+at random places of a square. The nodes are named n0, n1 and so on, as those of tools/generate are, or as --names says.
+The same arguments and files make the same bytes. What is in round brackets at the end of an option's line is its
+default."""
+EPILOG = """\
+Round trips: a matrix has one row a line, its values separated by blanks or commas (the form of the King data set); -1,
+0 and nothing between two commas are gaps. With --form lines each line is `i j us`: the numbers of two hosts and the
+round trip from the one to the other. Empty lines and lines that begin with # are ignored, and so is the round trip
+of a host with itself. At most 5000 hosts, round trips of at most 2000 seconds.
+
+Which hosts: a gap of a host is another one with which no round trip was measured in either direction. The hosts are
+drawn among those that have at most g gaps, for the least g by which they are enough. They are named in the order of the
+file, so that a matrix of just as many hosts keeps its order.
+
+Latencies: the mean of the two directions, or the one that was measured, is halved and rounded up to whole microseconds.
+A gap between two chosen hosts gets half the mean of the two hosts' medians, rounded up; a host's median is that of its
+measured round trips with the other chosen hosts (the lower one of two in the middle).
+
+--plane SIDE: hosts at random places of a square. The latency of two of them is --floor and the straight way between
+them, rounded up; SIDE is the way from one corner to the next.
+
+At the end a line on standard error says the number of hosts and of gaps filled, the least, the median and the greatest
+latency, and the greatest window_us that a scenario with these latencies may have (which is the least latency). A spread
+(spread_us, of profile 2) only adds to these and does not count for the window.
+
+chordsim reads at most 16,777,216 bytes of latencies, which a row for each pair of some 1,400 nodes has. A greater file
+is refused; profile 1 has at most 512 nodes.
+
+examples:
+  tools/latency king.txt --nodes 128 --seed 3 -o king.csv
+  tools/latency pings.txt --form lines --unit ms --gaps refuse --names base.toml -o pings.csv
+  tools/latency --plane 100ms --floor 5ms --nodes 128 -o plane.csv
+  tools/generate --nodes 128 --window 5ms --timeout 400ms -o ring.toml    a scenario for it: the window is at most the
+                                                           least latency, the timeout above twice the greatest one
+  chordsim run --scenario ring.toml --latency plane.csv --serial
+
+status: 0 the file is written; 1 a file is refused; 2 the arguments are wrong; 3 the file could not be written; 130
+interrupted. A file is whole or not there."""
+MOST_NODES = 4096
+"""The most nodes of a scenario."""
+
+
+def parser_of() -> Parser:
+    """The parser of the arguments."""
+    parser = Parser(PROG, HELP, EPILOG, strict=True)
+    add = parser.add_argument
+    add("measured", metavar="MEASURED", nargs="?", help="the file with the round trips")
+    add("--nodes", metavar="N", type=a_whole(), help="2 to 4096 nodes (64, or as many as --names has)")
+    add("--names", metavar="FILE", help="a scenario; its nodes' names are taken, in their order")
+    add("--seed", metavar="N", type=whole(0, GREATEST_SEED), help="of all that is drawn: 0 to 9223372036854775807 (1)")
+    add("--form", metavar="FORM", type=choice("matrix", "lines"), help="the form of MEASURED: matrix or lines (matrix)")
+    add("--unit", metavar="UNIT", type=choice(*UNITS), help="the unit of its round trips: us, ms or s (us)")
+    add("--gaps", metavar="WHAT", type=choice("fill", "refuse"),
+        help="fill gaps among the chosen hosts, or refuse them (fill)")
+    add("--plane", metavar="SIDE", type=duration(1, 600_000_000),
+        help="no MEASURED; a square of this side: a time of 1us to 600s")
+    add("--floor", metavar="TIME", type=duration(1, 100_000_000),
+        help="what each latency of the plane begins with: 1us to 100s (1ms)")
+    add("-o", dest="file", metavar="FILE", help="write to this file, not to standard output")
+    return parser
+
+
+def check(args: Namespace, parser: Parser) -> Options:
+    """The options. If they do not fit together the parser ends with the first one that does not."""
+    options = Options(args, parser)
+    if (args.measured is None) != options.has("plane"):
+        options.refuse("plane", "either this or a file MEASURED")
+    options.only_with("floor", options.has("plane"), "--plane")
+    for name in ("form", "unit", "gaps"):
+        options.only_with(name, args.measured is not None, "a file MEASURED")
+    if args.names is None:
+        options.whole("nodes", 64, 2, MOST_NODES)
+    return options
+
+
+def names_of(file: str) -> list[str]:
+    """The names of a scenario's nodes."""
+    content = read_input(file, GREATEST_SIZE, reasons=False)
+    try:
+        tables = parse_toml(content).get("node")
+    except Refused as fault:
+        raise Refused(f"{file}: {fault}") from None
+    names: list[str] = []
+    for number, table in enumerate(tables if isinstance(tables, list) else [], start=1):
+        name = table.get("name") if isinstance(table, dict) else None
+        if not isinstance(name, str) or not re.fullmatch(r"[A-Za-z0-9._-]{1,32}", name) or name in names:
+            raise Refused(f"{file}: node {number} has no name of its own")
+        names.append(name)
+    if not 2 <= len(names) <= MOST_NODES:
+        raise Refused(f"{file}: {len(names)} nodes, not 2 to {MOST_NODES}")
+    return names
+
+
+def nodes_of(options: Options) -> list[str]:
+    """The names of the nodes that the arguments ask for."""
+    if options.args.names is None:
+        return [f"n{i}" for i in range(options.get("nodes", 64))]
+    names = names_of(options.args.names)
+    options.whole("nodes", len(names), len(names), len(names), ", as many as --names has")
+    return names
+
+
+def plane(side: int, floor: int, count: int, draws: Draws) -> Latencies:
+    """Latencies of hosts at random places of a square. More hosts leave the places of the first ones as they are."""
+    places = [(draws.between(0, side), draws.between(0, side)) for _ in range(count)]
+    micros = []
+    for b, (x, y) in enumerate(places):
+        for a, (left, low) in enumerate(places[:b]):
+            square = (x - left) ** 2 + (y - low) ** 2
+            way = math.isqrt(square - 1) + 1 if square else 0
+            micros.append((a, b, floor + way))
+    return Latencies(sorted(micros), 0)
+
+
+def latencies(options: Options, count: int) -> Latencies:
+    """The latencies that the arguments ask for."""
+    draws = Draws(options.get("seed", 1))
+    measured = options.args.measured
+    if measured is None:
+        return plane(options.get("plane", 0), options.get("floor", 1000), count, draws)
+    unit = UNITS[options.get("unit", "us")]
+    read = read_matrix if options.get("form", "matrix") == "matrix" else read_lines
+    return latencies_of(read(measured, unit), count, options.get("gaps", "fill") == "fill", draws)
+
+
+def check_size(count: int, size: int) -> None:
+    """Refuses a file of this size or more that chordsim would not read."""
+    if size > GREATEST_SIZE:
+        raise Failure(2, f"--nodes: rows for all pairs of {count} nodes have more than {GREATEST_SIZE} bytes")
+
+
+def rows_text(names: list[str], result: Latencies) -> str:
+    """The rows of the file."""
+    text = io.StringIO()
+    rows = ((names[a], names[b], micros) for a, b, micros in result.micros)
+    csv.writer(text, lineterminator="\n").writerows(rows)
+    return text.getvalue()
+
+
+def facts(count: int, result: Latencies) -> str:
+    """What is said at the end."""
+    times = [micros for _, _, micros in result.micros]
+    return (
+        f"hosts {count}, gaps filled {result.filled}, least {min(times)} us, median {median_low(times)} us, "
+        f"greatest {max(times)} us; window_us may be at most {min(times)}\n"
+    )
+
+
+def write(options: Options) -> None:
+    """Writes the file that the arguments ask for."""
+    names = nodes_of(options)
+    # Each row has two names, two commas, a digit or more and a line feed: too many nodes are refused before the work.
+    check_size(len(names), (len(names) - 1) * sum(len(name) + 2 for name in names))
+    result = latencies(options, len(names))
+    text = rows_text(names, result)
+    check_size(len(names), len(text))
+    put(text, options.args.file)
+    say(facts(len(names), result))
+
+
+def main(arguments: list[str]) -> int:
+    """The command."""
+    parser = parser_of()
+    options = check(parser.parse_args(arguments), parser)
+    return run(PROG, lambda: write(options))

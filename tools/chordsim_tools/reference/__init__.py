@@ -1,0 +1,1 @@
+"""The reference simulator: the rules of docs/rules.md once more, written from the document alone."""

@@ -1,0 +1,72 @@
+"""The audits (docs/rules.md, section 10)."""
+
+from chordsim_tools.known import known
+from chordsim_tools.reference.procedures import World
+from chordsim_tools.reference.state import Node, Status
+
+
+def members_of(nodes: list[Node]) -> set[int]:
+    """The nodes with status Member."""
+    return {node.me for node in nodes if node.status == Status.MEMBER}
+
+
+def best_successor(node: Node, members: set[int]) -> int | None:
+    """The first entry of the node's successor list that is a member."""
+    return next((entry for entry in node.succ if entry in members), None)
+
+
+def comes_back(start: int, best: dict[int, int | None]) -> bool:
+    """Whether a member comes back to itself from best successor to best successor."""
+    here = start
+    for _ in range(len(best)):
+        following = best[here]
+        if following is None:
+            return False
+        if following == start:
+            return True
+        here = following
+    return False
+
+
+def passed_over(world: World, nodes: list[Node], members: set[int]) -> set[int]:
+    """The identifiers of the members that lie between two neighbours of a member and its list."""
+    idents = world.idents
+    places = sorted(idents[n] for n in members)
+    passed: set[int] = set()
+    for n in members:
+        sequence = [n, *nodes[n].succ]
+        for a, b in zip(sequence, sequence[1:]):
+            passed.update(world.circle.all_between(idents[a], idents[b], places))
+    return passed
+
+
+def is_ordered(world: World, ring: list[int], best: dict[int, int | None]) -> bool:
+    """Whether no ring member lies between a ring member and its best successor."""
+    idents = world.idents
+    places = sorted(idents[n] for n in ring)
+    return not any(world.circle.all_between(idents[n], idents[known(best[n])], places) for n in ring)
+
+
+def audit_line(world: World, nodes: list[Node], time: int) -> str:
+    """The line of the audit at this time."""
+    members = members_of(nodes)
+    best = {n: best_successor(nodes[n], members) for n in members}
+    dead = len([n for n in members if best[n] is None])
+    ring = [n for n in members if comes_back(n, best)]
+    ordered = is_ordered(world, ring, best)
+    principals = len(members) - len(passed_over(world, nodes, members))
+    sufficient = principals >= world.scenario.list + 1 and dead == 0
+    return (
+        f"{time} audit members={len(members)} dead={dead} ring={len(ring)} ordered={yes_or_no(ordered)} "
+        f"principals={principals} sufficient={yes_or_no(sufficient)}"
+    )
+
+
+def yes_or_no(fact: bool) -> str:
+    """The word for a fact."""
+    return "yes" if fact else "no"
+
+
+def audit_times(audit_us: int, duration_us: int) -> list[int]:
+    """Each positive multiple of audit_us below duration_us, and duration_us."""
+    return [*range(audit_us, duration_us, audit_us), duration_us]

@@ -1,0 +1,289 @@
+"""The procedures (docs/rules.md, section 8)."""
+
+from chordsim_tools.known import known
+from chordsim_tools.reference.chacha import Stream
+from chordsim_tools.reference.circle import Circle
+from chordsim_tools.reference.state import (
+    KINDS, Answer, Attempt, Body, Call, Event, FingerTick, LifeEnd, Lookup, Message, Next, Node, Owner, Purpose, Rise,
+    StabilizeTick, Status, Step, Stuck, Timeout, TrafficTick,
+)
+from chordsim_tools.scenario.reading import Scenario
+
+USER_LOOKUPS = 60
+LOOKUP_STEPS = 128
+LOOKUP_TIMEOUTS = 8
+JOIN_FAILURES = 8
+JOIN_STEPS = 128
+
+
+class World:
+    """What does not change in a run: the scenario, the circle, and the random stream of each node."""
+
+    def __init__(self, scenario: Scenario) -> None:
+        """The world of a scenario."""
+        self.scenario = scenario
+        self.circle = Circle(scenario.bits)
+        self.idents = [node.ident for node in scenario.nodes]
+        self.names = [node.name for node in scenario.nodes]
+        self.streams = [Stream(scenario.seed, i) for i in range(len(scenario.nodes))]
+
+    def latency(self, a: int, b: int) -> int:
+        """How long a message from node a to node b takes, without the spread."""
+        if a == b:
+            return 1
+        return self.scenario.latencies.get((a, b), self.scenario.latency_us)
+
+    def between(self, a: int, x: int, b: int) -> bool:
+        """Whether node x lies between the nodes a and b."""
+        return self.circle.between(self.idents[a], self.idents[x], self.idents[b])
+
+
+class Procedures:
+    """Node n acts at the time t: the events it makes and the lines it writes, in the order made."""
+
+    def __init__(self, world: World, node: Node, time: int) -> None:
+        """The procedures for this node at this time."""
+        self.world = world
+        self.n = node
+        self.t = time
+        self.events: list[Event] = []
+        self.lines: list[str] = []
+
+    # Lines, events and draws.
+
+    def line(self, text: str) -> None:
+        """A line of the trace."""
+        self.lines.append(f"{self.t} {self.world.names[self.n.me]} {text}")
+
+    def name(self, node: int) -> str:
+        """The name of a node."""
+        return self.world.names[node]
+
+    def make(self, time: int, target: int, body: Body) -> None:
+        """Makes an event: its number is one more than the number of events made, and messages lost, before."""
+        self.n.count += 1
+        self.events.append(Event(time, 2 + self.n.me, self.n.count, target, body))
+
+    def set_timer(self, delay: int, body: Body) -> None:
+        """Makes a timer: an event for the node itself."""
+        self.make(self.t + delay, self.n.me, body)
+
+    def send(self, to: int, body: Message) -> None:
+        """Makes a message. In the second profile one to another node may be lost, and comes later by a drawn spread."""
+        scenario = self.world.scenario
+        time = self.t + self.world.latency(self.n.me, to)
+        if scenario.profile == 1 or to == self.n.me:
+            self.make(time, to, body)
+            return
+        x = self.number_below(1_000_000)
+        e = self.number_below(scenario.spread_us + 1)
+        if x < scenario.loss_ppm:
+            self.lose(to, body)
+        else:
+            self.make(time + e, to, body)
+
+    def lose(self, to: int, body: Message) -> None:
+        """A message is lost: no event is made, and the number that it would have had is used up."""
+        self.n.count += 1
+        self.line(f"lose {KINDS[type(body)]} {self.name(to)}")
+
+    def word(self) -> int:
+        """The next word of the node's stream."""
+        word = self.world.streams[self.n.me].word(self.n.place)
+        self.n.place += 1
+        return word
+
+    def number_below(self, n: int) -> int:
+        """A number below n: the next word modulo n, even where n is 1."""
+        return self.word() % n
+
+    def time_from_span(self, least: int, greatest: int) -> int:
+        """A time drawn from a span: the least plus a number below (greatest - least + 1)."""
+        return least + self.number_below(greatest - least + 1)
+
+    def random_key(self) -> int:
+        """A random key: the m low bits of the number that as many words as m bits need write, the highest one first."""
+        bits = self.world.circle.bits
+        number = 0
+        for _ in range((bits + 31) // 32):
+            number = number * 2**32 + self.word()
+        return number % (1 << bits)
+
+    # 8.1 Call
+
+    def call(self, request: type, p: int, purpose: Purpose, *rest: object, because: int | None = None) -> int:
+        """Calls a request to p for a purpose; gives the number of the call: that of the request, lost or not."""
+        number = self.n.count + 1
+        self.send(p, request(number, *rest))
+        self.set_timer(self.world.scenario.timeout_us, Timeout(number))
+        self.n.calls[number] = Call(number, p, purpose, because)
+        return number
+
+    # 8.2 Arm and re-arm
+
+    def arm(self) -> None:
+        """Sets the timers of a node, in this order."""
+        self.arm_stabilize()
+        self.arm_finger()
+        if self.world.scenario.lookups is not None:
+            self.arm_traffic()
+        if self.is_churn():
+            self.arm_life()
+
+    def arm_stabilize(self) -> None:
+        """Sets StabilizeTick, always."""
+        s = self.world.scenario
+        self.set_timer(self.time_from_span(s.stabilize_us, s.stabilize_us + s.jitter_us), StabilizeTick(self.n.epoch))
+
+    def arm_finger(self) -> None:
+        """Sets FingerTick, always."""
+        s = self.world.scenario
+        self.set_timer(self.time_from_span(s.finger_us, s.finger_us + s.jitter_us), FingerTick(self.n.epoch))
+
+    def arm_traffic(self) -> None:
+        """Sets TrafficTick, where the scenario has [lookups]."""
+        lookups = known(self.world.scenario.lookups)
+        self.set_timer(self.time_from_span(lookups.gap_min_us, lookups.gap_max_us), TrafficTick(self.n.epoch))
+
+    def arm_life(self) -> None:
+        """Sets LifeEnd, where the node has churn = true."""
+        churn = known(self.world.scenario.churn)
+        self.set_timer(self.time_from_span(churn.life_min_us, churn.life_max_us), LifeEnd(self.n.epoch))
+
+    def is_churn(self) -> bool:
+        """Whether the node has churn = true."""
+        return self.world.scenario.nodes[self.n.me].churn
+
+    # 8.3 Step answer
+
+    def step_answer(self, key: int, avoid: list[int]) -> Answer:
+        """The step answer of node n for a key and a list of nodes to avoid."""
+        circle, idents, n = self.world.circle, self.world.idents, self.n
+        usable = [entry for entry in n.succ if entry not in avoid]
+        if not usable:
+            return Stuck()
+        s = usable[0]
+        me = idents[n.me]
+        if circle.in_half_open(me, key, idents[s]):
+            return Owner(s)
+        candidates = {s, *n.fingers.values()}
+        preceding = [x for x in candidates if x not in avoid and circle.between(me, idents[x], key)]
+        return Next(max(preceding, key=lambda x: circle.distance(me, idents[x])))
+
+    # 8.4 Lookups
+
+    def user_lookup(self, key: int) -> None:
+        """A user lookup of a key."""
+        if len([lookup for lookup in self.n.lookups if lookup.finger is None]) == USER_LOOKUPS:
+            self.line(f"busy {key}")
+            return
+        self.line(f"lookup {key}")
+        self.begin_lookup(Lookup(key, None, self.t))
+
+    def begin_lookup(self, lookup: Lookup) -> None:
+        """A new lookup, behind all others, is walked."""
+        self.n.lookups.append(lookup)
+        self.walk(lookup)
+
+    def walk(self, lookup: Lookup) -> None:
+        """Takes the step answer of n itself, and follows it."""
+        self.follow(lookup, self.step_answer(lookup.key, lookup.avoid))
+
+    def follow(self, lookup: Lookup, answer: Answer) -> None:
+        """Follows an answer."""
+        match answer:
+            case Owner(s):
+                self.finish(lookup, s)
+            case Stuck():
+                self.fail(lookup)
+            case Next(x):
+                self.ask(lookup, x)
+
+    def ask(self, lookup: Lookup, x: int) -> None:
+        """Asks x."""
+        if lookup.steps == LOOKUP_STEPS:
+            self.fail(lookup)
+            return
+        lookup.steps += 1
+        lookup.call = self.call(Step, x, Purpose.LOOKUP, lookup.key, list(lookup.avoid))
+
+    def finish(self, lookup: Lookup, s: int) -> None:
+        """Finishes with s."""
+        if lookup.finger is None:
+            self.line(f"found {lookup.key} {self.name(s)} {self.facts(lookup)}")
+        else:
+            self.n.fingers[lookup.finger] = s
+        self.n.lookups.remove(lookup)
+
+    def fail(self, lookup: Lookup) -> None:
+        """Fails."""
+        if lookup.finger is None:
+            self.line(f"lost {lookup.key} {self.facts(lookup)}")
+        self.n.lookups.remove(lookup)
+
+    def facts(self, lookup: Lookup) -> str:
+        """The end of a line `found` or `lost`."""
+        return f"hops={lookup.hops} timeouts={lookup.timeouts} us={self.t - lookup.started}"
+
+    # 8.5 Down
+
+    def down(self) -> None:
+        """The status becomes Down; all but me, epoch, via, place and count is emptied; next_finger becomes 2."""
+        self.n.status = Status.DOWN
+        self.n.prdc = None
+        self.n.succ = []
+        self.n.fingers = {}
+        self.n.next_finger = 2
+        self.n.calls = {}
+        self.n.lookups = []
+        self.n.join = None
+
+    # 8.6 Joins
+
+    def up_through(self, v: int) -> None:
+        """Up through v."""
+        self.line(f"join {self.name(v)}")
+        self.n.epoch += 1
+        self.n.status = Status.JOINING
+        self.n.via = v
+        self.n.next_finger = 2
+        self.n.join = Attempt()
+        self.arm()
+        self.call_join_step(v)
+
+    def call_join_step(self, p: int) -> None:
+        """Calls Step with n's own identifier and the attempt's nodes to avoid to p, for JoinStep."""
+        self.call(Step, p, Purpose.JOIN_STEP, self.world.idents[self.n.me], list(known(self.n.join).avoid))
+
+    def join_failure(self) -> None:
+        """Join failure."""
+        attempt = known(self.n.join)
+        attempt.failures += 1
+        if attempt.failures == JOIN_FAILURES:
+            self.line("join-failed")
+            self.down()
+            if self.is_churn():
+                self.set_rise()
+            return
+        attempt.steps = 0
+        self.call_join_step(known(self.n.via))
+
+    def set_rise(self) -> None:
+        """Sets Rise for n after a time drawn from the span down_min_us to down_max_us."""
+        churn = known(self.world.scenario.churn)
+        self.set_timer(self.time_from_span(churn.down_min_us, churn.down_max_us), Rise(self.n.epoch))
+
+    def strand(self) -> None:
+        """Strand."""
+        self.line(f"stranded {self.name(known(self.n.via))}")
+        for lookup in self.n.lookups:
+            if lookup.finger is None:
+                self.line(f"lost {lookup.key} {self.facts(lookup)}")
+        self.n.calls = {}
+        self.n.lookups = []
+        self.n.prdc = None
+        self.n.succ = []
+        self.n.fingers = {}
+        self.n.status = Status.JOINING
+        self.n.join = Attempt()
+        self.call_join_step(known(self.n.via))

@@ -1,0 +1,274 @@
+"""The rule table (docs/rules.md, section 9)."""
+
+from collections.abc import Callable
+from typing import cast
+
+from chordsim_tools.known import known
+from chordsim_tools.reference.procedures import JOIN_STEPS, LOOKUP_TIMEOUTS, Procedures, World
+from chordsim_tools.reference.state import (
+    ASKS_FOR, KINDS, Body, Call, CmdCrash, CmdJoin, CmdLookup, Event, FingerTick, GetList, GetState, LifeEnd, ListReply,
+    Lookup, Next, Node, Notify, Owner, Ping, Pong, Purpose, Reply, Request, Rise, StabilizeTick, StateReply, Status,
+    Step, StepReply, Timeout, TrafficTick,
+)
+
+
+class Rules(Procedures):
+    """What node n does on an event, one method for each body. Messages come with their sender q."""
+
+    # Commands
+
+    def cmd_join(self, body: CmdJoin) -> None:
+        """CmdJoin, with the node v to join through."""
+        if self.n.status != Status.DOWN:
+            self.line("ignored join")
+        else:
+            self.up_through(body.via)
+
+    def cmd_crash(self, _: CmdCrash) -> None:
+        """CmdCrash. No Rise is set."""
+        if self.n.status == Status.DOWN:
+            self.line("ignored crash")
+        else:
+            self.line("crash")
+            self.down()
+
+    def cmd_lookup(self, body: CmdLookup) -> None:
+        """CmdLookup, with a key."""
+        if self.n.status != Status.MEMBER:
+            self.line("ignored lookup")
+        else:
+            self.user_lookup(body.key)
+
+    # Timers
+
+    def stabilize_tick(self, body: StabilizeTick) -> None:
+        """StabilizeTick."""
+        if body.epoch != self.n.epoch or self.n.status == Status.DOWN:
+            pass
+        elif self.n.status == Status.JOINING or self.has_call(Purpose.STATE) or self.has_call(Purpose.LIST):
+            self.arm_stabilize()
+        else:
+            self.arm_stabilize()
+            self.call(GetState, self.n.succ[0], Purpose.STATE)
+
+    def finger_tick(self, body: FingerTick) -> None:
+        """FingerTick."""
+        if body.epoch != self.n.epoch or self.n.status == Status.DOWN:
+            pass
+        elif self.n.status == Status.JOINING or any(lookup.finger is not None for lookup in self.n.lookups):
+            self.arm_finger()
+        else:
+            self.arm_finger()
+            circle = self.world.circle
+            i = self.n.next_finger
+            self.n.next_finger = 2 if i == circle.bits else i + 1
+            start = circle.finger_start(self.world.idents[self.n.me], i)
+            self.begin_lookup(Lookup(start, i, self.t))
+
+    def traffic_tick(self, body: TrafficTick) -> None:
+        """TrafficTick."""
+        if body.epoch != self.n.epoch or self.n.status == Status.DOWN or self.world.scenario.lookups is None:
+            pass
+        elif self.n.status == Status.JOINING:
+            self.arm_traffic()
+        else:
+            self.arm_traffic()
+            self.user_lookup(self.random_key())
+
+    def life_end(self, body: LifeEnd) -> None:
+        """LifeEnd."""
+        if body.epoch != self.n.epoch or self.n.status == Status.DOWN or not self.is_churn():
+            pass
+        else:
+            self.line("crash")
+            self.down()
+            self.set_rise()
+
+    def rise(self, body: Rise) -> None:
+        """Rise."""
+        if body.epoch != self.n.epoch or self.n.status != Status.DOWN or self.n.via is None:
+            pass
+        else:
+            self.up_through(self.n.via)
+
+    def timeout(self, body: Timeout) -> None:
+        """Timeout, with the number of a call."""
+        if body.call not in self.n.calls:
+            return
+        call = self.n.calls.pop(body.call)
+        self.line(f"timeout {self.name(call.asked)}")
+        match call.purpose:
+            case Purpose.LOOKUP:
+                self.timeout_of_lookup(call)
+            case Purpose.JOIN_STEP | Purpose.JOIN_LIST:
+                if call.asked != self.n.via:
+                    known(self.n.join).avoid.append(call.asked)
+                self.join_failure()
+            case Purpose.STATE:
+                self.timeout_of_state()
+            case Purpose.LIST:
+                self.send(self.n.succ[0], Notify())
+            case Purpose.PING:
+                if self.n.prdc == call.asked:
+                    self.n.prdc = call.because
+
+    def timeout_of_lookup(self, call: Call) -> None:
+        """The lookup has one timeout more. At the ninth it fails; otherwise it is walked again from n."""
+        lookup = self.lookup_of(call)
+        lookup.timeouts += 1
+        if lookup.timeouts == LOOKUP_TIMEOUTS + 1:
+            self.fail(lookup)
+            return
+        lookup.avoid.append(call.asked)
+        self.walk(lookup)
+
+    def timeout_of_state(self) -> None:
+        """The head leaves succ; strand, or ask the new head."""
+        self.n.succ = self.n.succ[1:]
+        if not self.n.succ:
+            self.strand()
+        else:
+            self.call(GetState, self.n.succ[0], Purpose.STATE)
+
+    # Requests
+
+    def request(self, body: Request, q: int) -> None:
+        """A request or notify: dropped where n is not a Member."""
+        if self.n.status != Status.MEMBER:
+            self.line(f"drop {KINDS[type(body)]} {self.name(q)}")
+        else:
+            REQUESTS[type(body)](self, body, q)
+
+    def step(self, body: Step, q: int) -> None:
+        """Step, with a call number, a key and nodes to avoid."""
+        self.send(q, StepReply(body.call, self.step_answer(body.key, body.avoid)))
+
+    def get_state(self, body: GetState, q: int) -> None:
+        """GetState, with a call number."""
+        self.send(q, StateReply(body.call, known(self.n.prdc), list(self.n.succ)))
+
+    def get_list(self, body: GetList, q: int) -> None:
+        """GetList, with a call number."""
+        self.send(q, ListReply(body.call, list(self.n.succ)))
+
+    def ping(self, body: Ping, q: int) -> None:
+        """Ping, with a call number."""
+        self.send(q, Pong(body.call))
+
+    def notify(self, _: Notify, q: int) -> None:
+        """Notify."""
+        if self.world.between(known(self.n.prdc), q, self.n.me):
+            self.n.prdc = q
+        elif q != self.n.prdc and not self.has_call(Purpose.PING):
+            self.call(Ping, known(self.n.prdc), Purpose.PING, because=q)
+
+    # Replies
+
+    def reply(self, body: Reply, q: int) -> None:
+        """A reply: dropped where n is Down, late where no call is out for it."""
+        if self.n.status == Status.DOWN:
+            self.line(f"drop {KINDS[type(body)]} {self.name(q)}")
+            return
+        call = self.n.calls.get(body.call)
+        if call is None or ASKS_FOR[call.purpose] != type(body):
+            self.line(f"late {KINDS[type(body)]} {self.name(q)}")
+            return
+        del self.n.calls[body.call]
+        REPLIES[type(body)](self, body, call)
+
+    def step_reply(self, body: StepReply, call: Call) -> None:
+        """StepReply, with an answer."""
+        if call.purpose == Purpose.LOOKUP:
+            lookup = self.lookup_of(call)
+            lookup.hops += 1
+            self.follow(lookup, body.answer)
+            return
+        match body.answer:
+            case Owner():
+                self.call(GetList, call.asked, Purpose.JOIN_LIST)
+            case Next(x) if known(self.n.join).steps < JOIN_STEPS:
+                known(self.n.join).steps += 1
+                self.call_join_step(x)
+            case _:
+                self.join_failure()
+
+    def state_reply(self, body: StateReply, call: Call) -> None:
+        """StateReply, with a predecessor and a list."""
+        p = call.asked
+        self.n.succ = self.cut([p, *body.succ])
+        if self.world.between(self.n.me, body.prdc, p):
+            self.call(GetList, body.prdc, Purpose.LIST)
+        else:
+            self.send(self.n.succ[0], Notify())
+
+    def list_reply(self, body: ListReply, call: Call) -> None:
+        """ListReply, with a list."""
+        p = call.asked
+        if call.purpose == Purpose.LIST:
+            self.n.succ = self.cut([p, *body.succ])
+            self.send(self.n.succ[0], Notify())
+        elif body.succ and self.world.between(p, self.n.me, body.succ[0]):
+            self.n.prdc = p
+            self.n.succ = self.cut(body.succ)
+            self.n.fingers = {i: body.succ[0] for i in range(2, self.world.circle.bits + 1)}
+            self.n.status = Status.MEMBER
+            self.n.join = None
+            self.line(f"member {self.name(p)}")
+        else:
+            self.join_failure()
+
+    def pong(self, body: Pong, call: Call) -> None:
+        """Pong. Nothing more."""
+
+    # What the rules ask of the state
+
+    def has_call(self, purpose: Purpose) -> bool:
+        """Whether n has a call out for this purpose."""
+        return any(call.purpose == purpose for call in self.n.calls.values())
+
+    def lookup_of(self, call: Call) -> Lookup:
+        """The lookup that waits for this call."""
+        return next(lookup for lookup in self.n.lookups if lookup.call == call.number)
+
+    def cut(self, nodes: list[int]) -> list[int]:
+        """The list, cut to `list` entries."""
+        return nodes[: self.world.scenario.list]
+
+
+COMMANDS_AND_TIMERS: dict[type, Callable[..., None]] = {
+    CmdJoin: Rules.cmd_join,
+    CmdCrash: Rules.cmd_crash,
+    CmdLookup: Rules.cmd_lookup,
+    StabilizeTick: Rules.stabilize_tick,
+    FingerTick: Rules.finger_tick,
+    TrafficTick: Rules.traffic_tick,
+    LifeEnd: Rules.life_end,
+    Rise: Rules.rise,
+    Timeout: Rules.timeout,
+}
+REQUESTS: dict[type, Callable[..., None]] = {
+    Step: Rules.step,
+    GetState: Rules.get_state,
+    GetList: Rules.get_list,
+    Ping: Rules.ping,
+    Notify: Rules.notify,
+}
+REPLIES: dict[type, Callable[..., None]] = {
+    StepReply: Rules.step_reply,
+    StateReply: Rules.state_reply,
+    ListReply: Rules.list_reply,
+    Pong: Rules.pong,
+}
+
+
+def act(world: World, node: Node, event: Event) -> tuple[list[Event], list[str]]:
+    """The node acts on the event; gives the events it makes and the lines it writes."""
+    rules = Rules(world, node, event.time)
+    body: Body = event.body
+    if type(body) in COMMANDS_AND_TIMERS:
+        COMMANDS_AND_TIMERS[type(body)](rules, body)
+    elif type(body) in REQUESTS:
+        rules.request(cast(Request, body), event.origin - 2)
+    else:
+        rules.reply(cast(Reply, body), event.origin - 2)
+    return rules.events, rules.lines

@@ -1,0 +1,104 @@
+"""The run (docs/rules.md, sections 4, 7, 10 and 12)."""
+
+import heapq
+from collections import Counter
+from collections.abc import Iterator
+
+from chordsim_tools.cli import Failure
+from chordsim_tools.known import known
+from chordsim_tools.reference.audits import audit_line, audit_times
+from chordsim_tools.reference.procedures import Procedures, World
+from chordsim_tools.reference.rules import act
+from chordsim_tools.reference.state import KINDS, Body, CmdCrash, CmdJoin, CmdLookup, Event, Node, Status
+from chordsim_tools.scenario.reading import Command, Scenario
+
+
+class TooManyEvents(Failure):
+    """The run has more than max_events events. The text is that of docs/formats.md."""
+
+    def __init__(self) -> None:
+        """Status 3."""
+        super().__init__(3, "3 TooManyEvents")
+
+
+class Simulation:
+    """A run of a scenario. `lines` runs it; `events` and `messages` are whole when `lines` has come to its end.
+
+    `messages` counts by kind those that were made and not lost.
+    """
+
+    def __init__(self, scenario: Scenario) -> None:
+        """The start (section 7)."""
+        self.scenario = scenario
+        self.world = World(scenario)
+        self.nodes = initial_states(self.world)
+        self.pending: list[Event] = []
+        self.events = 0
+        self.messages: Counter[str] = Counter()
+        for place, command in enumerate(scenario.commands, start=1):
+            heapq.heappush(self.pending, Event(command.at_us, 1, place, command.node, body_of(command)))
+        for node in self.nodes:
+            if node.status == Status.MEMBER:
+                procedures = Procedures(self.world, node, 0)
+                procedures.arm()
+                self.add(procedures.events)
+
+    def add(self, events: list[Event]) -> None:
+        """Makes events pending."""
+        for event in events:
+            heapq.heappush(self.pending, event)
+            if type(event.body) in KINDS:
+                self.messages[KINDS[type(event.body)]] += 1
+
+    def lines(self) -> Iterator[str]:
+        """Runs to the end, and gives the lines of the trace. An audit's line stands ahead of all lines of its time."""
+        for time in audit_times(self.scenario.audit_us, self.scenario.duration_us):
+            while self.pending and self.pending[0].time < time:
+                yield from self.take(heapq.heappop(self.pending))
+            yield audit_line(self.world, self.nodes, time)
+
+    def take(self, event: Event) -> list[str]:
+        """Takes an event: its target acts on it. Gives its lines."""
+        if self.events == self.scenario.max_events:
+            raise TooManyEvents
+        self.events += 1
+        events, lines = act(self.world, self.nodes[event.target], event)
+        self.add(events)
+        return lines
+
+
+def body_of(command: Command) -> Body:
+    """The body of a command's event."""
+    match command.do:
+        case "join":
+            return CmdJoin(known(command.via))
+        case "crash":
+            return CmdCrash()
+        case _:
+            return CmdLookup(known(command.key))
+
+
+def initial_states(world: World) -> list[Node]:
+    """The states of all nodes at the start: initial nodes know the whole ring, all others are Down."""
+    nodes = [Node(i) for i in range(len(world.names))]
+    initial = [i for i, node in enumerate(world.scenario.nodes) if node.initial]
+    node_at = {world.idents[i]: i for i in initial}
+    places = sorted(node_at)
+    for i in initial:
+        make_initial(world, nodes[i], node_at, places)
+        nodes[i].via = initial[1] if i == initial[0] else initial[0]
+    return nodes
+
+
+def make_initial(world: World, node: Node, node_at: dict[int, int], places: list[int]) -> None:
+    """Makes the node a Member with epoch 1 that knows the whole ring: the initial nodes at all these places."""
+    circle = world.circle
+    me = world.idents[node.me]
+    clockwise = [node_at[place] for place in circle.all_between(me, me, places)]
+    node.status = Status.MEMBER
+    node.epoch = 1
+    node.prdc = clockwise[-1]
+    node.succ = clockwise[: world.scenario.list]
+    for i in range(2, circle.bits + 1):
+        node.fingers[i] = node_at[circle.first_from(circle.finger_start(me, i), places)]
+    node.next_finger = 2

@@ -1,0 +1,276 @@
+"""The faults of the scenario and latency files (docs/formats.md, section 4): all of them, in the order of S1 to S15."""
+
+import re
+from collections.abc import Iterator
+from dataclasses import dataclass
+from functools import cached_property
+from typing import Any
+
+from chordsim_tools.reference.circle import Circle
+from chordsim_tools.scenario.tables import (
+    BILLION, Key, Place, Row, has_type, is_in_own_range, places_of, profile_of, value_of_id,
+)
+
+
+@dataclass
+class Fault:
+    """A fault: its kind, the place as the program prints it, and the table or row and the key or field where it is."""
+
+    kind: str
+    answer: str
+    place: str
+    key: str = ""
+    other: str = ""
+    count: int = 1
+
+    @property
+    def text(self) -> str:
+        """The text of formats.md, section 4."""
+        return f"{self.kind} {self.answer}".rstrip()
+
+
+class Document:
+    """The two files, read as far as they can be. Nothing is known of a scenario that is no TOML (`top` is nothing)."""
+
+    def __init__(self, top: dict[str, Any] | None, rows: list[Row]) -> None:
+        """The tables and the rows."""
+        self.is_toml = top is not None
+        self.profile = profile_of(top or {})
+        self.top = Place("top", top or {}, self.profile.tables["top"])
+        self.places = places_of(self.top.table) if self.is_toml else []
+        self.nodes = [place for place in self.places if place.kind == "node"]
+        self.commands = [place for place in self.places if place.kind == "command"]
+        self.rows = rows
+
+    @cached_property
+    def numbers(self) -> dict[str, int]:
+        """Of each name of a node, which of `nodes` is the first to have it."""
+        numbers: dict[str, int] = {}
+        for i, place in enumerate(self.nodes):
+            if isinstance(place.table.get("name"), str):
+                numbers.setdefault(place.table["name"], i)
+        return numbers
+
+    @property
+    def has_nodes(self) -> bool:
+        """Whether there is an array of tables of nodes, so that one can say which names are no node's."""
+        return has_type(self.top.table.get("node"), "tables")
+
+    def ident(self, node: Place) -> int | None:
+        """The identifier of a node, if it has one."""
+        bits = self.top.usable("bits")
+        if bits is None:
+            return None
+        if "id" in node.table:
+            value = node.usable("id")
+            ident = None if value is None else value_of_id(value)
+            return ident if ident is not None and ident < 2**bits else None
+        name = node.usable("name")
+        return None if name is None else Circle(bits).identifier_of_name(name)
+
+
+def faults_of(document: Document) -> Iterator[Fault]:
+    """All faults of S2 to S15, first the one that chordsim prints. What follows from an earlier fault is left out."""
+    yield from unknown_keys(document)
+    yield from missing_keys(document)
+    yield from wrong_types(document)
+    yield from out_of_range(document)
+    yield from bad_names(document)
+    yield from same_names(document)
+    yield from same_ids(document)
+    yield from unknown_nodes(document)
+    yield from too_few_initial(document)
+    yield from times_after_end(document)
+    yield from bad_rows(document)
+    yield from self_links(document)
+    yield from same_links(document)
+    yield from below_window(document)
+
+
+def unknown_keys(document: Document) -> Iterator[Fault]:
+    """S2."""
+    for place in document.places:
+        listed = {key.name for key in place.keys}
+        for name in place.table:
+            if name not in listed:
+                yield Fault("S2 UnknownKey", place.name, place.name, name)
+
+
+def missing_keys(document: Document) -> Iterator[Fault]:
+    """S3."""
+    node_churns = any(node.table.get("churn") is True for node in document.nodes)
+    for place in document.places:
+        for key in place.keys:
+            do = place.table.get("do") if place.kind == "command" else None
+            wanted = (
+                key.required
+                or (key.name == "churn" and place.kind == "top" and node_churns)
+                or (key.name == "via" and do == "join")
+                or (key.name == "key" and do == "lookup")
+            )
+            if wanted and key.name not in place.table:
+                yield Fault("S3 MissingKey", f"{place.name} {key.name}", place.name, key.name)
+
+
+def wrong_types(document: Document) -> Iterator[Fault]:
+    """S4."""
+    for place in document.places:
+        for key in place.keys:
+            if key.name in place.table and not has_type(place.table[key.name], key.kind):
+                yield Fault("S4 WrongType", f"{place.name} {key.name}", place.name, key.name)
+
+
+def out_of_range(document: Document) -> Iterator[Fault]:
+    """S5."""
+    for place in document.places:
+        for key in place.keys:
+            value = place.table.get(key.name)
+            if key.name in place.table and has_type(value, key.kind) and not is_in_range(document, place, key):
+                yield Fault("S5 OutOfRange", f"{place.name} {key.name}", place.name, key.name)
+
+
+def is_in_range(document: Document, place: Place, key: Key) -> bool:
+    """Whether a value of the key's type is in its range, also by what other values say that are themselves right."""
+    value = place.table[key.name]
+    if not is_in_own_range(value, key):
+        return False
+    if key.kind == "id":
+        bits = document.top.usable("bits")
+        return bits is None or value_of_id(value) < 2**bits
+    if key.name.endswith("_max_us"):
+        least = place.usable(key.name.replace("_max_", "_min_"))
+        return least is None or value >= least
+    if key.name == "audit_us":
+        duration = place.usable("duration_us")
+        return duration is None or duration <= 1_000_000 * value
+    return True
+
+
+def bad_names(document: Document) -> Iterator[Fault]:
+    """S6."""
+    for node in document.nodes:
+        name = node.usable("name")
+        if name is not None and (not re.fullmatch(r"[A-Za-z0-9._-]{1,32}", name) or name == "audit"):
+            yield Fault("S6 BadName", node.name, node.name, "name")
+
+
+def same_names(document: Document) -> Iterator[Fault]:
+    """S7."""
+    for i, node in enumerate(document.nodes):
+        first = document.numbers.get(node.usable("name"), i)
+        if first != i:
+            other = document.nodes[first].name
+            yield Fault("S7 SameName", f"{other} {node.name}", node.name, "name", other)
+
+
+def same_ids(document: Document) -> Iterator[Fault]:
+    """S8. Two nodes of one name that have no `id` have one fault alone, S7."""
+    first_of: dict[int, Place] = {}
+    for node in document.nodes:
+        ident = document.ident(node)
+        if ident is None or node.usable("name") is None:
+            continue
+        first = first_of.setdefault(ident, node)
+        same_name = first.table["name"] == node.table["name"] and "id" not in first.table and "id" not in node.table
+        if first is not node and not same_name:
+            answer = f"{first.table['name']} {node.table['name']}"
+            yield Fault("S8 SameId", answer, node.name, "id", first.name)
+
+
+def unknown_nodes(document: Document) -> Iterator[Fault]:
+    """S9."""
+    if not document.has_nodes:
+        return
+    for command in document.commands:
+        for key in ("node", "via"):
+            name = command.usable(key)
+            if name is not None and name not in document.numbers:
+                yield Fault("S9 UnknownNode", command.name, command.name, key)
+    for row in document.rows:
+        for i, name in enumerate(row.fields[:2] if len(row.fields) == 3 else [], start=1):
+            if name not in document.numbers:
+                yield Fault("S9 UnknownNode", f"row {row.number}", f"row {row.number}", f"field {i}")
+
+
+def too_few_initial(document: Document) -> Iterator[Fault]:
+    """S10."""
+    entries = document.top.usable("list")
+    certain = all(has_type(node.table.get("initial", False), "boolean") for node in document.nodes)
+    if document.has_nodes and entries is not None and certain:
+        if len([node for node in document.nodes if node.table.get("initial")]) < entries + 1:
+            yield Fault("S10 TooFewInitial", "", "top", "list")
+
+
+def times_after_end(document: Document) -> Iterator[Fault]:
+    """S11."""
+    duration = document.top.usable("duration_us")
+    for command in document.commands:
+        time = command.usable("at_us")
+        if time is not None and duration is not None and time >= duration:
+            yield Fault("S11 TimeAfterEnd", command.name, command.name, "at_us")
+
+
+def micros_of(row: Row) -> int | None:
+    """The latency of a row, if it has three fields and the third is as it has to be."""
+    if len(row.fields) != 3 or not re.fullmatch(r"[0-9]{1,10}", row.fields[2]):
+        return None
+    micros = int(row.fields[2])
+    return micros if 1 <= micros <= BILLION else None
+
+
+def bad_rows(document: Document) -> Iterator[Fault]:
+    """S12."""
+    for row in document.rows:
+        if micros_of(row) is None:
+            key = "field 3" if len(row.fields) == 3 else ""
+            yield Fault("S12 BadLatencyRow", f"row {row.number}", f"row {row.number}", key)
+
+
+def self_links(document: Document) -> Iterator[Fault]:
+    """S13."""
+    for command in document.commands:
+        via = command.usable("via")
+        if command.table.get("do") == "join" and via is not None and via == command.usable("node"):
+            yield Fault("S13 SelfLink", command.name, command.name, "via")
+    for row in document.rows:
+        if len(row.fields) == 3 and row.fields[0] == row.fields[1]:
+            yield Fault("S13 SelfLink", f"row {row.number}", f"row {row.number}", "field 2")
+
+
+def same_links(document: Document) -> Iterator[Fault]:
+    """S14. Rows of one node twice have S13 alone."""
+    first_of: dict[frozenset[str], Row] = {}
+    for row in document.rows:
+        if len(row.fields) == 3 and row.fields[0] != row.fields[1]:
+            first = first_of.setdefault(frozenset(row.fields[:2]), row)
+            if first is not row:
+                yield Fault("S14 SameLinkTwice", f"row {row.number}", f"row {row.number}", "", f"row {first.number}")
+
+
+def below_window(document: Document) -> Iterator[Fault]:
+    """S15, once for each row and once for `latency_us`, with the first pair and how many pairs there are."""
+    window = document.top.usable("window_us")
+    default = document.top.usable("latency_us")
+    times = [default, *map(micros_of, document.rows)]
+    if window is None or all(time is None or time >= window for time in times):
+        return
+    faults: dict[str, Fault] = {}
+    for first, second, row in pairs_of(document):
+        micros = default if row is None else micros_of(row)
+        if micros is None or micros >= window:
+            continue
+        place, key = ("top", "latency_us") if row is None else (f"row {row.number}", "field 3")
+        if place in faults:
+            faults[place].count += 1
+        else:
+            faults[place] = Fault("S15 LatencyBelowWindow", f"{first} {second}", place, key)
+    yield from faults.values()
+
+
+def pairs_of(document: Document) -> Iterator[tuple[str, str, Row | None]]:
+    """The names of all pairs of nodes, with the row that names the pair."""
+    rows = {frozenset(row.fields[:2]): row for row in document.rows if len(row.fields) == 3}
+    names = list(document.numbers)
+    for a, first in enumerate(names):
+        for second in names[a + 1 :]:
+            yield first, second, rows.get(frozenset((first, second)))

@@ -1,0 +1,127 @@
+"""The scenario that the two files say (docs/formats.md, sections 2 to 4)."""
+
+from dataclasses import dataclass
+from typing import Any
+
+from chordsim_tools.cli import Refused
+from chordsim_tools.known import known
+from chordsim_tools.scenario.faults import Document, faults_of
+from chordsim_tools.scenario.tables import parse_toml, rows_of, value_of_id
+
+
+@dataclass
+class NodeSpec:
+    """A node of the scenario."""
+
+    name: str
+    ident: int
+    initial: bool
+    churn: bool
+
+
+@dataclass
+class Command:
+    """A command of the scenario."""
+
+    at_us: int
+    do: str
+    node: int
+    via: int | None
+    key: int | None
+
+
+@dataclass
+class Churn:
+    """The table [churn]."""
+
+    life_min_us: int
+    life_max_us: int
+    down_min_us: int
+    down_max_us: int
+
+
+@dataclass
+class Lookups:
+    """The table [lookups]."""
+
+    gap_min_us: int
+    gap_max_us: int
+
+
+# The field `list` of a scenario hides the type within its class.
+Nodes = list[NodeSpec]
+Commands = list[Command]
+
+
+@dataclass
+class Scenario:
+    """All that the two files say. `latencies` has each pair that a row names, in both orders."""
+
+    profile: int
+    bits: int
+    list: int
+    seed: int
+    duration_us: int
+    window_us: int
+    latency_us: int
+    timeout_us: int
+    audit_us: int
+    stabilize_us: int
+    finger_us: int
+    jitter_us: int
+    max_events: int
+    loss_ppm: int
+    spread_us: int
+    churn: Churn | None
+    lookups: Lookups | None
+    nodes: Nodes
+    commands: Commands
+    latencies: dict[tuple[int, int], int]
+
+
+def read_scenario(scenario_file: bytes, latency_file: bytes) -> Scenario:
+    """Reads a scenario from the bytes of its two files, or raises Refused with the first fault of S1 to S15."""
+    document = Document(parse_toml(scenario_file), rows_of(latency_file))
+    for fault in faults_of(document):
+        raise Refused(fault.text)
+    return whole_scenario(document)
+
+
+def whole_scenario(document: Document) -> Scenario:
+    """The scenario, from tables that have no fault."""
+    top = document.top.table
+    nodes = [
+        NodeSpec(n.table["name"], known(document.ident(n)), n.table.get("initial", False), n.table.get("churn", False))
+        for n in document.nodes
+    ]
+    commands = [command_of(place.table, document.numbers) for place in document.commands]
+    plain = {key.name: top[key.name] for key in document.top.keys if key.kind == "integer" and key.required}
+    return Scenario(
+        **plain,
+        jitter_us=top.get("jitter_us", 0),
+        max_events=top.get("max_events", 50_000_000),
+        loss_ppm=top.get("loss_ppm", 0),
+        spread_us=top.get("spread_us", 0),
+        churn=Churn(**top["churn"]) if "churn" in top else None,
+        lookups=Lookups(**top["lookups"]) if "lookups" in top else None,
+        nodes=nodes,
+        commands=commands,
+        latencies=latencies_of(document),
+    )
+
+
+def command_of(table: dict[str, Any], numbers: dict[str, int]) -> Command:
+    """A command, with nodes by their numbers."""
+    via = numbers[table["via"]] if "via" in table else None
+    key = value_of_id(table["key"]) if "key" in table else None
+    return Command(table["at_us"], table["do"], numbers[table["node"]], via, key)
+
+
+def latencies_of(document: Document) -> dict[tuple[int, int], int]:
+    """The latency of each pair that a row names, in both directions."""
+    latencies = {}
+    for row in document.rows:
+        first, second, micros = row.fields
+        a, b = document.numbers[first], document.numbers[second]
+        latencies[(a, b)] = latencies[(b, a)] = int(micros)
+    return latencies

@@ -1,0 +1,253 @@
+"""The tables and keys of the scenario file, and the rows of the latency file (docs/formats.md, sections 2 and 3)."""
+
+import csv
+import io
+import math
+import re
+import tomllib
+from dataclasses import dataclass
+from typing import Any
+
+from chordsim_tools.cli import Refused
+
+BILLION = 1_000_000_000
+GREATEST_INTEGER = 2**63 - 1
+GREATEST_SIZE = 16_777_216
+ACTIONS = ("join", "crash", "lookup")
+
+
+class NotToml(Refused):
+    """S1, with the reason; with the number that is too large, or the offset of the byte that is no UTF-8."""
+
+    def __init__(self, reason: str, literal: str = "", offset: int | None = None) -> None:
+        """The text is that of formats.md."""
+        super().__init__("S1 NotToml")
+        self.reason = reason
+        self.literal = literal
+        self.offset = offset
+
+
+@dataclass
+class Key:
+    """A key of a table: its type, its range (of an ID: how many digits its text has) and whether it is required."""
+
+    name: str
+    kind: str
+    least: int = 0
+    greatest: int = GREATEST_INTEGER
+    required: bool = True
+
+
+@dataclass
+class Place:
+    """A table of the scenario file, with the keys that are listed for it."""
+
+    name: str
+    table: dict[str, Any]
+    keys: list[Key]
+
+    @property
+    def kind(self) -> str:
+        """The name without its number."""
+        return self.name.partition(" ")[0]
+
+    def key(self, name: str) -> Key:
+        """The key of this name."""
+        return next(key for key in self.keys if key.name == name)
+
+    def usable(self, name: str) -> Any:
+        """The value of a key if it has the key's type and range by itself, else nothing."""
+        value = self.table.get(name)
+        key = self.key(name)
+        return value if name in self.table and has_type(value, key.kind) and is_in_own_range(value, key) else None
+
+
+@dataclass
+class Row:
+    """A row of the latency file: its number, the line where it begins, its fields."""
+
+    number: int
+    line: int
+    fields: list[str]
+
+
+RUN = [
+    Key("list", "integer", 1, 16),
+    Key("seed", "integer"),
+    Key("duration_us", "integer", 1, 1000 * BILLION),
+    Key("window_us", "integer", 1, BILLION),
+    Key("latency_us", "integer", 1, BILLION),
+    Key("timeout_us", "integer", 1, BILLION),
+    Key("audit_us", "integer", 1, BILLION),
+    Key("stabilize_us", "integer", 1, BILLION),
+    Key("finger_us", "integer", 1, BILLION),
+    Key("jitter_us", "integer", 0, BILLION, required=False),
+    Key("max_events", "integer", 1, 50_000_000, required=False),
+]
+"""The plain keys of the top that are the same in both profiles."""
+NETWORK = [
+    Key("loss_ppm", "integer", 0, 1_000_000, required=False),
+    Key("spread_us", "integer", 0, BILLION, required=False),
+]
+"""The keys that the second profile alone has."""
+CHURN = [Key(f"{word}_us", "integer", 1, BILLION) for word in ("life_min", "life_max", "down_min", "down_max")]
+LOOKUPS = [Key(f"{word}_us", "integer", 1, BILLION) for word in ("gap_min", "gap_max")]
+
+
+def top_keys(bits: int, nodes: int, network: list[Key]) -> list[Key]:
+    """The keys of the top, for these greatest numbers of bits and nodes, and with these keys of the network."""
+    return [
+        Key("profile", "integer", 1, 2),
+        Key("bits", "integer", 3, bits),
+        *RUN,
+        *network,
+        Key("churn", "table", required=False),
+        Key("lookups", "table", required=False),
+        Key("node", "tables", 2, nodes),
+        Key("command", "tables", 0, 100_000, required=False),
+    ]
+
+
+def node_keys(digits: int) -> list[Key]:
+    """The keys of a node, whose identifier has at most this number of hexadecimal digits."""
+    return [
+        Key("name", "text"),
+        Key("id", "id", 1, digits, required=False),
+        Key("initial", "boolean", required=False),
+        Key("churn", "boolean", required=False),
+    ]
+
+
+def command_keys(digits: int) -> list[Key]:
+    """The keys of a command, whose key has at most this number of hexadecimal digits."""
+    return [
+        Key("at_us", "integer", 0, 1000 * BILLION),
+        Key("do", "text"),
+        Key("node", "text"),
+        Key("via", "text", required=False),
+        Key("key", "id", 1, digits, required=False),
+    ]
+
+
+class Profile:
+    """The keys of all tables in a profile: `tables` has them by the kind of the table."""
+
+    def __init__(self, bits: int, nodes: int, network: list[Key]) -> None:
+        """The profile with these greatest numbers of bits and nodes, and with these keys of its network."""
+        digits = bits // 4
+        self.tables = {
+            "top": top_keys(bits, nodes, network),
+            "churn": CHURN,
+            "lookups": LOOKUPS,
+            "node": node_keys(digits),
+            "command": command_keys(digits),
+        }
+
+
+FIRST = Profile(64, 512, [])
+SECOND = Profile(128, 4096, NETWORK)
+
+
+def profile_of(top: dict[str, Any]) -> Profile:
+    """The profile that a file is held against: the second if `profile` is the whole number 2, else the first."""
+    value = top.get("profile")
+    return SECOND if has_type(value, "integer") and value == 2 else FIRST
+
+
+def parse_toml(file: bytes) -> dict[str, Any]:
+    """S1. (tomllib reads TOML 1.0: what TOML 1.1 adds is refused here. Depth is not looked at: chordsim refuses 81.)"""
+    try:
+        top = tomllib.loads(file.decode("utf-8").removeprefix("\ufeff"), parse_float=float_of)
+    except UnicodeDecodeError as error:
+        raise NotToml(f"the byte {file[error.start]:#04x} is no UTF-8", offset=error.start) from None
+    except tomllib.TOMLDecodeError as error:
+        raise NotToml(str(error)) from None
+    except RecursionError:
+        raise NotToml("values are nested too deeply") from None
+    great = great_integer(top)
+    if great is not None:
+        raise NotToml("an integer is beyond 64 bits", str(great))
+    return top
+
+
+def float_of(text: str) -> float:
+    """The value of a float. One that is too large for 64 bits is no TOML."""
+    value = float(text)
+    if math.isinf(value) and "inf" not in text:
+        raise NotToml("a float is too large for 64 bits", text)
+    return value
+
+
+def great_integer(value: Any) -> int | None:
+    """The first integer beyond 64 bits in the value, if there is one."""
+    if isinstance(value, dict | list):
+        items = value.values() if isinstance(value, dict) else value
+        return next((great for great in map(great_integer, items) if great is not None), None)
+    return value if isinstance(value, int) and not -GREATEST_INTEGER - 1 <= value <= GREATEST_INTEGER else None
+
+
+def places_of(top: dict[str, Any]) -> list[Place]:
+    """All tables of the document, in the order top, churn, lookups, nodes, commands."""
+    tables = profile_of(top).tables
+    places = [Place("top", top, tables["top"])]
+    for name in ("churn", "lookups"):
+        if isinstance(top.get(name), dict):
+            places.append(Place(name, top[name], tables[name]))
+    for name in ("node", "command"):
+        items = top.get(name)
+        for number, item in enumerate(items if isinstance(items, list) else [], start=1):
+            if isinstance(item, dict):
+                places.append(Place(f"{name} {number}", item, tables[name]))
+    return places
+
+
+def has_type(value: Any, kind: str) -> bool:
+    """Whether a value is of a key's type."""
+    match kind:
+        case "integer":
+            return isinstance(value, int) and not isinstance(value, bool)
+        case "id":
+            return isinstance(value, int | str) and not isinstance(value, bool)
+        case "text":
+            return isinstance(value, str)
+        case "boolean":
+            return isinstance(value, bool)
+        case "table":
+            return isinstance(value, dict)
+        case _:
+            return isinstance(value, list) and all(isinstance(item, dict) for item in value)
+
+
+def is_in_own_range(value: Any, key: Key) -> bool:
+    """Whether a value of a key's type is in its range, as far as no other value has a say."""
+    if key.kind == "integer":
+        return bool(key.least <= value <= key.greatest)
+    if key.kind == "tables":
+        return bool(key.least <= len(value) <= key.greatest)
+    if key.kind == "id":
+        return value >= 0 if isinstance(value, int) else is_hexadecimal(value, key.greatest)
+    return key.name != "do" or value in ACTIONS
+
+
+def is_hexadecimal(text: str, digits: int) -> bool:
+    """Whether a text is 1 to `digits` hexadecimal digits, in small letters."""
+    return re.fullmatch(f"[0-9a-f]{{1,{digits}}}", text) is not None
+
+
+def value_of_id(value: int | str) -> int:
+    """The value of an ID that is a number or hexadecimal digits."""
+    return value if isinstance(value, int) else int(value, 16)
+
+
+def rows_of(file: bytes) -> list[Row]:
+    """The rows of the latency file. Empty lines are no rows."""
+    csv.field_size_limit(GREATEST_SIZE)
+    text = file.decode("utf-8", "replace").removeprefix("\ufeff")
+    reader = csv.reader(io.StringIO(text, newline=""))
+    rows: list[Row] = []
+    line = 1
+    for fields in reader:
+        if fields:
+            rows.append(Row(len(rows) + 1, line, fields))
+        line = reader.line_num + 1
+    return rows

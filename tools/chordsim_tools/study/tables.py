@@ -1,0 +1,130 @@
+"""The files runs.csv, series.csv and manifest.json: written of results, and read again."""
+
+import csv
+import io
+import json
+import subprocess
+from dataclasses import dataclass
+from pathlib import Path
+from typing import Any
+
+from chordsim_tools.cli import Failure, Refused
+from chordsim_tools.files import read_input, sum_of, write_whole
+from chordsim_tools.program import TOP
+from chordsim_tools.study.plan import Setting, Study
+
+VERSION = 1
+OWN_FILES = ("tools/study", "tools/chordsim_tools/study")
+Row = tuple[Setting, int, dict[str, Any]]
+
+
+def write_tables(study: Study, folder: Path, program: Path, program_sum: str, rows: list[Row]) -> None:
+    """Writes the three files."""
+    runs, series = runs_text(rows), series_text(study, rows)
+    write_whole(folder / "runs.csv", runs)
+    write_whole(folder / "series.csv", series)
+    manifest = manifest_of(study, program, program_sum)
+    manifest["sha256"] |= {"runs.csv": sum_of(runs), "series.csv": sum_of(series)}
+    write_whole(folder / "manifest.json", json.dumps(manifest, indent=2) + "\n")
+
+
+def csv_text(lines: list[list[Any]]) -> str:
+    """Lines of a CSV file; what is not there is empty."""
+    text = io.StringIO()
+    csv.writer(text, lineterminator="\n").writerows(lines)
+    return text.getvalue()
+
+
+def runs_text(rows: list[Row]) -> str:
+    """One line a run: the setting, the seed, the report, the numbers of the trace. No message of profile 1 is lost."""
+    lines: list[list[Any]] = []
+    has_losses = any("losses" in result["report"] for _, _, result in rows)
+    for setting, seed, result in rows:
+        report = dict(result["report"])
+        if has_losses:
+            report.setdefault("losses", 0)
+        numbers = {**dict(setting), "seed": seed, **report, **result["numbers"]}
+        if not lines:
+            lines.append(list(numbers))
+        if list(numbers) != lines[0]:
+            raise Failure(3, "the reports of two runs have not the same words")
+        lines.append(list(numbers.values()))
+    return csv_text(lines)
+
+
+def series_text(study: Study, rows: list[Row]) -> str:
+    """One line a run and step of time."""
+    lines: list[list[Any]] = [[*study.vary, "seed", "from_us", "lookups", "found", "right", "members"]]
+    for setting, seed, result in rows:
+        values = [value for _, value in setting]
+        for number, step in enumerate(result["series"]):
+            lines.append([*values, seed, number * study.window_us, *step])
+    return csv_text(lines)
+
+
+def commit_of(folder: Path, *names: str) -> str | None:
+    """The last commit that changed these files, with `+` if they have changed since; none if there is none."""
+
+    def git(*arguments: str) -> str:
+        """What git says of these files."""
+        command = ["git", *arguments, "--", *names]
+        told = subprocess.run(command, cwd=folder, capture_output=True, text=True, check=False)
+        return told.stdout.strip() if told.returncode == 0 else ""
+
+    try:
+        commit = git("log", "-1", "--format=%H")
+        return commit + ("+" if git("status", "--porcelain") else "") if commit else None
+    except OSError:
+        return None
+
+
+def manifest_of(study: Study, program: Path, program_sum: str) -> dict[str, Any]:
+    """What the results were made of."""
+    inside = program.is_relative_to(TOP)
+    sums = {study.path.name: sum_of(study.content), study.base: sum_of(study.base_content)}
+    if study.latency is not None and study.latency_content is not None:
+        sums[study.latency] = sum_of(study.latency_content)
+    plain = {key: study.scenario[key] for key in ("duration_us", "audit_us") if key in study.scenario}
+    return {
+        "question": study.question,
+        "study": study.path.name,
+        "base": study.base,
+        "latency": study.latency,
+        "seeds": study.seeds,
+        "vary": study.vary,
+        "window_us": study.window_us,
+        "warmup_us": study.warmup_us,
+        "nodes": len(study.scenario["node"]),
+        **plain,
+        "tool": {"version": VERSION, "commit": commit_of(TOP, *OWN_FILES)},
+        "program": {"sha256": program_sum, "commit": commit_of(TOP, "crates") if inside else None},
+        "sha256": sums,
+    }
+
+
+@dataclass
+class Tables:
+    """The files of a study that was run."""
+
+    manifest: dict[str, Any]
+    runs: list[dict[str, str]]
+    series: list[dict[str, str]]
+
+
+def read_tables(folder: Path) -> Tables:
+    """Reads the three files, and refuses tables that are not those of the manifest."""
+    try:
+        manifest = json.loads(read_input(folder / "manifest.json"))
+        sums = manifest["sha256"]
+        tables = [checked_table(folder / name, sums[name]) for name in ("runs.csv", "series.csv")]
+    except (ValueError, KeyError, TypeError):
+        raise Refused(f"{folder / 'manifest.json'} is not one that tools/study run wrote") from None
+    return Tables(manifest, *tables)
+
+
+def checked_table(path: Path, digest: str) -> list[dict[str, str]]:
+    """The lines of a CSV file with this digest."""
+    content = read_input(path)
+    if sum_of(content) != digest:
+        raise Refused(f"{path} is not the one that manifest.json names")
+    return list(csv.DictReader(io.StringIO(content.decode(), newline="")))

@@ -1,0 +1,36 @@
+"""Scenarios for tests."""
+
+from pathlib import Path
+
+from chordsim_tools.reference.procedures import World
+from chordsim_tools.reference.state import Node, Status
+from chordsim_tools.scenario.reading import Scenario, read_scenario
+
+EXAMPLES = Path(__file__).resolve().parents[3] / "examples"
+RING = (EXAMPLES / "ring.toml").read_text()
+
+
+def ring(*changes: tuple[str, str], rows: str = "") -> Scenario:
+    """The scenario examples/ring.toml, with texts in it replaced by others."""
+    text = RING
+    for old, new in changes:
+        assert old in text, old
+        text = text.replace(old, new, 1)
+    return read_scenario(text.encode(), rows.encode())
+
+
+def five_nodes() -> World:
+    """A circle of 8 places with the nodes 0 to 4 at 0, 2, 4, 6 and 7, and lists of two entries."""
+    head, _, _ = RING.partition("[[node]]")
+    places = (0, 2, 4, 6, 7)
+    nodes = "".join(f'[[node]]\nname = "n{i}"\nid = {place}\ninitial = true\n' for i, place in enumerate(places))
+    return World(read_scenario((head + nodes).encode(), b""))
+
+
+def members(lists: dict[int, list[int]]) -> list[Node]:
+    """The states of five nodes, of which these are members with these successor lists; the others are down."""
+    nodes = [Node(i) for i in range(5)]
+    for i, succ in lists.items():
+        nodes[i].status = Status.MEMBER
+        nodes[i].succ = succ
+    return nodes

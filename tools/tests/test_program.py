@@ -1,0 +1,69 @@
+"""How the program is found, with a launcher of the test's own."""
+
+import os
+import tempfile
+from collections.abc import Iterator
+from contextlib import contextmanager
+from pathlib import Path
+from unittest import TestCase
+from unittest.mock import patch
+
+from chordsim_tools.cli import Failure
+from chordsim_tools.program import find_program
+
+LAUNCHER = """\
+#!/bin/sh
+here=$(dirname "$0")
+echo "$1" >> "$here/calls"
+case $1 in
+--where) [ -e "$here/built" ] || exit 125 ;;
+--build) [ ! -e "$here/broken" ] || exit 125; touch "$here/built" ;;
+esac
+echo "$here/built"
+"""
+
+
+@contextmanager
+def launcher(named: str = "") -> Iterator[Path]:
+    """The folder of a launcher that has built nothing yet; CHORDSIM has this value."""
+    with tempfile.TemporaryDirectory() as name:
+        script = Path(name).resolve() / "chordsim"
+        script.write_text(LAUNCHER, encoding="utf-8")
+        script.chmod(0o755)
+        named = named.replace("LAUNCHER", str(script))
+        with patch("chordsim_tools.program.LAUNCHER", script), patch.dict(os.environ, CHORDSIM=named):
+            yield script.parent
+
+
+class ProgramTest(TestCase):
+    """The variable, the launcher, and what is built."""
+
+    def test_built_when_it_is_wanted(self) -> None:
+        """Nothing is built by the way; what is there is not built again. CHORDSIM may name the launcher itself."""
+        for named in ("", "LAUNCHER"):
+            with self.subTest(named=named), launcher(named) as folder:
+                assert find_program(build=False) is None
+                assert find_program(build=True) == folder / "built"
+                assert find_program(build=False) == find_program(build=True) == folder / "built"
+                calls = (folder / "calls").read_text(encoding="utf-8").split()
+                assert calls == ["--where", "--where", "--build", "--where", "--where"]
+
+    def test_named(self) -> None:
+        """The launcher is not asked for another program that CHORDSIM names; it has to be one that can be run."""
+        with launcher("sh") as folder:
+            assert str(find_program(build=True)).startswith("/")
+            assert not (folder / "calls").exists()
+        with launcher("/nowhere/chordsim"), self.assertRaises(Failure) as caught:
+            find_program(build=False)
+        told = "the program is missing: CHORDSIM=/nowhere/chordsim is no file that can be run"
+        assert (caught.exception.status, caught.exception.text) == (3, told)
+
+    def test_build_that_fails(self) -> None:
+        """Status 3 if the launcher does not build it, and if there is no launcher."""
+        with launcher() as folder:
+            (folder / "broken").touch()
+            with self.assertRaises(Failure) as caught:
+                find_program(build=True)
+            assert caught.exception.status == 3
+            (folder / "chordsim").unlink()
+            assert find_program(build=False) is None
