@@ -1,0 +1,30 @@
+# Completion of chordsim's arguments for bash: source this file, or copy it to /etc/bash_completion.d.
+
+_chordsim() {
+    local command=${COMP_WORDS[1]} current=${COMP_WORDS[COMP_CWORD]} previous=${COMP_WORDS[COMP_CWORD - 1]}
+    local options=
+    COMPREPLY=()
+    if [ "$COMP_CWORD" -eq 1 ]; then
+        mapfile -t COMPREPLY < <(compgen -W "check ids run help --help --version" -- "$current")
+        return
+    fi
+    case $previous in
+    --scenario | --latency | --trace)
+        mapfile -t COMPREPLY < <(compgen -f -- "$current")
+        return
+        ;;
+    --split)
+        mapfile -t COMPREPLY < <(compgen -W "rr block" -- "$current")
+        return
+        ;;
+    --workers | --parts) return ;;
+    esac
+    case $command in
+    check | ids) options="--scenario --latency --help" ;;
+    run) options="--scenario --latency --workers --parts --split --serial --trace --help" ;;
+    help) [ "$COMP_CWORD" -eq 2 ] && options="check ids run help" ;;
+    esac
+    mapfile -t COMPREPLY < <(compgen -W "$options" -- "$current")
+}
+
+complete -o filenames -F _chordsim chordsim ./chordsim
