@@ -17,6 +17,7 @@ class Members:
         self.places = sorted({idents[name] for name in initial})
         self.times: list[int] = []
         self.changes: list[tuple[int, int]] = []
+        self.counts = [len(self.places)]
         self.is_timed = True
         # Copies of the members, each with the number of changes before it: so no question goes back to the start.
         self.marks = [(0, list(self.places))]
@@ -42,6 +43,7 @@ class Members:
             return
         self.times.append(time)
         self.changes.append((place, sign))
+        self.counts.append(len(self.places))
         if len(self.times) - self.marks[-1][0] >= max(len(self.places), LEAST_BETWEEN_MARKS):
             self.marks.append((len(self.times), list(self.places)))
 
@@ -51,7 +53,9 @@ class Members:
 
     def is_owner(self, name: str, key: int) -> bool:
         """Whether a node is the first member at or after the key, clockwise."""
-        return self.owner(key) == name
+        if not self.places:
+            return False
+        return self.places[bisect_left(self.places, key) % len(self.places)] == self.idents[name]
 
     def owner(self, key: int) -> str | None:
         """The first member at or after the key, clockwise, if there is a member."""
@@ -97,6 +101,10 @@ class Members:
     def members_before(self, time: int) -> list[str]:
         """The names of the members before the changes of a time, clockwise from 0."""
         return [self.names[place] for place in self.members_after(self.numbers(time, time)[0])]
+
+    def count_before(self, time: int) -> int:
+        """How many members there are before the changes of a time."""
+        return self.counts[self.numbers(time, time)[0]]
 
     def numbers(self, begin: int, end: int) -> tuple[int, int]:
         """How many changes are before `begin`, and how many until `end`."""

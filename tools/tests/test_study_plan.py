@@ -9,13 +9,21 @@ from unittest import TestCase
 from chordsim_tools.cli import Refused
 from chordsim_tools.known import known
 from chordsim_tools.scenario.reading import read_scenario
-from chordsim_tools.study.plan import label, read_study, scenario_text, toml_text
-from tests.support.worlds import RING
+from chordsim_tools.study.document import toml_text
+from chordsim_tools.study.goal import Goal, Limit, Precision
+from chordsim_tools.study.plan import label, read_study
+from chordsim_tools.study.worlds import latency_of, scenario_of
+from tests.support.programs import checked
+from tests.support.worlds import EXAMPLES, RING
 
 CHURN = "churn = { life_min_us = 5, life_max_us = 6, down_min_us = 7, down_max_us = 8 }\n"
 BASE = RING.replace("[[node]]", CHURN + "[[node]]", 1).replace("id = 3", 'id = "3"\nchurn = true')
 HEAD = 'question = "How?"\nbase = "base.toml"\n'
 SEEDS = "seeds = [4, 9]\n"
+MADE = """question = "How?"
+generate = ["--nodes", "6", "--bits", "16", "--lifetime", "exp:20s", "--down", "exp:5s", "--lookups", "0.5"]
+"""
+PLANE = 'latency = ["--plane", "100ms", "--floor", "20ms"]\n'
 
 
 def in_folder(text: str, base: str = BASE) -> Any:
@@ -38,7 +46,7 @@ class StudyPlanTest(TestCase):
         """Every combination, the last key first."""
         study = in_folder(HEAD + SEEDS + "[vary]\nlist = [1, 2]\nstabilize_us = [30, 20]\n")
         assert [label(setting) for setting in study.settings()] == [
-            "list=1, stabilize_us=30", "list=1, stabilize_us=20", "list=2, stabilize_us=30", "list=2, stabilize_us=20"
+            f"list={size}, stabilize_us={period}us" for size in (1, 2) for period in (30, 20)
         ]
 
     def test_defaults_and_seeds(self) -> None:
@@ -50,7 +58,7 @@ class StudyPlanTest(TestCase):
     def test_scenario_says_the_same_but_for_the_varied_keys(self) -> None:
         """Read back as TOML, and as a scenario."""
         study = in_folder(HEAD + SEEDS + "[vary]\nlist = [1]\nchurn.life_max_us = [9]\njitter_us = [3]\n")
-        text = scenario_text(study, study.settings()[0], 9)
+        text = scenario_of(study, study.settings()[0], 9)
         wanted = tomllib.loads(BASE)
         assert (wanted["list"], wanted["seed"], wanted["churn"]["life_max_us"]) == (2, 1, 6)
         assert "jitter_us" not in wanted
@@ -64,7 +72,7 @@ class StudyPlanTest(TestCase):
     def test_base_is_not_changed_by_a_setting(self) -> None:
         """The second setting has nothing of the first."""
         study = in_folder(HEAD + SEEDS + '[vary]\n"churn.life_max_us" = [9, 10]\n')
-        texts = [scenario_text(study, setting, 1) for setting in study.settings()]
+        texts = [scenario_of(study, setting, 1) for setting in study.settings()]
         assert [tomllib.loads(text)["churn"]["life_max_us"] for text in texts] == [9, 10]
         assert study.scenario["churn"]["life_max_us"] == 6
 
@@ -81,11 +89,80 @@ class StudyPlanTest(TestCase):
         for value in ("1.5", "[1, 2]", "{ y = { z = 1 } }"):
             study = in_folder(HEAD + SEEDS, BASE.replace("profile = 1", f"profile = 1\nx = {value}"))
             try:
-                scenario_text(study, (), 1)
+                scenario_of(study, (), 1)
             except Refused as stop:
                 assert stop.status == 1 and "base.toml: " in stop.text
             else:
                 raise AssertionError(value)
+
+    def test_times_with_units_and_a_number_of_seeds(self) -> None:
+        """Units in [vary] and of the times of the study; three seeds are 1 to 3."""
+        times = 'warmup_us = "50us"\ncooldown_us = "20us"\n[vary]\nstabilize_us = ["1s", "250ms", 30]\n'
+        study = in_folder(HEAD + "seeds = 3\n" + times)
+        assert study.seeds == [1, 2, 3] and study.times()[1:] == (50, 20)
+        assert study.settings() == [(("stabilize_us", value),) for value in (1_000_000, 250_000, 30)]
+        assert [label(one) for one in study.settings()] == [f"stabilize_us={time}" for time in ("1s", "250ms", "30us")]
+
+    def test_worlds_follow_the_seed(self) -> None:
+        """Commands, identifiers and latencies of two seeds differ; those of one seed are the same in all settings."""
+        study = in_folder(MADE + PLANE + SEEDS + "[vary]\nlist = [1, 2]\n")
+        worlds = {(setting, seed): tomllib.loads(scenario_of(study, setting, seed)) for setting in study.settings()
+                  for seed in study.seeds}
+        one, two = study.settings()
+        for key in ("command", "node"):
+            assert worlds[one, 4][key] == worlds[two, 4][key] != worlds[one, 9][key], key
+        assert [worlds[key]["list"] for key in worlds] == [1, 1, 2, 2] and worlds[one, 9]["seed"] == 9
+        idents = [node["id"] for node in worlds[one, 4]["node"]]
+        assert len(set(idents)) == 6 and all(ident < 2**16 for ident in idents)
+        assert {node["name"] for node in worlds[one, 4]["node"]} == {f"n{number}" for number in range(6)}
+        rows = [latency_of(study, one, seed) for seed in study.seeds]
+        assert rows[0] == latency_of(study, two, 4) != rows[1] and known(rows[0]).count(b"\n") == 15
+        read_scenario(scenario_of(study, one, 4).encode(), known(rows[0]))
+
+    def test_options_of_generate_can_be_varied(self) -> None:
+        """They take the place of the study's own; latencies are made for as many nodes."""
+        varied = '[vary]\n"generate.--nodes" = [5, 7]\n"generate.--lifetime" = ["exp:9s", "uniform:1s..9s"]\n'
+        study = in_folder(MADE + PLANE + SEEDS + varied)
+        assert label(study.settings()[3]) == "--nodes=7, --lifetime=uniform:1s..9s"
+        worlds = [tomllib.loads(scenario_of(study, setting, 4)) for setting in study.settings()]
+        assert [len(world["node"]) for world in worlds] == [5, 5, 7, 7]
+        assert worlds[0]["command"] != worlds[1]["command"]
+        rows = [known(latency_of(study, setting, 4)).count(b"\n") for setting in study.settings()]
+        assert rows == [10, 10, 21, 21]
+
+    def test_few_bits(self) -> None:
+        """As many nodes as places: each has its own."""
+        study = in_folder('question = "How?"\ngenerate = ["--nodes", "8", "--bits", "3"]\nseeds = 2\n')
+        for seed in (1, 2):
+            nodes = tomllib.loads(scenario_of(study, (), seed))["node"]
+            assert sorted(node["id"] for node in nodes) == list(range(8))
+
+    def test_wide_identifiers(self) -> None:
+        """Of 64 bits and more they are hexadecimal texts."""
+        words = '"--nodes", "8", "--profile", "2", "--bits", "128"'
+        study = in_folder(f'question = "How?"\ngenerate = [{words}]\nseeds = 2\n')
+        assert len({node.ident for node in read_scenario(scenario_of(study, (), 1).encode(), b"").nodes}) == 8
+
+    def test_example_of_the_document(self) -> None:
+        """The study file of docs/studies.md is one, and the program accepts its first world."""
+        text = (EXAMPLES.parent / "docs" / "studies.md").read_text().partition("```toml\n")[2].partition("```")[0]
+        study = in_folder(text)
+        assert len(study.settings()) == 6 and study.seeds == list(range(1, 21))
+        with tempfile.TemporaryDirectory() as name:
+            scenario, rows = Path(name) / "world.toml", Path(name) / "rows.csv"
+            scenario.write_text(scenario_of(study, study.settings()[0], 1))
+            rows.write_bytes(known(latency_of(study, study.settings()[0], 1)))
+            assert checked(scenario, rows).startswith("ok nodes=200 commands=")
+
+    def test_goal_and_precision(self) -> None:
+        """What they name."""
+        study = in_folder(
+            HEAD + "[precision]\nserved = 0.002\nmost_seeds = 20\n"
+            "[goal]\nright_of_begun_min = 0.99\np99_ms_max = 300\nlost_max = 0.5\n"
+        )
+        assert study.precision == Precision("served", 0.002, 10, 20) and study.seeds == list(range(1, 11))
+        limits = (Limit("right_of_begun", True, 0.99), Limit("p99_ms", False, 300.0))
+        assert study.goal == Goal(limits, 0.5, "messages")
 
     def test_faults(self) -> None:
         """Each fault is told with the file and the key."""
@@ -109,6 +186,26 @@ class StudyPlanTest(TestCase):
             (vary + "list = [2, 2]", "study.toml: [vary] list has to be a list"),
             (vary + "list = [true]", "study.toml: [vary] list has to be a list"),
             (HEAD + SEEDS + "window_us = 1\n[vary]\nduration_us = [100001]", "window_us makes more than 100000 steps"),
+            (HEAD + "seeds = 0", "study.toml: seeds has to be"),
+            (HEAD + SEEDS + "warmup_us = \"1 s\"", "study.toml: warmup_us has to be an integer"),
+            (HEAD + SEEDS + "warmup_us = 100\ncooldown_us = 100", "warmup_us and cooldown_us leave nothing of 200 us"),
+            (HEAD + SEEDS + "generate = []", "study.toml: either base or generate"),
+            (HEAD + SEEDS + "latency = [1]", "study.toml: latency has to be a list of arguments"),
+            (MADE + SEEDS + "latency = ['--seed', '4']", "study.toml: latency has --seed, which the study sets"),
+            (MADE.replace("--bits", "--bit") + SEEDS, "study.toml: generate: tools/generate: "),
+            (vary + "'generate.--nodes' = [3]", "[vary] generate.--nodes is no key"),
+            (MADE + SEEDS + "[vary]\n'generate.--node' = [3]", "[vary] generate.--node is no key"),
+            (vary + "list = ['1s']", "study.toml: [vary] list has to be a list"),
+            (vary + "jitter_us = ['1 s']", "study.toml: [vary] jitter_us has to be a list"),
+            (HEAD + SEEDS + "[goal]\nbest = 1", "study.toml: [goal] best: NUMBER_min or NUMBER_max"),
+            (HEAD + SEEDS + "[goal]\nserved_min = 99", "study.toml: [goal] served_min has to be a share"),
+            (HEAD + SEEDS + "[goal]\nleast = 'work'", "study.toml: [goal] least has to be one of"),
+            (HEAD + SEEDS + "[precision]\nserved = 0.1", "study.toml: seeds and [precision] exclude each other"),
+            (HEAD + "[precision]\nserved = 0", "study.toml: [precision] has to name one number"),
+            (HEAD + "[precision]\nserved = 0.1\nleast_seeds = 4", "study.toml: [precision] least_seeds"),
+            (HEAD + SEEDS + "[sizes]\nstep = 4", "study.toml: [sizes] has to give the bytes"),
+            (HEAD + SEEDS + 'world = ["list"]', "study.toml: world has to be a list of keys of [vary]"),
+            (HEAD + SEEDS + "note = 1", "study.toml: note has to be a text"),
         ):
             with self.subTest(study=text):
                 answer = in_folder(text)

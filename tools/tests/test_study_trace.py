@@ -2,17 +2,25 @@
 
 from unittest import TestCase
 
-from chordsim_tools.study.trace import Members, TraceReader, percentile
+from chordsim_tools.members import Members
+from chordsim_tools.study.served import Scope, scope_of
+from chordsim_tools.study.survival import Times
+from chordsim_tools.study.trace import Numbers, TraceReader, percentile
 
 IDENTS = {"a": 10, "b": 20, "c": 30, "d": 40}
 
 
-def reader(*lines: str, warmup_us: int = 0) -> TraceReader:
+def reader(*lines: str, warmup_us: int = 0, cooldown_us: int = 0, gap_us: float | None = None) -> TraceReader:
     """A reader of these lines; a, b and c are members at the start; three steps of 100 us."""
-    one = TraceReader(Members(IDENTS, ["a", "b", "c"]), duration_us=250, window_us=100, warmup_us=warmup_us)
+    one = TraceReader(Members(IDENTS, ["a", "b", "c"]), Scope(250, 100, warmup_us, cooldown_us, gap_us))
     for line in lines:
         one.read(line)
     return one
+
+
+def numbers_of(*lines: str, cooldown_us: int = 0, gap_us: float | None = None) -> Numbers:
+    """What a row has of these lines."""
+    return reader(*lines, cooldown_us=cooldown_us, gap_us=gap_us).numbers()
 
 
 def answers(*lines: str) -> tuple[int, int]:
@@ -109,6 +117,92 @@ class StudyTraceTest(TestCase):
         numbers = reader(*lines).numbers()
         assert [numbers[word] for word in ("judged-audits", "whole-rings", "torn-rings")] == [5, 1, 3]
         assert numbers["mean-members"] == "2.600"
+
+    def test_right_in_two_ways(self) -> None:
+        """d joins one microsecond before the answer: strictly wrong, but right while the lookup ran."""
+        begun, late = "30 a lookup 35", "50 a found 35 a hops=1 timeouts=0 us=20"
+        numbers = numbers_of(begun, "40 d join a", "49 d member c", late)
+        words = ("right", "wrong", "right-defensible", "wrong-newcomer", "wrong-down")
+        assert [numbers[word] for word in words] == [0, 1, 1, 1, 0]
+
+    def test_wrong_all_the_time(self) -> None:
+        """What was never right while the lookup ran is defensible in no way; a node that is down is told apart."""
+        words = ("right", "right-defensible", "wrong-newcomer", "wrong-down")
+        before = "5 d member c"
+        late = "50 a found 35 a hops=1 timeouts=0 us=20"
+        assert [numbers_of(before, "30 a lookup 35", late)[word] for word in words] == [0, 0, 1, 0]
+        gone = numbers_of("5 b crash", "30 a lookup 15", "50 a found 15 b hops=1 timeouts=0 us=20")
+        assert [gone[word] for word in words] == [0, 0, 0, 1]
+        going = numbers_of("30 a lookup 15", "45 b crash", "50 a found 15 b hops=1 timeouts=0 us=20")
+        assert [going[word] for word in words] == [0, 1, 0, 1]
+
+    def test_cut_off(self) -> None:
+        """The asker's crash and the end cut lookups off; those that end after a cool-down's begin still count."""
+        lines = (
+            "10 a lookup 15", "20 b lookup 15", "30 b crash", "160 a lookup 15", "210 a lookup 15",
+            "220 a found 15 c hops=1 timeouts=0 us=210", "240 a found 15 c hops=1 timeouts=0 us=30",
+        )
+        words = ("judged-lookups", "judged-found", "cut-by-crash", "cut-by-end")
+        assert [numbers_of(*lines)[word] for word in words] == [4, 2, 1, 1]
+        assert [numbers_of(*lines, cooldown_us=50)[word] for word in words] == [3, 1, 1, 1]
+        assert [reader(*lines, warmup_us=15).numbers()[word] for word in words] == [3, 1, 1, 1]
+
+    def test_times_of_all_lookups(self) -> None:
+        """Of 100 lookups 95 take a second and 5 are lost: the 99th percentile is never reached."""
+        times = Times()
+        times.ended, times.lost = [1_000_000] * 95, 5
+        assert times.percentiles((50, 95, 99)) == {50: 1_000_000, 95: 1_000_000, 99: "never"}
+        assert Times().percentile(50) is None
+
+    def test_times_of_lookups_that_are_cut_off(self) -> None:
+        """1, 2, 3 and one cut off after 2: three quarters left after 1, half after 2, nothing after 3."""
+        times = Times()
+        times.ended, times.cut = [3, 1, 2], [2]
+        assert times.percentiles((25, 26, 50, 51, 99)) == {25: 1, 26: 2, 50: 2, 51: 3, 99: 3}
+        times.cut = [4]
+        assert times.percentiles((75, 76)) == {75: 3, 76: "never"}
+
+    def test_without_cuts_as_nearest_rank(self) -> None:
+        """The curve gives the nearest rank if all lookups end."""
+        for count in (1, 2, 3, 7, 10, 100, 101):
+            times = Times()
+            times.ended = [place * place for place in range(count)]
+            for share in (1, 50, 90, 99):
+                assert times.percentile(share) == percentile(times.ended, share), (count, share)
+
+    def test_wanted(self) -> None:
+        """Three nodes want one lookup in 10 us each. b strands at 50 and is no member for 200 us, which are 20 more."""
+        numbers = numbers_of("20 a lookup 5", "30 a busy 5", "50 b stranded a", gap_us=10)
+        assert (numbers["wanted"], numbers["up-us"], numbers["member-us"]) == ("22.000", 750, 550)
+        # The halves are 0 to 125 and 125 to 250.
+        assert (numbers["wanted-1"], numbers["wanted-2"]) == ("9.500", "12.500")
+
+    def test_who_is_up(self) -> None:
+        """Until a crash; a join that failed does not end it, but the crash that was planned then does."""
+        numbers = numbers_of("50 b crash", "100 b join a", "150 b join-failed", "200 b ignored crash", gap_us=10)
+        assert (numbers["up-us"], numbers["member-us"], numbers["wanted"]) == (650, 550, "10.000")
+        again = numbers_of("50 b crash", "100 b join a", "150 b join-failed", "200 b join a", "220 b member a")
+        assert (again["up-us"], again["member-us"]) == (700, 580)
+
+    def test_scheduled_lookups(self) -> None:
+        """A command to look up counts if its node is up, member or not."""
+        lines = ("40 b stranded a", "50 b ignored lookup", "60 c crash", "70 c ignored lookup", "80 a lookup 5")
+        assert numbers_of(*lines)["wanted"] == "2.000"
+
+    def test_scope(self) -> None:
+        """The mean gap of the scenario, and the judged span in two halves."""
+        top = {"duration_us": 100, "lookups": {"gap_min_us": 5, "gap_max_us": 8}}
+        scope = scope_of(top, 10, 20, 30)
+        assert (scope.gap_us, scope.bounds()) == (6.5, [20, 45, 70, 100])
+        assert [scope.half(time) for time in (19, 20, 44, 45, 69, 70)] == [None, 0, 0, 1, 1, None]
+        assert scope_of({"duration_us": 100}, 10, 0, 0).gap_us is None
+
+    def test_ring_that_is_lost(self) -> None:
+        """The time of the first audit without a ring, also during the warm-up."""
+        rings = ((50, 3), (60, 0), (70, 0))
+        lines = [f"{time} audit members=3 dead=0 ring={ring} ordered=yes x=0" for time, ring in rings]
+        assert reader(*lines, warmup_us=100).numbers()["lost-at-us"] == 60
+        assert reader(lines[0]).numbers()["lost-at-us"] is None
 
     def test_percentiles(self) -> None:
         """Nearest rank: of ten values the 5th, 9th and 10th; of one the one; of none nothing."""

@@ -5,31 +5,52 @@ from argparse import ArgumentTypeError, Namespace
 from pathlib import Path
 
 from chordsim_tools.cli import Parser, run
-from chordsim_tools.study.page import write_report
+from chordsim_tools.study.compare import write_comparison
+from chordsim_tools.study.parts import merge, share_of
 from chordsim_tools.study.plan import read_study
-from chordsim_tools.study.plot import write_plots
+from chordsim_tools.study.plot import Wish, write_plots
 from chordsim_tools.study.runs import run_study
+from chordsim_tools.study.so_far import write_report
 
 PROG = "tools/study"
 HELP = """\
 Runs chordsim with many settings and seeds, and makes tables, plots and a page of it. A study file says what:
 
   question = "How long must successor lists be, at which repair period?"
-  base = "base.toml"       a scenario, relative to the study file
-  latency = "plane.csv"    may be left out
-  seeds = [1, 2, 3]        or "1-10"
-  window_us = 1000000      may be left out: the step of numbers over time (else audit_us of the base)
-  warmup_us = 30000000     may be left out (0): what begins before it is not judged (see `tools/study run --help`)
+  base = "base.toml"       a scenario, relative to the study file; or in its place
+  generate = ["--nodes", "200", "--lifetime", "exp:10m"]   arguments of tools/generate: each seed has its own scenario
+  latency = "plane.csv"    may be left out; or a list: latency = ["--plane", "100ms"] makes latencies for each seed
+  seeds = 10               the seeds 1 to 10; or [1, 2, 3], or "1-10". Left out with [precision]
+  window_us = "1s"         may be left out: the step of numbers over time (else audit_us of the base)
+  warmup_us = "30s"        may be left out (0): lookups that begin before it are not judged
+  cooldown_us = "10s"      may be left out (0): nor are those that begin so long before the end
   [vary]                   every combination is a setting
   list = [2, 4, 8]         keys of the scenario's top table that are integers,
-  "churn.life_min_us" = [30000000]    or of [churn] and [lookups]
+  stabilize_us = ["1s", "250ms"]       times in microseconds, or with units,
+  "churn.life_min_us" = [30000000]     or of [churn] and [lookups],
+  "generate.--nodes" = [100, 200]      or options of tools/generate
+  [precision]              may be left out: seeds are run until an interval is narrow enough
+  served = 0.002           half of it, for each setting; served or another number (docs/studies.md)
+  least_seeds = 10
+  most_seeds = 200
+  [goal]                   may be left out: the page begins with the setting that reaches it
+  right_of_begun_min = 0.99
+  lost_max = 0.5           rings lost an hour; without it no ring may be lost
+  least = "messages"
+  [sizes]                  may be left out: the bytes of a message of each kind
+  step = 60
+
+`world = ["loss_ppm"]` names the varied keys that nobody chooses: each world has its own answer. `note = ".."` is a text
+for the page. Both may be left out, and stand above the tables.
 
 The program is that of the variable CHORDSIM, else ./chordsim of the repository."""
 EPILOG = """\
 examples:
   tools/study run lists.toml                      all runs, into the folder lists
   nice tools/study run lists.toml --jobs 2 -o out two at a time, into the folder out
-  tools/study plot out && tools/study report out  plots and a page of them
+  tools/study plot out && tools/study report out  plots and a page of them, also of a study that still runs
+  tools/study run lists.toml --part 2/5 -o part2  the second of five shares; docs/clusters.md says more
+  tools/study merge part1 part2 .. -o out         puts them together
 
 status: 0 all was done; 1 a file is refused, or the program refuses a setting; 2 the arguments are wrong;
 3 something failed: a run, the disk, the program or the Python packages for plots are missing; 130 interrupted"""
@@ -37,56 +58,119 @@ RUN_HELP = """\
 Runs `chordsim run --serial` for each setting and seed and writes into FOLDER:
 
   runs.csv       one line a run: the setting, the seed, the numbers of the report (of the whole run), and of the trace
-                 judged-lookups   lookups begun at warmup_us or later
+                 judged-lookups   lookups begun from warmup_us until cooldown_us before the end
                  judged-found, judged-lost    ... of these, answered and given up
                  right, wrong     answers of these: right is the first member at or after the key, clockwise, at the
                                   time of the answer. Members are the initial nodes and those with a line `member`,
                                   until their line `crash` or `stranded`.
                  us-p50 ... hops-p99    percentiles 50, 90, 99 of time and hops of the found ones (nearest rank)
+                 all-us-p50 ...   percentiles of the time of all (Kaplan-Meier; given up is `never`)
+                 right-defensible right at some instant while the lookup ran
+                 wrong-down, wrong-newcomer    wrong answers that name no member, or miss a nearer one
+                 cut-by-crash, cut-by-end      lookups whose asker crashed, and those that the end cut off
                  judged-audits    audits after warmup_us
                  mean-members     the mean number of members in these
                  whole-rings      ... with a ring of all members that goes once around
                  torn-rings       ... with a member that has no living successor, no ring, or one that is out of order
+                 lost-at-us       the time of the first audit that found no ring
+                 wanted           lookups begun or refused, and those that nodes missed which were up but no members;
+                                  wanted-1, right-1, wanted-2, right-2: in the two halves of the judged span
+                 up-us, member-us time that nodes were up, and members, in the judged span
+                 cost-...         from warmup_us to the end: time as members, and events
+                 messages, sent-STEP ...       messages in that time, about (docs/studies.md)
   series.csv     one line a run and step of window_us: lookups begun, answers found, right ones, members at its end
+  steps.csv      the same for timeouts and lost messages
+  cdf.csv        how times and hops of the judged lookups are distributed: the share found within each value
   manifest.json  what it was made of, with digests and versions; no times and no names of machines, so that the same
                  study gives the same bytes
   done/          each run's scenario and result. What is there is not run again, unless study, files or program changed:
                  so the same command goes on after an interruption.
+  runs.json      which study the folder is of, by digests
 
-The trace is read from the program while it runs and is kept nowhere. A run that is refused or fails stops the study."""
+The trace is read from the program while it runs and is kept nowhere. A run that is refused or fails stops the study.
+How far it is, is shown on standard error: on a terminal by a bar, in a log by a line every 30 seconds. A line `warning:`
+is a trap: a timeout below the greatest round trip, a duration below the periods, a max_events below what a run is likely
+to need (`tools/explain --help` says how that is estimated). The study is run all the same.
+
+--part K/N does every Nth run from the Kth on, and writes no tables: do so on N machines, and put the folders together
+by `tools/study merge`. --dask gives the runs to the workers of a Dask cluster, which have to have the same program.
+Tables are the same bytes in all these ways."""
+MERGE_HELP = """\
+Puts the results of folders into one, and writes the tables there: the same bytes as by one `tools/study run`. The
+digests of the study file, of the files that it names and of the program have to agree, and no run may be missing. The
+study file is looked for where it was when the runs were done; --study says another place."""
 PLOT_HELP = """\
-Writes three plots as PNG and SVG into FOLDER: times (percentiles of lookup time by setting), right (share of right
-answers over time, and members), cost (events per node and second against the 99th percentile of lookup time, with the
-lower convex hull). Means over seeds with 95% intervals; a seed counts if it has the number, so not in steps in which
-it found nothing. The same tables give the same bytes. Settings in which a seed's ring was lost (an audit with ring=0)
-are hollow in the plot of costs and left out of the hull: a dead ring is cheap.
+Writes plots as PNG and SVG into FOLDER. Without options:
 
-The hull goes from the cheapest setting to the fastest one; what lies above it costs more than a mix of two on it, or is
-slower. Costs are all events of the whole run (timers, messages, lookups), by all nodes of the scenario, up or down, and
-by its duration; they are no bytes.
+  times    right answers and percentiles of lookup time, by setting
+  right    right answers and members over time
+  cost     cost against right answers and against time, with the Pareto front of each world
+  network  timeouts and lost messages over time
+  cdf      how lookup times and hops are distributed
+
+--y COLUMN.. draws one plot of these columns in place of them all: any column of runs.csv, A/B for the quotient of two,
+or one of right-of-begun, right-of-found, found-of-begun, served, whole-of-audits, cost. --x KEY goes along the axis,
+--by KEY.. makes lines, --panels KEY.. makes panels, for all plots. What is left open: keys of the world (loss, churn,
+lookups, duration) make panels, of the others the key with the most values goes along the axis, and the rest makes
+lines.
+
+Means over seeds with 95% intervals (cut at 0 and 100%); a seed counts if it has the number. Over time a step in which
+fewer than three seeds have it has a dashed line and no band. Settings in which a seed's ring was lost (an audit with
+ring=0) are hollow, and not on the front: a dead ring is cheap. With many seeds nearly every setting has such a seed:
+--most-lost 0.05 lets settings on the front that lost their ring with at most 5 of 100 seeds. A setting off the front is "dominated" if one on it
+costs less and gives more by paired differences of the same seeds, at 5% for all settings together, else "not told
+apart". cost is messages per member and second if the table has them, else all events of the run per node of the file
+and second. The same tables give the same bytes. A study that is not done yet is drawn as far as it is, with a mark.
+
+examples:
+  tools/study plot out --x stabilize_us --by list --panels loss_ppm --y right-of-begun
+  tools/study plot out --y us-p99 losses/lookups
 
 It needs Debian's packages python3-numpy and python3-matplotlib, and Debian's Python: if another one comes first on
 PATH, `/usr/bin/python3 tools/study plot FOLDER`."""
 
 REPORT_HELP = """\
-Writes the page FOLDER/report.md: the question; a line a setting with shares of found and right, times, cost, and what
-happened to the rings; links to the plots, which `tools/study plot` draws; the commands and digests. The page says what
-each number is."""
+Writes the page FOLDER/report.md: the question; the answer to [goal]; what is new in each world and what is the same; a
+line a setting with rings kept, the share served, right answers, times and costs, and its difference from the best one;
+links to the plots, which `tools/study plot` draws; the commands and digests. The page says what each number is."""
+COMPARE_HELP = """\
+Compares two settings seed by seed, prints the mean differences of A less B with 95% intervals, and writes them to
+FOLDER/compare.csv. Settings are named by their labels, as "list=4, stabilize_us=1s", or by their numbers in the page's
+table, from 1. Rings that only one of them lost are compared by the exact test of McNemar."""
 
 
 def parsed(arguments: list[str]) -> Namespace:
     """The arguments of the command line."""
     parser = Parser(PROG, HELP, EPILOG)
-    commands = parser.add_subparsers(dest="command", required=True, metavar="run|plot|report", parser_class=Parser)
+    words = "run|merge|plot|report|compare"
+    commands = parser.add_subparsers(dest="command", required=True, metavar=words, parser_class=Parser)
     runs = commands.add_parser("run", help="run all settings and seeds", description=RUN_HELP, epilog=EPILOG)
     runs.add_argument("study", metavar="STUDY", type=Path, help="the study file (TOML)")
     runs.add_argument("--jobs", metavar="N", type=positive, help="N runs side by side (default: all processors)")
     where = "the folder (default: STUDY without .toml)"
     runs.add_argument("-o", dest="folder", metavar="FOLDER", type=Path, help=where)
+    part = "the Kth of N shares of the runs, without tables"
+    runs.add_argument("--part", metavar="K/N", type=share_of, default=(1, 1), help=part)
+    runs.add_argument("--dask", metavar="ADDRESS", help="the scheduler of a Dask cluster, as tcp://host:8786")
+    both = commands.add_parser("merge", help="put shares together", description=MERGE_HELP, epilog=EPILOG)
+    both.add_argument("folders", metavar="FOLDER", nargs="+", type=Path, help="a folder of runs")
+    both.add_argument("-o", dest="out", metavar="OUT", type=Path, required=True, help="the folder for all")
     plot = commands.add_parser("plot", help="draw plots of a run study", description=PLOT_HELP, epilog=EPILOG)
     report = commands.add_parser("report", help="write a page", description=REPORT_HELP, epilog=EPILOG)
-    for command in (plot, report):
+    pair = commands.add_parser("compare", help="compare two settings", description=COMPARE_HELP, epilog=EPILOG)
+    for command in (plot, report, pair):
         command.add_argument("folder", metavar="FOLDER", type=Path, help="the folder of a study that was run")
+    plot.add_argument("--x", metavar="KEY", help="the varied key along the axis")
+    for option, meaning in (("by", "make lines of these"), ("panels", "make panels of these")):
+        plot.add_argument(f"--{option}", metavar="KEY", nargs="+", help=meaning)
+    most_lost = "the share of seeds whose ring may be lost by a setting on the front (0)"
+    plot.add_argument("--most-lost", metavar="SHARE", type=share, default=0.0, help=most_lost)
+    plot.add_argument("--y", metavar="COLUMN", nargs="+", help="draw these alone")
+    for name in ("A", "B"):
+        pair.add_argument(name.lower(), metavar=name, help="a setting: its label on the page, or its number, from 1")
+    for command in (both, plot, report):
+        moved = "the study file, if it is no longer in its place"
+        command.add_argument("--study", metavar="STUDY", type=Path, help=moved)
     return parser.parse_args(arguments)
 
 
@@ -95,6 +179,17 @@ def positive(text: str) -> int:
     if not text.isdecimal() or not 1 <= int(text) <= 1024:
         raise ArgumentTypeError("1 to 1024 is wanted")
     return int(text)
+
+
+def share(text: str) -> float:
+    """A share of 0 to 1."""
+    try:
+        number = float(text)
+    except ValueError:
+        number = -1
+    if not 0 <= number <= 1:
+        raise ArgumentTypeError("0 to 1 is wanted")
+    return number
 
 
 def folder_of(study: Path) -> Path:
@@ -107,11 +202,16 @@ def work(args: Namespace) -> None:
     match args.command:
         case "run":
             folder = args.folder or folder_of(args.study)
-            run_study(read_study(args.study), folder, args.jobs or len(os.sched_getaffinity(0)))
+            jobs = args.jobs or len(os.sched_getaffinity(0))
+            run_study(read_study(args.study), folder, jobs, args.part, args.dask)
+        case "merge":
+            merge(args.folders, args.out, args.study)
         case "plot":
-            write_plots(args.folder)
+            write_plots(args.folder, args.study, Wish(args.x, args.by, args.panels, args.y, args.most_lost))
+        case "compare":
+            write_comparison(args.folder, args.a, args.b)
         case _:
-            write_report(args.folder)
+            write_report(args.folder, args.study)
 
 
 def main(arguments: list[str]) -> int:

@@ -1,82 +1,128 @@
-"""Means over seeds with 95% intervals, and the lower convex hull."""
+"""The settings of a study over their seeds: rings kept and lost, shares, times and costs."""
 
-from collections.abc import Callable, Iterable
-from dataclasses import dataclass
-from functools import partial
-from statistics import fmean, stdev
+import math
+from collections.abc import Callable
+from dataclasses import dataclass, field
 
-from chordsim_tools.known import known
+from chordsim_tools.cli import Refused
+from chordsim_tools.study.exact import count_interval, share_interval
+from chordsim_tools.study.interval import Interval, interval
+from chordsim_tools.study.plan import told
+from chordsim_tools.study.survival import NEVER
 from chordsim_tools.study.tables import Tables
 
 Cells = dict[str, str]
-
-QUANTILES = (
-    12.706, 4.303, 3.182, 2.776, 2.571, 2.447, 2.365, 2.306, 2.262, 2.228, 2.201, 2.179, 2.160, 2.145, 2.131,
-    2.120, 2.110, 2.101, 2.093, 2.086, 2.080, 2.074, 2.069, 2.064, 2.060, 2.056, 2.052, 2.048, 2.045, 2.042,
-)
-"""The 0.975 quantiles of Student's t with 1 to 30 degrees of freedom."""
-FURTHER = ((120, 1.980), (60, 2.000), (40, 2.021), (30, 2.042))
-"""The same for these degrees and more: the next lower ones are taken, which makes an interval a little wider."""
-
-
-def quantile(degrees: int) -> float:
-    """The 0.975 quantile of Student's t."""
-    if degrees <= len(QUANTILES):
-        return QUANTILES[degrees - 1]
-    return next(value for least, value in FURTHER if degrees >= least)
-
-
-@dataclass
-class Interval:
-    """A mean, and half of its 95% interval; the half is missing for one value, both if there is none."""
-
-    mean: float | None
-    half: float | None
-
-    def told(self, scale: float, digits: int) -> str:
-        """As `mean ± half`, with `digits` digits after the point."""
-        if self.mean is None:
-            return "-"
-        mean = f"{self.mean * scale:.{digits}f}"
-        return mean if self.half is None else f"{mean} ± {self.half * scale:.{digits}f}"
-
-
-def interval(values: Iterable[float | None]) -> Interval:
-    """Mean and half interval of the values that are there."""
-    there = [value for value in values if value is not None]
-    if not there:
-        return Interval(None, None)
-    half = None
-    if len(there) > 1:
-        half = quantile(len(there) - 1) * stdev(there) / len(there) ** 0.5
-    return Interval(fmean(there), half)
+LEAST_FOR_P99 = 1000
+"""Of fewer lookups of a run the 99th percentile is nearly the greatest one."""
+HOUR = 3_600_000_000
 
 
 def ratio(cells: Cells, above: str, below: str) -> float | None:
     """The quotient of two cells, if there is one."""
-    return int(cells[above]) / int(cells[below]) if cells[below] not in ("", "0") else None
+    return float(cells[above]) / float(cells[below]) if cells[below] and float(cells[below]) else None
 
 
-def number(cells: Cells, key: str) -> float | None:
-    """The number of a cell, if it is not empty."""
-    return float(cells[key]) if cells[key] else None
+def of_ended(above: str) -> Callable[[Cells], float | None]:
+    """A share of the judged lookups that came to an end, their asker being up."""
+
+    def take(cells: Cells) -> float | None:
+        """The share in a run."""
+        ended = int(cells["judged-found"]) + int(cells["judged-lost"])
+        return int(cells[above]) / ended if ended else None
+
+    return take
+
+
+def time_of(share: int) -> Callable[[Cells], float | None]:
+    """A percentile of all lookups in milliseconds; infinite if it is never reached."""
+
+    def take(cells: Cells) -> float | None:
+        """The percentile of a run."""
+        cell = cells[f"all-us-p{share}"]
+        if not cell or (share == 99 and int(cells["judged-lookups"]) < LEAST_FOR_P99):
+            return None
+        return math.inf if cell == NEVER else int(cell) / 1000
+
+    return take
+
+
+def a_second(*words: str) -> Callable[[Cells], float | None]:
+    """The sum of the first cell less the others, for each member and second."""
+
+    def take(cells: Cells) -> float | None:
+        """The cost of a run."""
+        seconds = int(cells["cost-member-us"]) / 1e6
+        return (int(cells[words[0]]) - sum(int(cells[word]) for word in words[1:])) / seconds if seconds else None
+
+    return take
+
+
+TAKES: dict[str, Callable[[Cells], float | None]] = {
+    "served": lambda cells: ratio(cells, "right", "wanted"),
+    "right_of_begun": of_ended("right"),
+    "defensible": of_ended("right-defensible"),
+    "given_up": of_ended("judged-lost"),
+    "members": lambda cells: ratio(cells, "member-us", "up-us"),
+    "p50_ms": time_of(50),
+    "p99_ms": time_of(99),
+    "messages": a_second("messages"),
+    "upkeep": a_second("messages", "messages-lookups"),
+    "events": a_second("cost-events"),
+}
+"""What each number of a setting is in one run. All but the first are averaged over the runs that kept their ring."""
+
+
+def is_kept(cells: Cells) -> bool:
+    """Whether every audit of a run found a ring."""
+    return cells["ringless"] == "0"
 
 
 @dataclass
 class Summary:
-    """A setting over its seeds. The last three are shares of seeds."""
+    """A setting over its seeds."""
 
     label: str
     values: tuple[str, ...]
-    seeds: int
-    found: Interval
-    right: Interval
-    times: dict[int, Interval]
-    cost: Interval
-    whole: Interval
-    broke: float
-    torn: float
-    ended: float
+    rows: list[Cells]
+    numbers: dict[str, Interval]
+    hours: float
+    by_seed: dict[str, Cells] = field(default_factory=dict)
+
+    @property
+    def seeds(self) -> int:
+        """How many seeds there are."""
+        return len(self.rows)
+
+    @property
+    def kept(self) -> int:
+        """How many of them kept their ring."""
+        return sum(map(is_kept, self.rows))
+
+    def of(self, take: Callable[[Cells], float | None]) -> Interval:
+        """The interval of a number among the rings kept."""
+        return interval([take(cells) if is_kept(cells) else None for cells in self.rows])
+
+    def kept_told(self) -> str:
+        """Rings kept as `9 of 10 (55..100 %)`."""
+        low, high = share_interval(self.kept, self.seeds)
+        return f"{self.kept} of {self.seeds} ({low * 100:.0f}..{high * 100:.0f} %)"
+
+    def rate_told(self) -> str:
+        """Rings lost for each hour that a ring lives, as `1.0 (0.2..2.9)`, or `below 1.2` if none was lost."""
+        low, high = (bound / self.hours for bound in count_interval(self.seeds - self.kept))
+        if self.kept == self.seeds:
+            return f"below {two_digits(high)}"
+        return f"{two_digits((self.seeds - self.kept) / self.hours)} ({two_digits(low)}..{two_digits(high)})"
+
+    def served_told(self) -> str:
+        """The share served; where rings were lost, with the range over the seeds in place of an interval."""
+        served = self.numbers["served"]
+        return served.told(100, share=True) if self.kept == self.seeds else served.told_range(100)
+
+
+def two_digits(value: float) -> str:
+    """A number with two significant digits."""
+    return f"{float(f'{value:.2g}'):g}"
 
 
 def groups(lines: list[Cells], keys: list[str]) -> dict[tuple[str, ...], list[Cells]]:
@@ -89,59 +135,22 @@ def groups(lines: list[Cells], keys: list[str]) -> dict[tuple[str, ...], list[Ce
 
 def setting_label(keys: list[str], values: tuple[str, ...]) -> str:
     """A setting as pages name it."""
-    return ", ".join(f"{key}={value}" for key, value in zip(keys, values, strict=True)) or "base"
+    return ", ".join(told(key, value) for key, value in zip(keys, values, strict=True)) or "base"
 
 
 def summaries(tables: Tables) -> list[Summary]:
     """All settings, in the order of runs.csv."""
+    if tables.runs and "wanted" not in tables.runs[0]:
+        raise Refused("runs.csv is of an older tools/study: run the study again")
     keys = list(tables.manifest["vary"])
-    return [summary(tables, keys, values, rows) for values, rows in groups(tables.runs, keys).items()]
+    return [summary(keys, values, rows) for values, rows in groups(tables.runs, keys).items()]
 
 
-def summary(tables: Tables, keys: list[str], values: tuple[str, ...], rows: list[Cells]) -> Summary:
+def summary(keys: list[str], values: tuple[str, ...], rows: list[Cells]) -> Summary:
     """One setting over its seeds."""
-    nodes, duration = int(tables.manifest["nodes"]), tables.manifest.get("duration_us")
-
-    def cost(cells: Cells) -> float:
-        """Events per node and second."""
-        return int(cells["events"]) / nodes / (int(cells.get("duration_us") or known(duration)) / 1e6)
-
-    def of(take: Callable[[Cells], float | None]) -> Interval:
-        """The interval of a number of each seed."""
-        return interval(take(cells) for cells in rows)
-
-    def share_of(holds: Callable[[Cells], bool]) -> float:
-        """The share of seeds of which this holds."""
-        return sum(holds(cells) for cells in rows) / len(rows)
-
-    return Summary(
-        setting_label(keys, values),
-        values,
-        seeds=len(rows),
-        found=of(lambda cells: ratio(cells, "judged-found", "judged-lookups")),
-        right=of(lambda cells: ratio(cells, "right", "judged-found")),
-        times={share: of(partial(number, key=f"us-p{share}")) for share in (50, 90, 99)},
-        cost=of(cost),
-        whole=of(lambda cells: ratio(cells, "whole-rings", "judged-audits")),
-        broke=share_of(lambda cells: int(cells["whole-rings"]) < int(cells["judged-audits"])),
-        torn=share_of(lambda cells: cells["torn-rings"] != "0"),
-        ended=share_of(lambda cells: cells["ringless"] != "0"),
-    )
-
-
-def lower_hull(points: list[tuple[float, float]]) -> list[tuple[float, float]]:
-    """The corners of the lower convex hull, from the least x to the least y."""
-    hull: list[tuple[float, float]] = []
-    for x, y in sorted(set(points)):
-        while len(hull) > 1 and not turns_left(hull[-2], hull[-1], (x, y)):
-            hull.pop()
-        if len(hull) == 1 and hull[0][0] == x:
-            continue
-        hull.append((x, y))
-    least = min(range(len(hull)), key=lambda place: hull[place][1], default=-1)
-    return hull[: least + 1]
-
-
-def turns_left(a: tuple[float, float], b: tuple[float, float], c: tuple[float, float]) -> bool:
-    """Whether the way from a through b to c turns to the left."""
-    return (b[0] - a[0]) * (c[1] - a[1]) - (b[1] - a[1]) * (c[0] - a[0]) > 0
+    hours = sum(int(cells["lost-at-us"] or cells["duration-us"]) for cells in rows) / HOUR
+    found = Summary(setting_label(keys, values), values, rows, {}, hours)
+    found.by_seed = {cells["seed"]: cells for cells in rows}
+    found.numbers = {number: found.of(take) for number, take in TAKES.items()}
+    found.numbers["served"] = interval(map(TAKES["served"], rows))
+    return found

@@ -1,37 +1,52 @@
-"""The study file: what is varied, and the scenario of each setting and seed."""
+"""The study file: what is varied, and what is judged."""
 
 import itertools
-import json
-import re
-import tomllib
 from dataclasses import dataclass, field
 from pathlib import Path
 from typing import Any
 
 from chordsim_tools.cli import Refused
 from chordsim_tools.files import read_input
-from chordsim_tools.scenario.tables import CHURN, GREATEST_INTEGER, LOOKUPS, SECOND, Key
+from chordsim_tools.quantities import time_text
+from chordsim_tools.study.goal import Goal, Precision, goal_of, precision_of
+from chordsim_tools.study.keys import (
+    Value, arguments_of, is_integer, number_of, parsed, seeds_of, sizes_of, text_of, vary_of,
+    world_of,
+)
 
-Setting = tuple[tuple[str, int], ...]
-"""The varied keys and their values, in the order of the study file."""
+Setting = tuple[tuple[str, Value], ...]
+"""The varied keys and their values, in the order of the study file. Times are in microseconds."""
 
 GREATEST_STEPS = 100_000
-KEYS = {"question", "base", "latency", "seeds", "window_us", "warmup_us", "vary"}
+KEYS = {
+    "question", "base", "generate", "latency", "seeds", "window_us", "warmup_us", "cooldown_us", "vary", "precision",
+    "goal", "sizes", "world", "note",
+}
 
 
 @dataclass
 class Study:
-    """A study file, and the bytes of the files that it names."""
+    """A study file, and the bytes of the files that it names.
+
+    The base and the latency file are one for all seeds, or made for each seed with these arguments."""
 
     path: Path
     content: bytes
     question: str
-    base: str
+    base: str | None
+    generate: list[str] | None
     latency: str | None
+    latency_arguments: list[str] | None
     seeds: list[int]
     window_us: int
     warmup_us: int
-    vary: dict[str, list[int]]
+    cooldown_us: int
+    vary: dict[str, list[Value]]
+    precision: Precision | None
+    goal: Goal | None
+    sizes: dict[str, int]
+    world: list[str] | None
+    note: str | None
     base_content: bytes = b""
     latency_content: bytes | None = None
     scenario: dict[str, Any] = field(default_factory=dict)
@@ -44,21 +59,20 @@ class Study:
         """A file that is named relative to the study file."""
         return self.path.parent / name
 
+    def times(self) -> tuple[int, int, int]:
+        """The step of numbers over time, the warm-up and the cool-down."""
+        return self.window_us, self.warmup_us, self.cooldown_us
+
+
+def told(key: str, value: Value | str) -> str:
+    """A key and its value as pages and messages name them: times with units, options of generate by themselves."""
+    text = time_text(int(value)) if key.endswith("_us") else str(value)
+    return f"{key.removeprefix('generate.')}={text}"
+
 
 def label(setting: Setting) -> str:
     """A setting as messages name it."""
-    return ", ".join(f"{key}={value}" for key, value in setting) or "base"
-
-
-def varied_keys() -> set[str]:
-    """The keys of a scenario that can be varied, in either profile."""
-
-    def names(keys: list[Key]) -> list[str]:
-        """The integers among these keys."""
-        return [key.name for key in keys if key.kind == "integer"]
-
-    tables = {f"{table}.{name}" for table, keys in (("churn", CHURN), ("lookups", LOOKUPS)) for name in names(keys)}
-    return (set(names(SECOND.tables["top"])) | tables) - {"seed"}
+    return ", ".join(told(key, value) for key, value in setting) or "base"
 
 
 def read_study(path: Path) -> Study:
@@ -68,145 +82,67 @@ def read_study(path: Path) -> Study:
     for key in top:
         if key not in KEYS:
             raise Refused(f"{path}: no key of a study: {key}")
+    if "base" in top and "generate" in top:
+        raise Refused(f"{path}: either base or generate")
+    rows = top.get("latency")
     study = Study(
         path,
         content,
         question=text_of(path, top, "question"),
-        base=text_of(path, top, "base"),
-        latency=text_of(path, top, "latency") if "latency" in top else None,
-        seeds=seeds_of(path, top.get("seeds")),
+        base=None if "generate" in top else text_of(path, top, "base"),
+        generate=arguments_of(path, top, "generate") if "generate" in top else None,
+        latency=None if rows is None or isinstance(rows, list) else text_of(path, top, "latency"),
+        latency_arguments=arguments_of(path, top, "latency") if isinstance(rows, list) else None,
+        seeds=seeds_of(path, top.get("seeds"), "precision" in top),
         window_us=0,
         warmup_us=number_of(path, top, "warmup_us", 0, 0),
-        vary=vary_of(path, top.get("vary", {})),
+        cooldown_us=number_of(path, top, "cooldown_us", 0, 0),
+        vary=vary_of(path, top.get("vary", {}), "generate" in top),
+        precision=precision_of(path, top.get("precision")),
+        goal=goal_of(path, top.get("goal")),
+        sizes=sizes_of(path, top.get("sizes", {})),
+        world=None,
+        note=text_of(path, top, "note") if "note" in top else None,
     )
-    study.base_content = read_input(study.beside(study.base))
-    study.scenario = parsed(study.beside(study.base), study.base_content)
-    if study.latency is not None:
-        study.latency_content = read_input(study.beside(study.latency))
-    study.window_us = number_of(path, top, "window_us", 1, study.scenario.get("audit_us"))
-    check_steps(study)
+    study.world = world_of(path, top.get("world"), study.vary)
+    if study.precision is not None:
+        study.seeds = list(range(1, study.precision.least_seeds + 1))
+    read_files(study, top)
     return study
 
 
-def parsed(path: Path, content: bytes) -> dict[str, Any]:
-    """The document of a TOML file."""
-    try:
-        return tomllib.loads(content.decode().removeprefix("\ufeff"))
-    except (UnicodeDecodeError, tomllib.TOMLDecodeError, RecursionError) as fault:
-        raise Refused(f"{path}: no TOML 1.0: {' '.join(str(fault).split())}") from None
-
-
-def is_integer(value: Any) -> bool:
-    """Whether a value is an integer (a boolean is none)."""
-    return isinstance(value, int) and not isinstance(value, bool)
-
-
-def text_of(path: Path, top: dict[str, Any], key: str) -> str:
-    """A text of the study file that has to be there."""
-    value = top.get(key)
-    if not isinstance(value, str) or not value.strip():
-        raise Refused(f"{path}: {key} has to be a text")
-    return value
-
-
-def number_of(path: Path, top: dict[str, Any], key: str, least: int, default: Any) -> int:
-    """A number of the study file, or what stands for it."""
-    value = top.get(key, default)
-    if not is_integer(value) or not least <= value <= GREATEST_INTEGER:
-        raise Refused(f"{path}: {key} has to be an integer, {least} or more")
-    return int(value)
-
-
-def seeds_of(path: Path, value: Any) -> list[int]:
-    """The seeds: a list, or a text as "1-10"."""
-    if isinstance(value, str) and (match := re.fullmatch(r"([0-9]{1,9})-([0-9]{1,9})", value)):
-        value = list(range(int(match[1]), int(match[2]) + 1))
-    in_range = isinstance(value, list) and all(is_integer(seed) and 0 <= seed <= GREATEST_INTEGER for seed in value)
-    if not in_range or not value or len(set(value)) < len(value):
-        raise Refused(f'{path}: seeds has to be a list of different integers, 0 or more, or a text as "1-10"')
-    return list(value)
-
-
-def vary_of(path: Path, table: Any) -> dict[str, list[int]]:
-    """The table [vary]; `churn.life_min_us` may stand in quotes or not."""
-    if not isinstance(table, dict):
-        raise Refused(f"{path}: vary has to be a table")
-    flat = {}
-    for key, value in table.items():
-        inner = {f"{key}.{name}": item for name, item in value.items()} if isinstance(value, dict) else {key: value}
-        flat.update(inner)
-    for key, values in flat.items():
-        if key not in varied_keys():
-            raise Refused(f"{path}: [vary] {key} is no key of a scenario that can be varied")
-        well = isinstance(values, list) and values and all(is_integer(value) for value in values)
-        if not well or len(set(values)) < len(values):
-            raise Refused(f"{path}: [vary] {key} has to be a list of different integers")
-    return flat
-
-
-def value_of(scenario: dict[str, Any], setting: Setting, key: str) -> Any:
-    """The value of a key of the top table in a setting."""
-    return dict(setting).get(key, scenario.get(key))
-
-
-def check_steps(study: Study) -> None:
-    """Fails if a run would have too many steps of time."""
+def read_files(study: Study, top: dict[str, Any]) -> None:
+    """Reads the files that a study names, and looks at what depends on them."""
+    if study.base is not None:
+        study.base_content = read_input(study.beside(study.base))
+        study.scenario = parsed(study.beside(study.base), study.base_content)
+    else:
+        study.scenario = parsed(study.path, first_world(study).encode())
+    if study.latency is not None:
+        study.latency_content = read_input(study.beside(study.latency))
+    study.window_us = number_of(study.path, top, "window_us", 1, study.scenario.get("audit_us"))
     for setting in study.settings():
-        duration = value_of(study.scenario, setting, "duration_us")
-        if is_integer(duration) and duration > GREATEST_STEPS * study.window_us:
-            raise Refused(f"{study.path}: window_us makes more than {GREATEST_STEPS} steps of {duration} us")
+        check_times(study, value_of(study, setting, "duration_us"))
 
 
-def scenario_text(study: Study, setting: Setting, seed: int) -> str:
-    """The scenario of a setting and a seed: the base but for these keys."""
-    top = dict(study.scenario)
-    for key, value in setting:
-        table, dot, name = key.partition(".")
-        if not dot:
-            top[key] = value
-        elif isinstance(top.get(table, {}), dict):
-            top[table] = {**top.get(table, {}), name: value}
-    top["seed"] = seed
-    try:
-        return toml_text(top)
-    except TypeError as fault:
-        raise Refused(f"{study.beside(study.base)}: {fault}") from None
+def first_world(study: Study) -> str:
+    """The scenario of the first setting and seed, from which the defaults of a study without a base are taken."""
+    # A world is of a study, so that the module of worlds is above this one.
+    from chordsim_tools.study.worlds import generated  # pylint: disable=import-outside-toplevel,cyclic-import
+
+    return generated(study, study.settings()[0], study.seeds[0])
 
 
-def toml_text(top: dict[str, Any]) -> str:
-    """A document of scalars, tables of scalars and arrays of such tables. TypeError if it has anything else."""
-    plain, tables = [], []
-    for key, value in top.items():
-        if isinstance(value, dict):
-            tables.append(table_text(f"[{toml_key(key)}]", value))
-        elif isinstance(value, list) and value:
-            tables += [table_text(f"[[{toml_key(key)}]]", item) for item in value]
-        else:
-            plain.append(f"{toml_key(key)} = {toml_value(key, value)}\n")
-    return "".join(plain) + "".join(tables)
+def value_of(study: Study, setting: Setting, key: str) -> Any:
+    """The value of a key of the top table in a setting."""
+    return dict(setting).get(key, study.scenario.get(key))
 
 
-def table_text(head: str, table: Any) -> str:
-    """A table under its head."""
-    if not isinstance(table, dict):
-        raise TypeError(f"{head} has an item that is no table")
-    return f"\n{head}\n" + "".join(f"{toml_key(key)} = {toml_value(key, value)}\n" for key, value in table.items())
-
-
-def toml_key(key: str) -> str:
-    """A key, in quotes if it needs them."""
-    return key if re.fullmatch(r"[A-Za-z0-9_-]+", key) else toml_value(key, key)
-
-
-def toml_value(key: str, value: Any) -> str:
-    """A boolean, an integer, a text or an empty list."""
-    if isinstance(value, bool):
-        return "true" if value else "false"
-    if isinstance(value, int):
-        return str(value)
-    if isinstance(value, str):
-        # A text of JSON is one of TOML, but for one control character that JSON allows.
-        return json.dumps(value, ensure_ascii=False).replace("\x7f", "\\u007f")
-    if value == []:
-        return "[]"
-    raise TypeError(f"{key} has a value that no scenario has")
+def check_times(study: Study, duration: Any) -> None:
+    """Fails if a run would have too many steps of time, or nothing to judge."""
+    if not is_integer(duration):
+        return
+    if duration > GREATEST_STEPS * study.window_us:
+        raise Refused(f"{study.path}: window_us makes more than {GREATEST_STEPS} steps of {duration} us")
+    if study.cooldown_us and study.warmup_us + study.cooldown_us >= duration:
+        raise Refused(f"{study.path}: warmup_us and cooldown_us leave nothing of {duration} us")

@@ -1,43 +1,42 @@
-"""`tools/study run`: all runs of a study side by side, and the files that are made of them."""
+"""`tools/study run`: the runs of a study, those that are to be done, and their results."""
 
 import contextlib
 import json
-import multiprocessing
-import signal
-import sys
 from dataclasses import dataclass
-from multiprocessing import connection
-from multiprocessing.process import BaseProcess
+from functools import partial
 from pathlib import Path
 from typing import Any
 
-from chordsim_tools.cli import Failure, Progress
-from chordsim_tools.files import make_folder, read_input, reason, sum_of, write_whole
+from chordsim_tools.cli import Failure, Refused
+from chordsim_tools.files import make_folder, read_input, sum_of, write_whole
 from chordsim_tools.program import find_program
-from chordsim_tools.study.plan import Setting, Study, label, scenario_text, value_of
+from chordsim_tools.study.curves import write_results
+from chordsim_tools.study.dask_runs import run_by_dask
+from chordsim_tools.study.plan import Setting, Study, label
+from chordsim_tools.study.pool import work_all
+from chordsim_tools.study.precise import more_seeds
 from chordsim_tools.study.program import Program
-from chordsim_tools.study.tables import write_tables
-from chordsim_tools.study.trace import Members, TraceReader
+from chordsim_tools.study.progress import RunProgress
+from chordsim_tools.study.record import write_record
+from chordsim_tools.study.setting_traps import tell_traps
+from chordsim_tools.study.task import Task, result_of
+from chordsim_tools.study.worlds import latency_of, scenario_of
 
-READING = 1
+READING = 3
 """Goes up if a trace is read in another way, so that no older result is taken for a new one."""
+Share = tuple[int, int]
+"""The part of a study that is done here, from 1, and how many parts there are."""
 
 
 @dataclass
 class Run:
-    """One run of a study: its scenario, and what its result was made of."""
+    """One run of a study: its task, and where its files are."""
 
     study: Study
     setting: Setting
     seed: int
-    program: Path
     stem: Path
-    text: str
-    made_of: str
-
-    def name(self) -> str:
-        """The run as messages name it."""
-        return f"{label(self.setting)}, seed={self.seed}"
+    task: Task
 
     def scenario(self) -> Path:
         """The scenario file."""
@@ -47,10 +46,20 @@ class Run:
         """The file of the result."""
         return self.stem.with_name(self.stem.name + ".json")
 
-    def caller(self) -> Program:
-        """The program with the files of this run."""
-        latency = self.study.latency
-        return Program(self.program, self.scenario(), None if latency is None else self.study.beside(latency))
+    def latency(self) -> Path | None:
+        """The latency file: the study's own, or one beside the scenario if each seed has another."""
+        if self.task.latency is None:
+            return None
+        if self.study.latency is not None and self.task.latency == self.study.latency_content:
+            return self.study.beside(self.study.latency)
+        return self.stem.with_name(self.stem.name + ".csv")
+
+    def write_files(self) -> None:
+        """Writes the scenario, and the latency file if it is the run's own."""
+        write_whole(self.scenario(), self.task.scenario)
+        latency = self.latency()
+        if latency is not None and self.task.latency is not None and latency.parent == self.stem.parent:
+            write_whole(latency, self.task.latency)
 
     def read_result(self) -> dict[str, Any] | None:
         """The result, if there is one that was made of the same."""
@@ -58,25 +67,69 @@ class Run:
             result = json.loads(self.result().read_bytes())
         except (OSError, ValueError):
             return None
-        return result if isinstance(result, dict) and result.get("made_of") == self.made_of else None
+        return result if isinstance(result, dict) and result.get("made_of") == self.task.made_of else None
+
+    def write_result(self, result: dict[str, Any]) -> None:
+        """Keeps the result."""
+        write_whole(self.result(), json.dumps(result) + "\n")
 
 
-def run_study(study: Study, folder: Path, jobs: int) -> None:
-    """Does the runs that are not done yet, and writes runs.csv, series.csv and manifest.json."""
+def run_study(study: Study, folder: Path, jobs: int, share: Share = (1, 1), dask: str | None = None) -> None:
+    """Does the runs of a share that are not done yet, and writes the tables if the share is the whole study."""
     program = find_program(build=True)
     if program is None:
         raise Failure(3, "the program is missing")
     program_sum = sum_of(read_input(program))
+    if study.precision is not None and share[1] > 1:
+        raise Refused(f"{study.path}: [precision] looks at all runs, so that there are no parts")
     make_folder(folder / "done")
-    remove_parts(folder / "done")
-    runs = runs_of(study, folder / "done", program, program_sum)
+    told: set[str] = set()
+    while True:
+        runs = runs_of(study, folder / "done", program_sum)[share[0] - 1 :: share[1]]
+        write_record(study, folder, program, program_sum, READING)
+        do_left(runs, program, program_sum, jobs, dask, told)
+        if share[1] > 1:
+            return
+        rows = [(run.setting, run.seed, whole_result(run)) for run in runs]
+        more = more_seeds(study, rows)
+        if not more:
+            write_results(study, folder, program, program_sum, rows)
+            return
+        study.seeds += more
+
+
+def do_left(
+    runs: list[Run], program: Path, program_sum: str, jobs: int, dask: str | None, told: set[str]
+) -> None:
+    """Does those of the runs that are not done yet, and warns of traps that were not told before."""
+    remove_parts(runs)
     left = [run for run in runs if run.read_result() is None]
-    check_settings(left)
+    check_settings(left, program)
+    firsts: dict[Setting, Task] = {}
+    for run in left:
+        firsts.setdefault(run.setting, run.task)
+    tell_traps(firsts.values(), program, told)
     try:
-        run_all(left, len(runs), jobs)
+        with RunProgress(len(runs), len(runs) - len(left)) as progress:
+            do_runs(left, program, program_sum, jobs, dask, progress)
     finally:
-        remove_parts(folder / "done")
-    write_tables(study, folder, program, program_sum, [(run.setting, run.seed, whole_result(run)) for run in runs])
+        remove_parts(runs)
+
+
+def do_runs(
+    runs: list[Run], program: Path, program_sum: str, jobs: int, dask: str | None, progress: RunProgress
+) -> None:
+    """Does these runs here, or by the workers of a Dask cluster."""
+    if dask is None:
+        work_all([(run.task.name, partial(do_run, run, program)) for run in runs], jobs, progress)
+        return
+    run_by_dask([(run.task, run.write_result) for run in runs], dask, program_sum, progress)
+
+
+def do_run(run: Run, program: Path) -> None:
+    """Does one run here and keeps its result."""
+    run.write_files()
+    run.write_result(result_of(run.task, program, run.scenario(), run.latency()))
 
 
 def whole_result(run: Run) -> dict[str, Any]:
@@ -87,24 +140,31 @@ def whole_result(run: Run) -> dict[str, Any]:
     return result
 
 
-def remove_parts(done: Path) -> None:
-    """Removes what a process that was ended had begun to write."""
-    for part in done.glob("*.part"):
-        with contextlib.suppress(OSError):
-            part.unlink()
+def remove_parts(runs: list[Run]) -> None:
+    """Removes what a process that was ended had begun to write. Another machine's files are left alone."""
+    for run in runs:
+        for ending in ("toml", "csv", "json"):
+            with contextlib.suppress(OSError):
+                run.stem.with_name(f"{run.stem.name}.{ending}.part").unlink()
 
 
-def runs_of(study: Study, done: Path, program: Path, program_sum: str) -> list[Run]:
+def runs_of(study: Study, done: Path, program_sum: str) -> list[Run]:
     """All runs, settings first and then seeds."""
-    latency = None if study.latency_content is None else sum_of(study.latency_content)
     runs = []
     for setting in study.settings():
         for seed in study.seeds:
-            text = scenario_text(study, setting, seed)
-            made_of = json.dumps([text, latency, program_sum, study.window_us, study.warmup_us, READING])
-            stem = done / file_stem(setting, seed)
-            runs.append(Run(study, setting, seed, program, stem, text, sum_of(made_of)))
+            text, latency = files_of(study, setting, seed)
+            latency_sum = None if latency is None else sum_of(latency)
+            made_of = json.dumps([text, latency_sum, program_sum, *study.times(), READING])
+            name = f"{label(setting)}, seed={seed}"
+            task = Task(name, text, latency, *study.times(), sum_of(made_of))
+            runs.append(Run(study, setting, seed, done / file_stem(setting, seed), task))
     return runs
+
+
+def files_of(study: Study, setting: Setting, seed: int) -> tuple[str, bytes | None]:
+    """The scenario and the latencies of a setting and a seed."""
+    return scenario_of(study, setting, seed), latency_of(study, setting, seed)
 
 
 def file_stem(setting: Setting, seed: int) -> str:
@@ -113,95 +173,14 @@ def file_stem(setting: Setting, seed: int) -> str:
     return name if len(name) <= 200 else sum_of(name)
 
 
-def check_settings(runs: list[Run]) -> None:
+def check_settings(runs: list[Run], program: Path) -> None:
     """Fails if a setting is refused, before the first run."""
     seen: set[Setting] = set()
     for run in runs:
         if run.setting not in seen:
             seen.add(run.setting)
-            write_whole(run.scenario(), run.text)
+            run.write_files()
             try:
-                run.caller().check()
+                Program(program, run.scenario(), run.latency()).check()
             except Failure as fault:
-                raise Failure(fault.status, f"{run.name()}: {fault.text}") from None
-
-
-def do_run(run: Run) -> None:
-    """Runs one scenario and writes its result."""
-    write_whole(run.scenario(), run.text)
-    caller = run.caller()
-    idents = caller.idents()
-    initial = [node["name"] for node in run.study.scenario["node"] if node.get("initial") is True]
-    duration = value_of(run.study.scenario, run.setting, "duration_us")
-    reader = TraceReader(Members(idents, initial), duration, run.study.window_us, run.study.warmup_us)
-    report = caller.run(reader.read)
-    if (reader.all_lookups, reader.all_found) != (report.get("lookups"), report.get("found")):
-        raise Failure(3, "the report does not count the lines of the trace")
-    result = {
-        "made_of": run.made_of,
-        "report": report,
-        "numbers": reader.numbers(),
-        "series": [[step.lookups, step.found, step.right, step.members] for step in reader.steps],
-    }
-    write_whole(run.result(), json.dumps(result) + "\n")
-
-
-def work(run: Run, pipe: connection.Connection) -> None:
-    """A process of its own does one run; what stops it goes through the pipe."""
-    signal.signal(signal.SIGINT, signal.SIG_DFL)
-    signal.signal(signal.SIGTERM, lambda *_: sys.exit(143))
-    try:
-        do_run(run)
-    except Failure as fault:
-        pipe.send((fault.status, fault.text))
-        sys.exit(fault.status)
-
-
-# concurrent.futures would be shorter, but a pool of it cannot end the runs in hand: they are seconds to hours long, and
-# a stop has to end them at once, together with their programs.
-Going = dict[int, tuple[BaseProcess, connection.Connection, Run]]
-"""The processes of the runs in hand, by their sentinels."""
-
-
-def run_all(runs: list[Run], total: int, jobs: int) -> None:
-    """Does these runs, at most `jobs` of them side by side. The first one that stops, stops all."""
-    going: Going = {}
-    try:
-        with Progress("runs", total, total - len(runs), stays=True) as progress:
-            waiting = list(reversed(runs))
-            while waiting or going:
-                while waiting and len(going) < jobs:
-                    start(waiting.pop(), going)
-                for sentinel in [place for place in connection.wait(list(going)) if isinstance(place, int)]:
-                    finish(*going.pop(sentinel))
-                    progress.one_more()
-    finally:
-        for process, _, _ in going.values():
-            process.terminate()
-        for process, _, _ in going.values():
-            process.join()
-
-
-def start(run: Run, going: Going) -> None:
-    """Starts a process for a run."""
-    context = multiprocessing.get_context("fork")
-    receiver, sender = context.Pipe(duplex=False)
-    process = context.Process(target=work, args=(run, sender))
-    try:
-        process.start()
-    except OSError as fault:
-        raise Failure(3, f"cannot start a process: {reason(fault)}") from None
-    sender.close()
-    going[process.sentinel] = (process, receiver, run)
-
-
-def finish(process: BaseProcess, pipe: connection.Connection, run: Run) -> None:
-    """Takes the end of a run."""
-    process.join()
-    status, text = 3, f"its process ended with status {process.exitcode}"
-    with contextlib.suppress(EOFError, OSError):
-        if pipe.poll():
-            status, text = pipe.recv()
-    pipe.close()
-    if process.exitcode != 0:
-        raise Failure(status, f"{run.name()}: {text}")
+                raise Failure(fault.status, f"{run.task.name}: {fault.text}") from None

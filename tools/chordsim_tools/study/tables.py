@@ -4,7 +4,8 @@ import csv
 import io
 import json
 import subprocess
-from dataclasses import dataclass
+from collections import Counter
+from dataclasses import asdict, dataclass
 from pathlib import Path
 from typing import Any
 
@@ -13,7 +14,7 @@ from chordsim_tools.files import read_input, sum_of, write_whole
 from chordsim_tools.program import TOP
 from chordsim_tools.study.plan import Setting, Study
 
-VERSION = 1
+VERSION = 2
 OWN_FILES = ("tools/study", "tools/chordsim_tools/study")
 Row = tuple[Setting, int, dict[str, Any]]
 
@@ -43,7 +44,8 @@ def runs_text(rows: list[Row]) -> str:
         report = dict(result["report"])
         if has_losses:
             report.setdefault("losses", 0)
-        numbers = {**dict(setting), "seed": seed, **report, **result["numbers"]}
+        varied: dict[str, Any] = dict(setting)
+        numbers = {**varied, "seed": seed, **report, **result["numbers"]}
         if not lines:
             lines.append(list(numbers))
         if list(numbers) != lines[0]:
@@ -81,7 +83,9 @@ def commit_of(folder: Path, *names: str) -> str | None:
 def manifest_of(study: Study, program: Path, program_sum: str) -> dict[str, Any]:
     """What the results were made of."""
     inside = program.is_relative_to(TOP)
-    sums = {study.path.name: sum_of(study.content), study.base: sum_of(study.base_content)}
+    sums = {study.path.name: sum_of(study.content)}
+    if study.base is not None:
+        sums[study.base] = sum_of(study.base_content)
     if study.latency is not None and study.latency_content is not None:
         sums[study.latency] = sum_of(study.latency_content)
     plain = {key: study.scenario[key] for key in ("duration_us", "audit_us") if key in study.scenario}
@@ -89,11 +93,21 @@ def manifest_of(study: Study, program: Path, program_sum: str) -> dict[str, Any]
         "question": study.question,
         "study": study.path.name,
         "base": study.base,
+        "generate": study.generate,
         "latency": study.latency,
+        "latency_arguments": study.latency_arguments,
         "seeds": study.seeds,
         "vary": study.vary,
         "window_us": study.window_us,
         "warmup_us": study.warmup_us,
+        "cooldown_us": study.cooldown_us,
+        "precision": None if study.precision is None else asdict(study.precision),
+        "goal": None if study.goal is None else asdict(study.goal),
+        "sizes": study.sizes,
+        "world": study.world,
+        "note": study.note,
+        "commands": dict(Counter(one["do"] for one in study.scenario.get("command", []))),
+        "own_churn": any(node.get("churn") is True for node in study.scenario["node"]),
         "nodes": len(study.scenario["node"]),
         **plain,
         "tool": {"version": VERSION, "commit": commit_of(TOP, *OWN_FILES)},

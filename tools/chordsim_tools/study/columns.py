@@ -1,0 +1,106 @@
+"""The numbers that plots draw: any column of runs.csv, quotients of two, and a few with names."""
+
+from chordsim_tools.cli import Refused
+from chordsim_tools.study.numbers import Cells
+from chordsim_tools.study.tables import Tables
+
+NAMED = {
+    "right-of-begun": ("right", "judged-lookups", "right answers, of lookups begun"),
+    "right-of-found": ("right", "judged-found", "right answers, of all answers"),
+    "found-of-begun": ("judged-found", "judged-lookups", "answers, of lookups begun"),
+    "served": ("right", "wanted", "right answers, of lookups wanted"),
+    "whole-of-audits": ("whole-rings", "judged-audits", "audits with a whole ring"),
+}
+"""Quotients with names: the two columns, and what the quotient is."""
+COST = "cost"
+GREATER_IS_BETTER = {"right-of-begun", "right-of-found", "found-of-begun", "served", "whole-of-audits", "right"}
+WORDS = {"us-p50": "lookup time, p50", "us-p90": "lookup time, p90", "us-p99": "lookup time, p99"}
+
+
+class Column:
+    """A number of each run: its name, how its values are scaled, and its label."""
+
+    def __init__(self, name: str, tables: Tables) -> None:
+        """The column of this name, or a refusal that lists all."""
+        self.name = name
+        self.nodes = int(tables.manifest["nodes"])
+        self.duration = tables.manifest.get("duration_us")
+        self.there = set(tables.runs[0]) if tables.runs else set()
+        self.parts = self.parts_of()
+        if name != COST and self.parts is None and name not in self.there:
+            listed = ", ".join([*sorted(NAMED), COST, *sorted(self.there)])
+            raise Refused(f"no column {name} in runs.csv; there are A/B of two columns, and {listed}")
+
+    def parts_of(self) -> tuple[str, str] | None:
+        """The two columns of a quotient."""
+        if self.name in self.there:
+            return None
+        above, slash, below = self.name.partition("/")
+        parts = (above, below) if slash else NAMED.get(self.name, ("", ""))[:2]
+        return parts if all(part in self.there for part in parts) else None
+
+    @property
+    def is_time(self) -> bool:
+        """Whether it is in microseconds."""
+        return self.parts is None and (self.name.startswith("us-") or self.name.endswith(("-us", "_us")))
+
+    @property
+    def is_share(self) -> bool:
+        """Whether it is a share of 0 to 1, which is drawn in percent."""
+        return self.parts is not None and self.name in NAMED
+
+    @property
+    def greater_is_better(self) -> bool:
+        """Which way is better."""
+        return self.name in GREATER_IS_BETTER
+
+    def values(self, rows: list[Cells]) -> list[float]:
+        """The numbers of the runs that have it."""
+        return [value for cells in rows if (value := self.of(cells)) is not None]
+
+    def is_wide(self, values: list[float]) -> bool:
+        """Whether these are times that span more than two decades."""
+        positive = [value for value in values if value > 0]
+        return self.is_time and bool(positive) and max(positive) / min(positive) > 100
+
+    def of(self, cells: Cells) -> float | None:
+        """The number of a run, if it has it."""
+        if self.name == COST:
+            return self.cost(cells)
+        if self.parts is None:
+            return plain(cells[self.name])
+        above, below = (plain(cells[part]) for part in self.parts)
+        return None if above is None or not below else above / below
+
+    def cost(self, cells: Cells) -> float | None:
+        """Messages per member and second where the table has them, else events per node and second."""
+        if {"messages", "cost-member-us"} <= self.there:
+            messages, time = plain(cells["messages"]), plain(cells["cost-member-us"])
+            return None if messages is None or not time else messages / time * 1e6
+        events, duration = plain(cells["events"]), plain(cells.get("duration_us") or str(self.duration or ""))
+        return None if events is None or not duration else events / self.nodes / duration * 1e6
+
+    def scale(self, greatest: float) -> tuple[float, str]:
+        """What values up to this one are multiplied by, and the label with the unit."""
+        if self.name == COST:
+            per_member = {"messages", "cost-member-us"} <= self.there
+            return 1, "messages per member and second" if per_member else "events per node of the file and second"
+        label = NAMED[self.name][2] if self.name in NAMED else WORDS.get(self.name, self.name)
+        if self.is_share:
+            return 100, f"{label}, %"
+        if self.is_time:
+            return (1e-6, f"{label}, s") if greatest >= 1e7 else (1e-3, f"{label}, ms")
+        return 1, label
+
+
+def plain(cell: str) -> float | None:
+    """The number of a cell. An empty one has none, and neither has a word such as `never`."""
+    try:
+        return float(cell)
+    except ValueError:
+        return None
+
+
+def ring_lost(rows: list[Cells]) -> bool:
+    """Whether a run of these has an audit that finds no ring."""
+    return any(cells.get("ringless", "0") != "0" for cells in rows)

@@ -1,0 +1,101 @@
+"""What plots take from a trace beside the tables: how lookups' times and hops are distributed, timeouts and losses."""
+
+import json
+from collections import Counter
+from pathlib import Path
+from typing import Any
+
+from chordsim_tools.files import read_input, sum_of, write_whole
+from chordsim_tools.study.plan import Study
+from chordsim_tools.study.tables import Row, csv_text, write_tables
+
+POINTS = 100
+"""How many equal shares of the found lookups a curve of times has points for."""
+CDF, STEPS = "cdf.csv", "steps.csv"
+
+
+class Curves:
+    """Reads the lines of a trace. What begins before `warmup_us`, or in the cool-down, counts in the steps alone."""
+
+    def __init__(self, duration_us: int, window_us: int, warmup_us: int, cooldown_us: int) -> None:
+        """A reader that has read nothing."""
+        self.window_us = window_us
+        self.judged = range(warmup_us, duration_us - cooldown_us)
+        self.begun = 0
+        self.times: list[int] = []
+        self.hops: Counter[int] = Counter()
+        steps = (duration_us + window_us - 1) // window_us
+        self.counts = {"timeout": [0] * steps, "lose": [0] * steps}
+
+    def read(self, line: str) -> None:
+        """Takes one line."""
+        fields = line.split(" ", 8)
+        word = fields[2]
+        if word in self.counts:
+            self.counts[word][int(fields[0]) // self.window_us] += 1
+        elif word == "lookup":
+            self.begun += int(fields[0]) in self.judged
+        elif word == "found":
+            taken = int(fields[7].removeprefix("us="))
+            if int(fields[0]) - taken in self.judged:
+                self.times.append(taken)
+                self.hops[int(fields[5].removeprefix("hops="))] += 1
+
+    def numbers(self) -> dict[str, Any]:
+        """What a result keeps: the times at equal shares of the found lookups, the first and the last among them."""
+        times = sorted(self.times)
+        last = len(times) - 1
+        return {
+            "begun": self.begun,
+            "found": len(times),
+            "us": [times[last * point // POINTS] for point in range(POINTS + 1)] if times else [],
+            "hops": [self.hops[number] for number in range(max(self.hops, default=-1) + 1)],
+            "timeouts": self.counts["timeout"],
+            "losses": self.counts["lose"],
+        }
+
+
+def write_results(study: Study, folder: Path, program: Path, program_sum: str, rows: list[Row]) -> None:
+    """Writes the tables, and those of the curves beside them; the manifest has the digests of all."""
+    write_tables(study, folder, program, program_sum, rows)
+    path = folder / "manifest.json"
+    manifest = json.loads(read_input(path))
+    for name, text in ((CDF, cdf_text(study, rows)), (STEPS, steps_text(study, rows))):
+        write_whole(folder / name, text)
+        manifest["sha256"][name] = sum_of(text)
+    write_whole(path, json.dumps(manifest, indent=2) + "\n")
+
+
+def cdf_text(study: Study, rows: list[Row]) -> str:
+    """A line for each run, number (us or hops) and value: which share of the lookups begun had found by then."""
+    lines: list[list[Any]] = [[*study.vary, "seed", "number", "value", "share"]]
+    for setting, seed, result in rows:
+        head = [*(value for _, value in setting), seed]
+        curves = result["curves"]
+        lines += [[*head, "us", value, f"{share:.5f}"] for value, share in time_points(curves)]
+        lines += [[*head, "hops", value, f"{share:.5f}"] for value, share in hop_points(curves)]
+    return csv_text(lines)
+
+
+def time_points(curves: dict[str, Any]) -> list[tuple[int, float]]:
+    """The points of the curve of times."""
+    return [(us, curves["found"] * point / POINTS / curves["begun"]) for point, us in enumerate(curves["us"])]
+
+
+def hop_points(curves: dict[str, Any]) -> list[tuple[int, float]]:
+    """The points of the curve of hops."""
+    points, total = [], 0
+    for number, count in enumerate(curves["hops"]):
+        total += count
+        points.append((number, total / curves["begun"]))
+    return points
+
+
+def steps_text(study: Study, rows: list[Row]) -> str:
+    """A line for each run and step of time: calls that timed out, and messages lost."""
+    lines: list[list[Any]] = [[*study.vary, "seed", "from_us", "timeouts", "losses"]]
+    for setting, seed, result in rows:
+        head = [*(value for _, value in setting), seed]
+        pairs = zip(result["curves"]["timeouts"], result["curves"]["losses"], strict=True)
+        lines += [[*head, number * study.window_us, *pair] for number, pair in enumerate(pairs)]
+    return csv_text(lines)

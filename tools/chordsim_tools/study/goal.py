@@ -1,0 +1,98 @@
+"""What a study is for: [goal] names what a setting has to reach, [precision] how narrow an interval has to be."""
+
+from dataclasses import dataclass
+from pathlib import Path
+from typing import Any
+
+from chordsim_tools.cli import Refused
+
+SHARES = ("served", "right_of_begun", "defensible", "given_up")
+NUMBERS = (*SHARES, "members", "p50_ms", "p99_ms", "messages", "upkeep", "events")
+"""The numbers of a setting that a goal or a comparison may name."""
+
+
+@dataclass(frozen=True)
+class Limit:
+    """A number that has to be at least, or at most, so much."""
+
+    number: str
+    is_least: bool
+    value: float
+
+
+@dataclass(frozen=True)
+class Goal:
+    """The limits, the greatest rate of rings lost an hour, and the number that is to be least."""
+
+    limits: tuple[Limit, ...]
+    lost_max: float | None
+    least: str
+
+
+@dataclass(frozen=True)
+class Precision:
+    """Seeds are run until the interval of a number is at most this wide to each side."""
+
+    number: str
+    half: float
+    least_seeds: int
+    most_seeds: int
+
+
+def is_number(value: Any) -> bool:
+    """Whether a value is a number."""
+    return isinstance(value, int | float) and not isinstance(value, bool)
+
+
+def goal_of(path: Path, table: Any) -> Goal | None:
+    """The table [goal]: NUMBER_min or NUMBER_max for any number, lost_max and least."""
+    if table is None:
+        return None
+    if not isinstance(table, dict):
+        raise Refused(f"{path}: goal has to be a table")
+    limits = tuple(limit_of(path, key, value) for key, value in table.items() if key not in ("least", "lost_max"))
+    least, lost = table.get("least", "messages"), table.get("lost_max")
+    if least not in NUMBERS:
+        raise Refused(f"{path}: [goal] least has to be one of {', '.join(NUMBERS)}")
+    if lost is not None and (not is_number(lost) or lost <= 0):
+        raise Refused(f"{path}: [goal] lost_max has to be a number of rings lost an hour, above 0")
+    return Goal(limits, lost, least)
+
+
+def goal_again(table: dict[str, Any] | None) -> Goal | None:
+    """The goal as a manifest keeps it."""
+    if table is None:
+        return None
+    return Goal(tuple(Limit(**limit) for limit in table["limits"]), table["lost_max"], table["least"])
+
+
+def limit_of(path: Path, key: str, value: Any) -> Limit:
+    """A limit of [goal]."""
+    number, _, end = key.rpartition("_")
+    if number not in NUMBERS or end not in ("min", "max") or not is_number(value):
+        raise Refused(f"{path}: [goal] {key}: NUMBER_min or NUMBER_max and a number, of {', '.join(NUMBERS)}")
+    if number in SHARES and not 0 <= value <= 1:
+        raise Refused(f"{path}: [goal] {key} has to be a share, 0 to 1")
+    return Limit(number, end == "min", float(value))
+
+
+def precision_of(path: Path, table: Any) -> Precision | None:
+    """The table [precision]: one number and its half width, least_seeds and most_seeds."""
+    if table is None:
+        return None
+    if not isinstance(table, dict):
+        raise Refused(f"{path}: precision has to be a table")
+    least, most = table.get("least_seeds", 10), table.get("most_seeds", 200)
+    rest = {key: value for key, value in table.items() if key not in ("least_seeds", "most_seeds")}
+    are_above_0 = all(is_number(half) and half > 0 for half in rest.values())
+    if len(rest) != 1 or not set(rest) <= set(NUMBERS) or not are_above_0:
+        raise Refused(f"{path}: [precision] has to name one number and half the width of its interval, above 0")
+    if not all(isinstance(count, int) for count in (least, most)) or not 5 <= least <= most <= 10_000:
+        raise Refused(f"{path}: [precision] least_seeds and most_seeds have to be integers, 5 or more")
+    [(number, half)] = rest.items()
+    return Precision(number, float(half), least, most)
+
+
+def precision_again(table: dict[str, Any] | None) -> Precision | None:
+    """The precision as a manifest keeps it."""
+    return None if table is None else Precision(**table)

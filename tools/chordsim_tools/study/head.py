@@ -1,0 +1,107 @@
+"""The head of a study's page: what is new in each world, what is judged, whether it was steady, and warnings."""
+
+from typing import Any
+
+from chordsim_tools.quantities import time_text
+from chordsim_tools.study.goal import precision_again
+from chordsim_tools.study.interval import LEAST_SEEDS, Interval, interval
+from chordsim_tools.study.numbers import LEAST_FOR_P99, Cells, Summary, ratio
+from chordsim_tools.study.precise import stopped
+
+MUCH = 0.001
+"""Of more lookups than this share cut off by the end the page warns."""
+
+
+def listed(words: list[str]) -> str:
+    """Words with commas."""
+    return ", ".join(words)
+
+
+def worlds(manifest: dict[str, Any]) -> str:
+    """What is drawn for each seed, and what is the same in all."""
+    new, same = ["timers and random keys"], []
+    counts = listed([f"{count} {do}" for do, count in manifest["commands"].items()])
+    if manifest["own_churn"]:
+        new.append("lives and down times that the program draws")
+    if manifest["generate"] is None:
+        same += [manifest["base"] + (f" with its commands ({counts})" if counts else ""), "identifiers"]
+    else:
+        new += ["identifiers", *(["commands (lives, joins, lookups and their keys)"] if counts else [])]
+    if manifest["latency_arguments"] is not None:
+        new.append("latencies")
+    else:
+        same.append(f"latencies ({manifest['latency'] or 'latency_us for all pairs'})")
+    seeds = len(manifest["seeds"])
+    noun = "world" if seeds == 1 else "worlds"
+    text = f"{seeds} {noun} a setting, the same seeds for all. New in each: {listed(new)}."
+    if not same:
+        return text
+    return f"{text} **The same in all: {listed(same)}.** Intervals say nothing of other ones."
+
+
+def judged(manifest: dict[str, Any]) -> str:
+    """What is judged."""
+    warmup, cooldown = (time_text(manifest[key]) if manifest[key] else "" for key in ("warmup_us", "cooldown_us"))
+    begin, end = warmup or "the start", f"{cooldown} before the end" if cooldown else "the end"
+    return (
+        f"Judged: lookups begun from {begin} to {end}, by what becomes of them until the end. "
+        f"Costs: of the time from {begin} to the end."
+    )
+
+
+def drift(one: Summary, level: float) -> Interval:
+    """Served in the first half of the judged span less served in the second, seed by seed."""
+
+    def of_run(cells: Cells) -> float | None:
+        """The difference in a run."""
+        halves = ratio(cells, "right-1", "wanted-1"), ratio(cells, "right-2", "wanted-2")
+        return None if halves[0] is None or halves[1] is None else halves[0] - halves[1]
+
+    return interval(map(of_run, one.rows), level)
+
+
+def steadiness(found: list[Summary]) -> str:
+    """First against second half of the judged span."""
+    level = 1 - 0.05 / len(found)
+    # Seeds with and without a ring are of two kinds: their mean has no interval.
+    drifts = [(one, drift(one, level)) for one in found if one.kept in (0, one.seeds)]
+    unsteady = [
+        f"{one.label}: {change.told(100)} points" for one, change in drifts
+        if change.half is not None and change.mean is not None and abs(change.mean) > change.half
+    ]
+    if all(change.half is None for _, change in drifts):
+        return "Whether the judged span is steady cannot be said: too few seeds, or some of them lost their ring."
+    if unsteady:
+        return f"**Not steady**: served in the first half of the judged span less the second: {'; '.join(unsteady)}."
+    largest = max((change for _, change in drifts if change.half is not None), key=lambda one: abs(one.mean or 0.0))
+    most = largest.told(100)
+    return f"No drift seen: served in the first half of the judged span less the second, {most} points at most."
+
+
+def warnings(manifest: dict[str, Any], found: list[Summary]) -> list[str]:
+    """What a reader has to know before the table."""
+    told = []
+    moves = [f"{manifest['commands'][do]} {do}" for do in ("crash", "join") if manifest["commands"].get(do)]
+    if moves and manifest["generate"] is None:
+        told.append(f"The commands ({listed(moves)}) are the same in all seeds: intervals leave the churn out.")
+    if min(one.seeds for one in found) < LEAST_SEEDS:
+        told.append(f"Fewer than {LEAST_SEEDS} seeds: no intervals.")
+    rows = [cells for one in found for cells in one.rows]
+    if any(0 < int(cells["judged-lookups"]) < LEAST_FOR_P99 for cells in rows):
+        told.append(f"Runs with fewer than {LEAST_FOR_P99} judged lookups have no p99.")
+    cut, all_of_them = (sum(int(cells[word]) for cells in rows) for word in ("cut-by-end", "judged-lookups"))
+    if cut > MUCH * all_of_them:
+        share = 100 * cut / all_of_them
+        told.append(f"The end cut off {share:.2g} % of the judged lookups, which are left out: set cooldown_us.")
+    if manifest["warmup_us"] == 0 and (manifest["own_churn"] or moves):
+        told.append("Without warmup_us the time before the first crashes is judged too.")
+    return told
+
+
+def head(manifest: dict[str, Any], found: list[Summary]) -> str:
+    """All of it."""
+    precise = precision_again(manifest["precision"])
+    stop = "" if precise is None else f" {stopped(precise, found)}"
+    text = f"{worlds(manifest)}{stop}\n\n{judged(manifest)} {steadiness(found)}\n\n"
+    told = warnings(manifest, found)
+    return text + "".join(f"- Warning: {line}\n" for line in told) + ("\n" if told else "")

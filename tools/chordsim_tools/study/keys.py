@@ -1,0 +1,131 @@
+"""The values of a study file, read and refused key by key."""
+
+import re
+import tomllib
+from pathlib import Path
+from typing import Any
+
+from chordsim_tools.cli import Refused
+from chordsim_tools.generate.command import OPTIONS
+from chordsim_tools.quantities import time_of
+from chordsim_tools.scenario.tables import CHURN, GREATEST_INTEGER, LOOKUPS, SECOND, Key
+from chordsim_tools.study.messages import KINDS
+
+Value = int | str
+"""A value that is varied: an integer, or a text for an option of tools/generate."""
+MOST_SEEDS = 10_000
+
+
+def varied_keys() -> set[str]:
+    """The keys of a scenario that can be varied, in either profile."""
+
+    def names(keys: list[Key]) -> list[str]:
+        """The integers among these keys."""
+        return [key.name for key in keys if key.kind == "integer"]
+
+    tables = {f"{table}.{name}" for table, keys in (("churn", CHURN), ("lookups", LOOKUPS)) for name in names(keys)}
+    return (set(names(SECOND.tables["top"])) | tables) - {"seed"}
+
+
+def parsed(path: Path, content: bytes) -> dict[str, Any]:
+    """The document of a TOML file."""
+    try:
+        return tomllib.loads(content.decode().removeprefix("\ufeff"))
+    except (UnicodeDecodeError, tomllib.TOMLDecodeError, RecursionError) as fault:
+        raise Refused(f"{path}: no TOML 1.0: {' '.join(str(fault).split())}") from None
+
+
+def is_integer(value: Any) -> bool:
+    """Whether a value is an integer (a boolean is none)."""
+    return isinstance(value, int) and not isinstance(value, bool)
+
+
+def text_of(path: Path, top: dict[str, Any], key: str) -> str:
+    """A text of the study file that has to be there."""
+    value = top.get(key)
+    if not isinstance(value, str) or not value.strip():
+        raise Refused(f"{path}: {key} has to be a text")
+    return value
+
+
+def micros_of(key: str, value: Any) -> Any:
+    """A time with a unit in microseconds; any other value as it is."""
+    if not key.endswith("_us") or not isinstance(value, str) or value[-1:].isdecimal():
+        return value
+    return time_of(value)
+
+
+def number_of(path: Path, top: dict[str, Any], key: str, least: int, default: Any) -> int:
+    """A number of the study file, or what stands for it. Times may be texts with units."""
+    value = micros_of(key, top.get(key, default))
+    if not is_integer(value) or not least <= value <= GREATEST_INTEGER:
+        raise Refused(f"{path}: {key} has to be an integer, {least} or more")
+    return int(value)
+
+
+def arguments_of(path: Path, top: dict[str, Any], key: str) -> list[str]:
+    """A list of arguments. The seed and the file are set by the study."""
+    value = top[key]
+    if not isinstance(value, list) or not all(isinstance(one, str) for one in value):
+        raise Refused(f"{path}: {key} has to be a list of arguments, each a text")
+    for word in value:
+        if word.partition("=")[0] in ("--seed", "-o", "--random", "--links"):
+            raise Refused(f"{path}: {key} has {word}, which the study sets for each seed or which makes another world")
+    return list(value)
+
+
+def seeds_of(path: Path, value: Any, is_precise: bool = False) -> list[int]:
+    """The seeds: a list, a number of them, or a text as "1-10"; a study with [precision] needs none."""
+    if is_precise and value is None:
+        return [1]
+    if is_integer(value) and 1 <= value <= MOST_SEEDS:
+        value = list(range(1, value + 1))
+    if isinstance(value, str) and (match := re.fullmatch(r"([0-9]{1,9})-([0-9]{1,9})", value)):
+        value = list(range(int(match[1]), int(match[2]) + 1))
+    in_range = isinstance(value, list) and all(is_integer(seed) and 0 <= seed <= GREATEST_INTEGER for seed in value)
+    if not in_range or not value or len(set(value)) < len(value):
+        wanted = 'a list of different integers, 0 or more, or a text as "1-10", or a number of seeds'
+        raise Refused(f"{path}: seeds has to be {wanted}")
+    if is_precise:
+        raise Refused(f"{path}: seeds and [precision] exclude each other")
+    return list(value)
+
+
+def vary_of(path: Path, table: Any, is_generated: bool) -> dict[str, list[Value]]:
+    """The table [vary]; `churn.life_min_us` may stand in quotes or not."""
+    if not isinstance(table, dict):
+        raise Refused(f"{path}: vary has to be a table")
+    flat: dict[str, Any] = {}
+    for key, value in table.items():
+        inner = {f"{key}.{name}": item for name, item in value.items()} if isinstance(value, dict) else {key: value}
+        flat.update(inner)
+    for key, values in flat.items():
+        flat[key] = values_of(path, key, values, is_generated)
+    return flat
+
+
+def values_of(path: Path, key: str, values: Any, is_generated: bool) -> list[Value]:
+    """The values of a varied key."""
+    options = {f"generate.--{name}" for name, *_ in OPTIONS} - {"generate.--seed"}
+    if key not in varied_keys() and not (is_generated and key in options):
+        raise Refused(f"{path}: [vary] {key} is no key of a scenario that can be varied")
+    found = [micros_of(key, value) for value in values] if isinstance(values, list) else []
+    well = found and all(is_integer(value) or (key in options and isinstance(value, str)) for value in found)
+    if not well or len(set(found)) < len(found):
+        raise Refused(f"{path}: [vary] {key} has to be a list of different integers (times may have units, as \"1s\")")
+    return found
+
+
+def world_of(path: Path, value: Any, vary: dict[str, list[Value]]) -> list[str] | None:
+    """The varied keys that make the world, which nobody chooses, if the study names them."""
+    if value is not None and (not isinstance(value, list) or not all(key in vary for key in value)):
+        raise Refused(f"{path}: world has to be a list of keys of [vary]")
+    return value
+
+
+def sizes_of(path: Path, table: Any) -> dict[str, int]:
+    """The table [sizes]: bytes of a message of each kind, or none."""
+    well = isinstance(table, dict) and all(is_integer(size) and size >= 0 for size in table.values())
+    if not well or (table and set(table) != set(KINDS)):
+        raise Refused(f"{path}: [sizes] has to give the bytes of a message of each kind: {', '.join(KINDS)}")
+    return dict(table)

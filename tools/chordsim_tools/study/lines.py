@@ -1,0 +1,123 @@
+"""A column of the table against a varied key: a line for each value of others, a panel for each world."""
+
+from typing import Any
+
+from chordsim_tools.known import known
+from chordsim_tools.study.columns import Column, ring_lost
+from chordsim_tools.study.figures import finish, grid, legend_head, line_handles
+from chordsim_tools.study.interval import LEAST_SEEDS, interval
+from chordsim_tools.study.looks import Axis, Layout, setting_words
+from chordsim_tools.study.numbers import Cells
+from chordsim_tools.study.so_far import Drawn
+
+MOST_ACROSS = 4
+Rows = dict[tuple[str, ...], list[Cells]]
+
+
+def lines_figure(pyplot: Any, drawn: Drawn, layout: Layout, columns: list[Column], rows: Rows, title: str) -> Any:
+    """A row of panels for each column; the columns of a single panel are side by side."""
+    panels = layout.parts(layout.panels)
+    across = min(len(panels), MOST_ACROSS)
+    figure, blocks = blocks_of(pyplot, len(columns), len(panels), across, 6.5 if layout.x else 3.5)
+    for block, column in zip(blocks, columns, strict=True):
+        values = column.values(drawn.tables.runs)
+        for place, panel in enumerate(panels):
+            draw_panel(block[place], layout, panel, column, rows, max(values, default=0), place % across == 0)
+        for spare in block[len(panels) :]:
+            spare.set_axis_off()
+        same_limits(block[: len(panels)], column, values)
+    handles = [] if not layout.by else line_handles(pyplot, layout, None if layout.x else "none")
+    if any(ring_lost(group) for group in rows.values()):
+        style = {"color": "0.3", "marker": "o", "linestyle": "none", "markerfacecolor": "white", "markersize": 5}
+        handles.append(pyplot.Line2D([], [], label="hollow: a ring was lost", **style))
+    return finish(figure, title, note_of(rows), drawn.mark, handles, legend_head(layout.by))
+
+
+def blocks_of(pyplot: Any, columns: int, panels: int, across: int, widest: float) -> tuple[Any, list[Any]]:
+    """The figure, and the axes of each column's panels."""
+    if panels == 1:
+        figure, axes = grid(pyplot, 1, columns, (min(widest, 4.2) if columns > 1 else widest, 3.4))
+        return figure, [axes[0][number : number + 1] for number in range(columns)]
+    down = -(-panels // across)
+    size = (min(widest, max(3.2, 9 / across)), 2.9 if columns > 1 else 3.4)
+    figure, axes = grid(pyplot, down * columns, across, size)
+    return figure, [axes[number * down : (number + 1) * down].flatten() for number in range(columns)]
+
+
+def note_of(rows: Rows) -> str:
+    """What points and bars are."""
+    counts = sorted({len(group) for group in rows.values()})
+    seeds = " to ".join(map(str, dict.fromkeys((counts[0], counts[-1]))))
+    if counts[-1] < LEAST_SEEDS:
+        return f"means over {seeds} seeds; below {LEAST_SEEDS} there are no intervals"
+    return f"means over {seeds} seeds, bars are 95% intervals (Student's t), from {LEAST_SEEDS} seeds on"
+
+
+def draw_panel(
+    axes: Any, layout: Layout, panel: tuple[str, ...], column: Column, rows: Rows, greatest: float,
+    is_first: bool
+) -> None:
+    """One panel: a line for each value of the keys that lines are by."""
+    here = layout.of_panel(panel)
+    axis = Axis(layout.x, [value for part in layout.parts(layout.x_keys) for value in part] or [""])
+    scale, label = column.scale(greatest)
+    parts = layout.parts(layout.by)
+    for number, part in enumerate(parts):
+        line = [one for one in here if layout.part(one, layout.by) == part]
+        draw_line(axes, axis, layout, line, column, rows, scale, number - (len(parts) - 1) / 2)
+    axis.dress(axes)
+    axes.set_ylabel(label if is_first else "")
+    if layout.panels:
+        axes.set_title(setting_words(layout.panels, panel))
+
+
+def draw_line(
+    axes: Any, axis: Axis, layout: Layout, line: list[tuple[str, ...]], column: Column, rows: Rows, scale: float,
+    shift: float,
+) -> None:
+    """A line with its bars. The marker is hollow where a seed lost its ring."""
+    points = []
+    for one in sorted(line, key=lambda one: axis.places[place_of(layout, one)]):
+        found = interval(column.of(cells) for cells in rows[one])
+        if found.mean is not None:
+            half = scale * (found.half or 0)
+            points.append((axis.place(place_of(layout, one), shift), scale * found.mean, half, ring_lost(rows[one])))
+    if not points:
+        return
+    look = layout.look(line[0])
+    places, means = [point[0] for point in points], [point[1] for point in points]
+    axes.plot(places, means, color=look.colour, linestyle=look.line, linewidth=1.4, zorder=2)
+    bars = cut_bars(means, [point[2] for point in points], column)
+    axes.errorbar(places, means, yerr=bars, fmt="none", ecolor=look.colour, elinewidth=1, capsize=2, zorder=1)
+    for place, mean, _, lost in points:
+        face = "white" if lost else look.colour
+        axes.plot([place], [mean], marker=look.marker, color=look.colour, markerfacecolor=face, markersize=5, zorder=3)
+
+
+def cut_bars(means: list[float], halves: list[float], column: Column) -> list[list[float]]:
+    """Bars below and above, cut at 0 and, of shares, at 100%."""
+    most = 100.0 if column.is_share else float("inf")
+    below = [min(half, max(0.0, mean)) for mean, half in zip(means, halves, strict=True)]
+    return [below, [min(half, max(0.0, most - mean)) for mean, half in zip(means, halves, strict=True)]]
+
+
+def place_of(layout: Layout, one: tuple[str, ...]) -> str:
+    """The value of the axis' key in a setting."""
+    return layout.part(one, layout.x_keys)[0] if layout.x else ""
+
+
+def same_limits(block: Any, column: Column, values: list[float]) -> None:
+    """The panels of a column have one scale: logarithmic for times of more than two decades, else from 0 if that fits.
+
+    A share that is near 100% or near 0 keeps to where its values are."""
+    if column.is_wide(values):
+        for axes in block:
+            axes.set_yscale("log")
+    low = min(axes.get_ylim()[0] for axes in block)
+    high = max(axes.get_ylim()[1] for axes in block)
+    if column.is_share:
+        low, high = max(low, 0), min(high, 100 + (high - max(low, 0)) * 0.03)
+    elif block[0].get_yscale() != "log":
+        low, high = 0, high * 1.04
+    for axes in block:
+        axes.set_ylim(low, known(high))

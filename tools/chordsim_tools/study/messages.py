@@ -1,0 +1,131 @@
+"""An estimate of the messages of a run, since a trace has no line for a message that arrives (docs/studies.md)."""
+
+from collections import Counter
+from dataclasses import dataclass
+from typing import Any
+
+from chordsim_tools.study.served import Population, Scope
+
+KINDS = ("step", "get-state", "get-list", "ping", "notify", "step-reply", "state-reply", "list-reply", "pong")
+CALLS = KINDS[:4]
+REPLIES = dict(zip(CALLS, KINDS[5:], strict=True))
+ENDS = ("crash", "join-failed")
+
+
+class Traffic:
+    """Counts the lines of a trace that say something of messages, from `warmup_us` to the end."""
+
+    def __init__(self, scope: Scope) -> None:
+        """No lines yet."""
+        self.scope = scope
+        self.lines: Counter[str] = Counter()
+        self.hops = self.timeouts = 0
+
+    def read(self, time: int, fields: list[str]) -> None:
+        """Takes a line that is not of an audit."""
+        if time < self.scope.warmup_us:
+            return
+        word = fields[2]
+        if word in ("found", "lost"):
+            self.hops += int(fields[-3].removeprefix("hops="))
+            self.timeouts += int(fields[-2].removeprefix("timeouts="))
+        self.lines[f"{word} {fields[3]}" if word in ("drop", "lose", "late") else word] += 1
+
+    def sum_of(self, word: str, kinds: tuple[str, ...]) -> int:
+        """How many lines of a word are of these kinds."""
+        return sum(self.lines[f"{word} {kind}"] for kind in kinds)
+
+    def unanswered(self, kind: str) -> int:
+        """How many requests of a kind had no reply: they were dropped, or lost, or their replies were."""
+        return self.lines[f"drop {kind}"] + self.sum_of("lose", (kind, REPLIES[kind]))
+
+    def lookups(self) -> int:
+        """Messages of the lookups that ended: a request and a reply for each hop, a request for each timeout."""
+        return 2 * self.hops + self.timeouts
+
+
+@dataclass(frozen=True)
+class Span:
+    """What is known of a run from `warmup_us` to the end: its scenario, the events, and nodes over time."""
+
+    top: dict[str, Any]
+    events: int
+    population: Population
+
+    def ticks(self, table: dict[str, Any], least: str, greatest: int, traffic: Traffic) -> float:
+        """About how many events a timer has: one for each mean delay that a node is up, less half a one for each time
+        that it comes up, and one more for each time that it goes."""
+        mean = float(table[least] + greatest) / 2
+        variance = float((greatest - table[least] + 1) ** 2 - 1) / 12
+        fresh = traffic.lines["join"] + self.at_start(traffic)
+        ends = sum(traffic.lines[word] for word in ENDS)
+        first = (variance / mean**2 - 1) / 2
+        return sum(self.population.alive.sums) / mean + fresh * first + ends
+
+    def at_start(self, traffic: Traffic) -> int:
+        """How many nodes come up at the start of the span: the initial ones, if it begins with the run."""
+        return len([node for node in self.top["node"] if node.get("initial")]) if traffic.scope.warmup_us == 0 else 0
+
+    def timers(self, traffic: Traffic) -> float:
+        """About how many events are timers, and how many commands."""
+        top, jitter = self.top, self.top.get("jitter_us", 0)
+        total = sum(self.ticks(top, key, top[key] + jitter, traffic) for key in ("stabilize_us", "finger_us"))
+        if "lookups" in top:
+            total += self.ticks(top["lookups"], "gap_min_us", top["lookups"]["gap_max_us"], traffic)
+        commands = [one["do"] for one in top.get("command", []) if one["at_us"] >= traffic.scope.warmup_us]
+        by_itself = 0
+        if any(node.get("churn") for node in top["node"]):
+            # Each life and each down time that the program draws ends with a timer.
+            moves = [do for do in commands if do != "lookup"]
+            by_itself = sum(traffic.lines[word] for word in (*ENDS, "join")) - len(moves)
+        return total + max(0, by_itself) + len(commands)
+
+    def stabilizations(self, traffic: Traffic) -> float:
+        """About how many stabilizations are begun: one for each mean delay of a member, but for those that are skipped
+        because calls of the one before are out, which happens if these are not answered."""
+        mean = float(self.top["stabilize_us"] + self.top.get("jitter_us", 0) / 2)
+        states, lists = (traffic.unanswered(kind) for kind in ("get-state", "get-list"))
+        waits = (states + lists) * int(self.top["timeout_us"]) / mean
+        chains = max(states, lists)
+        # A chain of calls that is as long as 3.2 delays skips 3, and mostly starts right after one.
+        skipped = waits - chains / 2 if waits >= chains else 0.0
+        return max(0.0, sum(self.population.members.sums) / mean - self.at_start(traffic) / 2 - skipped)
+
+    def timed_out(self, traffic: Traffic) -> float:
+        """The share of calls whose timeouts come in the span. What is called before it balances what comes after."""
+        span = traffic.scope.duration_us - traffic.scope.warmup_us
+        before = max(0, int(self.top["timeout_us"]) - traffic.scope.warmup_us)
+        return 1 - min(1.0, before / span) if span > 0 else 1.0
+
+
+def estimate(traffic: Traffic, span: Span) -> dict[str, int]:
+    """About how many messages of each kind were sent in the span, the lost ones with them.
+
+    Each call makes a request, a timeout and, unless a line says otherwise, a reply. So the events that are neither
+    timers nor commands say how many calls there were, once the notifies, one a stabilization, are known."""
+    lost, dropped = traffic.sum_of("lose", CALLS), traffic.sum_of("drop", CALLS)
+    notifies = span.stabilizations(traffic)
+    rest = span.events - span.timers(traffic) - notifies + traffic.lines["lose notify"]
+    calls = (rest + 2 * lost + dropped + traffic.sum_of("lose", KINDS[5:])) / (2 + span.timed_out(traffic))
+    requests = {"notify": notifies}
+    for kind, answered in (
+        ("get-state", notifies), ("get-list", 2.0 * traffic.lines["member"]), ("ping", 0.0)
+    ):
+        requests[kind] = answered + traffic.unanswered(kind)
+    requests["step"] = calls - sum(requests[kind] for kind in CALLS[1:])
+    replies = {
+        REPLIES[kind]: requests[kind] - traffic.sum_of("drop", (kind,)) - traffic.sum_of("lose", (kind,))
+        for kind in CALLS
+    }
+    return {kind: max(0, round({**requests, **replies}[kind])) for kind in KINDS}
+
+
+def message_numbers(traffic: Traffic, span: Span) -> dict[str, int | str | None]:
+    """What a row of runs.csv has of cost, from `warmup_us` to the end."""
+    kinds = estimate(traffic, span)
+    return {
+        "cost-events": span.events,
+        "messages": sum(kinds.values()),
+        "messages-lookups": min(traffic.lookups(), sum(kinds.values())),
+        **{f"sent-{kind}": count for kind, count in kinds.items()},
+    }

@@ -1,0 +1,64 @@
+"""Shares of a study: which runs are one, and folders that are put together."""
+
+import re
+from argparse import ArgumentTypeError
+from pathlib import Path
+
+from chordsim_tools.cli import Refused
+from chordsim_tools.files import make_folder
+from chordsim_tools.study.curves import write_results
+from chordsim_tools.study.plan import Study
+from chordsim_tools.study.record import Record, read_record, study_of, write_record
+from chordsim_tools.study.runs import READING, Run, Share, runs_of, whole_result
+
+
+def share_of(text: str) -> Share:
+    """A share of the command line, as 2/5."""
+    match = re.fullmatch(r"([0-9]{1,6})/([0-9]{1,6})", text)
+    if match is None or not 1 <= int(match[1]) <= int(match[2]):
+        raise ArgumentTypeError(f"K/N is wanted, as 2/5 for the second of five parts, not {text!r}")
+    return int(match[1]), int(match[2])
+
+
+def merge(folders: list[Path], out: Path, named: Path | None = None) -> None:
+    """Puts the results of folders together, and writes the tables if no run is missing."""
+    records = [read_record(folder) for folder in folders]
+    check_same(folders, records)
+    study = study_of(folders[0], records[0], named)
+    make_folder(out / "done")
+    runs = runs_of(study, out / "done", records[0].program)
+    missing = [run for run in runs if not taken(run, folders)]
+    write_record(study, out, records[0].program_path(), records[0].program, READING)
+    if missing:
+        raise Refused(f"{len(missing)} of {len(runs)} runs are in no folder, the first of them {missing[0].task.name}")
+    write_all(study, out, records[0], runs)
+
+
+def write_all(study: Study, out: Path, record: Record, runs: list[Run]) -> None:
+    """Writes the tables of all runs."""
+    rows = [(run.setting, run.seed, whole_result(run)) for run in runs]
+    write_results(study, out, record.program_path(), record.program, rows)
+
+
+def check_same(folders: list[Path], records: list[Record]) -> None:
+    """Fails if two folders are not of the same study, files and program, and names them."""
+    for folder, record in zip(folders, records, strict=True):
+        different = records[0].difference(record)
+        if different is not None:
+            raise Refused(f"{folders[0]} and {folder} do not go together: {different}")
+    if records[0].reading != READING:
+        raise Refused(f"{folders[0]}: its runs were read by another version of tools/study")
+
+
+def taken(run: Run, folders: list[Path]) -> bool:
+    """Whether the run's result is in one of the folders; it and its files are then in the new one."""
+    if run.read_result() is not None:
+        return True
+    for folder in folders:
+        other = Run(run.study, run.setting, run.seed, folder / "done" / run.stem.name, run.task)
+        result = other.read_result()
+        if result is not None:
+            run.write_files()
+            run.write_result(result)
+            return True
+    return False

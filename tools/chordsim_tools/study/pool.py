@@ -1,0 +1,76 @@
+"""Runs side by side on this machine, each in a process of its own."""
+
+import contextlib
+import multiprocessing
+import signal
+import sys
+from collections.abc import Callable
+from multiprocessing import connection
+from multiprocessing.process import BaseProcess
+
+from chordsim_tools.cli import Failure
+from chordsim_tools.files import reason
+from chordsim_tools.study.progress import RunProgress
+
+Work = tuple[str, Callable[[], None]]
+"""A piece of work, by the name that messages give it."""
+# concurrent.futures would be shorter, but a pool of it cannot end the runs in hand: they are seconds to hours long, and
+# a stop has to end them at once, together with their programs.
+Going = dict[int, tuple[BaseProcess, connection.Connection, str]]
+"""The processes of the runs in hand, by their sentinels."""
+
+
+def work_all(works: list[Work], jobs: int, progress: RunProgress) -> None:
+    """Does this work, at most `jobs` pieces side by side. The first one that stops, stops all."""
+    going: Going = {}
+    try:
+        waiting = list(reversed(works))
+        while waiting or going:
+            while waiting and len(going) < jobs:
+                start(waiting.pop(), going)
+            for sentinel in [place for place in connection.wait(list(going), 1) if isinstance(place, int)]:
+                finish(*going.pop(sentinel))
+                progress.one_more()
+            progress.tick()
+    finally:
+        for process, _, _ in going.values():
+            process.terminate()
+        for process, _, _ in going.values():
+            process.join()
+
+
+def in_process(work: Callable[[], None], pipe: connection.Connection) -> None:
+    """A process of its own does the work; what stops it goes through the pipe."""
+    signal.signal(signal.SIGINT, signal.SIG_DFL)
+    signal.signal(signal.SIGTERM, lambda *_: sys.exit(143))
+    try:
+        work()
+    except Failure as fault:
+        pipe.send((fault.status, fault.text))
+        sys.exit(fault.status)
+
+
+def start(work: Work, going: Going) -> None:
+    """Starts a process for a piece of work."""
+    name, call = work
+    context = multiprocessing.get_context("fork")
+    receiver, sender = context.Pipe(duplex=False)
+    process = context.Process(target=in_process, args=(call, sender))
+    try:
+        process.start()
+    except OSError as fault:
+        raise Failure(3, f"cannot start a process: {reason(fault)}") from None
+    sender.close()
+    going[process.sentinel] = (process, receiver, name)
+
+
+def finish(process: BaseProcess, pipe: connection.Connection, name: str) -> None:
+    """Takes the end of a piece of work."""
+    process.join()
+    status, text = 3, f"its process ended with status {process.exitcode}"
+    with contextlib.suppress(EOFError, OSError):
+        if pipe.poll():
+            status, text = pipe.recv()
+    pipe.close()
+    if process.exitcode != 0:
+        raise Failure(status, f"{name}: {text}")

@@ -1,0 +1,39 @@
+"""How many seeds a study with [precision] runs: until intervals are narrow enough, the same seeds for all settings."""
+
+import csv
+import io
+import math
+
+from chordsim_tools.study.goal import SHARES, Precision
+from chordsim_tools.study.numbers import Summary, summaries
+from chordsim_tools.study.plan import Study
+from chordsim_tools.study.tables import Row, Tables, runs_text
+
+
+def more_seeds(study: Study, rows: list[Row]) -> list[int]:
+    """The seeds to run next, a fifth more and at least two; none if it is enough. The runs so far alone decide it."""
+    wanted = study.precision
+    if wanted is None or len(study.seeds) >= wanted.most_seeds:
+        return []
+    table = list(csv.DictReader(io.StringIO(runs_text(rows))))
+    found = summaries(Tables({"vary": study.vary}, table, []))
+    if all(is_narrow(one, wanted) for one in found):
+        return []
+    count = min(max(2, math.ceil(len(study.seeds) / 5)), wanted.most_seeds - len(study.seeds))
+    return list(range(study.seeds[-1] + 1, study.seeds[-1] + 1 + count))
+
+
+def is_narrow(one: Summary, wanted: Precision) -> bool:
+    """Whether a setting's interval is narrow enough. One that has lost a ring has none that could become so."""
+    number = one.numbers[wanted.number]
+    return one.kept < one.seeds or number.half is None or number.half <= wanted.half
+
+
+def stopped(wanted: Precision, found: list[Summary]) -> str:
+    """What a page says of it."""
+    seeds = found[0].seeds
+    scale, unit = (100, " points") if wanted.number in (*SHARES, "members") else (1, "")
+    half = f"{wanted.number} to ± {wanted.half * scale:g}{unit}"
+    if all(is_narrow(one, wanted) for one in found):
+        return f"Stopped at {seeds} seeds by [precision]: {half} in each setting that lost no ring."
+    return f"Stopped at most_seeds, {seeds}: [precision] wants {half}, which some settings do not reach."

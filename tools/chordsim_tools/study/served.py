@@ -1,0 +1,101 @@
+"""What the world wanted of a ring: nodes that are up, members among them, and the lookups that these would begin.
+
+A node is up from the start if it is initial, or from its line `join`, until its line `crash` or `ignored crash`: so one
+whose join has failed is up until the crash that was planned for it, and its demand does not vanish."""
+
+from collections.abc import Iterable
+from dataclasses import dataclass
+from typing import Any
+
+
+@dataclass(frozen=True)
+class Scope:
+    """What of a run is judged: lookups begun from `warmup_us` to `duration_us` less `cooldown_us`."""
+
+    duration_us: int
+    window_us: int
+    warmup_us: int = 0
+    cooldown_us: int = 0
+    gap_us: float | None = None
+
+    def end(self) -> int:
+        """The end of the span of the judged lookups."""
+        return self.duration_us - self.cooldown_us
+
+    def bounds(self) -> list[int]:
+        """Where the two halves of this span begin, its end, and the end of the run."""
+        return [self.warmup_us, (self.warmup_us + self.end()) // 2, self.end(), self.duration_us]
+
+    def half(self, begin: int) -> int | None:
+        """The half in which a lookup begins, if it is judged."""
+        if not self.warmup_us <= begin < self.end():
+            return None
+        return int(begin >= self.bounds()[1])
+
+
+def scope_of(top: dict[str, Any], window_us: int, warmup_us: int, cooldown_us: int) -> Scope:
+    """The scope of a run of a scenario."""
+    lookups = top.get("lookups")
+    gap = (lookups["gap_min_us"] + lookups["gap_max_us"]) / 2 if isinstance(lookups, dict) else None
+    return Scope(top["duration_us"], window_us, warmup_us, cooldown_us, gap)
+
+
+class Integral:
+    """A count over time: its sum over the two halves of the judged span, and from there to the end of the run."""
+
+    def __init__(self, bounds: list[int], count: int) -> None:
+        """The count at the start."""
+        self.bounds = bounds
+        self.count = count
+        self.since = 0
+        self.sums = [0, 0, 0]
+
+    def change(self, time: int, by: int) -> None:
+        """The count goes up or down."""
+        for place in range(3):
+            inside = min(time, self.bounds[place + 1]) - max(self.since, self.bounds[place])
+            self.sums[place] += self.count * max(0, inside)
+        self.count += by
+        self.since = time
+
+
+class Population:
+    """The nodes that are up, those whose timers run (they join or are members), and the members, as a trace goes on."""
+
+    def __init__(self, initial: Iterable[str], bounds: list[int]) -> None:
+        """The nodes at the start."""
+        self.is_up = dict.fromkeys(initial, True)
+        self.is_alive = dict(self.is_up)
+        self.is_member = dict(self.is_up)
+        self.up, self.alive, self.members = (Integral(bounds, len(self.is_up)) for _ in range(3))
+
+    def read(self, time: int, name: str, word: str, rest: str | None) -> None:
+        """Takes a line of the trace."""
+        match word:
+            case "join":
+                set_state(self.is_up, self.up, time, name, True)
+                set_state(self.is_alive, self.alive, time, name, True)
+            case "member":
+                set_state(self.is_member, self.members, time, name, True)
+            case "stranded":
+                set_state(self.is_member, self.members, time, name, False)
+            case "join-failed":
+                set_state(self.is_alive, self.alive, time, name, False)
+            case "crash":
+                set_state(self.is_up, self.up, time, name, False)
+                set_state(self.is_alive, self.alive, time, name, False)
+                set_state(self.is_member, self.members, time, name, False)
+            case "ignored" if rest == "crash":
+                set_state(self.is_up, self.up, time, name, False)
+
+    def end(self, time: int) -> None:
+        """The end of the run."""
+        for integral in (self.up, self.alive, self.members):
+            integral.change(time, 0)
+
+
+def set_state(states: dict[str, bool], integral: Integral, time: int, name: str, value: bool) -> None:
+    """A node comes or goes, unless it was there or gone before."""
+    if states.get(name, False) != value:
+        states[name] = value
+        integral.change(time, 1 if value else -1)

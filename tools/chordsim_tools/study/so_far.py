@@ -1,0 +1,83 @@
+"""The tables of a folder: those that were written, or, of a study that is not done yet, those of the runs so far."""
+
+import tempfile
+from dataclasses import dataclass
+from pathlib import Path
+
+from chordsim_tools.cli import Refused
+from chordsim_tools.files import write_whole
+from chordsim_tools.study.curves import CDF, STEPS, write_results
+from chordsim_tools.study.numbers import Cells
+from chordsim_tools.study.page import page
+from chordsim_tools.study.record import NAME, Record, read_record, study_of
+from chordsim_tools.study.runs import runs_of
+from chordsim_tools.study.tables import Tables, checked_table, read_tables
+
+
+@dataclass
+class Drawn:
+    """The tables that plots and pages are made of. The mark of a study that is not done is as "29 of 150 runs"."""
+
+    tables: Tables
+    cdf: list[Cells]
+    steps: list[Cells]
+    mark: str = ""
+
+
+def tables_of(folder: Path, named: Path | None = None) -> Drawn:
+    """The tables of a folder."""
+    if not (folder / NAME).exists():
+        return drawn_of(folder)
+    record = read_record(folder)
+    if (folder / "manifest.json").exists():
+        drawn = drawn_of(folder)
+        if is_of(drawn.tables, record):
+            return drawn
+    return tables_so_far(folder, record, named)
+
+
+def drawn_of(folder: Path) -> Drawn:
+    """The tables that were written. Older studies have none of curves."""
+    tables = read_tables(folder)
+    sums = tables.manifest["sha256"]
+    cdf, steps = (checked_table(folder / name, sums[name]) if name in sums else [] for name in (CDF, STEPS))
+    return Drawn(tables, cdf, steps)
+
+
+def is_of(tables: Tables, record: Record) -> bool:
+    """Whether the tables are of the study that was run last."""
+    sums = tables.manifest["sha256"]
+    same = all(sums.get(name) == digest for name, digest in record.files.items())
+    return same and bool(tables.manifest["program"]["sha256"] == record.program)
+
+
+def tables_so_far(folder: Path, record: Record, named: Path | None) -> Drawn:
+    """Tables of the results that are there."""
+    study = study_of(folder, record, named)
+    runs = runs_of(study, folder / "done", record.program)
+    results = [(run, run.read_result()) for run in runs]
+    rows = [(run.setting, run.seed, result) for run, result in results if result is not None]
+    if not rows:
+        raise Refused(f"{folder}: none of {len(runs)} runs is done")
+    with tempfile.TemporaryDirectory() as made:
+        write_results(study, Path(made), record.program_path(), record.program, rows)
+        drawn = drawn_of(Path(made))
+    drawn.mark = "" if len(rows) == len(runs) else f"{len(rows)} of {len(runs)} runs"
+    return drawn
+
+
+def further_links(drawn: Drawn, text: str) -> str:
+    """Links to the plots of curves, which older studies do not have, unless the page has them."""
+    plots = (("network", "Timeouts and lost messages over time"), ("cdf", "How lookup times and hops are distributed"))
+    there = [plot for plot, lines in zip(plots, (drawn.steps, drawn.cdf), strict=True) if lines]
+    new = [(name, title) for name, title in there if f"({name}.png)" not in text]
+    return "".join(f"![{title}]({name}.png)\n\n[{title} (SVG)]({name}.svg)\n\n" for name, title in new)
+
+
+def write_report(folder: Path, named: Path | None = None) -> None:
+    """Writes report.md, with a mark if the study is not done."""
+    drawn = tables_of(folder, named)
+    title, rest = page(drawn.tables).split("\n", 1)
+    rest = rest.replace("## Made by\n", f"{further_links(drawn, rest)}## Made by\n", 1)
+    told = f"\n**{drawn.mark}: the study is not done.** What follows is of the runs that are.\n" if drawn.mark else ""
+    write_whole(folder / "report.md", f"{title}\n{told}{rest}")

@@ -1,0 +1,74 @@
+"""One run by itself: all that it needs as texts, so that any process or machine can do it."""
+
+import tempfile
+import tomllib
+from dataclasses import dataclass
+from pathlib import Path
+from typing import Any
+
+from chordsim_tools.cli import Failure
+from chordsim_tools.members import Members
+from chordsim_tools.study.curves import Curves
+from chordsim_tools.study.document import toml_text
+from chordsim_tools.study.messages import Span, message_numbers
+from chordsim_tools.study.program import Program
+from chordsim_tools.study.served import scope_of
+from chordsim_tools.study.trace import TraceReader
+
+
+@dataclass(frozen=True)
+class Task:
+    """What a run is made of, and what is read from its trace."""
+
+    name: str
+    scenario: str
+    latency: bytes | None
+    window_us: int
+    warmup_us: int
+    cooldown_us: int
+    made_of: str
+
+
+def readers_of(task: Task, top: dict[str, Any], idents: dict[str, int]) -> tuple[TraceReader, Curves]:
+    """The readers of the run's trace."""
+    initial = [node["name"] for node in top["node"] if node.get("initial") is True]
+    scope = scope_of(top, task.window_us, task.warmup_us, task.cooldown_us)
+    curves = Curves(top["duration_us"], task.window_us, task.warmup_us, task.cooldown_us)
+    return TraceReader(Members(idents, initial), scope), curves
+
+
+def events_before(top: dict[str, Any], time: int, program: Path, latency: Path | None) -> int:
+    """How many events a run has before a time: those of the same run that ends then."""
+    if time == 0:
+        return 0
+    commands = [one for one in top.get("command", []) if one["at_us"] < time]
+    with tempfile.TemporaryDirectory() as folder:
+        scenario = Path(folder) / "warmup.toml"
+        text = toml_text({**top, "duration_us": min(time, top["duration_us"]), "command": commands})
+        scenario.write_text(text, encoding="utf-8")
+        return Program(program, scenario, latency).run(lambda _: None)["events"]
+
+
+def result_of(task: Task, program: Path, scenario: Path, latency: Path | None) -> dict[str, Any]:
+    """Runs the program with the task's two files, and gives the result as `done/` keeps it."""
+    caller = Program(program, scenario, latency)
+    top = tomllib.loads(task.scenario)
+    reader, curves = readers_of(task, top, caller.idents())
+
+    def read(line: str) -> None:
+        """Both readers take a line."""
+        reader.read(line)
+        curves.read(line)
+
+    report = caller.run(read)
+    if (reader.all_lookups, reader.all_found) != (report.get("lookups"), report.get("found")):
+        raise Failure(3, "the report does not count the lines of the trace")
+    numbers = reader.numbers()
+    span = Span(top, report["events"] - events_before(top, task.warmup_us, program, latency), reader.population)
+    return {
+        "made_of": task.made_of,
+        "report": report,
+        "numbers": {**numbers, **message_numbers(reader.traffic, span)},
+        "curves": curves.numbers(),
+        "series": [[step.lookups, step.found, step.right, step.members] for step in reader.steps],
+    }

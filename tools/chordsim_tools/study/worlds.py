@@ -1,0 +1,146 @@
+"""The world of a setting and a seed: its scenario and its latencies, fixed or made for this seed."""
+
+import hashlib
+import io
+from collections.abc import Callable
+from contextlib import redirect_stderr
+from functools import lru_cache
+from typing import Any, TypeVar
+
+from chordsim_tools.cli import Failure, Refused
+from chordsim_tools.generate import command as generate
+from chordsim_tools.generate import plan as generate_plan
+from chordsim_tools.generate.text import key_text
+from chordsim_tools.latency import command as latency
+from chordsim_tools.study.document import toml_text
+from chordsim_tools.study.keys import parsed
+from chordsim_tools.study.plan import Setting, Study
+
+T = TypeVar("T")
+OF_GENERATE = "generate."
+
+
+def scenario_of(study: Study, setting: Setting, seed: int) -> str:
+    """The scenario of a setting and a seed: the base but for these keys."""
+    top = top_of(study, setting, seed)
+    for key, value in setting:
+        table, dot, name = key.partition(".")
+        if not dot:
+            top[key] = value
+        elif table != "generate" and isinstance(top.get(table, {}), dict):
+            top[table] = {**top.get(table, {}), name: value}
+    top["seed"] = seed
+    try:
+        return toml_text(top)
+    except TypeError as fault:
+        raise Refused(f"{study.path if study.base is None else study.beside(study.base)}: {fault}") from None
+
+
+def top_of(study: Study, setting: Setting, seed: int) -> dict[str, Any]:
+    """The top table that a setting changes: of the base, or of the world that is made for the seed."""
+    if study.generate is None:
+        return dict(study.scenario)
+    return dict(made(study.path, arguments_of(study, setting, seed)))
+
+
+def arguments_of(study: Study, setting: Setting, seed: int) -> tuple[str, ...]:
+    """The arguments of tools/generate for a setting and a seed. A varied option takes the place of the study's own."""
+    varied = {key.removeprefix(OF_GENERATE): str(value) for key, value in setting if key.startswith(OF_GENERATE)}
+    kept: list[str] = []
+    takes = True
+    for word in study.generate or []:
+        if word.startswith("--"):
+            takes = word.partition("=")[0] not in varied
+        if takes:
+            kept.append(word)
+    again = [word for name, value in varied.items() for word in (name, *value.split(" "))]
+    return (*kept, *again, "--seed", str(seed))
+
+
+def generated(study: Study, setting: Setting, seed: int) -> str:
+    """The text of the scenario that tools/generate makes of a study's arguments."""
+    return text_of(str(study.path), arguments_of(study, setting, seed))
+
+
+# The settings of one seed mostly share a world, and follow each other only after all other seeds.
+@lru_cache(maxsize=256)
+def made(path: Any, arguments: tuple[str, ...]) -> dict[str, Any]:
+    """The document that tools/generate makes, with identifiers that follow the seed."""
+    top = parsed(path, text_of(str(path), arguments).encode())
+    give_idents(top, arguments[-1])
+    return top
+
+
+def text_of(path: str, arguments: tuple[str, ...]) -> str:
+    """What tools/generate writes for these arguments."""
+
+    def work() -> str:
+        """The tool itself."""
+        parser = generate.parser_of()
+        args = parser.parse_args(list(arguments))
+        return generate.scenario_of(generate_plan.check(args, parser), generate.arguments_again(args))
+
+    return called(f"{path}: generate", work)
+
+
+def called(name: str, work: Callable[[], T]) -> T:
+    """Calls a tool in this process. What it says of its arguments becomes the reason of a refusal."""
+    said = io.StringIO()
+    try:
+        with redirect_stderr(said):
+            return work()
+    except SystemExit:
+        raise Refused(f"{name}: {' '.join(said.getvalue().split())}") from None
+    except Failure as fault:
+        raise Refused(f"{name}: {fault.text}") from None
+
+
+def give_idents(top: dict[str, Any], seed: str) -> None:
+    """Gives each node an identifier of its name and the seed: the leading bits of a digest that no other node has."""
+    bits, taken = top["bits"], set[int]()
+    for node in top["node"]:
+        number = 0
+        while (ident := leading(f"{node['name']} {seed} {number}", bits)) in taken:
+            number += 1
+        taken.add(ident)
+        text = key_text(ident)
+        node["id"] = ident if text.isdecimal() else text.strip('"')
+
+
+def leading(text: str, bits: int) -> int:
+    """The leading bits of the SHA-256 digest of a text."""
+    return int.from_bytes(hashlib.sha256(text.encode()).digest(), "big") >> (256 - bits)
+
+
+def latency_of(study: Study, setting: Setting, seed: int) -> bytes | None:
+    """The latency file of a setting and a seed, if the study has one: the same for all, or made for the seed."""
+    if study.latency_arguments is None:
+        return study.latency_content
+    nodes = len(top_of(study, setting, seed)["node"])
+    return rows_of(study, tuple(study.latency_arguments), nodes, seed)
+
+
+@lru_cache(maxsize=64)
+def rows_text(path: str, folder: str, arguments: tuple[str, ...]) -> bytes:
+    """What tools/latency writes for these arguments. A file of round trips is named relative to the study file."""
+
+    def work() -> bytes:
+        """The tool itself."""
+        parser = latency.parser_of()
+        args = parser.parse_args(list(arguments))
+        args.measured = None if args.measured is None else f"{folder}/{args.measured}"
+        options = latency.check(args, parser)
+        names = latency.nodes_of(options)
+        return latency.rows_text(names, latency.latencies(options, len(names))).encode()
+
+    return called(f"{path}: latency", work)
+
+
+
+
+def rows_of(study: Study, arguments: tuple[str, ...], nodes: int, seed: int) -> bytes:
+    """The latencies of so many nodes for a seed."""
+    has_count = any(word.partition("=")[0] in ("--names", "--nodes") for word in arguments)
+    count = () if has_count else ("--nodes", str(nodes))
+    whole = (*arguments, *count, "--seed", str(seed))
+    return rows_text(str(study.path), str(study.path.parent), whole)

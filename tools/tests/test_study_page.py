@@ -1,0 +1,163 @@
+"""What a page says first, its table and its warnings."""
+
+from typing import Any
+from unittest import TestCase
+
+from chordsim_tools.members import Members
+from chordsim_tools.study.page import page
+from chordsim_tools.study.served import Scope
+from chordsim_tools.study.trace import TraceReader
+from tests.support.studies import row, tables_of
+
+LIMIT: dict[str, Any] = {"number": "right_of_begun", "is_least": True, "value": 0.9}
+GOAL: dict[str, Any] = {"limits": [LIMIT], "lost_max": None, "least": "messages"}
+
+
+def setting(size: int, right: int, messages: int, seeds: int = 6, dead: int = 0) -> list[dict[str, str]]:
+    """The rows of a setting, whose numbers differ a little from seed to seed."""
+    rows: list[dict[str, Any]] = [
+        {"list": size, "seed": seed, "right": right + seed, "messages": messages + 3 * seed**2}
+        for seed in range(1, seeds + 1)
+    ]
+    for one in rows[:dead]:
+        one |= {"right": 0, "ringless": 2, "lost-at-us": 30_000_000}
+    return [row(**one) for one in rows]
+
+
+def told(*settings: list[dict[str, str]], **changes: Any) -> str:
+    """The page of these settings."""
+    rows = [one for rows in settings for one in rows]
+    sizes = list(dict.fromkeys(int(one["list"]) for one in rows))
+    return page(tables_of(rows, vary={"list": sizes}, **changes))
+
+
+def line_of(text: str, label: str) -> list[str]:
+    """The cells of a setting's line of the table."""
+    return next(line for line in text.splitlines() if line.startswith(f"| {label} |"))[2:-2].split(" | ")
+
+
+class StudyPageTest(TestCase):
+    """The page."""
+
+    def test_nine_of_ten_nodes_strand(self) -> None:
+        """They begin no lookups, and the tenth has right answers alone: 10% is served."""
+        idents = {f"n{number}": number for number in range(10)}
+        reader = TraceReader(Members(idents, idents), Scope(1000, 1000, 100, 0, 10))
+        lines = [f"101 n{number} stranded n0" for number in range(1, 10)]
+        for time in range(105, 1000, 10):
+            lines += [f"{time} n0 lookup 5", f"{time} n0 found 5 n0 hops=0 timeouts=0 us=0"]
+        for line in lines:
+            reader.read(line)
+        numbers = {word: "" if value is None else str(value) for word, value in reader.numbers().items()}
+        rows = [{**row(list=1, seed=seed), **numbers} for seed in range(1, 6)]
+        assert line_of(told(rows), "list=1")[3:5] == ["10.01", "100"]
+
+    def test_dead_rings_are_told(self) -> None:
+        """Kept of all with an interval; means say how many rings are in them; served has a range and no interval."""
+        cells = line_of(told(setting(2, 900, 5000), setting(1, 900, 4000, dead=1)), "list=1")
+        assert cells[1] == "5 of 6 (36..100 %)" and cells[2] == "6.8 (0.17..38)"
+        assert cells[3] == "75.3 (0..90.6)" and cells[4].endswith(" (5 of 6)")
+        assert line_of(told(setting(2, 900, 5000)), "list=2")[1:3] == ["6 of 6 (54..100 %)", "below 22"]
+
+    def test_answer(self) -> None:
+        """The cheapest one that reaches the goal; one that lost a ring is none, however cheap."""
+        text = told(setting(4, 900, 5000), setting(2, 900, 4000), setting(1, 900, 3000, dead=1), goal=GOAL)
+        first = "**list=2** is the setting with the least messages per member and second"
+        assert text.splitlines()[2].startswith(first)
+        assert "right of begun of at least 90 % and no ring lost" in text and "rings kept 6 of 6" in text
+        assert line_of(text, "list=2")[-1] == "**best**" and line_of(text, "list=4")[-1] == "1"
+
+    def test_an_answer_for_each_world(self) -> None:
+        """Nobody chooses how many messages are lost: each world has its answer and its best setting."""
+        worlds = {
+            0: [*setting(2, 900, 5000), *setting(4, 900, 4000)],
+            9: [*setting(2, 900, 3000), *setting(4, 900, 3500)],
+        }
+        rows = [{**one, "loss_ppm": str(loss)} for loss, rows in worlds.items() for one in rows]
+        text = page(tables_of(rows, vary={"loss_ppm": [0, 9], "list": [2, 4]}, goal=GOAL))
+        lines = text.splitlines()
+        assert lines[2].startswith("With loss_ppm=0: **loss_ppm=0, list=4** is the setting with the least messages")
+        assert lines[4].startswith("With loss_ppm=9: **loss_ppm=9, list=2** is the setting with the least messages")
+        labels = [f"loss_ppm={loss}, list={size}" for loss in worlds for size in (2, 4)]
+        best = [label for label in labels if line_of(text, label)[-1] == "**best**"]
+        assert best == ["loss_ppm=0, list=4", "loss_ppm=9, list=2"]
+        whole = page(tables_of(rows, vary={"loss_ppm": [0, 9], "list": [2, 4]}, goal=GOAL, world=[]))
+        assert whole.splitlines()[2].startswith("**loss_ppm=9, list=2** is the setting")
+
+    def test_note(self) -> None:
+        """What the author of a study says follows the answer."""
+        text = told(setting(4, 900, 5000), setting(2, 900, 4000), goal=GOAL, note="\nWhy this is so.\n")
+        assert text.splitlines()[4] == "Why this is so."
+
+    def test_no_answer(self) -> None:
+        """A goal that nothing reaches: the nearest one. Few seeds: none."""
+        high = {**GOAL, "limits": [{**LIMIT, "value": 0.99}]}
+        text = told(setting(4, 900, 5000), setting(2, 850, 4000), setting(1, 930, 3000, dead=1), goal=high)
+        assert text.splitlines()[2].startswith("No setting reaches right of begun of at least 99 % and no ring lost")
+        assert "the nearest is list=4: right of begun 95.11 ± 0.21 %" in text, text
+        assert "No answer: fewer than 5 seeds." in told(setting(4, 900, 5000, seeds=4), goal=GOAL)
+
+    def test_bound_and_not_the_mean_decides(self) -> None:
+        """A mean just above the limit, with a bound below it."""
+        near = {**GOAL, "limits": [{**LIMIT, "value": 0.95}]}
+        assert "No setting reaches" in told(setting(4, 900, 5000), goal=near)
+        assert "**list=4** is" in told(setting(4, 904, 5000), goal=near)
+
+    def test_served_with_rings_lost(self) -> None:
+        """One ring of six lost: of so few a third may be kept, by the exact interval, and 90 % of that is served."""
+        limit: dict[str, Any] = {"number": "served", "is_least": True}
+        for least, word in ((0.32, "**list=1** is"), (0.325, "No setting reaches")):
+            goal: dict[str, Any] = {"limits": [{**limit, "value": least}], "lost_max": 100.0, "least": "messages"}
+            assert word in told(setting(1, 900, 3000, dead=1), goal=goal)
+
+    def test_rate_of_losses(self) -> None:
+        """Six rings of 100 s without a loss: fewer than 18 an hour, by the one-sided bound of 95%."""
+        for most, word in ((17.0, "No setting reaches"), (18.0, "**list=4** is")):
+            assert word in told(setting(4, 900, 5000), goal={**GOAL, "lost_max": most})
+
+    def test_equal_settings_are_not_told_apart(self) -> None:
+        """Equal rows are said to be so; nearly equal ones are not told apart; different ones are."""
+        text = told(setting(8, 900, 5000), setting(4, 900, 5000), setting(2, 880, 5000))
+        assert line_of(text, "list=8")[-1] == "**best**"
+        assert line_of(text, "list=4")[-1] == "the same run in 6 of 6 seeds"
+        assert line_of(text, "list=2")[-1] == "-2"
+
+    def test_worlds_and_warnings(self) -> None:
+        """What is the same in all seeds, by the manifest; commands of a base; few seeds; the end's cut."""
+        text = told(setting(4, 900, 5000, seeds=3), commands={"crash": 559, "join": 546}, latency="king.csv")
+        same = "base.toml with its commands (559 crash, 546 join), identifiers, latencies (king.csv)"
+        assert f"The same in all: {same}" in text
+        assert "(559 crash, 546 join) are the same in all seeds" in text and "Fewer than 5 seeds: no intervals." in text
+        made = told(setting(4, 900, 5000), generate=["--nodes", "4"], latency_arguments=["--plane", "1s"], base=None)
+        assert "New in each: timers and random keys, identifiers, latencies." in made and "The same in all" not in made
+        assert "- `tools/generate --nodes 4`, for each seed" in made
+        cut = told([row(list=4, seed=1, **{"cut-by-end": 9})])
+        assert "The end cut off 0.9 % of the judged lookups, which are left out: set cooldown_us." in cut
+
+    def test_steadiness(self) -> None:
+        """A share that falls from the first half to the second in all seeds."""
+        falls = [row(list=1, seed=seed, **{"right-1": 480 + seed, "right-2": 420 + 2 * seed}) for seed in range(1, 7)]
+        wanted = "**Not steady**: served in the first half of the judged span less the second: list=1: 11.30"
+        assert wanted in told(falls)
+        assert "No drift seen" in told(setting(1, 900, 5000))
+
+    def test_sizes(self) -> None:
+        """Bytes by the table of sizes: ten messages of each kind in 1,000 s of members."""
+        kinds = ("step", "get-state", "get-list", "ping", "notify", "step-reply", "state-reply", "list-reply", "pong")
+        text = told(setting(1, 900, 5000), sizes=dict.fromkeys(kinds, 100))
+        assert line_of(text, "list=1")[-1] == "9" and "bytes per member and second" in text
+
+    def test_precision(self) -> None:
+        """Whether it was reached."""
+        wanted: dict[str, Any] = {"number": "served", "half": 0.01, "least_seeds": 5, "most_seeds": 9}
+        reached = told(setting(1, 900, 5000), precision=wanted)
+        assert "Stopped at 6 seeds by [precision]: served to ± 1 points" in reached
+        narrow = {**wanted, "half": 0.0001}
+        assert "Stopped at most_seeds, 6" in told(setting(1, 900, 5000), precision=narrow)
+
+    def test_rest(self) -> None:
+        """The question, the commands and the digests."""
+        text = told(setting(2, 900, 5000))
+        assert text.startswith("# How?\n")
+        assert "chordsim run --scenario FOLDER/done/list=2,seed=1.toml --serial" in text
+        assert "| study.toml | `bad` |" in text and "| the program | `f00` |" in text and "`abc`" in text
