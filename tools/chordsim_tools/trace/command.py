@@ -1,0 +1,145 @@
+"""The command tools/trace."""
+
+import json
+import os
+import re
+from argparse import ArgumentTypeError, Namespace
+
+from chordsim_tools.cli import Failure, Parser, run
+from chordsim_tools.files import read_input
+from chordsim_tools.quantities import time_of
+from chordsim_tools.scenario.reading import Scenario, read_scenario
+from chordsim_tools.scenario.tables import GREATEST_SIZE
+from chordsim_tools.trace.reading import Run, read_report, read_run
+from chordsim_tools.trace.stories import lookup_story, node_story
+from chordsim_tools.trace.summary import Facts, summary
+from chordsim_tools.trace.tables import node_rows, node_table, step_rows, step_table, worst_rows, worst_table
+from chordsim_tools.trace.text import summary_text
+from chordsim_tools.trace.wording import show
+from chordsim_tools.trace.page.writing import write_page
+
+PROG = "tools/trace"
+HELP = """\
+Tells what happened in one run: from its trace, which `chordsim run --trace` writes, and its scenario. Without an option
+it prints a summary. docs/trace.md says what each number means.
+
+An answer is right, strictly, if the node that it names is the first member at or after the key, clockwise, when the
+answer arrives. It is defensible if the node was that at some instant while the lookup ran. Members are the initial
+nodes and those with a line `member`, until their line `crash` or `stranded`. A trace that ends early is told as far as
+it goes. A trace that does not fit the scenario is refused, and so is a report of another run."""
+EXAMPLES = """\
+examples:
+  tools/trace ring.trace ring.toml                     a summary
+  tools/trace ring.trace ring.toml --over-time 10s     ... and a table by steps of ten seconds
+  tools/trace ring.trace ring.toml --node n07          the story of a node
+  tools/trace ring.trace ring.toml --lookup n07@12.5s  the story of the lookup that n07 began at 12.5 seconds
+  tools/trace ring.trace ring.toml --worst 10          the ten slowest and the ten most wrong lookups
+  tools/trace ring.trace ring.toml --html ring.html    a page for a browser, in one file
+
+status: 0 all was done; 1 a file is refused, or cannot be read; 2 the arguments are wrong; 3 something failed (the disk,
+or D3 is missing for --html: apt-get install node-d3); 130 stopped by Ctrl-C"""
+
+
+def parsed(arguments: list[str]) -> Namespace:
+    """The arguments of the command line."""
+    parser = Parser(PROG, HELP, EXAMPLES, strict=True)
+    parser.add_argument("trace", metavar="TRACE", help="the trace, with or without the report after it")
+    parser.add_argument("scenario", metavar="SCENARIO", help="the scenario file (TOML) of the run")
+    parser.add_argument("--latency", metavar="FILE", help="the latency file of the run, which is checked and not used")
+    parser.add_argument("--report", metavar="FILE", help="what `chordsim run --trace` printed")
+    parser.add_argument("--over-time", metavar="STEP", type=step, help="a table by steps of time, such as 10s")
+    parser.add_argument("--per-node", action="store_true", help="a table by node")
+    parser.add_argument("--worst", metavar="N", type=count, help="the N slowest and the N most wrong lookups")
+    parser.add_argument("--node", metavar="NAME", help="all lines of a node, and those that name it")
+    parser.add_argument("--lookup", metavar="N|NODE@TIME", help="one lookup: the N-th, or by its asker and begin")
+    parser.add_argument("--html", metavar="FILE", help="write a page for a browser into FILE")
+    parser.add_argument("--json", action="store_true", help="print the summary, and the tables asked for, as JSON")
+    return parser.parse_args(arguments)
+
+
+def step(text: str) -> int:
+    """A step of time."""
+    found = time_of(text)
+    if not found:
+        raise ArgumentTypeError(f"{text!r} is no time above 0, such as 10s or 500ms")
+    return found
+
+
+def count(text: str) -> int:
+    """A number of 1 or more."""
+    if not re.fullmatch("[0-9]{1,9}", text) or int(text) < 1:
+        raise ArgumentTypeError(f"{text!r} is no integer from 1 up")
+    return int(text)
+
+
+def scenario_of(args: Namespace) -> Scenario:
+    """The scenario of the run."""
+    latency = b"" if args.latency is None else read_input(args.latency, GREATEST_SIZE)
+    return read_scenario(read_input(args.scenario, GREATEST_SIZE), latency)
+
+
+def check_page(args: Namespace) -> None:
+    """Refuses to write the page over a file that is read."""
+    if not os.path.isfile(args.html):
+        return
+    for name in (args.trace, args.scenario, args.latency, args.report):
+        if name is not None and os.path.exists(name) and os.path.samefile(name, args.html):
+            raise Failure(2, f"--html: {args.html} is a file that is read")
+
+
+def work(args: Namespace) -> None:
+    """Reads the run, and prints or writes what the arguments ask for."""
+    if args.html is not None:
+        check_page(args)
+    one = read_run(args.trace, scenario_of(args))
+    if args.report is not None:
+        read_report(args.report, one)
+    if args.node is not None and args.node not in one.history.numbers:
+        raise Failure(2, f"--node: the scenario has no node {args.node!r}")
+    if args.html is not None:
+        write_page(args.html, one, args.scenario)
+    asked = any((args.over_time, args.per_node, args.worst, args.node, args.lookup))
+    if args.json:
+        show([json.dumps(in_json(one, args), indent=2)])
+    elif args.html is None or asked:
+        show(in_text(one, args))
+
+
+def in_json(one: Run, args: Namespace) -> Facts:
+    """The summary and the tables."""
+    facts: Facts = {"scenario": args.scenario, **summary(one)}
+    if args.over_time is not None:
+        facts["over_time"] = step_rows(one, args.over_time)
+    if args.per_node:
+        facts["per_node"] = node_rows(one)
+    if args.worst is not None:
+        facts["worst"] = worst_rows(one, args.worst)
+    if args.lookup is not None:
+        facts["lookup"] = lookup_story(one, args.lookup)
+    if args.node is not None:
+        facts["node"] = node_story(one, args.node)
+    return facts
+
+
+def in_text(one: Run, args: Namespace) -> list[str]:
+    """What is asked for. The summary is left out if a story is asked for."""
+    parts: list[list[str]] = []
+    if args.node is None and args.lookup is None:
+        parts.append([f"run of {args.scenario}", "", *summary_text(summary(one))])
+    if args.over_time is not None:
+        parts.append(step_table(step_rows(one, args.over_time)))
+    if args.per_node:
+        parts.append(node_table(node_rows(one)))
+    if args.worst is not None:
+        parts.append(worst_table(worst_rows(one, args.worst)))
+    if args.node is not None:
+        parts.append(node_story(one, args.node))
+    if args.lookup is not None:
+        parts.append(lookup_story(one, args.lookup))
+    return [text for number, part in enumerate(parts) for text in ([""] * bool(number) + part)]
+
+
+def main(arguments: list[str]) -> int:
+    """The command."""
+    args = parsed(arguments)
+    return run(PROG, lambda: work(args), interrupted="stopped")

@@ -1,0 +1,216 @@
+"""A run as its trace tells it: each line is read once, in order, and what it means is kept."""
+
+from bisect import bisect_left
+from dataclasses import dataclass
+
+from chordsim_tools.members import Members
+from chordsim_tools.scenario.reading import Scenario
+from chordsim_tools.trace.lines import CHANGES, CODES, NOBODY, Audit, Lines, Lookup
+
+DOWN, JOINING, MEMBER, STRANDED = range(4)
+
+
+@dataclass(slots=True)
+class Join:
+    """A node joins, by a line `join`, or again by a line `stranded`. It is done, failed, crash or open."""
+
+    node: int
+    begin: int
+    is_again: bool
+    end: int | None = None
+    outcome: str = "open"
+
+
+@dataclass(slots=True)
+class Life:
+    """A node is up: from the start or a line `join` until a line `crash` or `join-failed`, else until the end."""
+
+    begin: int
+    end: int | None = None
+
+
+class History:
+    """Reads the lines in their order. A line that does not fit raises LookupError or ValueError."""
+
+    def __init__(self, scenario: Scenario) -> None:
+        """The start of a run."""
+        names = [node.name for node in scenario.nodes]
+        self.scenario = scenario
+        self.names = names
+        self.numbers = {name: number for number, name in enumerate(names)}
+        self.idents = {node.name: node.ident for node in scenario.nodes}
+        self.members = Members(self.idents, [node.name for node in scenario.nodes if node.initial])
+        self.lines = Lines(names)
+        self.status = [MEMBER if node.initial else DOWN for node in scenario.nodes]
+        self.lives = [[Life(0)] if node.initial else [] for node in scenario.nodes]
+        self.joins: list[Join] = []
+        self.joining: dict[int, Join] = {}
+        self.open: list[dict[tuple[int, int], list[Lookup]]] = [{} for _ in names]
+        self.at = 0
+
+    def read(self, line: str) -> None:
+        """Takes one line, without its line feed."""
+        fields = line.split(" ")
+        time = whole(fields[0])
+        if time < self.at:
+            raise ValueError("its time is below that of the line before")
+        self.at = time
+        if fields[1] == "audit":
+            self.audit(time, line, fields)
+            return
+        node, kind = self.numbers[fields[1]], fields[2]
+        match kind:
+            case "lookup":
+                self.lookup(time, node, fields)
+            case "found" | "lost":
+                self.lookup_ends(time, node, fields)
+                if self.lines.text(len(self.lines.times) - 1) != line:
+                    raise ValueError("it has other words than such a line")
+            case "timeout":
+                self.keep(time, node, kind, fields, 4)
+            case "drop" | "late" | "lose":
+                self.keep(time, node, f"{kind} {fields[3]}", fields, 5)
+            case "busy":
+                self.lines.append(time, node, CODES[kind], len(self.lines.busy_keys))
+                self.lines.busy_keys.append(self.key(fields[3]))
+            case "ignored":
+                self.keep(time, node, f"{kind} {fields[3]}", fields, 4, NOBODY)
+            case _:
+                self.change(time, node, kind, fields)
+
+    def keep(self, time: int, node: int, kind: str, fields: list[str], count: int, other: int | None = None) -> None:
+        """Keeps a line of so many fields. The last one names another node, if none is given."""
+        if len(fields) != count:
+            raise ValueError(f"{count} words are wanted")
+        self.lines.append(time, node, CODES[kind], self.numbers[fields[-1]] if other is None else other)
+
+    def change(self, time: int, node: int, kind: str, fields: list[str]) -> None:
+        """A line that changes what a node is."""
+        if CODES[kind] not in CHANGES:
+            raise ValueError(f"{kind} needs more words")
+        alone = kind in ("crash", "join-failed")
+        self.keep(time, node, kind, fields, 3 if alone else 4, NOBODY if alone else None)
+        name = self.names[node]
+        match kind:
+            case "join":
+                self.lives[node].append(Life(time))
+                self.begins_to_join(time, node, JOINING)
+            case "member":
+                self.members.add(name, time)
+                self.ends_to_join(time, node, "done", MEMBER)
+            case "stranded":
+                self.members.remove(name, time)
+                self.begins_to_join(time, node, STRANDED)
+            case "join-failed":
+                self.ends_to_join(time, node, "failed", DOWN)
+                self.lives[node][-1].end = time
+            case "crash":
+                self.members.remove(name, time)
+                self.ends_to_join(time, node, "crash", DOWN)
+                self.lives[node][-1].end = time
+                self.asker_crashes(time, node)
+
+    def begins_to_join(self, time: int, node: int, status: int) -> None:
+        """A node joins, or joins again."""
+        wanted = DOWN if status == JOINING else MEMBER
+        if self.status[node] != wanted:
+            raise ValueError("the node was not " + ("down" if status == JOINING else "a member"))
+        self.status[node] = status
+        self.joining[node] = Join(node, time, status == STRANDED)
+        self.joins.append(self.joining[node])
+
+    def ends_to_join(self, time: int, node: int, outcome: str, status: int) -> None:
+        """A node joins no longer, if it did."""
+        before = self.status[node]
+        if before == DOWN or (before == MEMBER and outcome != "crash"):
+            raise ValueError(f"the node was {'down' if before == DOWN else 'a member'}")
+        self.status[node] = status
+        join = self.joining.pop(node, None)
+        if join is not None:
+            join.end, join.outcome = time, outcome
+
+    def asker_crashes(self, time: int, node: int) -> None:
+        """The lookups of a node are cut off."""
+        for waiting in self.open[node].values():
+            for one in waiting:
+                one.end, one.outcome = time, "crash"
+        self.open[node].clear()
+
+    def lookup(self, time: int, node: int, fields: list[str]) -> None:
+        """A lookup begins: TIME NODE lookup KEY."""
+        if len(fields) != 4:
+            raise ValueError("4 words are wanted")
+        one = Lookup(len(self.lines.lookups), node, self.key(fields[3]), time)
+        self.lines.append(time, node, CODES["lookup"], one.number)
+        self.lines.lookups.append(one)
+        self.open[node].setdefault((one.key, time), []).append(one)
+
+    def lookup_ends(self, time: int, node: int, fields: list[str]) -> None:
+        """A lookup ends: TIME NODE found KEY OWNER hops=H timeouts=O us=U, or lost, without an owner."""
+        key, taken = whole(fields[3]), whole(fields[-1].removeprefix("us="))
+        waiting = self.open[node].get((key, time - taken), [])
+        if not waiting:
+            raise ValueError(f"no line begins this lookup at {time - taken}")
+        # Lookups of one key that a node began at one time cannot be told apart; the first one began first.
+        one = waiting.pop(0)
+        if not waiting:
+            del self.open[node][key, time - taken]
+        one.end, one.outcome = time, fields[2]
+        one.hops = below(129, fields[-3].removeprefix("hops="))
+        one.timeouts = below(10, fields[-2].removeprefix("timeouts="))
+        self.lines.append(time, node, CODES[fields[2]], one.number)
+        if fields[2] == "found":
+            self.judge(one, fields[4])
+
+    def key(self, text: str) -> int:
+        """A key on the circle."""
+        return below(1 << self.scenario.bits, text)
+
+    def judge(self, one: Lookup, named: str) -> None:
+        """Whether an answer is right, when it arrives and at any time before."""
+        assert one.end is not None
+        one.owner = self.numbers[named]
+        owner = self.members.owner(one.key)
+        one.true_owner = NOBODY if owner is None else self.numbers[owner]
+        one.is_right = owner == named
+        one.names_member = self.members.is_member(named)
+        if one.is_right:
+            one.is_defensible = True
+        else:
+            one.is_defensible = self.members.was_owner(named, one.key, one.begin, one.end)
+            one.missed = self.members_between(one.key, self.idents[named])
+
+    def members_between(self, key: int, place: int) -> int:
+        """How many members are at or after the key and before a place, clockwise."""
+        places = self.members.places
+        between = bisect_left(places, place) - bisect_left(places, key)
+        return between + (len(places) if place < key else 0)
+
+    def audit(self, time: int, line: str, fields: list[str]) -> None:
+        """An audit. It must count the members that the lines before it leave."""
+        facts = dict(word.split("=") for word in fields[2:])
+        one = Audit(
+            time, whole(facts["members"]), whole(facts["dead"]), whole(facts["ring"]), facts["ordered"] == "yes",
+            whole(facts["principals"]), facts["sufficient"] == "yes",
+        )
+        if one.text() != line:
+            raise ValueError("it is no audit line")
+        if one.members != len(self.members.places):
+            raise ValueError(f"the lines before it leave {len(self.members.places)} members")
+        self.lines.append(time, NOBODY, CODES["audit"], len(self.lines.audits))
+        self.lines.audits.append(one)
+
+
+def below(limit: int, text: str) -> int:
+    """A number that a line can have."""
+    number = whole(text)
+    if number >= limit:
+        raise ValueError(f"{number} is not below {limit}")
+    return number
+
+
+def whole(text: str) -> int:
+    """A number of a line."""
+    if not text.isdecimal():
+        raise ValueError(f"{text!r} is no number")
+    return int(text)

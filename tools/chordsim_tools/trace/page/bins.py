@@ -1,0 +1,42 @@
+"""Counts over time for a page: of all lines of the run, embedded or not."""
+
+from array import array
+from collections.abc import Iterable
+from itertools import accumulate
+from typing import Any
+
+from chordsim_tools.trace.lines import CRASH, JOIN_FAILED, MEMBER, STRANDED, TIMEOUT
+from chordsim_tools.trace.reading import Run
+
+COUNT = 1000
+"""How many bins there are at most."""
+
+
+def bins(run: Run) -> dict[str, Any]:
+    """For each end of a bin how much there was at its time or before. Bin 0 ends at time 0."""
+    end = max(run.history.scenario.duration_us if run.is_whole else run.reached, 1)
+    width = -(-end // COUNT)
+    count = -(-end // width) + 1
+
+    def until(times: Iterable[int]) -> list[int]:
+        """How many of these times are at the end of each bin or before."""
+        at = array("q", bytes(8 * count))
+        for time in times:
+            at[-(-time // width)] += 1
+        return list(accumulate(at))
+
+    lines, lookups = run.history.lines, run.history.lines.lookups
+    found = [one for one in lookups if one.outcome == "found"]
+    kinds = {"timeouts": TIMEOUT, "crashes": CRASH, "joined": MEMBER, "joinsFailed": JOIN_FAILED, "stranded": STRANDED}
+    members = run.history.members
+    return {
+        "width": width, "end": end, "count": count,
+        "begun": until(one.begin for one in lookups),
+        "found": until(one.end or 0 for one in found),
+        "right": until(one.end or 0 for one in found if one.is_right),
+        "defensible": until(one.end or 0 for one in found if one.is_defensible),
+        "lost": until(one.end or 0 for one in lookups if one.outcome == "lost"),
+        "cut": until(one.end or 0 for one in lookups if one.outcome == "crash"),
+        "members": [members.count_before(at * width + 1) for at in range(count)],
+        **{word: until(lines.of_kind(kind)) for word, kind in kinds.items()},
+    }

@@ -1,0 +1,139 @@
+"""Tables of a run: by steps of time, by node, and the worst lookups."""
+
+from typing import Any
+
+from chordsim_tools.cli import Failure
+from chordsim_tools.trace.lines import CRASH, MEMBER, NOBODY, TIMEOUT, Lookup
+from chordsim_tools.trace.reading import Run
+from chordsim_tools.trace.wording import counted, seconds, share, table
+
+Rows = list[dict[str, Any]]
+MOST_STEPS = 100_000
+
+
+def step_rows(run: Run, width: int) -> Rows:
+    """A row for each step: what begins and ends in it, and the members at its end. A step has its first instant."""
+    end = run.history.scenario.duration_us if run.is_whole else run.reached + 1
+    count = -(-end // width)
+    if count > MOST_STEPS:
+        raise Failure(2, f"--over-time: {count} steps; {MOST_STEPS} at most")
+    words = ("begun", "found", "right", "lost", "timeouts", "members", "crashes", "joined")
+    rows: Rows = [{"from_us": at * width, **dict.fromkeys(words, 0)} for at in range(count)]
+    for one in run.history.lines.lookups:
+        rows[one.begin // width]["begun"] += 1
+        if one.end is not None and one.outcome in ("found", "lost"):
+            row = rows[one.end // width]
+            row[one.outcome] += 1
+            row["right"] += one.is_right
+    lines = run.history.lines
+    for word, kind in (("timeouts", TIMEOUT), ("crashes", CRASH), ("joined", MEMBER)):
+        for time in lines.of_kind(kind):
+            rows[time // width][word] += 1
+    members = run.history.members
+    for row in rows:
+        row["members"] = members.count_before(min(row["from_us"] + width, end))
+    return rows
+
+
+def step_table(rows: Rows) -> list[str]:
+    """The same for readers."""
+    words = ("begun", "found", "right", "lost", "timeouts", "members", "crashes", "joined")
+    cells = [
+        [seconds(row["from_us"]), *(counted(row[word]) for word in words), share(row["right"], row["found"])]
+        for row in rows
+    ]
+    head = ["steps of time: members are those at the end of the step, right is strict", ""]
+    return head + table(["from", *words, "right share"], cells)
+
+
+def node_rows(run: Run) -> Rows:
+    """A row for each node."""
+    history = run.history
+    rows: Rows = []
+    for name, lives in zip(history.names, history.lives, strict=True):
+        up = sum((run.reached if life.end is None else life.end) - life.begin for life in lives)
+        row = dict.fromkeys(("lookups", "found", "right", "lost", "timeouts_met", "timeouts_on_it"), 0)
+        rows.append({"node": name, **row, "lives": len(lives), "up_us": up})
+    for one in history.lines.lookups:
+        row = rows[one.node]
+        row["lookups"] += 1
+        row["found"] += one.outcome == "found"
+        row["lost"] += one.outcome == "lost"
+        row["right"] += one.is_right
+    lines = history.lines
+    for node, kind, other in zip(lines.nodes, lines.kinds, lines.others, strict=True):
+        if kind == TIMEOUT:
+            rows[node]["timeouts_met"] += 1
+            rows[other]["timeouts_on_it"] += 1
+    return rows
+
+
+def node_table(rows: Rows) -> list[str]:
+    """The same for readers."""
+    words = ("lookups", "found", "right", "lost", "timeouts_met", "timeouts_on_it", "lives")
+    cells = [
+        [row["node"], *(counted(row[word]) for word in words), seconds(row["up_us"]), share(row["right"], row["found"])]
+        for row in rows
+    ]
+    return table(["node", *(word.replace("_", " ") for word in words), "up", "right share"], cells)
+
+
+def slowest(run: Run, most: int) -> list[Lookup]:
+    """The lookups that took longest till they were found or lost."""
+    ended = [one for one in run.history.lines.lookups if one.outcome in ("found", "lost")]
+    return sorted(ended, key=lambda one: -one.taken(0))[:most]
+
+
+def most_wrong(run: Run, most: int) -> list[Lookup]:
+    """Wrong answers: first those that no instant defends, then by the members that they miss, then by time."""
+    wrong = [one for one in run.history.lines.lookups if one.is_wrong]
+    return sorted(wrong, key=lambda one: (one.is_defensible, -one.missed, -one.taken(0)))[:most]
+
+
+def lookup_row(run: Run, one: Lookup) -> dict[str, Any]:
+    """A lookup, as a row of the worst ones."""
+    names = [*run.history.names, None]
+    return {
+        "number": one.number + 1, "node": names[one.node], "key": one.key, "begin_us": one.begin, "end_us": one.end,
+        "outcome": one.outcome, "us": None if one.end is None else one.taken(0), "hops": one.hops,
+        "timeouts": one.timeouts, "owner": names[one.owner], "true_owner": names[one.true_owner],
+        "verdict": verdict(one), "missed": one.missed,
+    }
+
+
+def worst_rows(run: Run, most: int) -> dict[str, Rows]:
+    """The slowest and the most wrong lookups."""
+    return {
+        "slowest": [lookup_row(run, one) for one in slowest(run, most)],
+        "most_wrong": [lookup_row(run, one) for one in most_wrong(run, most)],
+    }
+
+
+def worst_table(rows: dict[str, Rows]) -> list[str]:
+    """The same for readers."""
+    lines: list[str] = []
+    for key, head in (("slowest", "slowest lookups"), ("most_wrong", "most wrong answers")):
+        cells = [
+            [str(row["number"]), f"{row['node']}@{seconds(row['begin_us']).replace(' ', '')}", seconds(row["us"]),
+             str(row["hops"]), str(row["timeouts"]), row["owner"] or "-", row["true_owner"] or "-",
+             str(row["missed"]), row["verdict"]]
+            for row in rows[key]
+        ]
+        heading = ["lookup", "asker", "time", "hops", "timeouts", "named", "right owner", "missed", "verdict"]
+        lines += ([""] if lines else []) + [head, "", *(table(heading, cells) if cells else ["none"])]
+    return lines
+
+
+def verdict(one: Lookup) -> str:
+    """What became of a lookup, in a word or two."""
+    if one.outcome != "found":
+        return {"lost": "lost", "crash": "cut off by a crash", "end": "cut off by the end"}[one.outcome]
+    if one.is_right:
+        return "right"
+    kind = "misses a member" if one.names_member else "names no member"
+    return ("defensible, " if one.is_defensible else "wrong, ") + kind
+
+
+def name_or_nobody(run: Run, node: int) -> str:
+    """The name of a node that may be none."""
+    return "nobody" if node == NOBODY else run.history.names[node]

@@ -1,0 +1,149 @@
+"""The summary of a run in words."""
+
+from collections.abc import Iterator
+from textwrap import wrap
+
+from chordsim_tools.trace.summary import SHARES, Facts
+from chordsim_tools.trace.wording import counted, seconds, share
+
+WIDTH = 24
+MOST_NAMES = 40
+JOINED = {"done": "done", "failed": "failed", "cut_by_crash": "cut off by a crash", "open_at_end": "open at the end"}
+
+
+def line(head: str, *told: str) -> str:
+    """A line of the summary."""
+    return f"{head:{WIDTH}}" + "; ".join(told)
+
+
+def summary_text(facts: Facts) -> Iterator[str]:
+    """The lines of the summary."""
+    nodes = facts["nodes"]
+    yield line("time", f"0 to {seconds(facts['reached_us'])} of {seconds(facts['duration_us'])}")
+    if not facts["is_whole"]:
+        yield from early_end(facts)
+    yield line("lines", counted(facts["lines"]))
+    if facts["report"] and "events" in facts["report"]:
+        yield line("events", counted(facts["report"]["events"]))
+    at_end = f"{counted(nodes['members_at_end'])} at its end"
+    yield line("nodes", counted(nodes["all"]), f"members: {counted(nodes['initial'])} at the start, {at_end}")
+    yield from lookup_text(facts)
+    yield from time_text(facts)
+    yield from join_text(facts)
+    yield from audit_text(facts)
+    yield from report_text(facts["report"])
+
+
+def early_end(facts: Facts) -> Iterator[str]:
+    """That the trace is no whole one."""
+    half = ". Its last line is half a line, and is left out" if facts["half_line"] else ""
+    yield line("THE TRACE ENDS EARLY", f"it reaches {seconds(facts['reached_us'])}, and has no audit at the end{half}")
+
+
+def lookup_text(facts: Facts) -> Iterator[str]:
+    """Lookups, and answers."""
+    lookups, answers = facts["lookups"], facts["answers"]
+    begun, found, wrong = lookups["begun"], lookups["found"], answers["wrong_strict"]
+    yield ""
+    yield line("lookups begun", counted(begun))
+    for key, head in (
+        ("found", "  found"), ("lost", "  lost"), ("cut_by_crash", "  cut off by a crash"),
+        ("cut_by_end", "  cut off by the end"),
+    ):
+        yield line(head, f"{counted(lookups[key])} ({share(lookups[key], begun)})")
+    for key, head in (("busy", "refused as busy"), ("ignored_commands", "commands ignored")):
+        if lookups[key]:
+            yield line(head, counted(lookups[key]))
+    yield line("answers", counted(found))
+    for key, head, meaning in (
+        ("right_strict", "  right, strict", "names the owner at the time of the answer"),
+        ("right_defensible", "  right, defensible", "names the owner of some instant of the lookup"),
+    ):
+        yield line(head, f"{counted(answers[key])} ({share(answers[key], found)})", meaning)
+    yield line("  wrong, strict", f"{counted(wrong)} ({share(wrong, found)})", "of these")
+    for key, head in (
+        ("wrong_names_no_member", "name a node that was no member"),
+        ("wrong_misses_a_member", "miss a member nearer to the key"),
+    ):
+        yield line("", f"{counted(answers[key])} ({share(answers[key], wrong)}) {head}")
+
+
+def time_text(facts: Facts) -> Iterator[str]:
+    """Percentiles."""
+    times, hops = facts["times_us"], facts["hops"]
+    yield ""
+    yield line("percentiles", "".join(f"{f'p{one}':>12}" for one in SHARES))
+    for name, head in (("found", "  time, found"), ("all", "  time, all")):
+        yield line(head, "".join(f"{seconds(times[name][f'p{one}']):>12}" for one in SHARES))
+    yield line("  hops, found", "".join(f"{'-' if hops[f'p{one}'] is None else hops[f'p{one}']:>12}" for one in SHARES))
+    yield "  (all: estimated by Kaplan and Meier. A lost lookup never ends; one that is cut off counts until then)"
+
+
+def join_text(facts: Facts) -> Iterator[str]:
+    """Crashes, joins and strandings."""
+    yield ""
+    yield line("timeouts", counted(facts["timeouts"]))
+    yield line("drops, late replies", f"{counted(facts['drops'])} and {counted(facts['late'])}")
+    if facts["losses"] is not None:
+        yield line("messages lost", counted(facts["losses"]))
+    yield line("crashes", counted(facts["crashes"]))
+    for key, head in (("joins", "joins begun"), ("stranded", "stranded, join again")):
+        joins = facts[key]
+        told = [f"{counted(joins[word])} {name}" for word, name in JOINED.items() if joins[word] or word == "done"]
+        yield line(head, counted(joins["begun"]), ", ".join(told)) if joins["begun"] else line(head, "0")
+        if joins["done"]:
+            yield line("  time to join", ", ".join(f"p{one} {seconds(joins['times_us'][f'p{one}'])}" for one in SHARES))
+
+
+def audit_text(facts: Facts) -> Iterator[str]:
+    """Audits, and the ring's worst times."""
+    audits = facts["audits"]
+    yield ""
+    yield line("audits", counted(audits["all"]))
+    for word in ("whole", "torn", "lost"):
+        yield line(f"  ring {word}", f"{counted(audits[word])} ({share(audits[word], audits['all'])})")
+    torn, lost = audits["first_torn"], audits["first_lost"]
+    if torn is not None:
+        head = "first torn, and lost" if torn == lost else "first torn"
+        yield from first_text(head, torn)
+    if lost is not None and lost != torn:
+        yield from first_text("first lost", lost)
+
+
+def first_text(head: str, first: Facts) -> Iterator[str]:
+    """The first audit of a kind, and the members then."""
+    yield line(head, f"at {seconds(first['at_us'])}: {first['line'].split(' ', 2)[2]}")
+    names = first["members"]
+    more = len(names) - MOST_NAMES
+    told = (", ".join(names[:MOST_NAMES]) or "none") + (f" and {more} more (all by --json)" if more > 0 else "")
+    for at, part in enumerate(wrap(told, 90)):
+        yield line("  members then" if at == 0 else "", part)
+
+
+MEANS = {
+    "members": "joins that succeeded", "join-failed": "joins abandoned after eight failures",
+    "drops": "messages that were not handled", "late": "replies for which no call was out",
+    "hops-greatest": "most hops of a found lookup", "us-least": "least time of a found lookup",
+    "us-median": "median time of found lookups", "us-greatest": "greatest time of a found lookup",
+    "unordered": "audits whose ring is out of order", "ringless": "audits without a ring",
+    "insufficient": "audits that are not sufficient", "unfinished": "lookups that a crash or the end cut off",
+}
+"""What numbers of the report are, if their words do not say it."""
+
+
+def report_text(report: dict[str, int] | None) -> Iterator[str]:
+    """The numbers of the report with their units, and what they are shares of."""
+    if not report:
+        return
+    yield ""
+    yield "report"
+    of = {"found": "lookups", "lost": "lookups", "unfinished": "lookups", "ringless": "audits", "unordered": "audits"}
+    of["insufficient"] = "audits"
+    for word, number in report.items():
+        told = seconds(number) if word.startswith("us-") else counted(number)
+        if word in ("hops-sum", "us-sum") and report.get("found"):
+            mean = number / report["found"]
+            told += f" ({mean:.2f} a lookup)" if word == "hops-sum" else f" ({mean / 1e6:.4f} s a lookup)"
+        if word in of and of[word] in report:
+            told += f" ({share(number, report[of[word]])} of {of[word]})"
+        yield f"  {word:16}{told}" + (f", {MEANS[word]}" if word in MEANS else "")
