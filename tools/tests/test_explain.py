@@ -85,6 +85,13 @@ def changed(*changes: tuple[str, str]) -> str:
     return text
 
 
+# A world without traps: its duration is above its periods.
+SOUND = changed(
+    ("duration_us = 200", "duration_us = 9000"), ("stabilize_us = 1000", "stabilize_us = 100"),
+    ("finger_us = 1000", "finger_us = 100"),
+)
+
+
 def faults(text: str, rows: str = "") -> list[Explanation]:
     """All faults of two texts."""
     return list(explanations(text.encode(), rows.encode(), ("world.toml", "links.csv"))[1])
@@ -264,7 +271,7 @@ class ExplainTest(TestCase):
 
     def test_texts_and_statuses(self) -> None:
         """Accepted files, refused ones, some of each kind, and the words for a reader."""
-        assert told(WORLD, "n0,n1,10\n") == (0, "accepted: 3 nodes, 1 commands\n", "")
+        assert told(SOUND, "n0,n1,10\n") == (0, "accepted: 3 nodes, 1 commands\n", "")
         status, out, err = told(changed(("bits = 3", 'bits = "3"')), "n0,n1\nn0\nn1,n3\n", "--most", "2")
         lines = out.splitlines()
         assert (status, err, lines[0], lines[1]) == (1, "", "refused: S4 WrongType top bits", "4 faults:")

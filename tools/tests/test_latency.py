@@ -50,9 +50,9 @@ class LatencyTest(TestCase):
     def test_matrix_by_hand(self) -> None:
         """Four hosts and one gap, by blanks or by commas; the facts at the end."""
         facts = "hosts 4, gaps filled 1, least 4 us, median 6 us, greatest 25 us; window_us may be at most 4\n"
-        assert written(MATRIX, "--nodes", "4") == (0, ROWS, facts)
+        assert written(MATRIX, "--nodes", "4", "--unit", "us") == (0, ROWS, facts)
         commas = "\ufeff# King\n,10,20,30\n\n14,, -1 ,50\n20,0,,7.0\n31,-1.0,8e0,\n"
-        assert written(commas, "--nodes", "4") == (0, ROWS, facts)
+        assert written(commas, "--nodes", "4", "--unit", "us") == (0, ROWS, facts)
 
     def test_lines_by_hand(self) -> None:
         """The same round trips in lines: hosts are taken in the order of their numbers."""
@@ -220,7 +220,7 @@ class LatencyTest(TestCase):
         with tempfile.TemporaryDirectory() as folder:
             toml, rows = Path(folder) / "x.toml", Path(folder) / "x.csv"
             err = ended(main, "--plane", "300us", "--floor", "20us", "--names", names, "-o", str(rows))[2]
-            window = int(err.split()[-1])
+            window = int(err.splitlines()[0].split()[-1])
             toml.write_text(scenario.replace("window_us = 10", f"window_us = {window}"))
             assert checked(toml, rows) == "ok nodes=3 commands=1\n"
             toml.write_text(scenario.replace("window_us = 10", f"window_us = {window + 1}"))

@@ -11,6 +11,7 @@ from chordsim_tools.explain.files import Explanation, Files
 from chordsim_tools.explain.positions import Positions
 from chordsim_tools.explain.program import answer_of
 from chordsim_tools.explain.toml import explained_toml
+from chordsim_tools.explain.traps import events_trap, greatest_latency, traps_of
 from chordsim_tools.explain.wording import explained
 from chordsim_tools.files import put, read_input
 from chordsim_tools.program import find_program
@@ -31,13 +32,18 @@ called unexplained. That can be for these reasons, since Python's tomllib reads 
   - the program accepts times without seconds, seconds of 60 and the year 0, the escapes \\e and \\x41, and line feeds
     and a last comma in inline tables; here they are no TOML (S1)
   - the program refuses as no TOML what is nested deeper than 80; here that is another fault, or none
-Without the program the first line is that of this tool."""
+Without the program the first line is that of this tool.
+
+Of files that are accepted, a section "accepted, but:" names traps, and the status stays 0: a timeout below the greatest
+round trip, a duration below the periods, and a `max_events` below what the run is likely to need. This last one is
+estimated, where the timers alone come near to it: the program runs the scenario's first seconds (six, or four periods)
+and half of them, and the events of the second half are taken for the rest of the duration."""
 EXAMPLES = """\
 examples:
   tools/explain world.toml                     all faults of a scenario
   tools/explain world.toml links.csv           ... and of its latency file
   tools/explain world.toml links.csv --most 3  at most three of each of the fifteen kinds
-  tools/explain world.toml --json              for other programs: `answer`, and `faults` with `line`, `column`, `hints`
+  tools/explain world.toml --json              for other programs: `answer`, `traps`, and `faults` with `line`, `hints`
 
 status: 0 the files are accepted; 1 they are refused, or cannot be read; 2 the arguments are wrong; 3 something failed
 (the program that CHORDSIM names is not there or does not end as it should, or standard output is full); 130 stopped by
@@ -52,6 +58,7 @@ class Findings:
     program_answer: str | None
     faults: list[Explanation]
     left_out: dict[str, int]
+    traps: list[str]
 
     @property
     def first_line(self) -> str:
@@ -123,7 +130,12 @@ def look(args: Namespace) -> Findings:
             left_out[kind] += 1
     accepted = f"accepted: {len(document.nodes)} nodes, {len(document.commands)} commands"
     answer = f"refused: {kept[0].fault}" if kept else accepted
-    return Findings(answer, said, kept, dict(left_out))
+    findings = Findings(answer, said, kept, dict(left_out), [])
+    if findings.agrees and not kept:
+        findings.traps = traps_of(document.top.table, greatest_latency(document.top.table, latency))
+        if program is not None:
+            findings.traps += events_trap(program, document.top.table, latency)
+    return findings
 
 
 def in_text(findings: Findings) -> Iterator[str]:
@@ -131,6 +143,9 @@ def in_text(findings: Findings) -> Iterator[str]:
     yield findings.first_line
     if not findings.agrees:
         yield from unexplained(findings)
+    if findings.traps:
+        yield "accepted, but:"
+        yield from (f"- {trap}" for trap in findings.traps)
     total = len(findings.faults) + sum(findings.left_out.values())
     if total > 1:
         yield f"{total} faults:"
@@ -165,6 +180,7 @@ def in_json(findings: Findings) -> dict[str, object]:
         "accepted": findings.first_line.startswith("accepted"),
         "faults": [{"number": number, **asdict(one)} for number, one in enumerate(findings.faults, start=1)],
         "left_out": findings.left_out,
+        "traps": findings.traps,
         "tool_answer": findings.answer,
         "program_answer": findings.program_answer,
         "agrees": findings.agrees,

@@ -4,8 +4,10 @@ from argparse import Namespace
 
 from chordsim_tools.cli import Parser, run
 from chordsim_tools.draws import distribution_of
+from chordsim_tools.explain.traps import duration_traps, timeout_trap, warn
 from chordsim_tools.files import put
-from chordsim_tools.generate.commands import Streams, commands_of
+from chordsim_tools.generate.bare import bare_traps
+from chordsim_tools.generate.commands import Streams, commands_of, initial_nodes, lives_of
 from chordsim_tools.generate.plan import (
     LENGTHS, LIVES, MOST_KEYS, RATES, Plan, check, gap_of, keys_wanted, law_of, length_span_of, rate_of,
 )
@@ -29,7 +31,11 @@ Churn in one of two forms, of all nodes but the first --stay:
   by commands  --lifetime and --down: each node crashes at the end of a drawn life and joins again at the end of a drawn
                down time. exp:MEAN is exponential, pareto:ALPHA:MIN longer than x with the probability (MIN/x)^ALPHA,
                uniform:MIN..MAX is alike for all times of the span. Times are rounded up to whole microseconds. Lives of
-               initial nodes begin at 0.
+               initial nodes begin at 0, unless --stationary starts them in equilibrium: each node is up with the
+               probability E[life] / (E[life] + E[down]), and has what is left of a time that is under way. Without it
+               all churning nodes are new at 0, and their first crashes come in waves. It needs laws with a mean (of
+               pareto, ALPHA above 1). --lookups is in equilibrium always; each node's first gap of --lookup-gap, which
+               the program draws, is a whole one.
 A join by command goes through a node that is up at its time and has been so for a timeout or from the start, drawn
 among these; if there is none, among those that are up; if none is, and with --via first, through the first other
 node of the file. With --churn-uniform only the nodes that stay are drawn, since nobody knows when the others are up.
@@ -53,6 +59,7 @@ examples:
   tools/generate -o ring.toml                                   a ring without churn
   tools/generate --nodes 128 --bits 64 --churn-uniform 20s..60s 5s..15s --stay 2 --seed 11
   tools/generate --nodes 256 --lifetime pareto:1.5:20s --down exp:10s --duration 5m -o heavy.toml
+  tools/generate --nodes 200 --lifetime exp:10m --down exp:1m --stay 0 --stationary --lookups 0.2 --duration 30m
   tools/generate --initial 8 --arrive 5s..5055ms --duration 1m  a storm of joins
   tools/generate --profile 2 --loss 20000 --spread 5ms          two messages of a hundred are lost, the others late
   tools/generate --lookups 0.5 --keys zipf:0.9:1000 --seed 3
@@ -91,6 +98,8 @@ OPTIONS = (
      "lives and down times that the program draws: two spans of 1us to 1000s"),
     ("lifetime", "LAW", LIFE, f"lives drawn here: {LIVES}"),
     ("down", "LAW", LIFE, "down times drawn here, in the same forms (exp:10s)"),
+    ("stationary", "", None,
+     "start in equilibrium: who is up is drawn, and what is left of its life or down time; with --lifetime"),
     ("stay", "N", a_whole(), "how many nodes, the first ones, do not churn: 0 to NODES - 1 (2)"),
     ("via", "WHICH", choice("random", "first"), "the node to join through: random or first (random)"),
     ("arrive", "SPAN", value(span_of, "MIN..MAX, both below --duration"),
@@ -108,7 +117,9 @@ def parser_of() -> Parser:
     """The parser of the arguments."""
     parser = Parser(PROG, HELP, EPILOG, strict=True)
     for name, metavar, kind, meaning in OPTIONS:
-        if name == "churn-uniform":
+        if not callable(kind):
+            parser.add_argument(f"--{name}", action="store_const", const=Given("", True), help=meaning)
+        elif name == "churn-uniform":
             parser.add_argument(f"--{name}", nargs=2, metavar=("LIFE_SPAN", "DOWN_SPAN"), type=kind, help=meaning)
         else:
             parser.add_argument(f"--{name}", metavar=metavar, type=kind, help=meaning)
@@ -126,14 +137,15 @@ def arguments_again(args: Namespace) -> list[str]:
     for name, *_ in OPTIONS:
         given: Given[object] | list[Given[object]] | None = getattr(args, name.replace("-", "_"))
         if given is not None:
-            again += [f"--{name}", *(one.text for one in (given if isinstance(given, list) else [given]))]
+            again += [f"--{name}", *(one.text for one in (given if isinstance(given, list) else [given]) if one.text)]
     return again
 
 
 def scenario_of(plan: Plan, arguments: list[str]) -> str:
     """The text of the scenario that a plan asks for."""
     streams = Streams(plan.top["seed"], plan.nodes)
-    return text_of(plan, streams, commands_of(plan, streams), arguments)
+    lives = lives_of(plan, streams)
+    return text_of(plan, streams, commands_of(plan, lives, streams), arguments, initial_nodes(plan, lives))
 
 
 def check_random(args: Namespace, parser: Parser) -> None:
@@ -153,6 +165,13 @@ def write_random(seed: int, file: str | None, links: str | None) -> None:
     put(scenario, file)
 
 
+def write_planned(plan: Plan, args: Namespace) -> None:
+    """Writes the scenario of a plan, and warns of what is hardly meant."""
+    put(scenario_of(plan, arguments_again(args)), args.file)
+    slowest = plan.top["latency_us"] + plan.top.get("spread_us", 0)
+    warn([*bare_traps(args), *timeout_trap(plan.top["timeout_us"], slowest), *duration_traps(plan.top)])
+
+
 def main(arguments: list[str]) -> int:
     """The command."""
     parser = parser_of()
@@ -161,4 +180,4 @@ def main(arguments: list[str]) -> int:
     if args.random is not None:
         return run(PROG, lambda: write_random(args.random.value, args.file, args.links))
     plan = check(args, parser)
-    return run(PROG, lambda: put(scenario_of(plan, arguments_again(args)), args.file))
+    return run(PROG, lambda: write_planned(plan, args))

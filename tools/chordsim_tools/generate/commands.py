@@ -8,6 +8,7 @@ from typing import NamedTuple
 
 from chordsim_tools.cli import Failure, Progress
 from chordsim_tools.draws import TWENTY_DIGITS, Distribution, Draws, Keys
+from chordsim_tools.generate.equilibrium import is_up, rest_of
 from chordsim_tools.generate.plan import Plan
 
 GREATEST_COUNT = 100_000
@@ -42,9 +43,9 @@ class Streams:
         self.lookups = lookups.split(nodes)
 
 
-def commands_of(plan: Plan, streams: Streams) -> list[Command]:
-    """All commands of a plan, in the order of the file."""
-    lives = lives_of(plan, streams)
+def commands_of(plan: Plan, lives: list[list[Life]], streams: Streams) -> list[Command]:
+    """All commands of a plan with these lives, in the order of the file."""
+    check_initial(plan, lives)
     commands = moves_of(plan, lives, streams.via)
     if plan.rate is not None:
         commands += drawn_lookups(plan, plan.rate, lives, streams, GREATEST_COUNT - len(commands))
@@ -58,7 +59,9 @@ def lives_of(plan: Plan, streams: Streams) -> list[list[Life]]:
     with Progress("nodes whose lives are drawn", plan.nodes) as progress:
         for node in range(plan.nodes):
             arrives = 0 if node < plan.initial else streams.arrive[node].between(*plan.arrive)
-            if plan.lifetime is not None and node >= plan.stay:
+            if plan.lifetime is not None and plan.stationary and node >= plan.stay:
+                lives.append(lives_in_equilibrium(plan, plan.lifetime, streams.churn[node], room))
+            elif plan.lifetime is not None and node >= plan.stay:
                 lives.append(drawn_lives(plan, plan.lifetime, arrives, streams.churn[node], room))
             else:
                 lives.append([Life(arrives, plan.top["duration_us"])])
@@ -80,15 +83,41 @@ def drawn_lives(plan: Plan, lifetime: Distribution, begin: int, draws: Draws, mo
     return lives
 
 
+def lives_in_equilibrium(plan: Plan, lifetime: Distribution, draws: Draws, most: int) -> list[Life]:
+    """The same for a node whose life or down time is under way at the start. Only a life that is so begins at 0."""
+    if not is_up(lifetime, plan.down, draws):
+        return drawn_lives(plan, lifetime, rest_of(plan.down, draws), draws, most)
+    end = rest_of(lifetime, draws)
+    first = Life(0, min(end, plan.top["duration_us"]))
+    return [first, *drawn_lives(plan, lifetime, end + plan.down.draw(draws), draws, most)]
+
+
+def initial_nodes(plan: Plan, lives: list[list[Life]]) -> set[int]:
+    """The nodes that are members at the start."""
+    if not plan.stationary:
+        return set(range(plan.initial))
+    return {node for node, spans in enumerate(lives) if spans and spans[0].begin == 0}
+
+
+def check_initial(plan: Plan, lives: list[list[Life]]) -> None:
+    """Refuses a start with fewer members than the program takes."""
+    count = len(initial_nodes(plan, lives))
+    if count <= plan.top["list"]:
+        least = plan.top["list"] + 1
+        more = "more --nodes, more that --stay, or a shorter --list"
+        raise Failure(2, f"--stationary: {count} nodes are up at the start, and --list needs {least}; {more}")
+
+
 def moves_of(plan: Plan, lives: list[list[Life]], draws: Draws) -> list[Command]:
     """The crashes and joins, in the order of their times."""
     moves: list[Command] = []
+    initial = initial_nodes(plan, lives)
     for node, spans in enumerate(lives):
         moves += [Command(life.end, CRASH, node) for life in spans if life.end < plan.top["duration_us"]]
-        moves += [Command(life.begin, JOIN, node) for life in spans[1 if node < plan.initial else 0 :]]
+        moves += [Command(life.begin, JOIN, node) for life in spans[1 if node in initial else 0 :]]
     if len(moves) > GREATEST_COUNT:
         raise too_many("--lifetime")
-    doors = Doors(plan, draws)
+    doors = Doors(plan, draws, initial)
     return [doors.open(move) for move in sorted(moves)]
 
 
@@ -105,11 +134,11 @@ class Doors:
     first, since a node that is still joining itself replies to no one. Of nodes that crash by themselves nothing is
     known, so that they are no doors."""
 
-    def __init__(self, plan: Plan, draws: Draws) -> None:
-        """The doors at the start."""
+    def __init__(self, plan: Plan, draws: Draws, initial: set[int]) -> None:
+        """The doors at the start, which are among the initial nodes."""
         self.plan = plan
         self.draws = draws
-        self.settled = [node for node in range(plan.initial) if self.is_known(node)]
+        self.settled = [node for node in sorted(initial) if self.is_known(node)]
         self.fresh: dict[int, int] = {}
 
     def is_known(self, node: int) -> bool:

@@ -6,6 +6,7 @@ from decimal import Decimal
 
 from chordsim_tools.cli import Parser
 from chordsim_tools.draws import Distribution, Exponential, Zipf, zipf_of
+from chordsim_tools.generate.equilibrium import mean_of
 from chordsim_tools.options import Given, Options
 from chordsim_tools.quantities import BILLION, decimal_of, span_of, time_text
 from chordsim_tools.scenario.reading import Churn, Lookups
@@ -34,6 +35,7 @@ class Plan:
     lookups: Lookups | None
     rate: Decimal | None
     keys: Zipf | None
+    stationary: bool = False
 
 
 def check(args: Namespace, parser: Parser) -> Plan:
@@ -61,7 +63,22 @@ def check(args: Namespace, parser: Parser) -> Plan:
         lookups=lookups_of(options),
         rate=options.get("lookups", None),
         keys=keys_of(options, bits),
+        stationary=is_stationary(options),
     )
+
+
+def is_stationary(options: Options) -> bool:
+    """Whether the churn starts in equilibrium, if there is one."""
+    if not options.has("stationary"):
+        return False
+    for name in ("initial", "arrive"):
+        if options.has(name):
+            options.refuse(name, "not with --stationary, which draws who is up at the start")
+    for name in ("lifetime", "down"):
+        law: Distribution = options.get(name, DEFAULT_DOWN)
+        if mean_of(law) is None:
+            options.refuse(name, "with --stationary ALPHA is above 1: a law without a mean has no equilibrium")
+    return True
 
 
 def top_of(options: Options, profile: int, bits: int, initial: int) -> dict[str, int]:
@@ -102,6 +119,7 @@ def check_companions(options: Options, some_arrive: bool) -> None:
     if options.has("churn-uniform") and options.has("lifetime"):
         options.refuse("lifetime", "not with --churn-uniform, which is the other form of churn")
     options.only_with("down", options.has("lifetime"), "--lifetime")
+    options.only_with("stationary", options.has("lifetime"), "--lifetime, whose times are drawn here")
     options.only_with("stay", churns(options), "--churn-uniform or --lifetime")
     options.only_with("via", options.has("lifetime") or some_arrive, "--lifetime or an --initial below --nodes")
     options.only_with("arrive", some_arrive, "an --initial below --nodes")

@@ -12,20 +12,20 @@ from chordsim_tools.reference.circle import Circle
 DOES = {CRASH: "crash", JOIN: "join", LOOKUP: "lookup"}
 
 
-def text_of(plan: Plan, streams: Streams, commands: list[Command], arguments: list[str]) -> str:
+def text_of(plan: Plan, streams: Streams, commands: list[Command], arguments: list[str], initial: set[int]) -> str:
     """The whole file."""
-    tables = [head(plan, commands, arguments), table("", plan.top)]
+    tables = [head(plan, commands, arguments, len(initial)), table("", plan.top)]
     if plan.churn is not None:
         tables.append(table("[churn]\n", asdict(plan.churn)))
     if plan.lookups is not None:
         tables.append(table("[lookups]\n", asdict(plan.lookups)))
     idents = drawn_idents(plan, streams.idents)
-    tables += [node_table(plan, node, idents) for node in range(plan.nodes)]
+    tables += [node_table(plan, node, idents, node in initial) for node in range(plan.nodes)]
     tables += [command_table(command) for command in commands]
     return "\n".join(tables)
 
 
-def head(plan: Plan, commands: list[Command], arguments: list[str]) -> str:
+def head(plan: Plan, commands: list[Command], arguments: list[str], initial: int) -> str:
     """The comment at the head: the arguments, and what they made."""
     command = shlex.join(["tools/generate", *arguments])
     asked = textwrap.wrap(command, 110, break_long_words=False, break_on_hyphens=False)
@@ -35,7 +35,7 @@ def head(plan: Plan, commands: list[Command], arguments: list[str]) -> str:
         "",
         *[f"  {line}" + (" \\" if line is not asked[-1] else "") for line in asked],
         "",
-        f"Nodes: {plan.nodes}, of which {plan.initial} are members at the start. Commands: {', '.join(counts)}.",
+        f"Nodes: {plan.nodes}, of which {initial} are members at the start. Commands: {', '.join(counts)}.",
     ]
     return "".join(f"# {line}".rstrip() + "\n" for line in lines)
 
@@ -63,12 +63,12 @@ def name_of(node: int) -> str:
     return f"n{node}"
 
 
-def node_table(plan: Plan, node: int, idents: dict[int, int]) -> str:
+def node_table(plan: Plan, node: int, idents: dict[int, int], is_initial: bool) -> str:
     """The table of a node."""
     lines = [f'name = "{name_of(node)}"']
     if node in idents:
         lines.append(f"id = {key_text(idents[node])}")
-    if node < plan.initial:
+    if is_initial:
         lines.append("initial = true")
     if plan.churn is not None and node >= plan.stay:
         lines.append("churn = true")

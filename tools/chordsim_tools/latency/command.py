@@ -9,6 +9,7 @@ from statistics import median_low
 
 from chordsim_tools.cli import Failure, Parser, Refused, run, say
 from chordsim_tools.draws import Draws
+from chordsim_tools.explain.traps import timeout_trap, warn
 from chordsim_tools.files import put, read_input
 from chordsim_tools.latency.measured import UNITS, Latencies, latencies_of, read_lines, read_matrix
 from chordsim_tools.options import GREATEST_SEED, Options, a_whole, choice, duration, whole
@@ -54,6 +55,8 @@ examples:
 
 status: 0 the file is written; 1 a file is refused; 2 the arguments are wrong; 3 the file could not be written; 130
 interrupted. A file is whole or not there."""
+UNIT_LIMIT = 1000
+"""A median latency below this many microseconds is hardly one of the Internet."""
 MOST_NODES = 4096
 """The most nodes of a scenario."""
 
@@ -174,6 +177,24 @@ def write(options: Options) -> None:
     check_size(len(names), len(text))
     put(text, options.args.file)
     say(facts(len(names), result))
+    warn(traps(options, result))
+
+
+def traps(options: Options, result: Latencies) -> list[str]:
+    """What is hardly meant: milliseconds that were read as microseconds, and a scenario with too short a timeout."""
+    times = [micros for _, _, micros in result.micros]
+    found = []
+    if options.args.measured is not None and not options.has("unit") and median_low(times) < UNIT_LIMIT:
+        found.append(
+            f"the median latency is {median_low(times)} us, below 1 ms: are the round trips in milliseconds "
+            "(--unit ms)? --unit us says that they are not"
+        )
+    if options.args.names is not None:
+        top = parse_toml(read_input(options.args.names, GREATEST_SIZE, reasons=False))
+        timeout, spread = (top.get(key, 0) for key in ("timeout_us", "spread_us"))
+        if isinstance(timeout, int) and isinstance(spread, int) and timeout > 0:
+            found += timeout_trap(timeout, max(times) + spread)
+    return found
 
 
 def main(arguments: list[str]) -> int:

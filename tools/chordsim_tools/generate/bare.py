@@ -1,0 +1,34 @@
+"""Numbers without a unit where a time is asked for: they are microseconds, which is hardly meant."""
+
+from argparse import Namespace
+
+from chordsim_tools.options import Given
+
+LONG = 10_000
+"""Below this many microseconds a bare number among the times of nodes and runs is told."""
+SHORT = 1_000
+"""The same for times of the network."""
+LIMITS = {
+    **dict.fromkeys(("duration", "audit", "stabilize", "finger", "churn-uniform", "lifetime", "down", "arrive"), LONG),
+    **dict.fromkeys(("lookup-gap", "timeout"), LONG),
+    **dict.fromkeys(("window", "latency", "jitter", "spread"), SHORT),
+}
+
+
+def bare_traps(args: Namespace) -> list[str]:
+    """A line for each option with such a number."""
+    traps = []
+    for name, limit in LIMITS.items():
+        given: Given[object] | list[Given[object]] | None = getattr(args, name.replace("-", "_"))
+        texts = [one.text for one in (given if isinstance(given, list) else [given] if given is not None else [])]
+        bare = next((number for text in texts for number in bare_numbers(text, limit)), None)
+        if bare is not None:
+            units = f"write {bare}ms, {bare}s or {bare}m, or {bare}us for this"
+            traps.append(f"--{name} {' '.join(texts)}: {bare} without a unit is {bare} microseconds; {units}")
+    return traps
+
+
+def bare_numbers(text: str, limit: int) -> list[str]:
+    """The numbers above 0 and below a limit that have no unit, in a time, a span or the times of a law."""
+    ends = text.rpartition(":")[2].split("..")
+    return [end for end in ends if end.isdecimal() and 0 < int(end) < limit]

@@ -1,0 +1,145 @@
+"""Traps: what is accepted and hardly meant, told by each tool that can know it, with the status unchanged."""
+
+import io
+import tempfile
+from contextlib import redirect_stderr
+from pathlib import Path
+from unittest import TestCase
+from unittest.mock import patch
+
+from chordsim_tools.explain.traps import events_trap, events_until, greatest_latency
+from chordsim_tools.generate.command import main as generate
+from chordsim_tools.latency.command import main as latency
+from chordsim_tools.scenario.tables import parse_toml
+from chordsim_tools.study.command import main as study
+from tests.support.programs import ended, program
+from tests.test_explain import SOUND, WORLD, told
+from tests.test_study_run import BASE, STUDY, call, study_folder
+
+def spoken(text: str, rows: str = "") -> list[str]:
+    """The traps that `explain` names, as its lines."""
+    status, out, err = told(text, rows)
+    assert (status, err) == (0, ""), (out, err)
+    lines = out.splitlines()
+    assert lines[0].startswith("accepted: ") and lines[1:2] in ([], ["accepted, but:"])
+    return [line.removeprefix("- ") for line in lines[2:]]
+
+
+class ExplainTrapsTest(TestCase):
+    """The section "accepted, but:"."""
+
+    def test_none(self) -> None:
+        """A sound world has none, and there is no section."""
+        assert spoken(SOUND) == []
+
+    def test_timeout(self) -> None:
+        """Below twice the greatest latency, by a row or by `latency_us` with the spread; not at it."""
+        assert spoken(SOUND, "n0,n1,20\n") == []
+        assert spoken(SOUND, "n0,n1,21\n")[0].startswith("timeout_us = 40 (40us) is below the greatest round trip, 42 ")
+        second = SOUND.replace("profile = 1", "profile = 2").replace("seed = 1", "seed = 1\nspread_us = 11")
+        assert "greatest round trip, 42 " in spoken(second)[0]
+        top = parse_toml(second.encode())
+        # Rows for all pairs leave nothing to `latency_us`.
+        assert greatest_latency(top, b"n0,n1,12\nn0,n3,12\nn1,n3,12\n") == 23
+        assert greatest_latency(top, b"n0,n1,12\n") == 23 and greatest_latency(top, b"n0,n1,8\n") == 21
+
+    def test_duration(self) -> None:
+        """Below a period: each one that is longer is named."""
+        lines = spoken(WORLD)
+        assert len(lines) == 1 and "duration_us = 200 (200us) is below stabilize_us = 1000 (no node" in lines[0]
+        assert "finger_us = 1000" in lines[0] and "audit_us" not in lines[0]
+
+    def test_json_and_refused_files(self) -> None:
+        """JSON has the list; files that are refused have no traps."""
+        assert '"traps": [\n    "duration_us = 200' in told(WORLD, "", "--json")[1]
+        assert "but:" not in told(WORLD.replace("list = 2", "list = 17"), "")[1]
+
+
+class EventsTrapTest(TestCase):
+    """The estimate of events."""
+
+    def test_estimate(self) -> None:
+        """Within a quarter of the whole run, though churn begins later; a limit above is no trap, one below is."""
+        text = generated("--nodes 24 --duration 40s --stabilize 200ms --finger 100ms --churn-uniform 5s..9s 1s..2s")
+        top = parse_toml(text.encode())
+        whole = events_until(program(), top, b"", 40_000_000)
+        assert whole is not None
+        found = events_trap(program(), {**top, "max_events": whole // 2}, b"")
+        assert len(found) == 1
+        assert found[0].startswith(f"max_events = {whole // 2}, and the run is likely to need about ")
+        assert "(tried: its first 3s have " in found[0] and "and its first 6s " in found[0]
+        guess = int(found[0].partition("about ")[2].partition(" ")[0].replace(",", ""))
+        assert abs(guess / whole - 1) < 0.25, (guess, whole)
+        assert events_trap(program(), {**top, "max_events": 2 * whole}, b"") == []
+
+    def test_no_run_where_the_timers_are_few(self) -> None:
+        """A small scenario with the default limit asks no program: that of the test is not there."""
+        top = parse_toml(BASE.encode())
+        assert events_trap(Path("/none"), top, b"") == []
+        assert events_trap(Path("/none"), {**top, "max_events": 100}, b"") == []
+
+
+def generated(words: str) -> str:
+    """What `generate` writes, whatever it warns of."""
+    status, out, _ = ended(generate, *words.split())
+    assert status == 0
+    return out
+
+
+class OtherTrapsTest(TestCase):
+    """The lines of generate, latency and study."""
+
+    def test_generate(self) -> None:
+        """Bare numbers that are short, also in spans and laws; a timeout below the round trip. Others are silent."""
+        for words, wanted in (
+            ("--duration 30", "--duration 30: 30 without a unit is 30 microseconds; write 30ms, 30s or 30m,"),
+            ("--lifetime exp:600", "--lifetime exp:600: 600 without a unit"),
+            ("--churn-uniform 30..90s 5s..15s", "--churn-uniform 30..90s 5s..15s: 30 without"),
+            ("--latency 60 --timeout 1s", "--latency 60: 60 without a unit"),
+            ("--timeout 39ms", "timeout_us = 39000 (39ms) is below the greatest round trip, 40000 (40ms)"),
+            ("--profile 2 --spread 81ms", "timeout_us = 200000 (200ms) is below the greatest round trip, 202000"),
+            ("--duration 400ms", "duration_us = 400000 (400ms) is below stabilize_us = 500000"),
+        ):
+            with self.subTest(words=words):
+                status, out, err = ended(generate, *words.split())
+                assert status == 0 and out.startswith("# A scenario") and f"warning: {wanted}" in err, err
+        for words in ("", "--duration 30s", "--stabilize 250000 --latency 5000", "--jitter 0", "--duration 60000000"):
+            with self.subTest(words=words):
+                assert ended(generate, *words.split())[2] == ""
+
+    def test_latency(self) -> None:
+        """Pings in milliseconds that are read as microseconds, unless the unit is given; a scenario's timeout."""
+        with tempfile.TemporaryDirectory() as name:
+            folder = Path(name)
+            (folder / "pings").write_text("1 2 60\n1 3 80\n2 3 90\n")
+            (folder / "world.toml").write_text(SOUND)
+            words = (str(folder / "pings"), "--form", "lines", "--names", str(folder / "world.toml"))
+            lines = ended(latency, *words)[2].splitlines()
+            assert lines[1].startswith("warning: the median latency is 40 us, below 1 ms: are the round trips in milli")
+            assert lines[2].startswith("warning: timeout_us = 40 (40us) is below the greatest round trip, 90")
+            status, _, err = ended(latency, *words[:3], "--nodes", "3", "--unit", "us")
+            assert status == 0 and "warning" not in err
+            assert "warning" not in ended(latency, *words[:3], "--nodes", "3", "--unit", "ms")[2]
+
+    def test_study(self) -> None:
+        """Each kind once, with the first setting and how many more have it; the study is run."""
+        with study_folder(STUDY.replace("list = [1, 2]", "timeout_us = [30000, 39999, 40000]")) as folder:
+            status, line = call(folder)
+            assert status == 0 and line.startswith("warning: timeout_us=30"), line
+            assert "seed=1: timeout_us = 30000 (30ms) is below the greatest round trip, 40000" in line
+            assert line.endswith("(and in 1 more settings)")
+            assert (folder / "study" / "manifest.json").exists()
+            assert call(folder) == (0, "")
+
+    def test_study_that_needs_more_events(self) -> None:
+        """The estimate comes before the run that fails by it."""
+        chordsim = program()
+        with study_folder() as folder:
+            base = BASE.replace("seed = 7", "seed = 7\nmax_events = 20000")
+            (folder / "base.toml").write_text(base.replace("duration_us = 2", "duration_us = 20"))
+            out = io.StringIO()
+            with patch.dict("os.environ", CHORDSIM=str(chordsim)), redirect_stderr(out):
+                status = study(["run", str(folder / "study.toml"), "--jobs", "1"])
+            lines = out.getvalue().splitlines()
+            assert status == 3 and lines[0].startswith("warning: list=1, seed=1: max_events = 20000, and the run")
+            assert "TooManyEvents" in lines[1]
