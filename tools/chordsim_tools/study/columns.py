@@ -1,17 +1,19 @@
 """The numbers that plots draw: any column of runs.csv, quotients of two, and a few with names."""
 
 from chordsim_tools.cli import Refused
-from chordsim_tools.study.numbers import Cells
+from chordsim_tools.study.numbers import TAKES, Cells
 from chordsim_tools.study.tables import Tables
 
 NAMED = {
-    "right-of-begun": ("right", "judged-lookups", "right answers, of lookups begun"),
+    "right-of-begun": ("right", "judged-lookups", "right answers, of lookups begun that ended"),
     "right-of-found": ("right", "judged-found", "right answers, of all answers"),
     "found-of-begun": ("judged-found", "judged-lookups", "answers, of lookups begun"),
     "served": ("right", "wanted", "right answers, of lookups wanted"),
     "whole-of-audits": ("whole-rings", "judged-audits", "audits with a whole ring"),
 }
 """Quotients with names: the two columns, and what the quotient is."""
+AS_ON_PAGES = {"right-of-begun": "right_of_begun"}
+"""Names whose number is that of the page: lookups that their asker's crash or the end cut off are left out."""
 COST = "cost"
 GREATER_IS_BETTER = {"right-of-begun", "right-of-found", "found-of-begun", "served", "whole-of-audits", "right"}
 WORDS = {"us-p50": "lookup time, p50", "us-p90": "lookup time, p90", "us-p99": "lookup time, p99"}
@@ -54,6 +56,10 @@ class Column:
         """Which way is better."""
         return self.name in GREATER_IS_BETTER
 
+    def averaged(self, rows: list[Cells]) -> list[float | None]:
+        """The numbers that a mean is of: those of the rings kept. A lost ring serves none, so `served` has all."""
+        return [self.of(cells) for cells in rows if self.name == "served" or not ring_lost([cells])]
+
     def values(self, rows: list[Cells]) -> list[float]:
         """The numbers of the runs that have it."""
         return [value for cells in rows if (value := self.of(cells)) is not None]
@@ -67,6 +73,8 @@ class Column:
         """The number of a run, if it has it."""
         if self.name == COST:
             return self.cost(cells)
+        if self.name in AS_ON_PAGES and self.parts is not None:
+            return TAKES[AS_ON_PAGES[self.name]](cells)
         if self.parts is None:
             return plain(cells[self.name])
         above, below = (plain(cells[part]) for part in self.parts)

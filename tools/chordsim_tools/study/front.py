@@ -60,7 +60,7 @@ def spots_of(plane: Plane, settings: list[Values], rows: Rows, most_lost: float 
     """The settings of a world that have both numbers, and which of them are on the front."""
     spots = []
     for setting in settings:
-        x, y = (interval(column.of(cells) for cells in rows[setting]) for column in (plane.cost, plane.gain))
+        x, y = (interval(column.averaged(rows[setting])) for column in (plane.cost, plane.gain))
         if x.mean is not None and y.mean is not None:
             lost = sum(ring_lost([cells]) for cells in rows[setting]) / len(rows[setting])
             spots.append(Spot(setting, x, y, rows[setting], LOST if lost > most_lost else BELOW))

@@ -29,7 +29,7 @@ def lines_figure(pyplot: Any, drawn: Drawn, layout: Layout, columns: list[Column
     handles = [] if not layout.by else line_handles(pyplot, layout, None if layout.x else "none")
     if any(ring_lost(group) for group in rows.values()):
         style = {"color": "0.3", "marker": "o", "linestyle": "none", "markerfacecolor": "white", "markersize": 5}
-        handles.append(pyplot.Line2D([], [], label="hollow: a ring was lost", **style))
+        handles.append(pyplot.Line2D([], [], label="hollow: a ring was lost,\nand is not in the mean", **style))
     return finish(figure, title, note_of(rows), drawn.mark, handles, legend_head(layout.by))
 
 
@@ -78,9 +78,11 @@ def draw_line(
     """A line with its bars. The marker is hollow where a seed lost its ring."""
     points = []
     for one in sorted(line, key=lambda one: axis.places[place_of(layout, one)]):
-        found = interval(column.of(cells) for cells in rows[one])
+        found = interval(column.averaged(rows[one]))
         if found.mean is not None:
-            half = scale * (found.half or 0)
+            # Over rings that were kept and rings that were lost no interval holds.
+            is_mixed = column.name == "served" and ring_lost(rows[one])
+            half = 0.0 if is_mixed else scale * (found.half or 0)
             points.append((axis.place(place_of(layout, one), shift), scale * found.mean, half, ring_lost(rows[one])))
     if not points:
         return
