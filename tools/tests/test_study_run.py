@@ -353,11 +353,13 @@ class StudyRunTest(TestCase):
             for name in ("runs.csv", "series.csv", "manifest.json"):
                 assert (folder / "one" / name).read_bytes() == (folder / "four" / name).read_bytes()
 
-    def test_files_of_the_example(self) -> None:
-        """What examples/study keeps is what its manifest names."""
-        folder = TOP / "examples" / "study"
-        manifest = json.loads((folder / "manifest.json").read_text())
-        assert set(manifest["sha256"]) == {"study.toml", "base.toml", "plane.csv", "runs.csv", "series.csv"}
-        for name, digest in manifest["sha256"].items():
-            assert hashlib.sha256((folder / name).read_bytes()).hexdigest() == digest, name
-        assert len(table(TOP / "examples", "runs.csv")) == 120
+    def test_files_of_the_examples(self) -> None:
+        """What the studies of examples/ keep is what their manifests name: 12 settings by 20 seeds, and 30 by 8."""
+        for name in ("study", "loss"):
+            folder = TOP / "examples" / name
+            manifest = json.loads((folder / "manifest.json").read_text())
+            with self.subTest(study=name):
+                assert set(manifest["sha256"]) == {"study.toml", "runs.csv", "series.csv", "steps.csv", "cdf.csv"}
+                for file, digest in manifest["sha256"].items():
+                    assert hashlib.sha256((folder / file).read_bytes()).hexdigest() == digest, file
+                assert len((folder / "runs.csv").read_text().splitlines()) == 1 + 240

@@ -5,7 +5,7 @@ from chordsim_tools.study.numbers import TAKES, Cells
 from chordsim_tools.study.tables import Tables
 
 NAMED = {
-    "right-of-begun": ("right", "judged-lookups", "right answers, of lookups begun that ended"),
+    "right-of-begun": ("right", "judged-lookups", "right, of lookups that ended"),
     "right-of-found": ("right", "judged-found", "right answers, of all answers"),
     "found-of-begun": ("judged-found", "judged-lookups", "answers, of lookups begun"),
     "served": ("right", "wanted", "right answers, of lookups wanted"),
