@@ -24,7 +24,7 @@ COLUMNS = (
     "of these upkeep", "events per member and second",
 )
 MEANINGS = """\
-- **± is half of a 95% interval** (Student's t over the worlds), for each cell by itself. `(m of n)` stands where rings
+- **± is half of a 95% interval** (Student's t over the worlds), for each cell by itself. `(m of n)` is given if rings
   were lost or a number is missing: those worlds are not in that mean. Below {least} worlds there is no interval.
 - **rings kept**: worlds in which every audit found a ring, and the interval of Clopper and Pearson of the share.
   **rings lost an hour**: for each hour that a ring lives; Garwood's interval, or its upper bound if none was lost.
