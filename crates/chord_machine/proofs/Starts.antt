@@ -185,12 +185,12 @@ member-sound sc n ranges known =
             (λ i. found_or Known (λ x. nat_le (2 ^ (i - 1)) (way sc n x)) (clockwise sc n) n known (clockwise-known sc n));
         list = omega (arith, taken);
       };
-      status = (
-        omega (arith, taken, long, some),
-        is_there (clockwise sc n) (length (clockwise sc n) - 1) (omega (arith, long, some)),
-        is_there (others sc n) 0 (omega (arith, others-many sc n ranges, some)),
-        omega (arith, length-map-range_with_len (finger sc n) 2 (sc.bits - 1), ranges.numbers.bits_least),
-      );
+      status = record {
+        has_successor = omega (arith, taken, long, some);
+        has_predecessor = is_there (clockwise sc n) (length (clockwise sc n) - 1) (omega (arith, long, some));
+        has_via = is_there (others sc n) 0 (omega (arith, others-many sc n ranges, some));
+        has_fingers = omega (arith, length-map-range_with_len (finger sc n) 2 (sc.bits - 1), ranges.numbers.bits_least);
+      };
       attempt = tt;
       calls = no_calls sc status.Member (length (timers sc n));
       lookups = no_lookups sc _;

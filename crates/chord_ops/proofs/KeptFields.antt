@@ -18,20 +18,28 @@ fits_prdc : (sc : Scenario) (s : Status) (via prdc : Option ℕ) (succ fingers :
     → FitsStatus sc s via prdc succ fingers join → FitsStatus sc s via (Some x) succ fingers join
 fits_prdc sc status.Down via prdc succ fingers join x h = tt
 fits_prdc sc status.Joining via prdc succ fingers join x h = h
-fits_prdc sc status.Member via prdc succ fingers join x h = (h.0, refl, h.2, h.3)
+fits_prdc sc status.Member via prdc succ fingers join x h =
+    record { has_successor = h.has_successor; has_predecessor = refl; has_via = h.has_via; has_fingers = h.has_fingers }
 
 fits_succ : (sc : Scenario) (s : Status) (via prdc : Option ℕ) (succ new fingers : List ℕ) (join : Option Attempt)
     → 1 ≤ length new → FitsStatus sc s via prdc succ fingers join → FitsStatus sc s via prdc new fingers join
 fits_succ sc status.Down via prdc succ new fingers join some h = tt
 fits_succ sc status.Joining via prdc succ new fingers join some h = h
-fits_succ sc status.Member via prdc succ new fingers join some h = (some, h.1, h.2, h.3)
+fits_succ sc status.Member via prdc succ new fingers join some h =
+    record { has_successor = some; has_predecessor = h.has_predecessor; has_via = h.has_via; has_fingers = h.has_fingers }
 
 -- fingers that are as many fit the status too
 fits_fingers : (sc : Scenario) (s : Status) (via prdc : Option ℕ) (succ old new : List ℕ) (join : Option Attempt)
     → length new ≡ length old → FitsStatus sc s via prdc succ old join → FitsStatus sc s via prdc succ new join
 fits_fingers sc status.Down via prdc succ old new join same h = tt
 fits_fingers sc status.Joining via prdc succ old new join same h = h
-fits_fingers sc status.Member via prdc succ old new join same h = (h.0, h.1, h.2, omega (arith, same, h.3))
+fits_fingers sc status.Member via prdc succ old new join same h =
+    record {
+      has_successor = h.has_successor;
+      has_predecessor = h.has_predecessor;
+      has_via = h.has_via;
+      has_fingers = omega (arith, same, h.has_fingers);
+    }
 
 -- A state with another field
 
