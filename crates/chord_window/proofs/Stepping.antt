@@ -79,6 +79,7 @@ use Rattle.chord_model.proofs.PartCourse.{
 use Rattle.chord_model.proofs.Runs.{history_is_legal, possible_from_legal}
 use Rattle.chord_node.specs.declared.state.NodeState.{NodeState}
 use Rattle.chord_node.specs.Ring.{initial_state}
+use Rattle.chord_ops.specs.Limits.{most_made}
 use Rattle.chord_ops.specs.Rules.{block_of, effect}
 use Rattle.chord_ops.specs.Sound.{IsSoundEvent}
 use Rattle.chord_ops.proofs.GrowingRules.{grows_effect}
@@ -233,7 +234,7 @@ module _ (sc : Scenario) (ranges : IsInRange sc) (world : World) (is : IsWorldOf
           horizon o run.part (length run.blocks.items) (seen_in sc world.states.items run)
           (drop run.taken due ++ q.events) run.mail.items (map piece.OfEvent run.blocks.items) r.at e there_is least_is)
 
-      few : length made ≤ 6
+      few : length made ≤ most_made
       few = let g = grows_effect sc (seen_in sc world.states.items run e.target) e ranges in omega (arith, ap length made_is, ap length g.appended, g.at_most)
 
       -- what the queue has after the event was taken

@@ -41,6 +41,7 @@ use Rattle.chord_model.specs.PartRuns.{IsPartAt, part_run}
 use Rattle.chord_model.specs.Windows.{Division, part_of, IsSealedRun, made_since, pieces_since, waiting}
 use Rattle.chord_node.specs.declared.state.NodeState.{NodeState}
 use Rattle.chord_node.specs.Ring.{initial_state}
+use Rattle.chord_ops.specs.Limits.{most_made}
 use Rattle.chord_ops.specs.Rules.{block_of, effect}
 use Rattle.chord_ops.specs.Sound.{IsSoundEvent}
 use Rattle.chord_queue.specs.EventKey.{event_key}
@@ -117,7 +118,7 @@ pub record IsRunning (sc : Scenario) (w : World) (horizon : ℕ) (due : List (Ev
   pub copies : AreCopies w.division run.part w.states.items run.copies
   pub blocks_are : All (IsShortBlock sc) run.blocks.items
   pub within : w.count + length run.blocks.items ≤ sc.max_events
-  pub pushes : q.pushes ≤ 6 * length run.blocks.items
+  pub pushes : q.pushes ≤ most_made * length run.blocks.items
 
 -- the world's next window ends here
 abbrev pub IsHorizon : World → (horizon : ℕ) → Type 0

@@ -1,0 +1,16 @@
+-- The most that one event makes and draws. All other files cite these names, so a new timer changes one line.
+use Rattle.std.specs.Prelude.{ℕ, ◌+◌}
+
+-- the most timers that a node sets when it comes up
+abbrev pub most_timers : ℕ
+most_timers = 4
+
+-- the most events that one event makes: a node comes up, and its timers, a request and the request's timeout are made;
+-- such a node draws as many words, one for each timer and two for the request
+abbrev pub most_made : ℕ
+most_made = most_timers + 2
+
+-- the most words that one event draws: one for the time of the next generated lookup, at most four for the key of this
+-- one and two for its request
+abbrev pub most_drawn : ℕ
+most_drawn = 7
