@@ -21,14 +21,14 @@ use Rattle.chord_ops.specs.declared.turn.Turn.{Turn}
 use Rattle.chord_ops.specs.Procedures.{
   alone,
   armed,
-  asked,
-  begun,
+  lookup_asked,
+  lookup_begun,
   gone_down,
-  failed,
+  lookup_failed,
   finger_armed,
-  finished,
-  finished_for,
-  followed,
+  lookup_finished,
+  lookup_finished_for,
+  lookup_followed,
   for_attempt,
   fresh_lookup,
   join_failed,
@@ -44,7 +44,7 @@ use Rattle.chord_ops.specs.Procedures.{
   traffic_armed,
   came_up,
   user_lookup,
-  walked,
+  lookup_walked,
   with_attempt,
   with_lookup,
   without_attempt,
@@ -105,56 +105,56 @@ noted_armed sc n turn h =
 
 -- Lookups
 
-pub noted_failed : (sc : Scenario) (n : ℕ) (lookup : Lookup) (turn : Turn) → HasNoted sc n turn → HasNoted sc (n + 1) (failed lookup turn)
-unfolding failed
-noted_failed sc n lookup turn h = notes_lost sc n turn.time lookup turn.lines turn.state.lookups h
+pub noted_lookup_failed : (sc : Scenario) (n : ℕ) (lookup : Lookup) (turn : Turn) → HasNoted sc n turn → HasNoted sc (n + 1) (lookup_failed lookup turn)
+unfolding lookup_failed
+noted_lookup_failed sc n lookup turn h = notes_lost sc n turn.time lookup turn.lines turn.state.lookups h
 
-noted_finished_for : (sc : Scenario) (n : ℕ) (wanted : Aim) (lookup : Lookup) (owner : ℕ) (turn : Turn) → owner < node_count sc → HasNoted sc n turn
-    → HasNoted sc (n + 1) (finished_for wanted lookup owner turn)
-noted_finished_for sc n aim.User lookup owner turn at h = noted_line sc n _ turn (one_node sc owner at) h
-noted_finished_for sc n (aim.Finger index) lookup owner turn at h = one_more sc n h
+noted_lookup_finished_for : (sc : Scenario) (n : ℕ) (wanted : Aim) (lookup : Lookup) (owner : ℕ) (turn : Turn) → owner < node_count sc → HasNoted sc n turn
+    → HasNoted sc (n + 1) (lookup_finished_for wanted lookup owner turn)
+noted_lookup_finished_for sc n aim.User lookup owner turn at h = noted_line sc n _ turn (one_node sc owner at) h
+noted_lookup_finished_for sc n (aim.Finger index) lookup owner turn at h = one_more sc n h
 
-noted_finished : (sc : Scenario) (n : ℕ) (lookup : Lookup) (owner : ℕ) (turn : Turn) → owner < node_count sc → HasNoted sc n turn
-    → HasNoted sc (n + 1) (finished lookup owner turn)
-unfolding finished
-noted_finished sc n lookup owner turn at h = noted_finished_for sc n lookup.aim lookup owner turn at h
+noted_lookup_finished : (sc : Scenario) (n : ℕ) (lookup : Lookup) (owner : ℕ) (turn : Turn) → owner < node_count sc → HasNoted sc n turn
+    → HasNoted sc (n + 1) (lookup_finished lookup owner turn)
+unfolding lookup_finished
+noted_lookup_finished sc n lookup owner turn at h = noted_lookup_finished_for sc n lookup.aim lookup owner turn at h
 
-noted_asked : (sc : Scenario) (n place : ℕ) (lookup : Lookup) (next : ℕ) (turn : Turn) → next < node_count sc → HasNoted sc n turn
-    → HasNoted sc (n + 1 + 1) (asked sc place lookup next turn)
-unfolding asked
-noted_asked sc n place lookup next turn at h =
+noted_lookup_asked : (sc : Scenario) (n place : ℕ) (lookup : Lookup) (next : ℕ) (turn : Turn) → next < node_count sc → HasNoted sc n turn
+    → HasNoted sc (n + 1 + 1) (lookup_asked sc place lookup next turn)
+unfolding lookup_asked
+noted_lookup_asked sc n place lookup next turn at h =
     let out : Turn = called sc next (request.Step lookup.key lookup.avoid) purpose.Lookup turn in
-    noted_if sc (n + 1 + 1) (nat_lt lookup.steps most_steps) _ (failed lookup turn)
+    noted_if sc (n + 1 + 1) (nat_lt lookup.steps most_steps) _ (lookup_failed lookup turn)
     (notes_inserted sc (n + 1) out.lines out.state.lookups place _
     (noted_called sc n next (request.Step lookup.key lookup.avoid) purpose.Lookup turn at h))
-    (one_more sc (n + 1) (noted_failed sc n lookup turn h))
+    (one_more sc (n + 1) (noted_lookup_failed sc n lookup turn h))
 
-pub noted_followed : (sc : Scenario) (n place : ℕ) (lookup : Lookup) (a : Answer) (turn : Turn) → NamesNode sc a → HasNoted sc n turn
-    → HasNoted sc (n + 1 + 1) (followed sc place lookup a turn)
-unfolding followed
-noted_followed sc n place lookup (answer.Owner owner) turn at h = one_more sc (n + 1) (noted_finished sc n lookup owner turn at h)
-noted_followed sc n place lookup (answer.Next next) turn at h = noted_asked sc n place lookup next turn at h
-noted_followed sc n place lookup answer.Stuck turn at h = one_more sc (n + 1) (noted_failed sc n lookup turn h)
+pub noted_lookup_followed : (sc : Scenario) (n place : ℕ) (lookup : Lookup) (a : Answer) (turn : Turn) → NamesNode sc a → HasNoted sc n turn
+    → HasNoted sc (n + 1 + 1) (lookup_followed sc place lookup a turn)
+unfolding lookup_followed
+noted_lookup_followed sc n place lookup (answer.Owner owner) turn at h = one_more sc (n + 1) (noted_lookup_finished sc n lookup owner turn at h)
+noted_lookup_followed sc n place lookup (answer.Next next) turn at h = noted_lookup_asked sc n place lookup next turn at h
+noted_lookup_followed sc n place lookup answer.Stuck turn at h = one_more sc (n + 1) (noted_lookup_failed sc n lookup turn h)
 
-pub noted_walked : (sc : Scenario) (n place : ℕ) (lookup : Lookup) (turn : Turn) → KnowsNodes sc turn.state → HasNoted sc n turn
-    → HasNoted sc (n + 1 + 1) (walked sc place lookup turn)
-unfolding walked
-noted_walked sc n place lookup turn knows h =
-    noted_followed sc n place lookup (step_answer sc turn.state lookup.key lookup.avoid) turn
+pub noted_lookup_walked : (sc : Scenario) (n place : ℕ) (lookup : Lookup) (turn : Turn) → KnowsNodes sc turn.state → HasNoted sc n turn
+    → HasNoted sc (n + 1 + 1) (lookup_walked sc place lookup turn)
+unfolding lookup_walked
+noted_lookup_walked sc n place lookup turn knows h =
+    noted_lookup_followed sc n place lookup (step_answer sc turn.state lookup.key lookup.avoid) turn
     (step_answer_names sc turn.state lookup.key lookup.avoid knows.own knows.succ_known knows.fingers_known) h
 
-pub noted_begun : (sc : Scenario) (n key : ℕ) (wanted : Aim) (turn : Turn) → KnowsNodes sc turn.state → HasNoted sc n turn
-    → HasNoted sc (n + 1 + 1) (begun sc key wanted turn)
-unfolding begun
-noted_begun sc n key wanted turn knows h =
-    noted_walked sc n (length turn.state.lookups) (fresh_lookup key wanted turn.time) turn knows h
+pub noted_lookup_begun : (sc : Scenario) (n key : ℕ) (wanted : Aim) (turn : Turn) → KnowsNodes sc turn.state → HasNoted sc n turn
+    → HasNoted sc (n + 1 + 1) (lookup_begun sc key wanted turn)
+unfolding lookup_begun
+noted_lookup_begun sc n key wanted turn knows h =
+    noted_lookup_walked sc n (length turn.state.lookups) (fresh_lookup key wanted turn.time) turn knows h
 
 pub noted_user_lookup : (sc : Scenario) (n key : ℕ) (turn : Turn) → KnowsNodes sc turn.state → HasNoted sc n turn
     → HasNoted sc (n + 1 + 1 + 1) (user_lookup sc key turn)
 unfolding user_lookup
 noted_user_lookup sc n key turn knows h =
     noted_if sc (n + 1 + 1 + 1) (nat_lt (count_by is_user turn.state.lookups) most_user_lookups) _ _
-    (noted_begun sc (n + 1) key aim.User (noted (line.Lookup key) turn) knows
+    (noted_lookup_begun sc (n + 1) key aim.User (noted (line.Lookup key) turn) knows
     (noted_line sc n (line.Lookup key) turn (no_node sc) h))
     (two_more sc (n + 1) (noted_line sc n (line.Busy key) turn (no_node sc) h))
 

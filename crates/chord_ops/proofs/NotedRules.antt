@@ -130,10 +130,10 @@ use Rattle.chord_ops.proofs.Noted.{
 }
 use Rattle.chord_ops.proofs.NotedProcedures.{
   knows_traffic_armed,
-  noted_begun,
+  noted_lookup_begun,
   noted_gone_down,
-  noted_failed,
-  noted_followed,
+  noted_lookup_failed,
+  noted_lookup_followed,
   noted_for_attempt,
   noted_join_failed,
   noted_rise_armed,
@@ -141,7 +141,7 @@ use Rattle.chord_ops.proofs.NotedProcedures.{
   noted_traffic_armed,
   noted_came_up,
   noted_user_lookup,
-  noted_walked,
+  noted_lookup_walked,
   noted_with_lookup,
 }
 
@@ -196,7 +196,7 @@ noted_finger_turned : (sc : Scenario) (n index : ℕ) (turn : Turn) → KnowsNod
     → HasNoted sc (n + 1 + 1) (finger_turned sc index turn)
 unfolding finger_turned
 noted_finger_turned sc n index turn knows h =
-    noted_begun sc n (finger_start sc.bits (ident_of sc turn.state.me) index) (aim.Finger index)
+    noted_lookup_begun sc n (finger_start sc.bits (ident_of sc turn.state.me) index) (aim.Finger index)
     (record turn { state = record turn.state { next_finger = finger_after sc.bits index } }) knows h
 
 noted_finger_tick : (sc : Scenario) (n epoch : ℕ) (turn : Turn) → KnowsNodes sc turn.state → HasNoted sc n turn
@@ -240,8 +240,8 @@ noted_lookup_timed_out : (sc : Scenario) (n silent place : ℕ) (lookup : Lookup
 unfolding lookup_timed_out
 noted_lookup_timed_out sc n silent place lookup turn knows h =
     noted_if sc (n + 1 + 1) (nat_lt lookup.timeouts most_timeouts) _ _
-    (noted_walked sc n place (past silent (once_more lookup)) turn knows h)
-    (one_more sc (n + 1) (noted_failed sc n (once_more lookup) turn h))
+    (noted_lookup_walked sc n place (past silent (once_more lookup)) turn knows h)
+    (one_more sc (n + 1) (noted_lookup_failed sc n (once_more lookup) turn h))
 
 noted_join_timed_out : (sc : Scenario) (n silent : ℕ) (turn : Turn) → KnowsNodes sc turn.state → HasNoted sc n turn
     → HasNoted sc (n + 1) (join_timed_out sc silent turn)
@@ -392,7 +392,7 @@ noted_lookup_answered : (sc : Scenario) (n : ℕ) (a : Answer) (place : ℕ) (lo
     → HasNoted sc (n + 1 + 1) (lookup_answered sc a place lookup turn)
 unfolding lookup_answered
 noted_lookup_answered sc n a place lookup turn names h =
-    noted_followed sc n place (record lookup { hops = lookup.hops + 1 }) a turn names h
+    noted_lookup_followed sc n place (record lookup { hops = lookup.hops + 1 }) a turn names h
 
 noted_answered_for : (sc : Scenario) (n : ℕ) (a : Answer) (call : Call) (wanted : Purpose) (turn : Turn) → call.to < node_count sc → NamesNode sc a
     → KnowsNodes sc turn.state → HasNoted sc n turn → HasNoted sc (n + 1 + 1) (answered_for sc a call wanted turn)
