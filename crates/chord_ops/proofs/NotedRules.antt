@@ -401,10 +401,7 @@ noted_answered_for sc n a call purpose.Lookup turn at names knows h =
     (λ place lookup g. noted_lookup_answered sc n a place lookup (without_lookup place turn) names g) h
 noted_answered_for sc n a call purpose.JoinStep turn at names knows h =
     one_more sc (n + 1) (noted_join_answered sc n call.to a turn at names knows h)
-noted_answered_for sc n a call purpose.JoinList turn at names knows h = two_more sc n h
-noted_answered_for sc n a call purpose.State turn at names knows h = two_more sc n h
-noted_answered_for sc n a call purpose.List turn at names knows h = two_more sc n h
-noted_answered_for sc n a call (purpose.Ping notifier) turn at names knows h = two_more sc n h
+noted_answered_for sc n a call _ turn at names knows h = two_more sc n h
 
 noted_step_replied : (sc : Scenario) (n sender number : ℕ) (a : Answer) (turn : Turn) → sender < node_count sc → NamesNode sc a
     → IsNodeState sc turn.state → KnowsNodes sc turn.state → HasNoted sc n turn → HasNoted sc (n + 1 + 1) (step_replied sc sender number a turn)
@@ -471,10 +468,7 @@ noted_list_answered_for : (sc : Scenario) (n : ℕ) (list : List ℕ) (to : ℕ)
     → KnowsNodes sc turn.state → HasNoted sc n turn → HasNoted sc (n + 1) (list_answered_for sc list to wanted turn)
 noted_list_answered_for sc n list to purpose.List turn at all knows h = noted_list_answered sc n to list turn at all knows h
 noted_list_answered_for sc n list to purpose.JoinList turn at all knows h = noted_join_list_answered sc n to list turn at knows h
-noted_list_answered_for sc n list to purpose.Lookup turn at all knows h = one_more sc n h
-noted_list_answered_for sc n list to purpose.JoinStep turn at all knows h = one_more sc n h
-noted_list_answered_for sc n list to purpose.State turn at all knows h = one_more sc n h
-noted_list_answered_for sc n list to (purpose.Ping notifier) turn at all knows h = one_more sc n h
+noted_list_answered_for sc n list to _ turn at all knows h = one_more sc n h
 
 noted_list_replied : (sc : Scenario) (n sender number : ℕ) (list : List ℕ) (turn : Turn) → sender < node_count sc → AllNodes sc list
     → IsNodeState sc turn.state → KnowsNodes sc turn.state → HasNoted sc n turn → HasNoted sc (n + 1) (list_replied sc sender number list turn)
