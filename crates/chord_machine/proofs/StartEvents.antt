@@ -28,7 +28,7 @@ use Rattle.std.proofs.Common.{
   arith,
 }
 use Rattle.std.specs.Prelude.{Option, Some, None, flat_map, if◌then◌else◌}
-use Rattle.std.specs.List.{All, AllPairs, Contains, enumerate_from, range_with_len}
+use Rattle.std.specs.List.{All, AllByRecursion, AllPairs, Contains, enumerate_from, filter_map, range_with_len}
 use Rattle.chord_event.specs.declared.body.Body.{Body}
 use Rattle.chord_event.specs.declared.body.Body.TheVariants as body
 use Rattle.chord_event.specs.declared.event.Event.{Event}
@@ -51,6 +51,7 @@ use Rattle.chord_node.proofs.Rings.{initial-known, range-apart, filter-apart}
 use Rattle.chord_node.proofs.Sorting.{AreApart}
 use Rattle.chord_ops.specs.Asked.{IsBody}
 use Rattle.chord_ops.specs.Sound.{IsSoundEvent}
+use Rattle.chord_ops.proofs.TimerTable.{IsTick, table_ticks}
 use Rattle.chord_scenario.specs.declared.scenario.Scenario.{Scenario}
 use Rattle.chord_scenario.specs.declared.setting.Action.{Action}
 use Rattle.chord_scenario.specs.declared.setting.Action.TheVariants as action
@@ -64,12 +65,10 @@ use Rattle.chord_scenario.specs.Start.{
   command_events,
   first_timers,
   initial_nodes,
-  jittered,
-  life_timers,
   start_events,
   timer_event,
+  timer_table,
   timers,
-  traffic_timers,
 }
 use Rattle.chord_scenario.specs.World.{is_churn_node, is_initial, node_count}
 use Rattle.chord_machine.proofs.Starts.{starts_count}
@@ -164,34 +163,18 @@ pub record IsFirstTimer (sc : Scenario) (n : ℕ) (e : Event Body) : Type 0 wher
   pub number : e.key.number ≤ length (timers sc n)
   pub body : IsBody sc e.body
 
+ticks-in : (sc : Scenario) (rows : List (Option (Span × Body))) (timer : Span × Body) → AllByRecursion (IsTick sc) rows
+    → Contains (filter_map (λ row. row) rows) timer → IsBody sc timer.1
+ticks-in sc [] timer are c = absurd (contains_none timer c)
+ticks-in sc (None ∷ rows) timer are c = ticks-in sc rows timer are.1 c
+ticks-in sc (Some first ∷ rows) timer are c = ⊎_elim
+    (λ e. subst (λ (z : Span × Body). IsBody sc z.1) e are.0)
+    (λ r. ticks-in sc rows timer are.1 r)
+    (contains_cons timer first (filter_map (λ row. row) rows) c)
+
 ticks : (sc : Scenario) (n : ℕ) (timer : Span × Body) → Contains (timers sc n) timer → IsBody sc timer.1
 unfolding timers
-ticks sc n timer c =
-    let more : List (Span × Body) = traffic_timers sc.lookups ++ (if is_churn_node sc n then life_timers sc.churn else []) in
-    let second : Span × Body = (jittered sc sc.finger, body.FingerTick 1) in
-    let first : Span × Body = (jittered sc sc.stabilize, body.StabilizeTick 1) in
-    ⊎_elim
-    (λ e. subst Ticks {x = first} e tt)
-    (λ r. ⊎_elim
-    (λ e. subst Ticks {x = second} e tt)
-    (λ q. ⊎_elim (traffic sc.lookups) (life (is_churn_node sc n) sc.churn)
-    (contains_append (traffic_timers sc.lookups) (if is_churn_node sc n then life_timers sc.churn else []) timer q))
-    (contains_cons timer second more r))
-    (contains_cons timer first (second ∷ more) c)
-  where
-    Ticks : Span × Body → Type 0
-    Ticks z = IsBody sc z.1
-
-    traffic : (lookups : Option Span) → Contains (traffic_timers lookups) timer → IsBody sc timer.1
-    traffic None d = absurd (contains_none timer d)
-    traffic (Some gap) d = ⊎_elim (λ e. subst (λ (z : Span × Body). IsBody sc z.1) e tt) (λ q. absurd (contains_none timer q))
-        (contains_cons timer (gap, body.TrafficTick 1) [] d)
-
-    life : (b : Bool) (churn : Option Churn) → Contains (cond b (life_timers churn) []) timer → IsBody sc timer.1
-    life true None d = absurd (contains_none timer d)
-    life true (Some times) d = ⊎_elim (λ e. subst (λ (z : Span × Body). IsBody sc z.1) e tt) (λ q. absurd (contains_none timer q))
-        (contains_cons timer (times.life, body.LifeEnd 1) [] d)
-    life false churn d = absurd (contains_none timer d)
+ticks sc n timer c = ticks-in sc (timer_table sc n 1) timer (table_ticks sc n 1) c
 
 timers-are : (sc : Scenario) (n : ℕ) (e : Event Body) → Contains (first_timers sc n) e → IsFirstTimer sc n e
 unfolding first_timers

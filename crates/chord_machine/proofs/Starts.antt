@@ -37,7 +37,7 @@ use Rattle.chord_event.proofs.Members.{contains_none, contains_here, contains_th
 use Rattle.chord_node.specs.declared.state.Status.TheVariants as status
 use Rattle.chord_node.specs.Invariant.{IsNodeState}
 use Rattle.chord_node.specs.Ring.{clockwise, finger, first_member, initial_state, never_up, others, put_by, sorted_by, way}
-use Rattle.chord_node.proofs.Rings.{clockwise-known, other-known, range-apart, filter-apart, timers-long}
+use Rattle.chord_node.proofs.Rings.{clockwise-known, other-known, range-apart, filter-apart, timers-few}
 use Rattle.chord_node.proofs.Sorting.{AreApart}
 use Rattle.chord_ops.proofs.KeptRules.{no_calls, no_lookups, none_of}
 use Rattle.chord_scenario.specs.declared.scenario.Scenario.{Scenario}
@@ -45,7 +45,7 @@ use Rattle.chord_scenario.specs.declared.setting.Churn.{Churn}
 use Rattle.chord_scenario.specs.declared.setting.Node.{Node}
 use Rattle.chord_scenario.specs.declared.setting.Span.{Span}
 use Rattle.chord_scenario.specs.Range.{IsInRange}
-use Rattle.chord_scenario.specs.Start.{initial_nodes, life_timers, timers, traffic_timers}
+use Rattle.chord_scenario.specs.Start.{initial_nodes, most_timers, timers}
 use Rattle.chord_scenario.specs.World.{is_churn_node, is_initial, node_count}
 use Rattle.chord_machine.specs.Sound.{IsStateOf}
 
@@ -149,22 +149,6 @@ mapped P f xs h = All_from P (map f xs) (λ y c. go xs y c)
     go [] y c = absurd (contains_none y c)
     go (x ∷ xs) y c = ⊎_elim (λ e. subst P e (h x)) (λ r. go xs y r) (contains_cons y (f x) (map f xs) c)
 
-traffic-few : (lookups : Option Span) → length (traffic_timers lookups) ≤ 1
-traffic-few None = omega arith
-traffic-few (Some gap) = omega arith
-
-life-few : (b : Bool) (churn : Option Churn) → length (cond b (life_timers churn) []) ≤ 1
-life-few true None = omega arith
-life-few true (Some times) = omega arith
-life-few false churn = omega arith
-
-pub timers-few : (sc : Scenario) (n : ℕ) → (2 ≤ length (timers sc n)) × (length (timers sc n) ≤ 4)
-timers-few sc n =
-    let all = timers-long sc n in
-    let a = traffic-few sc.lookups in
-    let b = life-few (is_churn_node sc n) sc.churn in
-    (omega (arith, all, a, b), omega (arith, all, a, b))
-
 member-sound : (sc : Scenario) (n : ℕ) → IsInRange sc → n < node_count sc → IsNodeState sc (first_member sc n)
 unfolding first_member
 member-sound sc n ranges known =
@@ -232,7 +216,7 @@ pub starts_low : (sc : Scenario) (n : ℕ) → ((initial_state sc n).count ≤ 8
 unfolding initial_state first_member
 starts_low sc n = go (is_initial sc n)
   where
-    few : length (timers sc n) ≤ 4
+    few : length (timers sc n) ≤ most_timers
     few = (timers-few sc n).1
 
     go : (b : Bool) → ((cond b (first_member sc n) (never_up n)).count ≤ 8) × ((cond b (first_member sc n) (never_up n)).place ≤ 8)

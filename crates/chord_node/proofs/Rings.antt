@@ -27,10 +27,10 @@ use Rattle.std.proofs.Common.{
   arith,
   add-one,
 }
-use Rattle.std.specs.Prelude.{◌==◌, not, ◌-◌, ◌^◌, Some, find, nat_le, option_map, unwrap_or, if◌then◌else◌}
+use Rattle.std.specs.Prelude.{◌==◌, not, ◌-◌, ◌^◌, Option, Some, None, find, nat_le, option_map, unwrap_or, if◌then◌else◌}
 use Rattle.std.proofs.lemmas.List.{map-append}
 use Rattle.std.proofs.Common.{append-nil, length-append}
-use Rattle.std.specs.List.{AllByRecursion, Contains, IsDistinct, filter, range_with_len}
+use Rattle.std.specs.List.{AllByRecursion, Contains, IsDistinct, filter, filter_map, range_with_len}
 use Rattle.std.proofs.lemmas.Bool.Decides.{nat_tests}
 use Rattle.std.proofs.lemmas.Map.Keys.{IsDistinct-IsPermutation, IsDistinct-tail, apart_from_distinct}
 use Rattle.std.proofs.lemmas.Bool.{ne_eqb}
@@ -41,7 +41,7 @@ use Rattle.chord_circle.proofs.Distance.{distance-injective}
 use Rattle.chord_event.proofs.Members.{contains_none, contains_here, contains_there, contains_cons, filter_contains}
 use Rattle.chord_scenario.specs.declared.scenario.Scenario.{Scenario}
 use Rattle.chord_scenario.specs.Range.{IsInRange}
-use Rattle.chord_scenario.specs.Start.{initial_nodes, life_timers, timers, traffic_timers}
+use Rattle.chord_scenario.specs.Start.{initial_nodes, most_timers, timer_table, timers}
 use Rattle.chord_scenario.specs.World.{ident_of, is_churn_node, is_initial, node_count}
 use Rattle.chord_node.specs.declared.ring.Met.{Met}
 use Rattle.chord_node.specs.Met.{first_tagged, tagged}
@@ -252,12 +252,15 @@ states-more f n done x here so_far =
     (λ i. so_far i ++ here i ∷ []) ∙ sym (ap (map f) (range-more 0 n ∙ ap (λ (k : ℕ). range_with_len 0 n ++ k ∷ []) at)
     ∙ map-append f (range_with_len 0 n) (n ∷ []))
 
-pub timers-long : (sc : Scenario) (n : ℕ) → length (timers sc n) ≡ 2 + length (traffic_timers sc.lookups) + length
-    (if is_churn_node sc n then life_timers sc.churn else [])
+-- a table has at most as many timers as rows
+timers-in : {A : Type 0} (rows : List (Option A)) → length (filter_map (λ row. row) rows) ≤ length rows
+timers-in [] = omega arith
+timers-in (None ∷ rows) = omega (arith, timers-in rows)
+timers-in (Some timer ∷ rows) = omega (arith, timers-in rows)
+
+pub timers-few : (sc : Scenario) (n : ℕ) → (1 ≤ length (timers sc n)) × (length (timers sc n) ≤ most_timers)
 unfolding timers
-timers-long sc n =
-    let all = length-append (traffic_timers sc.lookups) (if is_churn_node sc n then life_timers sc.churn else []) in
-    omega (arith, all)
+timers-few sc n = (omega arith, omega (arith, timers-in (timer_table sc n 1)))
 
 pub others-from : (sc : Scenario) (n : ℕ) (nodes rest : List ℕ) → nodes ≡ initial_nodes sc → rest ≡ filter (λ x. not (x == n)) nodes → rest ≡ others sc n
 unfolding others

@@ -2,7 +2,7 @@
 ghost use Rattle.std.specs.Prelude.{◌≡◌, ℕ, ◌==◌, ◌+◌, ◌-◌, ◌^◌, ◌<◌, ◌≤◌, not, filter, length, map, slice_get, take, All, IfOk, OnOk};
 ghost use Rattle.std.specs.List.{range_with_len};
 ghost use Rattle.std.specs.List.Sorted.{IsNonDecreasingBy, IsPermutation};
-ghost use Rattle.chord_scenario.specs.Start.{initial_nodes, life_timers, timers, traffic_timers};
+ghost use Rattle.chord_scenario.specs.Start.{initial_nodes, timers};
 ghost use Rattle.chord_scenario.specs.World.{is_initial, node_count};
 ghost use Rattle.chord_node.specs.Met.{first_tagged, tagged};
 ghost use Rattle.chord_node.specs.Ring.{clockwise, finger, first_member, initial_ring, initial_state, others};
@@ -10,7 +10,7 @@ ghost use Rattle.chord_node.specs.Ring.{clockwise, finger, first_member, initial
 use crate::state::{NodeState, Status};
 use chord_circle::Raw;
 use chord_event::{Listed, Memory};
-use chord_scenario::{Churn, Scenario, Span};
+use chord_scenario::Scenario;
 use std::alloc::Global;
 
 /// A node that is met going clockwise, and its distance.
@@ -129,30 +129,19 @@ fn fingers(
 
 /// The number of timers of a member at the start: two, one more for its generated lookups if the
 /// scenario has these, and one more for the end of its life if it is a churn node.
+#[tactic(auto, unfolding(chord_scenario::specs::Start::timers))]
 fn timer_count(scenario: &Scenario, node: u32) -> u64
     requires { node < node_count scenario.now }
     ensures { result ≡ length (timers scenario.now node) }
 {
-    let traffic = traffic_count(scenario.lookups());
-    if scenario.churn(node) {
-        2 + traffic + life_count(scenario.churn_times())
-    } else {
-        2 + traffic
+    let mut count = 2;
+    if scenario.lookups().is_some() {
+        count += 1;
     }
-}
-
-fn traffic_count(lookups: Option<Span>) -> u64
-    ensures value { result ≡ length (traffic_timers lookups) }
-    ensures few { result ≤ 1 }
-{
-    if lookups.is_some() { 1 } else { 0 }
-}
-
-fn life_count(churn: Option<Churn>) -> u64
-    ensures value { result ≡ length (life_timers churn) }
-    ensures few { result ≤ 1 }
-{
-    if churn.is_some() { 1 } else { 0 }
+    if scenario.churn(node) && scenario.churn_times().is_some() {
+        count += 1;
+    }
+    count
 }
 
 /// The state of a node that is a member at the start.

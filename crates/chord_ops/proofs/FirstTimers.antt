@@ -1,92 +1,56 @@
 -- The timers that a run starts with are those that a node arms at time 0 in its first life.
-use Rattle.std.proofs.Common.{◌≡◌, ℕ, ◌+◌, Bool, true, false, List, [], ◌∷◌, ◌++◌, Option, Some, None, refl, sym, ap, ◌∙◌, arith, subst, map}
-use Rattle.std.specs.Prelude.{if◌then◌else◌}
-use Rattle.std.specs.List.{enumerate_from}
+use Rattle.std.proofs.Common.{◌≡◌, ℕ, ◌+◌, List, [], ◌∷◌, ◌++◌, Option, Some, None, refl, sym, ap, ◌∙◌, append_assoc, append-nil, arith, map}
+use Rattle.std.specs.List.{enumerate_from, filter_map}
 use Rattle.chord_event.specs.declared.body.Body.{Body}
-use Rattle.chord_event.specs.declared.body.Body.TheVariants as body
 use Rattle.chord_event.specs.declared.event.Event.{Event}
 use Rattle.chord_scenario.specs.declared.scenario.Scenario.{Scenario}
-use Rattle.chord_scenario.specs.declared.setting.Churn.{Churn}
 use Rattle.chord_scenario.specs.declared.setting.Span.{Span}
-use Rattle.chord_scenario.specs.Start.{delay, first_timers, jittered, life_timers, timer_event, timers, traffic_timers}
-use Rattle.chord_scenario.specs.World.{is_churn_node}
+use Rattle.chord_scenario.specs.Start.{delay, first_timers, life_timer, timer_event, timer_table, timers, traffic_timer}
 use Rattle.chord_node.specs.declared.state.NodeState.{NodeState}
 use Rattle.chord_ops.specs.declared.turn.Turn.{Turn}
 use Rattle.chord_ops.specs.FirstTurns.{IsNew, first_turn}
-use Rattle.chord_ops.specs.Procedures.{armed, finger_armed, life_armed, stabilize_armed, traffic_armed}
-use Rattle.chord_ops.specs.Turns.{timer_made, when_some}
+use Rattle.chord_ops.specs.Procedures.{armed, finger_armed, life_armed, row_armed, rows_armed, stabilize_armed, traffic_armed}
+use Rattle.chord_ops.specs.Turns.{timer_made}
+use Rattle.chord_ops.proofs.KeptJoins.{same_row_armed}
 
--- the first timers of a node, when these are the scenario's lookups and times of churn
-abbrev timers_with : Scenario → (lookups : Option Span) → (is_churn : Bool) → (churn : Option Churn) → List (Span × Body)
-timers_with sc lookups is_churn churn =
-    (jittered sc sc.stabilize, body.StabilizeTick 1)
-    ∷ (jittered sc sc.finger, body.FingerTick 1)
-    ∷ []
-    ++ traffic_timers lookups
-    ++ (if is_churn then life_timers churn else [])
+-- the timers of these rows as events of node n, the first at this place of its stream
+abbrev events_of : Scenario → (n place : ℕ) → List (Option (Span × Body)) → List (Event Body)
+events_of sc n place rows = map (λ p. timer_event sc n p.0 p.1) (enumerate_from place (filter_map (λ row. row) rows))
 
--- a timer that is set at this time
-abbrev timer_set : (time : ℕ) → Scenario → (n : ℕ) → ℕ × (Span × Body) → Event Body
-timer_set time sc n p =
-    record {
-      key = record { time = time + delay sc n p.0 p.1.0; origin = 2 + n; number = p.0 + 1 };
-      target = n;
-      body = p.1.1;
-    }
-
-abbrev timers_set : Scenario → (n : ℕ) → (lookups : Option Span) → (is_churn : Bool) → (churn : Option Churn) → List (Event Body)
-timers_set sc n lookups is_churn churn = map (timer_set 0 sc n) (enumerate_from 0 (timers_with sc lookups is_churn churn))
-
--- the turn at time 0 of a node in its first life, after its first two timers
-abbrev two_armed : Scenario → NodeState → Turn
-two_armed sc s = finger_armed sc (stabilize_armed sc (first_turn (record s { epoch = 1; place = 0; count = 0 })))
-
-abbrev traffic_with : Scenario → Option Span → Turn → Turn
-traffic_with sc lookups turn = when_some lookups (λ gap. λ turn. timer_made sc gap (body.TrafficTick turn.state.epoch) turn) turn
-
-abbrev life_with : Scenario → Bool → Option Churn → Turn → Turn
-life_with sc is_churn churn turn =
-    if is_churn
-    then when_some churn (λ churn. λ turn. timer_made sc churn.life (body.LifeEnd turn.state.epoch) turn) turn
-    else turn
-
-armed_with : (sc : Scenario) (s : NodeState) (lookups : Option Span) (is_churn : Bool) (churn : Option Churn)
-    → timers_set sc s.me lookups is_churn churn ≡ (life_with sc is_churn churn (traffic_with sc lookups (two_armed sc s))).events
-unfolding stabilize_armed finger_armed timer_made
-armed_with sc s None false churn = refl
-armed_with sc s None true None = refl
-armed_with sc s None true (Some times) = refl
-armed_with sc s (Some gap) false churn = refl
-armed_with sc s (Some gap) true None = refl
-armed_with sc s (Some gap) true (Some times) = refl
-
-armed_at : (sc : Scenario) (s : NodeState) (lookups : Option Span) (churn : Option Churn)
-    → timers_set sc s.me lookups (is_churn_node sc s.me) churn ≡ (life_with sc (is_churn_node sc (traffic_with sc lookups (two_armed sc s)).state.me)
-    churn (traffic_with sc lookups (two_armed sc s))).events
-unfolding stabilize_armed finger_armed timer_made
-armed_at sc s None churn = armed_with sc s None (is_churn_node sc s.me) churn
-armed_at sc s (Some gap) churn = armed_with sc s (Some gap) (is_churn_node sc s.me) churn
-
--- a state whose fields are set to their own values is as it was
-restored : (s : NodeState) (epoch place count : ℕ) → epoch ≡ s.epoch → place ≡ s.place → count ≡ s.count
-    → record s { epoch = epoch; place = place; count = count } ≡ s
-restored s epoch place count e p c = rw (e, p, c) refl
-
--- what is set at time 0 comes after its delay
-set_at_0 : (sc : Scenario) (n : ℕ) (p : ℕ × (Span × Body)) → timer_event sc n p.0 p.1 ≡ timer_set 0 sc n p
-set_at_0 sc n p =
-    let same : delay sc n p.0 p.1.0 ≡ 0 + delay sc n p.0 p.1.0 = omega arith in
-    ap (λ (t : ℕ). record { key = record { time = t; origin = 2 + n; number = p.0 + 1 }; target = n; body = p.1.1 }) same
-
-all_set_at_0 : (sc : Scenario) (n : ℕ) (ps : List (ℕ × (Span × Body))) → map (λ p. timer_event sc n p.0 p.1) ps ≡ map (timer_set 0 sc n) ps
-all_set_at_0 sc n [] = refl
-all_set_at_0 sc n (p ∷ ps) =
-    ap (λ (e : Event Body). e ∷ map (λ p. timer_event sc n p.0 p.1) ps) (set_at_0 sc n p)
-    ∙ ap (λ (es : List (Event Body)). timer_set 0 sc n p ∷ es) (all_set_at_0 sc n ps)
+-- rows that are armed at time 0 are first timers
+rows_are_first : (sc : Scenario) (rows : List (Option (Span × Body))) (turn : Turn) → turn.time ≡ 0 → turn.state.count ≡ turn.state.place
+    → (rows_armed sc rows turn).events ≡ turn.events ++ events_of sc turn.state.me turn.state.place rows
+unfolding timer_made
+rows_are_first sc [] turn at same = sym (append-nil turn.events)
+rows_are_first sc (None ∷ rows) turn at same = rows_are_first sc rows turn at same
+rows_are_first sc (Some timer ∷ rows) turn at same =
+    let me : ℕ = turn.state.me in
+    let place : ℕ = turn.state.place in
+    let later : ℕ = delay sc me place timer.0 in
+    let rest : List (Event Body) = events_of sc me (place + 1) rows in
+    let set : ℕ → ℕ → Event Body = λ time number.
+    record { key = record { time = time; origin = 2 + me; number = number }; target = me; body = timer.1 } in
+    let time_is : turn.time + later ≡ later = omega (arith, at) in
+    let number_is : turn.state.count + 1 ≡ place + 1 = omega (arith, same) in
+    rows_are_first sc rows (timer_made sc timer.0 timer.1 turn) at number_is
+    ∙ append_assoc turn.events (set (turn.time + later) (turn.state.count + 1) ∷ []) rest
+    ∙ ap (λ (time : ℕ). turn.events ++ set time (turn.state.count + 1) ∷ rest) time_is
+    ∙ ap (λ (number : ℕ). turn.events ++ set later number ∷ rest) number_is
 
 pub timers_armed : (sc : Scenario) (s : NodeState) → IsNew s → first_timers sc s.me ≡ (armed sc (first_turn s)).events
-unfolding first_timers timers armed life_armed traffic_armed
+unfolding first_timers timers armed
 timers_armed sc s is =
-    subst (λ (z : NodeState). first_timers sc s.me ≡ (armed sc (first_turn z)).events)
-    (restored s 1 0 0 (sym is.epoch) (sym is.place) (sym is.count))
-    (all_set_at_0 sc s.me (enumerate_from 0 (timers sc s.me)) ∙ armed_at sc s sc.lookups sc.churn)
+    ap (λ (epoch : ℕ). events_of sc s.me 0 (timer_table sc s.me epoch)) (sym is.epoch)
+    ∙ ap (λ (place : ℕ). events_of sc s.me place (timer_table sc s.me s.epoch)) (sym is.place)
+    ∙ sym (rows_are_first sc (timer_table sc s.me s.epoch) (first_turn s) refl (is.count ∙ sym is.place))
+
+-- the table is armed timer by timer
+pub armed_in_order : (sc : Scenario) (turn : Turn)
+    → life_armed sc (traffic_armed sc (finger_armed sc (stabilize_armed sc turn))) ≡ armed sc turn
+unfolding armed life_armed traffic_armed finger_armed stabilize_armed timer_made
+armed_in_order sc turn =
+    let two : Turn = finger_armed sc (stabilize_armed sc turn) in
+    let row : Option (Span × Body) = traffic_timer sc turn.state.epoch in
+    let three : Turn = row_armed sc row two in
+    ap (λ (epoch : ℕ). row_armed sc (life_timer sc three.state.me epoch) three) (same_row_armed (λ s. s.epoch) sc row two (λ s count place. refl))
+    ∙ ap (λ (me : ℕ). row_armed sc (life_timer sc me turn.state.epoch) three) (same_row_armed (λ s. s.me) sc row two (λ s count place. refl))

@@ -1,12 +1,15 @@
 -- Each procedure of the rule table leaves lines of the scenario's nodes, and few of them.
-use Rattle.std.proofs.Common.{◌==◌, ℕ, ◌+◌, ◌<◌, [], ◌∷◌, ◌++◌, length, nat_lt, arith, length-append}
+use Rattle.std.proofs.Common.{◌==◌, ℕ, ◌+◌, ◌<◌, List, [], ◌∷◌, ◌++◌, Option, length, nat_lt, arith, length-append}
 use Rattle.std.proofs.lemmas.List.Elements.{All-append, All-cons}
 use Rattle.std.specs.List.{count_by, filter_map}
 use Rattle.std.specs.Prelude.{position, slice_get}
 use Rattle.chord_event.specs.declared.body.Answer.{Answer}
 use Rattle.chord_event.specs.declared.body.Answer.TheVariants as answer
+use Rattle.chord_event.specs.declared.body.Body.{Body}
 use Rattle.chord_event.specs.declared.line.Line.TheVariants as line
 use Rattle.chord_scenario.specs.declared.scenario.Scenario.{Scenario}
+use Rattle.chord_scenario.specs.declared.setting.Span.{Span}
+use Rattle.chord_scenario.specs.Start.{timer_table, traffic_timer}
 use Rattle.chord_node.specs.declared.state.Aim.{Aim}
 use Rattle.chord_node.specs.declared.state.Aim.TheVariants as aim
 use Rattle.chord_node.specs.declared.state.Attempt.{Attempt}
@@ -25,7 +28,6 @@ use Rattle.chord_ops.specs.Procedures.{
   lookup_begun,
   gone_down,
   lookup_failed,
-  finger_armed,
   lookup_finished,
   lookup_finished_for,
   lookup_followed,
@@ -33,12 +35,12 @@ use Rattle.chord_ops.specs.Procedures.{
   fresh_lookup,
   join_failed,
   join_retried,
-  life_armed,
+  row_armed,
+  rows_armed,
   lost_line,
   own_step,
   rise_armed,
   risen,
-  stabilize_armed,
   stranded,
   stranded_lines,
   traffic_armed,
@@ -76,20 +78,21 @@ use Rattle.chord_ops.proofs.Noted.{
 
 -- Timers
 
+noted_row_armed : (sc : Scenario) (n : ℕ) (row : Option (Span × Body)) (turn : Turn) → HasNoted sc n turn → HasNoted sc n (row_armed sc row turn)
+unfolding timer_made
+noted_row_armed sc n row turn h = noted_when_some sc n (λ _. Unit {0}) row _ turn (known row) h (λ timer _. h)
+
+noted_rows_armed : (sc : Scenario) (n : ℕ) (rows : List (Option (Span × Body))) (turn : Turn) → HasNoted sc n turn → HasNoted sc n (rows_armed sc rows turn)
+noted_rows_armed sc n [] turn h = h
+noted_rows_armed sc n (row ∷ rows) turn h = noted_rows_armed sc n rows (row_armed sc row turn) (noted_row_armed sc n row turn h)
+
 pub noted_traffic_armed : (sc : Scenario) (n : ℕ) (turn : Turn) → HasNoted sc n turn → HasNoted sc n (traffic_armed sc turn)
-unfolding traffic_armed timer_made
-noted_traffic_armed sc n turn h =
-    noted_when_some sc n (λ _. Unit {0}) sc.lookups _ turn (known sc.lookups) h (λ gap _. h)
+unfolding traffic_armed
+noted_traffic_armed sc n turn h = noted_row_armed sc n (traffic_timer sc turn.state.epoch) turn h
 
 pub knows_traffic_armed : (sc : Scenario) (turn : Turn) → KnowsNodes sc turn.state → KnowsNodes sc (traffic_armed sc turn).state
 unfolding traffic_armed timer_made
-knows_traffic_armed sc turn h = knows_when_some sc sc.lookups _ turn h (λ gap. h)
-
-noted_life_armed : (sc : Scenario) (n : ℕ) (turn : Turn) → HasNoted sc n turn → HasNoted sc n (life_armed sc turn)
-unfolding life_armed timer_made
-noted_life_armed sc n turn h =
-    noted_if sc n (is_churn_node sc turn.state.me) _ turn
-    (noted_when_some sc n (λ _. Unit {0}) sc.churn _ turn (known sc.churn) h (λ churn _. h)) h
+knows_traffic_armed sc turn h = knows_when_some sc (traffic_timer sc turn.state.epoch) _ turn h (λ timer. h)
 
 pub noted_rise_armed : (sc : Scenario) (n : ℕ) (turn : Turn) → HasNoted sc n turn → HasNoted sc n (rise_armed sc turn)
 unfolding rise_armed timer_made
@@ -98,10 +101,8 @@ noted_rise_armed sc n turn h =
     (noted_when_some sc n (λ _. Unit {0}) sc.churn _ turn (known sc.churn) h (λ churn _. h)) h
 
 noted_armed : (sc : Scenario) (n : ℕ) (turn : Turn) → HasNoted sc n turn → HasNoted sc n (armed sc turn)
-unfolding armed stabilize_armed finger_armed timer_made
-noted_armed sc n turn h =
-    let second : Turn = finger_armed sc (stabilize_armed sc turn) in
-    noted_life_armed sc n (traffic_armed sc second) (noted_traffic_armed sc n second h)
+unfolding armed
+noted_armed sc n turn h = noted_rows_armed sc n (timer_table sc turn.state.me turn.state.epoch) turn h
 
 -- Lookups
 

@@ -1,9 +1,6 @@
--- The most that one event makes and draws. All other files cite these names, so a new timer changes one line.
+-- The most that one event makes and draws. All other files cite these names.
 use Rattle.std.specs.Prelude.{ℕ, ◌+◌}
-
--- the most timers that a node sets when it comes up
-abbrev pub most_timers : ℕ
-most_timers = 4
+use Rattle.chord_scenario.specs.Start.{most_timers}
 
 -- the most events that one event makes: a node comes up, and its timers, a request and the request's timeout are made;
 -- such a node draws as many words, one for each timer and two for the request

@@ -1,12 +1,11 @@
 -- The events that a run starts with: the commands, and the first timers of the nodes that are members at the start.
-use Rattle.std.specs.Prelude.{ℕ, ◌+◌, ◌-◌, ◌%◌, List, [], ◌∷◌, ◌++◌, map, filter, flat_map, Option, Some, None, if◌then◌else◌}
-use Rattle.std.specs.List.{enumerate_from, range_with_len}
+use Rattle.std.specs.Prelude.{ℕ, ◌+◌, ◌-◌, ◌%◌, List, [], ◌∷◌, ◌++◌, map, filter, flat_map, option_map, Option, Some, None, if◌then◌else◌}
+use Rattle.std.specs.List.{enumerate_from, filter_map, range_with_len}
 use Rattle.chord_event.specs.declared.body.Body.{Body}
 use Rattle.chord_event.specs.declared.body.Body.TheVariants as body
 use Rattle.chord_event.specs.declared.event.Event.{Event}
 use Rattle.chord_scenario.specs.declared.setting.Action.{Action}
 use Rattle.chord_scenario.specs.declared.setting.Action.TheVariants as action
-use Rattle.chord_scenario.specs.declared.setting.Churn.{Churn}
 use Rattle.chord_scenario.specs.declared.setting.Command.{Command}
 use Rattle.chord_scenario.specs.declared.setting.Span.{Span}
 use Rattle.chord_scenario.specs.Setup.{Setup}
@@ -35,28 +34,48 @@ command_events sc = map (λ p. command_event p.0 p.1) (enumerate_from 1 sc.comma
 abbrev pub jittered : Setup → (period : ℕ) → Span
 jittered sc period = record { least = period; greatest = period + sc.jitter }
 
+-- The timers of a node: after which times each may come, and what it is.
+
+abbrev pub stabilize_timer : Setup → (epoch : ℕ) → Span × Body
+stabilize_timer sc epoch = (jittered sc sc.stabilize, body.StabilizeTick epoch)
+
+abbrev pub finger_timer : Setup → (epoch : ℕ) → Span × Body
+finger_timer sc epoch = (jittered sc sc.finger, body.FingerTick epoch)
+
 -- only if the scenario has generated lookups
-abbrev pub traffic_timers : Option Span → List (Span × Body)
-traffic_timers None = []
-traffic_timers (Some gap) = (gap, body.TrafficTick 1) ∷ []
+abbrev pub traffic_timer : Setup → (epoch : ℕ) → Option (Span × Body)
+traffic_timer sc epoch = option_map (λ gap. (gap, body.TrafficTick epoch)) sc.lookups
 
 -- only at a churn node
-abbrev pub life_timers : Option Churn → List (Span × Body)
-life_timers None = []
-life_timers (Some churn) = (churn.life, body.LifeEnd 1) ∷ []
+abbrev pub life_timer : Setup → (n epoch : ℕ) → Option (Span × Body)
+life_timer sc n epoch =
+    if is_churn_node sc n then option_map (λ churn. (churn.life, body.LifeEnd epoch)) sc.churn else None
 
--- the first timers of node n, in order: after which times each may come, and what it is
-unfoldable pub timers : Setup → (n : ℕ) → List (Span × Body)
-timers sc n =
-    (jittered sc sc.stabilize, body.StabilizeTick 1)
-    ∷ (jittered sc sc.finger, body.FingerTick 1)
+-- The timers that node n sets when it comes up, in order. The only list of them: a run's first timers and those of a
+-- node that rises are both these. A new timer is a new row, and one more in `most_timers`.
+abbrev pub timer_table : Setup → (n epoch : ℕ) → List (Option (Span × Body))
+timer_table sc n epoch =
+    Some (stabilize_timer sc epoch)
+    ∷ Some (finger_timer sc epoch)
+    ∷ traffic_timer sc epoch
+    ∷ life_timer sc n epoch
     ∷ []
-    ++ traffic_timers sc.lookups
-    ++ (if is_churn_node sc n then life_timers sc.churn else [])
+
+-- the number of rows of the table
+abbrev pub most_timers : ℕ
+most_timers = 4
+
+-- the first timers of node n: those of its first life
+unfoldable pub timers : Setup → (n : ℕ) → List (Span × Body)
+timers sc n = filter_map (λ row. row) (timer_table sc n 1)
+
+-- a number below the bound, drawn at a place of the stream of node n
+abbrev pub drawn : Setup → (n place bound : ℕ) → ℕ
+drawn sc n place bound = word sc.seed n place % bound
 
 -- a time of the span, drawn at a place of the stream of node n
 abbrev pub delay : Setup → (n place : ℕ) → Span → ℕ
-delay sc n place span = span.least + word sc.seed n place % (span.greatest - span.least + 1)
+delay sc n place span = span.least + drawn sc n place (span.greatest - span.least + 1)
 
 -- the timer at this place, from 0, among the first ones of node n; nodes number their events from 1
 abbrev pub timer_event : Setup → (n place : ℕ) → Span × Body → Event Body

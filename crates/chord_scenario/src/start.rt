@@ -2,7 +2,7 @@
 ghost use Rattle.std.specs.Prelude.{◌≡◌, ◌+◌, ◌<◌, ◌^◌, ◌++◌, [], ◌∷◌, map, IfOk, OnOk};
 ghost use Rattle.std.specs.List.{enumerate_from};
 ghost use Rattle.chord_scenario.specs.Range.{IsSpanUpTo};
-ghost use Rattle.chord_scenario.specs.Start.{command_body, command_event, jittered, timer_event, first_timers, start_events};
+ghost use Rattle.chord_scenario.specs.Start.{command_body, command_event, jittered, most_timers, timer_event, first_timers, start_events};
 ghost use Rattle.chord_scenario.specs.World.{node_count};
 
 use crate::scenario::Scenario;
@@ -70,7 +70,7 @@ impl Scenario {
         body: Body,
     ) -> Result<(), Memory>
         requires node { node < node_count self.now }
-        requires place { place < 4 }
+        requires place { place < most_timers }
         requires span { IsSpanUpTo 2000000000 span }
         ensures { OnOk result (events.new.items ≡ events.old.items ++ timer_event self.now node place (span, body) ∷ []) }
     {

@@ -1,0 +1,11 @@
+use Rattle.chord_ops.proofs.FirstTimers.{armed_in_order}
+use Rattle.chord_ops.proofs.turn.Turn.arm.Goals as goal
+
+pub returns-clause-value : goal.returns-clause-value
+returns-clause-value c =
+    rw (
+      ← armed_in_order c.args.scenario.now c.args.self.now,
+      ← c.in_ok-arm_stabilize.ensures.value,
+      ← c.in_ok-arm_finger.ensures.value,
+      ← c.in_ok-arm_traffic.ensures.value,
+    ) c.arm_life.ensures.value
