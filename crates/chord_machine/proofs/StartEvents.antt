@@ -1,36 +1,8 @@
 -- The events that a run starts with are sound, and no two have one key.
-use Rattle.std.proofs.Common.{
-  ◌≡◌,
-  ◌≢◌,
-  ◌⊎◌,
-  ⊎_elim,
-  inl,
-  inr,
-  ℕ,
-  ◌+◌,
-  ◌<◌,
-  ◌≤◌,
-  Bool,
-  true,
-  false,
-  cond,
-  List,
-  [],
-  ◌∷◌,
-  ◌++◌,
-  map,
-  length,
-  refl,
-  sym,
-  ap,
-  ◌∙◌,
-  subst,
-  arith,
-}
-use Rattle.std.specs.Prelude.{Option, Some, None, flat_map, if◌then◌else◌}
+use Rattle.std.proofs.Common.{◌≡◌, ◌≢◌, ◌⊎◌, ⊎_elim, inl, inr, ℕ, ◌+◌, ◌<◌, ◌≤◌, true, List, [], ◌∷◌, map, length, refl, sym, ap, ◌∙◌, subst, arith}
+use Rattle.std.specs.Prelude.{Option, Some, None, flat_map}
 use Rattle.std.specs.List.{All, AllByRecursion, AllPairs, Contains, enumerate_from, filter_map, range_with_len}
 use Rattle.chord_event.specs.declared.body.Body.{Body}
-use Rattle.chord_event.specs.declared.body.Body.TheVariants as body
 use Rattle.chord_event.specs.declared.event.Event.{Event}
 use Rattle.chord_event.specs.declared.key.Key.{Key}
 use Rattle.chord_event.proofs.Members.{
@@ -55,7 +27,6 @@ use Rattle.chord_ops.proofs.TimerTable.{IsTick, table_ticks}
 use Rattle.chord_scenario.specs.declared.scenario.Scenario.{Scenario}
 use Rattle.chord_scenario.specs.declared.setting.Action.{Action}
 use Rattle.chord_scenario.specs.declared.setting.Action.TheVariants as action
-use Rattle.chord_scenario.specs.declared.setting.Churn.{Churn}
 use Rattle.chord_scenario.specs.declared.setting.Command.{Command}
 use Rattle.chord_scenario.specs.declared.setting.Span.{Span}
 use Rattle.chord_scenario.specs.Range.{IsActionOf, IsCommandOf, IsInRange}
@@ -70,7 +41,7 @@ use Rattle.chord_scenario.specs.Start.{
   timer_table,
   timers,
 }
-use Rattle.chord_scenario.specs.World.{is_churn_node, is_initial, node_count}
+use Rattle.chord_scenario.specs.World.{is_initial, node_count}
 use Rattle.chord_machine.proofs.Starts.{starts_count}
 
 -- Members of lists that are made of others

@@ -25,7 +25,7 @@ use Rattle.std.proofs.Common.{
   subst,
   arith,
 }
-use Rattle.std.specs.Prelude.{◌==◌, ◌^◌, Option, Some, None, IfSome, IsSome, count_by, filter, find, nat_le, nat_lt, not, option_map, slice_get, unwrap_or}
+use Rattle.std.specs.Prelude.{◌==◌, ◌^◌, Some, IfSome, IsSome, count_by, filter, find, nat_le, nat_lt, not, option_map, slice_get, unwrap_or}
 use Rattle.std.specs.List.{All, Contains, range_with_len}
 use Rattle.std.proofs.lemmas.Bool.{ne_eqb}
 use Rattle.std.proofs.lemmas.Bool.Decides.{nat_tests}
@@ -41,12 +41,10 @@ use Rattle.chord_node.proofs.Rings.{clockwise-known, other-known, range-apart, f
 use Rattle.chord_node.proofs.Sorting.{AreApart}
 use Rattle.chord_ops.proofs.KeptRules.{no_calls, no_lookups, none_of}
 use Rattle.chord_scenario.specs.declared.scenario.Scenario.{Scenario}
-use Rattle.chord_scenario.specs.declared.setting.Churn.{Churn}
 use Rattle.chord_scenario.specs.declared.setting.Node.{Node}
-use Rattle.chord_scenario.specs.declared.setting.Span.{Span}
 use Rattle.chord_scenario.specs.Range.{IsInRange}
 use Rattle.chord_scenario.specs.Start.{initial_nodes, most_timers, timers}
-use Rattle.chord_scenario.specs.World.{is_churn_node, is_initial, node_count}
+use Rattle.chord_scenario.specs.World.{is_initial, node_count}
 use Rattle.chord_machine.specs.Sound.{IsStateOf}
 
 -- How many nodes there are at the start

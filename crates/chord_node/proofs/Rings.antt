@@ -27,9 +27,9 @@ use Rattle.std.proofs.Common.{
   arith,
   add-one,
 }
-use Rattle.std.specs.Prelude.{◌==◌, not, ◌-◌, ◌^◌, Option, Some, None, find, nat_le, option_map, unwrap_or, if◌then◌else◌}
+use Rattle.std.specs.Prelude.{◌==◌, not, ◌-◌, ◌^◌, Option, Some, None, find, nat_le, option_map, unwrap_or}
 use Rattle.std.proofs.lemmas.List.{map-append}
-use Rattle.std.proofs.Common.{append-nil, length-append}
+use Rattle.std.proofs.Common.{append-nil}
 use Rattle.std.specs.List.{AllByRecursion, Contains, IsDistinct, filter, filter_map, range_with_len}
 use Rattle.std.proofs.lemmas.Bool.Decides.{nat_tests}
 use Rattle.std.proofs.lemmas.Map.Keys.{IsDistinct-IsPermutation, IsDistinct-tail, apart_from_distinct}
@@ -42,7 +42,7 @@ use Rattle.chord_event.proofs.Members.{contains_none, contains_here, contains_th
 use Rattle.chord_scenario.specs.declared.scenario.Scenario.{Scenario}
 use Rattle.chord_scenario.specs.Range.{IsInRange}
 use Rattle.chord_scenario.specs.Start.{initial_nodes, most_timers, timer_table, timers}
-use Rattle.chord_scenario.specs.World.{ident_of, is_churn_node, is_initial, node_count}
+use Rattle.chord_scenario.specs.World.{ident_of, is_initial, node_count}
 use Rattle.chord_node.specs.declared.ring.Met.{Met}
 use Rattle.chord_node.specs.Met.{first_tagged, tagged}
 use Rattle.chord_node.specs.Ring.{clockwise, finger, first_at, others, sorted_by, way}

@@ -1,14 +1,13 @@
 -- What the rows of the table of timers have. A new row is one more case here.
-use Rattle.std.proofs.Common.{◌≤◌, ℕ, Bool, true, false, List, [], ◌∷◌, Option, Some, None, arith}
+use Rattle.std.proofs.Common.{◌≤◌, ℕ, Bool, true, false, Option, Some, None}
 use Rattle.std.specs.List.{AllByRecursion}
 use Rattle.std.specs.Prelude.{IfSome, option_map, if◌then◌else◌}
 use Rattle.chord_event.specs.declared.body.Body.{Body}
 use Rattle.chord_event.specs.declared.body.Body.TheVariants as body
 use Rattle.chord_scenario.specs.declared.scenario.Scenario.{Scenario}
-use Rattle.chord_scenario.specs.declared.setting.Churn.{Churn}
 use Rattle.chord_scenario.specs.declared.setting.Span.{Span}
 use Rattle.chord_scenario.specs.Range.{IsChurn, IsInRange, IsSpan}
-use Rattle.chord_scenario.specs.Start.{finger_timer, life_timer, stabilize_timer, timer_table, traffic_timer}
+use Rattle.chord_scenario.specs.Start.{life_timer, timer_table, traffic_timer}
 use Rattle.chord_scenario.specs.World.{is_churn_node}
 use Rattle.chord_ops.specs.Asked.{IsBody}
 use Rattle.chord_ops.proofs.Growing.{known}

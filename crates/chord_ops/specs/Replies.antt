@@ -1,5 +1,5 @@
 -- What a member does with requests and notifies, said without the rule table. A rule that stays silent has none of this.
-use Rattle.std.specs.Prelude.{◌≡◌, ◌≢◌, ℕ, ◌-◌, List, true, false, Option, Some}
+use Rattle.std.specs.Prelude.{◌≡◌, ◌≢◌, ℕ, ◌-◌, List, true, false, Some}
 use Rattle.chord_circle.specs.Circle.{between}
 use Rattle.chord_event.specs.declared.body.Body.{Body}
 use Rattle.chord_event.specs.declared.body.Body.TheVariants as body
