@@ -11,7 +11,7 @@ use Rattle.chord_scenario.specs.declared.key.Entry.{Entry}
 use Rattle.chord_scenario.specs.declared.key.Form.TheVariants.{Whole}
 use Rattle.chord_scenario.specs.declared.fault.ScenarioFault.TheVariants.{UnknownKey, MissingKey, WrongType, OutOfRange}
 use Rattle.chord_scenario.specs.FileKeys.{keys_at}
-use Rattle.chord_scenario.specs.Values.{data_at, as_whole, is_between, is_in_range}
+use Rattle.chord_scenario.specs.Values.{data_at, as_whole, is_within, is_in_range}
 use Rattle.chord_scenario.specs.Sections.{Section, table_at, tables_of, sections}
 use Rattle.chord_scenario.specs.Search.{first_some}
 use Rattle.chord_scenario.specs.KeyFaults.{
@@ -119,11 +119,11 @@ holds_in_file P file h =
 
 -- a whole number that is in range
 whole_fits : (bits least greatest default : ℕ) (d : Data) → is_in_range bits (Whole least greatest) d ≡ true
-    → is_between least greatest (unwrap_or (as_whole d) default) ≡ true
+    → is_within least greatest (unwrap_or (as_whole d) default) ≡ true
 unfolding is_in_range
 whole_fits bits least greatest default d h = by_case (as_whole d) h
   where
-    by_case : (o : Option ℕ) → option_map_or (is_between least greatest) o false ≡ true → is_between least greatest (unwrap_or o default) ≡ true
+    by_case : (o : Option ℕ) → option_map_or (is_within least greatest) o false ≡ true → is_within least greatest (unwrap_or o default) ≡ true
     by_case None g = absurd (false≢true g)
     by_case (Some n) g = g
 
@@ -135,7 +135,7 @@ pub record Fits (least greatest n : ℕ) : Type 0 where
   pub low : least ≤ n
   pub high : n ≤ greatest
 
-between-fits : (least greatest n : ℕ) → is_between least greatest n ≡ true → Fits least greatest n
+between-fits : (least greatest n : ℕ) → is_within least greatest n ≡ true → Fits least greatest n
 between-fits least greatest n h =
     let (low, high) = and_parts (nat_le least n) (nat_le n greatest) h in
     record { low = leb-true least n low; high = leb-true n greatest high }

@@ -49,7 +49,7 @@ use Rattle.chord_scenario.specs.declared.key.Group.TheVariants.{Nodes, Commands}
 use Rattle.chord_scenario.specs.declared.setting.Command.{Command}
 use Rattle.chord_scenario.specs.declared.setting.Node.{Node}
 use Rattle.chord_scenario.specs.FileKeys.{required, optional}
-use Rattle.chord_scenario.specs.Values.{data_at, number_at, has_type, is_between, item_count, is_in_range}
+use Rattle.chord_scenario.specs.Values.{data_at, number_at, has_type, is_within, item_count, is_in_range}
 use Rattle.chord_scenario.specs.Sections.{Section, place_in, table_at, tables_among, tables_of, sections}
 use Rattle.chord_scenario.specs.Settings.{number_or, is_node, is_command, node_of, nodes_of, command_of, commands_of, churn_of, lookups_of}
 use Rattle.chord_scenario.specs.Accepted.{setup_with}
@@ -265,8 +265,8 @@ module _ (test : Place → Bool) where
   chosen-most_of g bits least greatest agrees (Some (datetime t)) h = omega arith
   chosen-most_of g bits least greatest agrees (Some (table ms)) h = omega arith
   chosen-most_of g bits least greatest agrees (Some (array ds)) h =
-      let (fits, agree) = and_parts (is_between least greatest (item_count ds)) (agrees (array ds))
-      (kept (is_between least greatest (item_count ds) && agrees (array ds)) h) in
+      let (fits, agree) = and_parts (is_within least greatest (item_count ds)) (agrees (array ds))
+      (kept (is_within least greatest (item_count ds) && agrees (array ds)) h) in
       let (low, high) = and_parts (nat_le least (item_count ds)) (nat_le (item_count ds) greatest) fits in
       omega (arith, chosen-among g 1 ds, leb-true (item_count ds) greatest high)
     where

@@ -95,18 +95,18 @@ identifier_of _ = None
 abbrev pub has_digits : ℕ → Data → Bool
 has_digits most d = option_map_or (λ digits. nat_le (length digits) most) (as_str d) true
 
-abbrev pub is_between : ℕ → ℕ → ℕ → Bool
-is_between least greatest n = nat_le least n && nat_le n greatest
+abbrev pub is_within : ℕ → ℕ → ℕ → Bool
+is_within least greatest n = nat_le least n && nat_le n greatest
 
 -- the value is one of those that the form allows, on a circle of this many bits
 unfoldable pub is_in_range : ℕ → Form → Data → Bool
-is_in_range bits (Whole least greatest) d = option_map_or (is_between least greatest) (as_whole d) false
+is_in_range bits (Whole least greatest) d = option_map_or (is_within least greatest) (as_whole d) false
 is_in_range bits Text d = true
 is_in_range bits Operation d = option_map_or (λ word. is_some (operation_named word)) (as_str d) false
 is_in_range bits Boolean d = true
 is_in_range bits (Identifier digits) d = option_map_or (λ n. has_digits digits d && nat_lt n (2 ^ bits)) (identifier_of d) false
 is_in_range bits Table d = true
-is_in_range bits (Tables least greatest) d = option_map_or (λ ds. is_between least greatest (item_count ds)) (as_array d) false
+is_in_range bits (Tables least greatest) d = option_map_or (λ ds. is_within least greatest (item_count ds)) (as_array d) false
 
 -- the number agrees with those at other keys of its table: a greatest is not below its least, and an audit's
 -- period divides the duration into at most 1,000,000

@@ -3,7 +3,7 @@
 ghost use Rattle.std.specs.Prelude.{◌≡◌, ◌^◌, nat_lt, option_map, option_copied};
 ghost use Rattle.std.specs.List.{list_all};
 ghost use Rattle.toml.specs.View.{table_view, view, items_view};
-ghost use Rattle.chord_scenario.specs.Values.{data_at, number_at, truth_at, text_at, as_whole, are_tables, has_type, hexadecimal, is_hexadecimal_digit, is_between, identifier_of, has_digits, is_in_range, agrees};
+ghost use Rattle.chord_scenario.specs.Values.{data_at, number_at, truth_at, text_at, as_whole, are_tables, has_type, hexadecimal, is_hexadecimal_digit, is_within, identifier_of, has_digits, is_in_range, agrees};
 
 use crate::key::{FileKey, Form};
 use crate::operation::operation_named;
@@ -129,8 +129,8 @@ pub(crate) fn identifier_of(value: &Value) -> Option<Raw>
 }
 
 /// Whether a number is in a range.
-fn is_between(least: u64, greatest: u64, number: u64) -> bool
-    ensures { result ≡ is_between least greatest number }
+fn is_within(least: u64, greatest: u64, number: u64) -> bool
+    ensures { result ≡ is_within least greatest number }
 {
     least <= number && number <= greatest
 }
@@ -159,7 +159,7 @@ pub(crate) fn is_in_range(bits: u64, form: Form, value: &Value) -> bool
 {
     match form {
         Form::Whole(least, greatest) => match whole(value) {
-            Some(number) => is_between(least, greatest, number),
+            Some(number) => is_within(least, greatest, number),
             None => false,
         },
         Form::Operation => match value.as_str() {
@@ -171,7 +171,7 @@ pub(crate) fn is_in_range(bits: u64, form: Form, value: &Value) -> bool
             None => false,
         },
         Form::Tables(least, greatest) => match value.as_array() {
-            Some(items) => is_between(least as u64, greatest as u64, items.len() as u64),
+            Some(items) => is_within(least as u64, greatest as u64, items.len() as u64),
             None => false,
         },
         Form::Text | Form::Boolean | Form::Table => true,
