@@ -1,0 +1,260 @@
+"""The commands of the program: what they print and write, with which status, and what they refuse."""
+
+import os
+import subprocess
+import tempfile
+import unittest
+from pathlib import Path
+
+from tests.support.programs import program
+
+REFUSED, ARGUMENTS, FAILED = 1, 2, 3
+
+NODES = """\
+[[node]]
+name = "n0"
+id = 0
+initial = true
+[[node]]
+name = "n1"
+id = 1
+initial = true
+[[node]]
+name = "n3"
+id = 3
+initial = true
+"""
+RING = f"""\
+profile = 1
+bits = 3
+list = 2
+seed = 1
+duration_us = 200
+window_us = 10
+latency_us = 10
+timeout_us = 40
+audit_us = 200
+stabilize_us = 1000
+finger_us = 1000
+{NODES}[[command]]
+at_us = 100
+do = "lookup"
+node = "n3"
+key = 1
+"""
+WHOLE = "200 audit members=3 dead=0 ring=3 ordered=yes principals=3 sufficient=yes\n"
+TRACE = "100 n3 lookup 1\n120 n3 found 1 n1 hops=1 timeouts=0 us=20\n" + WHOLE
+# The trace if a message takes 15 us between n0 and n3.
+SLOW_TRACE = "100 n3 lookup 1\n130 n3 found 1 n1 hops=1 timeouts=0 us=30\n" + WHOLE
+WORDS = (
+    "events", "members", "join-failed", "crashes", "stranded", "drops", "late", "timeouts", "lookups", "found", "lost",
+    "busy", "ignored", "unfinished", "hops-sum", "hops-greatest", "us-sum", "us-least", "us-median", "us-greatest",
+    "audits", "ringless", "unordered", "insufficient",
+)
+TIMES = ("us-sum", "us-least", "us-median", "us-greatest")
+NAMED = "".join(f'[[node]]\nname = "{name}"\ninitial = true\n' for name in "abc")
+# The first 16 bytes of the SHA-1 digests of these names.
+DIGESTS = (0x86F7E437FAA5A7FCE15D1DDCB9EAEAEA, 0xE9D71F5EE7C92D6DC9E92FFDAD17B8BD, 0x84A516841BA77A5B4648DE2CD0DFCB30)
+
+
+def report(**others: int) -> str:
+    """A report whose other numbers are 0."""
+    numbers = {word.replace("_", "-"): number for word, number in others.items()}
+    return "".join(f"{word} {numbers.get(word, 0)}\n" for word in WORDS)
+
+
+# The command, the request, its reply and its timeout are the events.
+REPORT = report(events=4, lookups=1, found=1, hops_sum=1, hops_greatest=1, audits=1, **dict.fromkeys(TIMES, 20))
+
+
+class Commands(unittest.TestCase):
+    """A folder with a scenario file, a latency file, and whatever the program writes there."""
+
+    def setUp(self) -> None:
+        """The ring of three is a.toml, and b.csv makes the way between two of its nodes longer."""
+        self.program = str(program())
+        folder = tempfile.TemporaryDirectory()
+        self.addCleanup(folder.cleanup)
+        self.folder = Path(folder.name)
+        self.write("a.toml", RING)
+        self.write("b.csv", "n0,n3,15\n")
+
+    def write(self, name: str, text: str) -> None:
+        """Writes a file."""
+        (self.folder / name).write_text(text, encoding="utf-8")
+
+    def read(self, name: str) -> str:
+        """The text of a file."""
+        return (self.folder / name).read_text(encoding="utf-8")
+
+    def ended(self, line: str, closed: bool = False) -> tuple[int, str, str]:
+        """The status, and what was printed on the two streams. A closed output takes nothing."""
+        command = [self.program, *line.split()]
+        with open("/dev/full", "wb") as full:
+            output = full if closed else subprocess.PIPE
+            done = subprocess.run(
+                command, cwd=self.folder, stdout=output, stderr=subprocess.PIPE, text=True, check=False, timeout=60
+            )
+        return done.returncode, done.stdout or "", done.stderr
+
+    def test_carried_out(self) -> None:
+        """Each command prints its text, and nothing on standard error."""
+        for line, output in (
+            ("check --scenario a.toml", "ok nodes=3 commands=1\n"),
+            ("ids --latency b.csv --scenario a.toml", "n0 0\nn1 1\nn3 3\n"),
+            ("run --scenario a.toml", TRACE + REPORT),
+            ("run --scenario=a.toml --serial", TRACE + REPORT),
+            ("run --scenario a.toml --split rr --trace c", REPORT),
+            ("run --serial --workers 64 --parts 512 --split block --scenario a.toml", TRACE + REPORT),
+            ("run --workers 64 --parts 512 --split block --scenario a.toml", TRACE + REPORT),
+        ):
+            with self.subTest(line):
+                self.assertEqual(self.ended(line), (0, output, ""))
+        self.assertEqual(self.read("c"), TRACE)
+
+    def test_names(self) -> None:
+        """The identifiers of nodes that are given by their names: the first byte, or 16 bytes, of the SHA-1 digest."""
+        text = RING.replace(NODES, NAMED).partition("[[command]]")[0]
+        self.write("narrow.toml", text.replace("bits = 3", "bits = 8"))
+        self.assertEqual(self.ended("ids --scenario narrow.toml"), (0, "a 134\nb 233\nc 132\n", ""))
+        self.write("wide.toml", text.replace("profile = 1\nbits = 3", "profile = 2\nbits = 128"))
+        wanted = "".join(f"{name} {digest}\n" for name, digest in zip("abc", DIGESTS, strict=True))
+        self.assertEqual(self.ended("ids --scenario wide.toml"), (0, wanted, ""))
+
+    def test_widest_identifier(self) -> None:
+        """The greatest identifier of 128 bits, in the ring where n0 looks up what n1 owns."""
+        text = RING.replace("profile = 1\nbits = 3", "profile = 2\nbits = 128").replace('node = "n3"', 'node = "n0"')
+        self.write("wide.toml", text.replace("id = 3", f'id = "{32 * "f"}"'))
+        ids = "n0 0\nn1 1\nn3 340282366920938463463374607431768211455\n"
+        self.assertEqual(self.ended("ids --scenario wide.toml"), (0, ids, ""))
+        trace = "100 n0 lookup 1\n100 n0 found 1 n1 hops=0 timeouts=0 us=0\n" + WHOLE
+        numbers = report(events=1, lookups=1, found=1, audits=1) + "losses 0\n"
+        self.assertEqual(self.ended("run --scenario wide.toml --serial"), (0, trace + numbers, ""))
+
+    def test_latency_file(self) -> None:
+        """Its rows count, by workers too. The old content of the trace's file is gone."""
+        for plan in ("--serial", "--workers 1", "--workers 3 --parts 2 --split block"):
+            with self.subTest(plan):
+                self.write("c", RING)
+                self.assertEqual(self.ended(f"run --scenario a.toml --latency=b.csv --trace c {plan}")[0], 0)
+                self.assertEqual(self.read("c"), SLOW_TRACE)
+
+    def test_files_that_cannot_be_read(self) -> None:
+        """The scenario file is opened first, then the latency file, and the file for the trace last."""
+        for line in ("check", "ids", "run", "run --trace c"):
+            both = f"{line} --scenario no.toml --latency no.csv"
+            self.assertEqual(self.ended(both), (REFUSED, "", "refused: cannot read no.toml\n"), line)
+            second = f"{line} --scenario a.toml --latency no.csv"
+            self.assertEqual(self.ended(second), (REFUSED, "", "refused: cannot read no.csv\n"), line)
+        self.assertFalse((self.folder / "c").exists())
+        unmade = self.ended("run --scenario a.toml --trace no/c")
+        self.assertEqual(unmade, (FAILED, "", "failed: 4 Write\n"))
+
+    def test_files_that_are_refused(self) -> None:
+        """A text that is too long, and a fault of the scenario. The file for the trace is emptied before that."""
+        long = 16_777_217 * "\n"
+        self.write("long.toml", long)
+        self.write("long.csv", long)
+        self.write("few.toml", RING.replace("initial = true", "initial = false", 1))
+        for files, error in (
+            ("--scenario long.toml", "too long long.toml"),
+            ("--scenario a.toml --latency long.csv", "too long long.csv"),
+            ("--scenario few.toml", "S10 TooFewInitial"),
+        ):
+            for line in ("check", "run --trace c"):
+                self.write("c", RING)
+                with self.subTest(line=line, files=files):
+                    ended = self.ended(f"{line} {files}")
+                    self.assertEqual(ended, (REFUSED, "", f"refused: {error}\n"))
+                    self.assertEqual(self.read("c"), "" if "run" in line else RING)
+
+    def test_outputs_that_are_closed(self) -> None:
+        """Nothing goes to an output that takes nothing: the run has failed."""
+        for line in ("check", "ids", "run", "run --serial", "run --trace c"):
+            with self.subTest(line):
+                ended = self.ended(f"{line} --scenario a.toml", closed=True)
+                self.assertEqual(ended, (FAILED, "", "failed: 4 Write\n"))
+
+    def test_disks_that_are_full(self) -> None:
+        """A full disk fails the run. If the run itself fails, that is what is told."""
+        self.write("limited.toml", f"max_events = 1\n{RING}")
+        for name, error in (("a.toml", "4 Write"), ("limited.toml", "3 TooManyEvents")):
+            for plan in ("--serial", "--workers 2"):
+                with self.subTest(name=name, plan=plan):
+                    line = f"run --scenario {name} --trace /dev/full {plan}"
+                    self.assertEqual(self.ended(line), (FAILED, "", f"failed: {error}\n"))
+
+    def test_traces_that_name_an_input(self) -> None:
+        """A trace never overwrites the files that the scenario is read from, by links to them either."""
+        (self.folder / "a.link").symlink_to("a.toml")
+        (self.folder / "b.second").hardlink_to(self.folder / "b.csv")
+        scenario, latency = "the scenario file: a.toml", "the latency file: b.csv"
+        for trace, named in (
+            ("a.toml", scenario),
+            ("./a.toml", scenario),
+            ("a.link", scenario),
+            ("b.csv", latency),
+            ("b.second", latency),
+        ):
+            with self.subTest(trace):
+                ended = self.ended(f"run --scenario a.toml --latency b.csv --trace {trace}")
+                self.assertEqual(ended, (ARGUMENTS, "", f"error: --trace names {named}\n"))
+        self.assertEqual((self.read("a.toml"), self.read("b.csv")), (RING, "n0,n3,15\n"))
+
+    def test_device_that_is_named_twice(self) -> None:
+        """It is not emptied. Here it is the latency file, without rows, and takes the trace."""
+        line = "run --scenario a.toml --latency /dev/null --trace /dev/null"
+        self.assertEqual(self.ended(line), (0, REPORT, ""))
+
+    def test_arguments_that_are_refused(self) -> None:
+        """Standard error says why."""
+        for line, error in (
+            ("", "'chordsim' requires a subcommand but one was not provided"),
+            ("walk", "unrecognized subcommand 'walk'"),
+            ("--walk", "unexpected argument '--walk' found"),
+            ("check", "the following required arguments were not provided:\n  --scenario <FILE>"),
+            ("ids --latency b", "the following required arguments were not provided:\n  --scenario <FILE>"),
+            ("run --serial", "the following required arguments were not provided:\n  --scenario <FILE>"),
+            ("check --scenario a.toml --workers 2", "unexpected argument '--workers' found"),
+            ("run --scenario a.toml b", "unexpected argument 'b' found"),
+            ("run --scenario a.toml --serial --serial", "the argument '--serial' cannot be used multiple times"),
+            ("run --scenario a.toml --scenario b", "the argument '--scenario <FILE>' cannot be used multiple times"),
+            ("run --scenario a.toml --workers 0", "invalid value '0' for '--workers <COUNT>': 0 is not in 1..=64"),
+            ("run --scenario a.toml --workers 65", "invalid value '65' for '--workers <COUNT>': 65 is not in 1..=64"),
+            ("run --scenario a.toml --workers x", "invalid value 'x' for '--workers <COUNT>'"),
+            ("run --scenario a.toml --parts 0", "invalid value '0' for '--parts <COUNT>': 0 is not in 1..=512"),
+            ("run --scenario a.toml --parts 513", "invalid value '513' for '--parts <COUNT>': 513 is not in 1..=512"),
+            ("run --scenario a.toml --split x", "invalid value 'x' for '--split <WAY>'"),
+            ("run --scenario a.toml --trace", "a value is required for '--trace <FILE>' but none was supplied"),
+        ):
+            with self.subTest(line):
+                status, output, told = self.ended(line)
+                self.assertEqual((status, output), (ARGUMENTS, ""))
+                self.assertTrue(told.startswith(f"error: {error}"), told)
+
+    def test_argument_that_is_no_text(self) -> None:
+        """Bytes that are not UTF-8."""
+        done = subprocess.run([os.fsencode(self.program), b"check", b"\xff"], capture_output=True, check=False)
+        error = b"error: an argument is not UTF-8 text\n"
+        self.assertEqual((done.returncode, done.stdout, done.stderr), (ARGUMENTS, b"", error))
+
+    def test_texts_that_are_asked_for(self) -> None:
+        """They go to standard output, which has to take them."""
+        for line, part in (
+            ("--help", "\n  check "),
+            ("-h", "\n  ids "),
+            ("help", "\n  run "),
+            ("check --help", "Usage: chordsim check "),
+            ("ids --help", "Usage: chordsim ids "),
+            ("run --help", "its old content is lost"),
+            ("--version", "chordsim 0."),
+        ):
+            with self.subTest(line):
+                status, output, error = self.ended(line)
+                self.assertEqual((status, error), (0, ""))
+                self.assertIn(part, output)
+                self.assertEqual(self.ended(line, closed=True), (FAILED, "", "failed: 4 Write\n"))
+
+
+if __name__ == "__main__":
+    unittest.main()
