@@ -6,12 +6,6 @@ mod answers;
 mod commands;
 mod execution;
 mod failure;
-#[cfg(test)]
-mod file_tests;
-#[cfg(test)]
-mod heard;
-#[cfg(test)]
-mod heard_tests;
 mod latency_file;
 mod order;
 mod process;
