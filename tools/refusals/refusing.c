@@ -1,9 +1,10 @@
-/* Refuses a program memory, or the start of a thread: LD_PRELOAD names this library, and the environment says what.
+/* Makes an allocation of a program fail, or the start of a thread: LD_PRELOAD names this library, and the environment
+ * says which.
  *
- *   REFUSE_MEMORY=N        the Nth piece of memory that is asked for is refused
- *   REFUSE_MEMORY_FROM=N   so is each one after it
- *   REFUSE_THREAD=N        the Nth start of a thread is refused
- *   REFUSE_NOTE=FILE       at its end the program's numbers of pieces and of threads are written to the file
+ *   REFUSE_MEMORY=N        the Nth allocation fails
+ *   REFUSE_MEMORY_FROM=N   so does each one after it
+ *   REFUSE_THREAD=N        the Nth start of a thread fails
+ *   REFUSE_NOTE=FILE       at its end the program's numbers of allocations and of threads are written to the file
  */
 #define _GNU_SOURCE
 #include <dlfcn.h>
@@ -16,8 +17,8 @@
 #include <sys/syscall.h>
 #include <unistd.h>
 
-static atomic_long pieces, threads;
-static long refused_piece, refused_from, refused_thread;
+static atomic_long allocations, threads;
+static long refused_allocation, refused_from, refused_thread;
 static const char *note;
 
 static long number(const char *name)
@@ -31,8 +32,8 @@ __attribute__((constructor)) static void begin(void)
     note = getenv("REFUSE_NOTE");
     refused_thread = number("REFUSE_THREAD");
     refused_from = number("REFUSE_MEMORY_FROM");
-    refused_piece = number("REFUSE_MEMORY");
-    pieces = 0;
+    refused_allocation = number("REFUSE_MEMORY");
+    allocations = 0;
 }
 
 /* The programs of Rattle end by this call. */
@@ -41,7 +42,7 @@ void _exit(int status)
     int file = note ? open(note, O_WRONLY | O_CREAT | O_TRUNC, 0600) : -1;
     if (file >= 0) {
         char text[64];
-        int length = snprintf(text, sizeof text, "%ld %ld\n", atomic_load(&pieces), atomic_load(&threads));
+        int length = snprintf(text, sizeof text, "%ld %ld\n", atomic_load(&allocations), atomic_load(&threads));
         if (write(file, text, length) < 0)
             status = 99;
         close(file);
@@ -50,11 +51,11 @@ void _exit(int status)
         syscall(SYS_exit_group, status);
 }
 
-/* Whether the piece that is asked for now is refused. */
+/* Whether the allocation that is asked for now fails. */
 static int refuses(void)
 {
-    long count = atomic_fetch_add(&pieces, 1) + 1;
-    if (count != refused_piece && !(refused_from && count >= refused_from))
+    long count = atomic_fetch_add(&allocations, 1) + 1;
+    if (count != refused_allocation && !(refused_from && count >= refused_from))
         return 0;
     errno = ENOMEM;
     return 1;
@@ -92,10 +93,10 @@ void *aligned_alloc(size_t alignment, size_t size)
 
 int posix_memalign(void **place, size_t alignment, size_t size)
 {
-    void *piece = memalign(alignment, size);
-    if (!piece)
+    void *memory = memalign(alignment, size);
+    if (!memory)
         return ENOMEM;
-    *place = piece;
+    *place = memory;
     return 0;
 }
 
