@@ -1,14 +1,14 @@
 //! What holds of a run by any engine.
 use crate::crews::two_lookups;
 use crate::engines::{ENGINES, Engine, Shape, run_by};
-use crate::examples::EXAMPLES;
+use crate::examples::{EXAMPLES, TWO_LOOKUPS};
 use crate::failures::TRACE;
 use crate::playing::shown;
 use chord_crew::MOST_SEATS;
 use chord_event::RunError;
 use chord_scenario::{Scenario, read_scenario};
 use chord_trace::Watched;
-use chord_window::MOST_PARTS;
+use chord_window::{Division, MOST_PARTS, run_picked};
 use std::alloc::Global;
 use std::io;
 use std::io::{ErrorKind, Write};
@@ -148,6 +148,28 @@ fn too_many_events_by_engines(rt: HostRuntime) -> Result<(), Fail> {
                 "{engine:?}, {allowed}: {trace}"
             );
         }
+    }
+    Ok(())
+}
+
+/// Without picks the lowest worker that can take a step takes each of them, and the run is the same.
+#[test]
+fn two_workers_without_picks(rt: HostRuntime) -> Result<(), Fail> {
+    let alloc = rt.alloc();
+    let scenario = two_lookups(alloc, 8)?;
+    for parts in [1, 2, 3, 5] {
+        let division = Division::dealt(alloc, scenario.nodes(), parts)?;
+        let mut writer = Watched::new(Vec::new(alloc));
+        let (report, steps) = run_picked(alloc, &scenario, &division, 2, &[], &mut writer)?;
+        let trace = String::from_utf8_lossy(alloc, writer.into_inner().as_slice())?;
+        assert!(rt; trace.as_str() == TRACE, "{parts} parts: {trace}");
+        let lines = shown(alloc, &report)?;
+        assert!(rt;
+            lines.as_str() == TWO_LOOKUPS.report,
+            "{parts} parts: {lines}"
+        );
+        let first = steps.as_slice().iter().all(|taken| taken.worker == 0);
+        assert!(rt; first, "{parts} parts: {steps:?}");
     }
     Ok(())
 }

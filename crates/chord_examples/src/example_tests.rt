@@ -1,5 +1,8 @@
+//! Plays of examples.
 use crate::examples::EXAMPLES;
 use crate::playing::{SERIAL, SETTINGS, THREE, play_text, play_texts, shown, text_of};
+use crate::second_profile::{ONE_HOP, lines_of};
+use std::alloc::Global;
 use std::test::Fail;
 
 #[test]
@@ -25,40 +28,43 @@ fn examples(rt: HostRuntime) -> Result<(), Fail> {
     Ok(())
 }
 
-/// Sixty lookups are in progress at most; one more finds the node busy.
+/// A text a number of times.
+pub fn repeated(alloc: Global, text: &str, times: u32) -> Result<String, Fail> {
+    let mut all = String::new(alloc);
+    for _time in 0..times {
+        all.push_str(text)?;
+    }
+    Ok(all)
+}
+
+/// The report of 61 lookups.
+const SIXTY_REPORT: &str =
+    "events 241\nmembers 0\njoin-failed 0\ncrashes 0\nstranded 0\ndrops 0\nlate 0\ntimeouts 0\n\
+    lookups 60\nfound 60\nlost 0\nbusy 1\nignored 0\nunfinished 0\nhops-sum 60\nhops-greatest 1\n\
+    us-sum 1200\nus-least 20\nus-median 20\nus-greatest 20\naudits 1\nringless 0\nunordered 0\n\
+    insufficient 0\n";
+
+/// Sixty lookups are in progress at most; one more finds the node busy. So it is in either profile.
 #[test]
 fn sixty_lookups_and_one_more(rt: HostRuntime) -> Result<(), Fail> {
     let alloc = rt.alloc();
-    let mut commands = String::new(alloc);
-    let mut expected = String::new(alloc);
-    for i in 0..61 {
-        commands.push_str("[[command]]\nat_us = 100\ndo = \"lookup\"\nnode = \"n3\"\nkey = 1\n")?;
-        expected.push_str(if i < 60 {
-            "100 n3 lookup 1\n"
-        } else {
-            "100 n3 busy 1\n"
-        })?;
-    }
-    for _ in 0..60 {
-        expected.push_str("120 n3 found 1 n1 hops=1 timeouts=0 us=20\n")?;
-    }
-    expected.push_str(
-        "200 audit members=3 dead=0 ring=3 ordered=yes principals=3 sufficient=yes\n",
+    let commands = repeated(alloc, ONE_HOP, 61)?;
+    let begun = repeated(alloc, "100 n3 lookup 1\n", 60)?;
+    let found = repeated(alloc, "120 n3 found 1 n1 hops=1 timeouts=0 us=20\n", 60)?;
+    let expected = format!(in alloc;
+        "{begun}100 n3 busy 1\n{found}\
+         200 audit members=3 dead=0 ring=3 ordered=yes principals=3 sufficient=yes\n"
     )?;
     let text = text_of(alloc, SETTINGS, THREE, commands.as_str())?;
-    let played = play_text(&rt, text.as_str().as_bytes());
-    assert!(rt; played.trace.as_slice() == expected.as_str().as_bytes());
-    let Ok(report) = played.outcome else {
-        assert!(rt; false, "the run does not end");
-        return Ok(());
-    };
-    let report = shown(alloc, &report)?;
-    assert!(rt;
-        report.as_str()
-            == "events 241\nlookups 60\nfound 60\nbusy 1\nhops-sum 60\nhops-greatest 1\nus-sum 1200\n\
-                us-least 20\nus-median 20\nus-greatest 20\naudits 1\n",
-        "{report}"
-    );
+    for (profile, last) in [("profile = 1", ""), ("profile = 2", "losses 0\n")] {
+        let text = text.as_str().replacen(alloc, "profile = 1", profile, 1)?;
+        let played = play_text(&rt, text.as_str().as_bytes());
+        let trace = String::from_utf8_lossy(alloc, played.trace.as_slice())?;
+        assert!(rt; trace == expected, "{profile}: {trace}");
+        let report = lines_of(alloc, &played.outcome.ok().ok_or(profile)?)?;
+        let lines = format!(in alloc; "{SIXTY_REPORT}{last}")?;
+        assert!(rt; report == lines, "{profile}: {report}");
+    }
     Ok(())
 }
 

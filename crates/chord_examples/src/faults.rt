@@ -37,7 +37,7 @@ key = 1
 const GOOD: &str = "ok nodes=3 commands=1";
 
 /// The base with one text replaced by another, and the result.
-const CHANGES: [(&str, &str, &str); 106] = [
+const CHANGES: [(&str, &str, &str); 107] = [
     ("", "", GOOD),
     ("[[node]]", "[[nod", "S1 NotToml"),
     ("seed = 1", "seed = 9223372036854775808", "S1 NotToml"),
@@ -257,6 +257,11 @@ const CHANGES: [(&str, &str, &str); 106] = [
         "id = 0",
         "id = \"00000000000000007\"",
         "S5 OutOfRange node 1 id",
+    ),
+    (
+        "id = 3",
+        "id = \"00000000000000000\"",
+        "S5 OutOfRange node 3 id",
     ),
     ("id = 3", "id = \"F\"", "S5 OutOfRange node 3 id"),
     ("at_us = 100", "at_us = 199", GOOD),

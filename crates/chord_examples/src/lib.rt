@@ -34,6 +34,8 @@ mod faults;
 #[cfg(test)]
 mod gates;
 #[cfg(test)]
+mod largest;
+#[cfg(test)]
 mod plans;
 #[cfg(test)]
 mod random;

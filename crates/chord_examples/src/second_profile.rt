@@ -17,16 +17,16 @@ use std::test::Fail;
 use std::thread::Threads;
 
 /// Two parts, and a worker for each.
-const PAIR: Shape = Shape {
+pub const PAIR: Shape = Shape {
     parts: 2,
     workers: 2,
 };
 
 /// What a run left: its trace, and all lines of its report.
 #[derive(Drop)]
-struct Told {
-    trace: String,
-    report: String,
+pub struct Told {
+    pub trace: String,
+    pub report: String,
 }
 
 /// The scenario of an example in the second profile, with these settings in addition to its own.
@@ -41,14 +41,14 @@ fn in_second_profile(alloc: Global, own: &str, example: &Example) -> Result<Scen
 }
 
 /// All lines of a report.
-fn lines_of(alloc: Global, report: &Report) -> Result<String, Fail> {
+pub fn lines_of(alloc: Global, report: &Report) -> Result<String, Fail> {
     let mut writer = Watched::new(Vec::with_capacity(alloc, 1024)?);
     report.write(alloc, &mut writer)?;
     Ok(String::from_utf8_lossy(alloc, writer.into_inner().as_slice())?)
 }
 
 /// What a run by an engine leaves.
-fn told_by<T: Threads + Wait + Sync>(
+pub fn told_by<T: Threads + Wait + Sync>(
     rt: &T,
     alloc: Global,
     engine: Engine,
@@ -95,7 +95,7 @@ fn examples_without_loss(rt: HostRuntime) -> Result<(), Fail> {
 }
 
 /// The example in which n3 looks 1 up and asks n0.
-const ONE_HOP: &str = "[[command]]\nat_us = 100\ndo = \"lookup\"\nnode = \"n3\"\nkey = 1\n";
+pub const ONE_HOP: &str = "[[command]]\nat_us = 100\ndo = \"lookup\"\nnode = \"n3\"\nkey = 1\n";
 
 /// A lookup of n3 whose messages are all lost.
 const LOSE_ALL: Example = Example {
@@ -263,6 +263,13 @@ fn texts_of_the_second_profile(rt: HostRuntime) -> Result<(), Fail> {
     Ok(())
 }
 
+/// The report of the lookup that needs no hop.
+const NO_HOP: &str =
+    "events 1\nmembers 0\njoin-failed 0\ncrashes 0\nstranded 0\ndrops 0\nlate 0\ntimeouts 0\n\
+    lookups 1\nfound 1\nlost 0\nbusy 0\nignored 0\nunfinished 0\nhops-sum 0\nhops-greatest 0\n\
+    us-sum 0\nus-least 0\nus-median 0\nus-greatest 0\naudits 1\nringless 0\nunordered 0\n\
+    insufficient 0\nlosses 0\n";
+
 /// The last identifier of the widest circle, as a text of 32 digits.
 #[test]
 fn the_widest_identifier(rt: HostRuntime) -> Result<(), Fail> {
@@ -274,27 +281,19 @@ fn the_widest_identifier(rt: HostRuntime) -> Result<(), Fail> {
         .ok()
         .ok_or("refused")?;
     assert!(rt; scenario.nodes() == 3);
+    assert!(rt; scenario.ident(0).raw() == 0 && scenario.ident(1).raw() == 1);
     assert!(rt; scenario.ident(2).raw() == Raw::MAX);
     let told = told_by(&rt, alloc, Engine::Serial, PAIR, &scenario)?;
     let trace = "100 n0 lookup 1\n\
         100 n0 found 1 n1 hops=0 timeouts=0 us=0\n\
         200 audit members=3 dead=0 ring=3 ordered=yes principals=3 sufficient=yes\n";
     assert!(rt; told.trace.as_str() == trace, "{}", told.trace);
-    assert!(rt;
-        told.report.as_str().starts_with("events 1\n"),
-        "{}",
-        told.report
-    );
-    assert!(rt;
-        told.report.as_str().ends_with("insufficient 0\nlosses 0\n"),
-        "{}",
-        told.report
-    );
+    assert!(rt; told.report.as_str() == NO_HOP, "{}", told.report);
     Ok(())
 }
 
 /// A ring of `nodes` nodes, each with its number as identifier, in which the first node looks one up.
-fn ring_of(alloc: Global, bits: u32, nodes: u32) -> Result<String, Fail> {
+pub fn ring_of(alloc: Global, bits: u32, nodes: u32) -> Result<String, Fail> {
     let mut text = format!(in alloc;
         "profile = 2\nbits = {bits}\nseed = 1\nlatency_us = 10\nlist = 16\nduration_us = 300\n\
          window_us = 10\ntimeout_us = 40\naudit_us = 300\nstabilize_us = 1000\nfinger_us = 1000\n"

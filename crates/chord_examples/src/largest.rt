@@ -1,0 +1,91 @@
+//! Values as great as they may be: an allocation that fails without need would be seen here.
+use crate::engines::ENGINES;
+use crate::example_tests::repeated;
+use crate::playing::THREE;
+use crate::second_profile::{ONE_HOP, PAIR, ring_of, told_by};
+use chord_scenario::read_scenario;
+use std::test::Fail;
+
+/// A latency text of one row, in a ring of as many nodes as there may be, holds in both directions.
+#[test]
+fn a_row_among_the_most_nodes(rt: HostRuntime) -> Result<(), Fail> {
+    let alloc = rt.alloc();
+    let ring = ring_of(alloc, 12, 4096)?;
+    let scenario = read_scenario(alloc, ring.as_str().as_bytes(), b"n1,n4095,25\n")
+        .ok()
+        .ok_or("the ring is refused")?;
+    assert!(rt; scenario.nodes() == 4096);
+    assert!(rt; scenario.latency(1, 4095) == 25 && scenario.latency(4095, 1) == 25);
+    assert!(rt; scenario.latency(0, 4095) == 10 && scenario.latency(4095, 4095) == 1);
+    Ok(())
+}
+
+/// A request of n3 that comes to n0, which is down, almost a thousand seconds late: before the word of its spread come
+/// the words of the node's two timers, and the word that could have lost it.
+#[test]
+fn a_spread_of_a_thousand_seconds(rt: HostRuntime) -> Result<(), Fail> {
+    let alloc = rt.alloc();
+    let text = format!(in alloc;
+        "profile = 2\nbits = 3\nseed = 3513\nlatency_us = 10\nspread_us = 1000000000\nlist = 2\n\
+         duration_us = 1000000000\nwindow_us = 10\ntimeout_us = 1000\naudit_us = 1000000000\n\
+         stabilize_us = 1000000000\nfinger_us = 1000000000\n{THREE}\
+         [[command]]\nat_us = 50\ndo = \"crash\"\nnode = \"n0\"\n{ONE_HOP}"
+    )?;
+    let scenario = read_scenario(alloc, text.as_str().as_bytes(), b"")
+        .ok()
+        .ok_or("the ring is refused")?;
+    let trace = "50 n0 crash\n\
+        100 n3 lookup 1\n\
+        1100 n3 timeout n0\n\
+        1100 n3 found 1 n1 hops=0 timeouts=1 us=1000\n\
+        999990199 n0 drop step n3\n\
+        1000000000 audit members=2 dead=0 ring=2 ordered=yes principals=2 sufficient=no\n";
+    for engine in ENGINES {
+        let told = told_by(&rt, alloc, engine, PAIR, &scenario)?;
+        assert!(rt; told.trace.as_str() == trace, "{engine:?}: {}", told.trace);
+    }
+    Ok(())
+}
+
+/// Two nodes that lose all messages. Each asks the other for its state at 90, and both are stranded at 130. By then n0
+/// has begun sixty lookups.
+const STRANDED: &str =
+    "profile = 2\nbits = 3\nseed = 1\nlatency_us = 10\nloss_ppm = 1000000\nlist = 1\n\
+    duration_us = 140\nwindow_us = 10\ntimeout_us = 40\naudit_us = 140\nstabilize_us = 90\nfinger_us = 1000\n\
+    [[node]]\nname = \"n0\"\nid = 0\ninitial = true\n[[node]]\nname = \"n4\"\nid = 4\ninitial = true\n";
+
+/// All lines of the report of this run.
+const STRANDED_REPORT: &str =
+    "events 64\nmembers 0\njoin-failed 0\ncrashes 0\nstranded 2\ndrops 0\nlate 0\n\
+    timeouts 2\nlookups 60\nfound 0\nlost 60\nbusy 0\nignored 0\nunfinished 0\nhops-sum 0\nhops-greatest 0\n\
+    us-sum 0\nus-least 0\nus-median 0\nus-greatest 0\naudits 1\nringless 1\nunordered 0\ninsufficient 1\nlosses 64\n";
+
+/// The longest block: a timeout strands a node with sixty lookups, and the request by which it joins again is lost.
+#[test]
+fn a_block_of_63_lines(rt: HostRuntime) -> Result<(), Fail> {
+    let alloc = rt.alloc();
+    let command = "[[command]]\nat_us = 100\ndo = \"lookup\"\nnode = \"n0\"\nkey = 5\n";
+    let commands = repeated(alloc, command, 60)?;
+    let text = format!(in alloc; "{STRANDED}{commands}")?;
+    let begun = repeated(alloc, "100 n0 lookup 5\n100 n0 lose step n4\n", 60)?;
+    let lost = repeated(alloc, "130 n0 lost 5 hops=0 timeouts=0 us=30\n", 60)?;
+    let trace = format!(in alloc;
+        "90 n0 lose get-state n4\n90 n4 lose get-state n0\n{begun}\
+         130 n0 timeout n4\n130 n0 stranded n4\n{lost}130 n0 lose step n4\n\
+         130 n4 timeout n0\n130 n4 stranded n0\n130 n4 lose step n0\n\
+         140 audit members=0 dead=0 ring=0 ordered=yes principals=0 sufficient=no\n"
+    )?;
+    let scenario = read_scenario(alloc, text.as_str().as_bytes(), b"")
+        .ok()
+        .ok_or("the ring is refused")?;
+    for engine in ENGINES {
+        let told = told_by(&rt, alloc, engine, PAIR, &scenario)?;
+        assert!(rt; told.trace == trace, "{engine:?}: {}", told.trace);
+        assert!(rt;
+            told.report.as_str() == STRANDED_REPORT,
+            "{engine:?}: {}",
+            told.report
+        );
+    }
+    Ok(())
+}
