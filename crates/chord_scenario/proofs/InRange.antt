@@ -101,7 +101,7 @@ idents_on_circle sc all i hi =
     let d = first_of sc.nodes i hi in
     rw (get_or-map (λ n. n.ident) sc.nodes i d 0 hi) (All-get_or (λ n. n.ident < 2 ^ sc.bits) sc.nodes i d hi all)
 
-module _ (profile : ℕ) (top : Members) (rows : List Row) (cells : List ℕ)
+module _ (profile : ℕ) (top : Members) (rows : List Row) (cells : List ℕ) (is_profile : profile ≡ number_at key.Profile top)
     (keys : first_answer (key_questions profile (number_at key.Bits top) (sections top)) ≡ None)
     (own : first_answer (node_questions (sections top) (nodes_in top)) ≡ None)
     (late : first_answer (late_questions top (sections top) (nodes_in top) rows) ≡ None)
@@ -116,7 +116,7 @@ module _ (profile : ℕ) (top : Members) (rows : List Row) (cells : List ℕ)
       let churns = list_any is_churn_section (sections top) in
       let sound = holds_in_file (IsSound profile bits churns) top (sound_sections profile bits (sections top) keys) in
       let none = faultless top rows own late in
-      let numbers = numbers_fit profile bits churns top sound.top (nodes_in top) (commands_in top) cells in
+      let numbers = numbers_fit profile bits churns top sound.top is_profile (nodes_in top) (commands_in top) cells in
       let initial = enough_initial sc.list sc.nodes none.initial in
       let enough : 2 ≤ node_count sc = omega (arith, initial, count_by-le-length (λ n. n.initial) sc.nodes, numbers.list_least) in
       record {

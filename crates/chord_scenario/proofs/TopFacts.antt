@@ -6,6 +6,8 @@ use Rattle.std.proofs.Common.{
   ap,
   refl,
   ℕ,
+  zero,
+  suc,
   ◌+◌,
   ◌*◌,
   ◌≤◌,
@@ -30,6 +32,7 @@ use Rattle.std.proofs.Common.{
   option_map,
   inl,
   inr,
+  ◌⊎◌,
   arith,
   length-append,
 }
@@ -60,6 +63,12 @@ use Rattle.chord_scenario.proofs.Entries.{in_each, required_fits, required_agree
 -- a number of microseconds that is at least 1
 interval : {n : ℕ} → Fits 1 1000000000 n → IsInterval n
 interval f = record { least = f.low; greatest = f.high }
+
+first_or_second : (n : ℕ) → Fits 1 2 n → (n ≡ 1) ⊎ (n ≡ 2)
+first_or_second zero f = absurd (omega (arith, f.low))
+first_or_second (suc zero) f = inl refl
+first_or_second (suc (suc zero)) f = inr refl
+first_or_second (suc (suc (suc n))) f = absurd (omega (arith, f.high))
 
 module _ (profile bits : ℕ) (churns : Bool) (top : Members) (s : IsSound profile bits churns (record { at = place.Top; members = top })) where
   pub profile_fits : Fits 1 2 (number_at key.Profile top)
@@ -102,8 +111,12 @@ module _ (profile bits : ℕ) (churns : Bool) (top : Members) (s : IsSound profi
         | inr is_other ↦ omega (arith, unlisted_default s key.SpreadUs 0 (rw is_other refl))
       ]
 
-  pub numbers_fit : (nodes : List Node) (commands : List Command) (latencies : List ℕ) → NumbersInRange (setup_with top nodes commands latencies)
-  numbers_fit nodes commands latencies = record {
+  no_loss : profile ≡ 1 → (number_or 0 key.LossPpm top ≡ 0) × (number_or 0 key.SpreadUs top ≡ 0)
+  no_loss is_first = (unlisted_default s key.LossPpm 0 (rw is_first refl), unlisted_default s key.SpreadUs 0 (rw is_first refl))
+
+  pub numbers_fit : profile ≡ number_at key.Profile top → (nodes : List Node) (commands : List Command) (latencies : List ℕ)
+      → NumbersInRange (setup_with top nodes commands latencies)
+  numbers_fit is_profile nodes commands latencies = record {
     bits_least = bits_fit.low;
     bits_greatest = bits_fit.high;
     list_least = list_fits.low;
@@ -122,6 +135,8 @@ module _ (profile bits : ℕ) (churns : Bool) (top : Members) (s : IsSound profi
     max_events_greatest = max_events_fits.high;
     loss = loss_fits;
     spread = spread_fits;
+    profile = first_or_second (number_at key.Profile top) profile_fits;
+    lossless = λ is_first. no_loss (is_profile ∙ is_first);
   }
 
   -- the file has a churn table if a node churns

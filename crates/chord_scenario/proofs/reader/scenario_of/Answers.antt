@@ -93,7 +93,7 @@ assembled-requires-clause-in_range c =
     let cells = square_or_zeros (length (nodes_in top)) c.in_ok-linked.linked.cells.items in
     let square = subst (λ n. HasLatencies n rows (square_or_zeros (length n) c.in_ok-linked.linked.cells.items)) lent linked.square in
     let on_circle : All (λ n. n.ident < 2 ^ number_at key.Bits top) (nodes_in top) = rw (← own, ← c.circle_of-circle.ensures) c.in_ok-nodes.ensures.on_circle in
-    rw (own, commands) (in_range c.number_at-profile.result top rows cells keys asked late square on_circle)
+    rw (own, commands) (in_range c.number_at-profile.result top rows cells c.number_at-profile.ensures keys asked late square on_circle)
 
 pub returns-clause-values : goal.returns-clause-values
 returns-clause-values c =
