@@ -3,7 +3,5 @@
 
 mod engine;
 mod run;
-#[cfg(test)]
-mod tests;
 
 pub use run::run_serial;
