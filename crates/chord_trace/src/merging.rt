@@ -1,5 +1,5 @@
 //! Merging the blocks of all parts into one list.
-ghost use Rattle.std.specs.Prelude.{IfOk, map};
+ghost use Rattle.std.specs.Prelude.{◌≤◌, IfOk, length, map};
 ghost use Rattle.std.specs.BinaryHeap.{IsHeap, heap_items};
 ghost use Rattle.std.specs.List.Sorted.{IsPermutation};
 ghost use Rattle.std.proofs.Common.{rules};
@@ -8,7 +8,7 @@ ghost use Rattle.std.specs.Cmp.Rules.{comparing};
 ghost use Rattle.std.specs.Ordering.{on, flip_args, as_partial_cmp};
 ghost use Rattle.chord_event.specs.Keys.{key_cmp, is_same_key};
 ghost use Rattle.chord_trace.specs.Heads.{head_key, head_cmp, ahead, with_blocks};
-ghost use Rattle.chord_trace.specs.Merging.{CanMerge, IsMerged};
+ghost use Rattle.chord_trace.specs.Merging.{CanMerge, IsMerged, all_blocks};
 
 use chord_event::{Block, Memory};
 use std::alloc::Global;
@@ -94,8 +94,11 @@ fn merge_lists(alloc: Global, lists: Vec<Vec<Block>>) -> Result<Vec<Block>, Memo
     Ok(merged)
 }
 
-/// The number of blocks in the lists, or the greatest `usize` if there are more.
-fn count_blocks(lists: &[Vec<Block>]) -> usize {
+/// The number of blocks in the lists, or the greatest `usize` if there are more. The contract says only that room is not
+/// made for more blocks than there are.
+fn count_blocks(lists: &[Vec<Block>]) -> usize
+    ensures { result ≤ length (all_blocks lists.now) }
+{
     let mut count: usize = 0;
     for blocks in lists {
         count = count.saturating_add(blocks.len());
