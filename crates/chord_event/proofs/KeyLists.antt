@@ -1,16 +1,26 @@
 -- Lists in the order of their keys.
-use Rattle.std.proofs.Common.{◌≡◌, ◌≢◌, ◌⊎◌, inl, inr, ℕ, ◌<◌, ◌≤◌, Bool, true, false, not, cond, nat_lt, List, [], ◌∷◌, ◌++◌, refl, sym, ap, ◌∙◌, subst, arith, lt-ltb, le-ltb, append-nil, Some, None, option_map, slice_get}
-use Rattle.std.specs.List.{AllByRecursion}
+use Rattle.std.proofs.Common.{◌≡◌, ◌≢◌, ◌⊎◌, ⊎_elim, inl, inr, ℕ, ◌<◌, ◌≤◌, Bool, true, false, not, cond, nat_lt, List, [], ◌∷◌, ◌++◌, refl, sym, ap, ◌∙◌, subst, arith, lt-ltb, le-ltb, append-nil, Some, None, option_map, slice_get}
+use Rattle.std.specs.List.{AllByRecursion, Contains}
 use Rattle.std.proofs.lemmas.List.Elements.{filter-append}
 use Rattle.chord_event.specs.declared.key.Key.{Key}
 use Rattle.chord_event.specs.Keys.{IsBefore, is_before}
 use Rattle.chord_event.specs.KeyOrder.{InKeyOrder, IsNewKey, put_in_order, before, from_on}
+use Rattle.chord_event.proofs.Members.{contains_cons, contains_here, contains_none, contains_there}
 use Rattle.chord_event.proofs.Order.{before_trans, before_not_same, before_not_after, at_most_from_before, before_from_at_most, is_before-true, is_before-false}
 
 -- x is an item of xs
 abbrev pub IsIn : {A : Type 0} → A → List A → Type 0
 IsIn x [] = ⊥
 IsIn x (y ∷ ys) = (x ≡ y) ⊎ IsIn x ys
+
+pub IsIn-from_Contains : {A : Type 0} (xs : List A) (x : A) → Contains xs x → IsIn x xs
+IsIn-from_Contains [] x c = absurd (contains_none x c)
+IsIn-from_Contains (y ∷ xs) x c = ⊎_elim (λ e. inl (sym e)) (λ r. inr (IsIn-from_Contains xs x r)) (contains_cons x y xs c)
+
+pub Contains-from_IsIn : {A : Type 0} (xs : List A) (x : A) → IsIn x xs → Contains xs x
+Contains-from_IsIn [] x c = absurd c
+Contains-from_IsIn (y ∷ xs) x (inl e) = subst (λ z. Contains (y ∷ xs) z) (sym e) (contains_here y xs)
+Contains-from_IsIn (y ∷ xs) x (inr r) = contains_there x y xs (Contains-from_IsIn xs x r)
 
 pub all_in : {A : Type 0} (P : A → Type 0) (xs : List A) → AllByRecursion P xs → (z : A) → IsIn z xs → P z
 all_in P [] all z h = absurd h

@@ -42,13 +42,10 @@ use Rattle.chord_model.specs.Histories.{state, all_events, effect_after, pending
 use Rattle.chord_model.specs.WellFormed.{IsWellFormed}
 use Rattle.chord_model.specs.Windows.{Division, part_of, Divides, IsPartRun, IsSealedRun, made_since, pieces_since, events_run, merged, left_by}
 use Rattle.chord_model.specs.Laws.{MayOpen, Commutes}
-use Rattle.chord_event.proofs.KeyLists.{IsIn, all_from, all_in, same_list}
+use Rattle.chord_event.proofs.KeyLists.{IsIn, all_from, all_in, same_list, Contains-from_IsIn, IsIn-from_Contains}
 use Rattle.chord_event.proofs.Members.{
   contains_none,
-  contains_here,
-  contains_there,
   contains_left,
-  contains_cons,
   contains_append,
   contains_filter,
   filter_contains,
@@ -66,15 +63,6 @@ use Rattle.chord_model.proofs.Merged.{length-merged}
 use Rattle.chord_model.proofs.PartCourse.{AllPairs_filter}
 use Rattle.chord_model.proofs.Outputs.{open_more, output_more}
 use Rattle.chord_model.proofs.Commuting.{commutes, known_in_range, limit_found, windows_leave_histories}
-
-pub is_in : {A : Type 0} (xs : List A) (x : A) → Contains xs x → IsIn x xs
-is_in [] x c = absurd (contains_none x c)
-is_in (y ∷ xs) x c = ⊎_elim (λ e. inl (sym e)) (λ r. inr (is_in xs x r)) (contains_cons x y xs c)
-
-pub contained : {A : Type 0} (xs : List A) (x : A) → IsIn x xs → Contains xs x
-contained [] x c = absurd c
-contained (y ∷ xs) x (inl e) = subst (λ z. Contains (y ∷ xs) z) (sym e) (contains_here y xs)
-contained (y ∷ xs) x (inr r) = contains_there x y xs (contained xs x r)
 
 in_map : {A B : Type 0} (f : A → B) (xs : List A) (z : B) → IsIn z (map f xs) → (x : A) × IsIn x xs × (z ≡ f x)
 in_map f [] z c = absurd c
@@ -245,7 +233,8 @@ module _ {State Body Piece : Type 0} (m : Machine State Body Piece) {Sound : ℕ
           (λ y c.
           let q = in_map f (pieces_since m (history m count) ran) y (in_reverse (map f (pieces_since m (history m count) ran)) y c) in
           let k = in_pieces ran q.0 q.1 in
-          let before : IsBefore (q.0).0.key e.key = AllPairs_at (λ (a b : Event Body). IsBefore b.key a.key) e ran all (q.0).0 (contained ran (q.0).0 k.0) in
+          let before : IsBefore (q.0).0.key e.key =
+          AllPairs_at (λ (a b : Event Body). IsBefore b.key a.key) e ran all (q.0).0 (Contains-from_IsIn ran (q.0).0 k.0) in
           let key_is : key_of y ≡ (q.0).0.key = ap key_of q.2 ∙ k.1 in
           subst (λ z. IsBefore z (key_of (f (e, (effect_after m (ran ++ history m count) e).piece)))) (sym key_is)
           (subst (λ z. IsBefore (q.0).0.key z) (sym (same_key (ran ++ history m count) e)) before)))
@@ -268,17 +257,17 @@ module _ {State Body Piece : Type 0} (m : Machine State Body Piece) {Sound : ℕ
         where
           there : (z : B) → IsIn z bs → IsIn z (reverse (map f (pieces_since m (history m count) window_commutes.taken)))
           there z c =
-              let q = (same z).0 (contained bs z c) in
+              let q = (same z).0 (Contains-from_IsIn bs z c) in
               let x = in_map f (pieces_since m (history m count) (lists q.0)) z
               (in_reverse (map f (pieces_since m (history m count) (lists q.0))) z
-              (is_in (reverse (map f (pieces_since m (history m count) (lists q.0)))) z q.2)) in
+              (IsIn-from_Contains (reverse (map f (pieces_since m (history m count) (lists q.0)))) z q.2)) in
               let among : Contains (pieces_since m (history m count) window_commutes.taken) x.0 =
               (filter_contains (λ b. part_of d b.0.target == q.0) (pieces_since m (history m count) window_commutes.taken) x.0
-              (subst (λ l. Contains l x.0) (window_commutes.pieces q.0 q.1) (contained (pieces_since m (history m count) (lists q.0)) x.0 x.1))).0 in
+              (subst (λ l. Contains l x.0) (window_commutes.pieces q.0 q.1) (Contains-from_IsIn (pieces_since m (history m count) (lists q.0)) x.0 x.1))).0 in
               subst (λ v. IsIn v (reverse (map f (pieces_since m (history m count) window_commutes.taken)))) (sym x.2)
               (reverse_in (map f (pieces_since m (history m count) window_commutes.taken)) (f x.0)
               (map_in f (pieces_since m (history m count) window_commutes.taken) x.0
-              (is_in (pieces_since m (history m count) window_commutes.taken) x.0 among)))
+              (IsIn-from_Contains (pieces_since m (history m count) window_commutes.taken) x.0 among)))
 
           back : (z : B) → IsIn z (reverse (map f (pieces_since m (history m count) window_commutes.taken))) → IsIn z bs
           back z c =
@@ -289,20 +278,20 @@ module _ {State Body Piece : Type 0} (m : Machine State Body Piece) {Sound : ℕ
               known_in_range m w d whole (window_commutes.taken ++ history m count)
               (possible_from_legal m (window_commutes.taken ++ history m count) window_commutes.legal) (x.0).0
               (legal_known m (window_commutes.taken ++ history m count) window_commutes.legal (x.0).0
-              (contains_left window_commutes.taken (history m count) (x.0).0 (contained window_commutes.taken (x.0).0 event))) in
+              (contains_left window_commutes.taken (history m count) (x.0).0 (Contains-from_IsIn window_commutes.taken (x.0).0 event))) in
               let among : Contains (pieces_since m (history m count) (lists (part_of d (x.0).0.target))) x.0 =
               subst (λ l. Contains l x.0) (sym (window_commutes.pieces (part_of d (x.0).0.target) inside))
               (contains_filter (λ b. part_of d b.0.target == part_of d (x.0).0.target) (pieces_since m (history m count) window_commutes.taken) x.0
-              (contained (pieces_since m (history m count) window_commutes.taken) x.0 x.1)
+              (Contains-from_IsIn (pieces_since m (history m count) window_commutes.taken) x.0 x.1)
               (eq-eqb (part_of d (x.0).0.target) (part_of d (x.0).0.target) refl)) in
-              is_in bs z ((same z).1 (
+              IsIn-from_Contains bs z ((same z).1 (
                 part_of d (x.0).0.target,
                 inside,
-                contained (reverse (map f (pieces_since m (history m count) (lists (part_of d (x.0).0.target))))) z
+                Contains-from_IsIn (reverse (map f (pieces_since m (history m count) (lists (part_of d (x.0).0.target))))) z
                     (subst (λ v. IsIn v (reverse (map f (pieces_since m (history m count) (lists (part_of d (x.0).0.target)))))) (sym x.2)
                     (reverse_in (map f (pieces_since m (history m count) (lists (part_of d (x.0).0.target)))) (f x.0)
                     (map_in f (pieces_since m (history m count) (lists (part_of d (x.0).0.target))) x.0
-                    (is_in (pieces_since m (history m count) (lists (part_of d (x.0).0.target))) x.0 among)))),
+                    (IsIn-from_Contains (pieces_since m (history m count) (lists (part_of d (x.0).0.target))) x.0 among)))),
               ))
 
     -- the audits that are open after it

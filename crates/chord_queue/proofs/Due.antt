@@ -40,11 +40,10 @@ use Rattle.chord_event.specs.declared.event.Event.{Event}
 use Rattle.chord_event.specs.declared.key.Key.{Key}
 use Rattle.chord_event.specs.Keys.{IsBefore}
 use Rattle.chord_event.specs.KeyOrder.{InKeyOrder, before}
-use Rattle.chord_event.proofs.KeyLists.{IsIn, all_in, all_from, same_list}
+use Rattle.chord_event.proofs.KeyLists.{IsIn, all_in, all_from, same_list, Contains-from_IsIn, IsIn-from_Contains}
 use Rattle.chord_event.proofs.Members.{contains_filter, filter_contains}
 use Rattle.chord_queue.specs.EventKey.{event_key}
 use Rattle.chord_queue.specs.Places.{Events, Entry, waiting_key, waiting_cmp, is_due, events_at, in_key_order, IsPlaced}
-use Rattle.chord_queue.proofs.Inserting.{is_in, contained}
 use Rattle.chord_queue.proofs.Places.{
   AreDistinct,
   Held,
@@ -64,10 +63,10 @@ use Rattle.chord_queue.proofs.Places.{
 
 -- what a filter keeps
 in_filter : {A : Type 0} (p : A → Bool) (xs : List A) (x : A) → IsIn x (filter p xs) → IsIn x xs × (p x ≡ true)
-in_filter p xs x h = let c = filter_contains p xs x (contained (filter p xs) x h) in (is_in xs x c.0, c.1)
+in_filter p xs x h = let c = filter_contains p xs x (Contains-from_IsIn (filter p xs) x h) in (IsIn-from_Contains xs x c.0, c.1)
 
 filter_in : {A : Type 0} (p : A → Bool) (xs : List A) (x : A) → IsIn x xs → p x ≡ true → IsIn x (filter p xs)
-filter_in p xs x h t = is_in (filter p xs) x (contains_filter p xs x (contained xs x h) t)
+filter_in p xs x h t = IsIn-from_Contains (filter p xs) x (contains_filter p xs x (Contains-from_IsIn xs x h) t)
 
 distinct_filter : (p : Entry → Bool) (ws : List Entry) → AreDistinct ws → AreDistinct (filter p ws)
 distinct_filter p [] d = d

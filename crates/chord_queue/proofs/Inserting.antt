@@ -5,7 +5,7 @@ use Rattle.chord_event.specs.declared.body.Body.{Body}
 use Rattle.chord_event.specs.declared.event.Event.{Event}
 use Rattle.chord_event.specs.Keys.{IsBefore}
 use Rattle.chord_event.specs.KeyOrder.{InKeyOrder, IsNewKey, put_in_order}
-use Rattle.chord_event.proofs.KeyLists.{IsIn, all_from, all_in, in_put, ordered_put, put_in}
+use Rattle.chord_event.proofs.KeyLists.{IsIn, all_from, all_in, in_put, ordered_put, put_in, Contains-from_IsIn, IsIn-from_Contains}
 use Rattle.chord_event.proofs.Members.{
   AllPairs_append,
   AllPairs_at,
@@ -18,19 +18,9 @@ use Rattle.chord_event.proofs.Members.{
   contains_left,
   contains_none,
   contains_right,
-  contains_there,
 }
 use Rattle.chord_event.proofs.Order.{before_not_same}
 use Rattle.chord_queue.specs.EventKey.{event_key}
-
-pub is_in : {A : Type 0} (xs : List A) (x : A) → Contains xs x → IsIn x xs
-is_in [] x c = absurd (contains_none x c)
-is_in (y ∷ xs) x c = ⊎_elim (λ e. inl (sym e)) (λ r. inr (is_in xs x r)) (contains_cons x y xs c)
-
-pub contained : {A : Type 0} (xs : List A) (x : A) → IsIn x xs → Contains xs x
-contained [] x c = absurd c
-contained (y ∷ xs) x (inl e) = subst (λ z. Contains (y ∷ xs) z) (sym e) (contains_here y xs)
-contained (y ∷ xs) x (inr r) = contains_there x y xs (contained xs x r)
 
 -- no two events have one key
 abbrev pub AreApart : List (Event Body) → Type 0
@@ -57,7 +47,7 @@ apart_back (x ∷ xs) ys all = apart_back xs ys (AllPairs_rest (λ (a b : Event 
 pub ordered_apart : (es : List (Event Body)) → InKeyOrder event_key es → AreApart es
 ordered_apart [] o = AllPairs_none (λ (a b : Event Body). a.key ≢ b.key)
 ordered_apart (e ∷ es) o = AllPairs_cons (λ (a b : Event Body). a.key ≢ b.key) e es
-    (λ x c. before_not_same e.key x.key (all_in (λ (y : Event Body). IsBefore e.key y.key) es o.0 x (is_in es x c)))
+    (λ x c. before_not_same e.key x.key (all_in (λ (y : Event Body). IsBefore e.key y.key) es o.0 x (IsIn-from_Contains es x c)))
     (ordered_apart es o.1)
 
 module _ (x : Event Body) (q es : List (Event Body)) (all : AreApart (q ++ (es ++ x ∷ []))) where
@@ -65,7 +55,7 @@ module _ (x : Event Body) (q es : List (Event Body)) (all : AreApart (q ++ (es +
   last_there = contains_right es (x ∷ []) x (contains_here x [])
 
   pub last_new : IsNewKey event_key x.key q
-  last_new = all_from (λ (y : Event Body). y.key ≢ x.key) q (λ y c. apart_across q (es ++ x ∷ []) all y x (contained q y c) last_there)
+  last_new = all_from (λ (y : Event Body). y.key ≢ x.key) q (λ y c. apart_across q (es ++ x ∷ []) all y x (Contains-from_IsIn q y c) last_there)
 
   pub last_put : (z : Event Body) → Contains (put_in_order event_key x q ++ es) z ↔ Contains (q ++ (es ++ x ∷ [])) z
   last_put z = (there, back)
@@ -74,18 +64,19 @@ module _ (x : Event Body) (q es : List (Event Body)) (all : AreApart (q ++ (es +
       there c = ⊎_elim
           (λ h. ⊎_elim
           (λ e. subst (λ w. Contains (q ++ (es ++ x ∷ [])) w) (sym e) (contains_right q (es ++ x ∷ []) x last_there))
-          (λ r. contains_left q (es ++ x ∷ []) z (contained q z r))
-          (in_put event_key x q z (is_in (put_in_order event_key x q) z h)))
+          (λ r. contains_left q (es ++ x ∷ []) z (Contains-from_IsIn q z r))
+          (in_put event_key x q z (IsIn-from_Contains (put_in_order event_key x q) z h)))
           (λ h. contains_right q (es ++ x ∷ []) z (contains_left es (x ∷ []) z h))
           (contains_append (put_in_order event_key x q) es z c)
 
       back : Contains (q ++ (es ++ x ∷ [])) z → Contains (put_in_order event_key x q ++ es) z
       back c = ⊎_elim
-          (λ h. contains_left (put_in_order event_key x q) es z (contained (put_in_order event_key x q) z (put_in event_key x q z (inr (is_in q z h)))))
+          (λ h. contains_left (put_in_order event_key x q) es z
+          (Contains-from_IsIn (put_in_order event_key x q) z (put_in event_key x q z (inr (IsIn-from_Contains q z h)))))
           (λ h. ⊎_elim
           (λ r. contains_right (put_in_order event_key x q) es z r)
           (λ r. ⊎_elim
-          (λ e. contains_left (put_in_order event_key x q) es z (contained (put_in_order event_key x q) z (put_in event_key x q z (inl (sym e)))))
+          (λ e. contains_left (put_in_order event_key x q) es z (Contains-from_IsIn (put_in_order event_key x q) z (put_in event_key x q z (inl (sym e)))))
           (λ n. absurd (contains_none z n))
           (contains_cons z x [] r))
           (contains_append es (x ∷ []) z h))
@@ -98,5 +89,5 @@ module _ (x : Event Body) (q es : List (Event Body)) (all : AreApart (q ++ (es +
       (λ a b c d. ⊎_elim
       (λ e. subst (λ (w : Event Body). w.key ≢ b.key) (sym e) (λ s. apart_across es (x ∷ []) (apart_back q (es ++ x ∷ []) all) b x d
       (contains_here x []) (sym s)))
-      (λ r. apart_across q (es ++ x ∷ []) all a b (contained q a r) (contains_left es (x ∷ []) b d))
-      (in_put event_key x q a (is_in (put_in_order event_key x q) a c)))
+      (λ r. apart_across q (es ++ x ∷ []) all a b (Contains-from_IsIn q a r) (contains_left es (x ∷ []) b d))
+      (in_put event_key x q a (IsIn-from_Contains (put_in_order event_key x q) a c)))

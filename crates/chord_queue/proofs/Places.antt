@@ -46,12 +46,11 @@ use Rattle.chord_event.specs.declared.key.Key.{Key}
 use Rattle.chord_event.specs.Keys.{IsBefore, is_before, is_same_key, key_cmp}
 use Rattle.chord_event.specs.KeyOrder.{InKeyOrder, IsNewKey, put_in_order}
 use Rattle.chord_event.proofs.Compare.{compared}
-use Rattle.chord_event.proofs.KeyLists.{IsIn, all_in, all_from, in_put, put_in, ordered_put, put_first, same_list}
+use Rattle.chord_event.proofs.KeyLists.{IsIn, all_in, all_from, in_put, put_in, ordered_put, put_first, same_list, Contains-from_IsIn, IsIn-from_Contains}
 use Rattle.chord_event.proofs.Order.{is_same_key-true, same_key-self}
 use Rattle.chord_queue.specs.EventKey.{event_key}
 use Rattle.chord_queue.specs.Places.{Events, Entry, waiting_key, waiting_cmp, events_at, in_key_order, pending_of, IsPlaced, IsPlacedHeap}
 use Rattle.chord_queue.specs.declared.pending.Pending.TheInside.{Inside}
-use Rattle.chord_queue.proofs.Inserting.{is_in, contained}
 
 abbrev pub AreDistinct : List Entry → Type 0
 AreDistinct ws = IsDistinct is_same_key (map waiting_key ws)
@@ -99,7 +98,7 @@ pub distinct_rest : (w : Entry) (ws : List Entry) → AreDistinct (w ∷ ws) →
 distinct_rest w ws d = IsDistinct-tail is_same_key (waiting_key w) (map waiting_key ws) d
 
 permuted_in : {A : Type 0} (xs ys : List A) → IsPermutation xs ys → (z : A) → IsIn z xs → IsIn z ys
-permuted_in xs ys p z h = is_in ys z (Contains-permutation xs ys z p (contained xs z h))
+permuted_in xs ys p z h = IsIn-from_Contains ys z (Contains-permutation xs ys z p (Contains-from_IsIn xs z h))
 
 pub held_permuted : (s : Events) (xs ys : List Entry) → IsPermutation xs ys → Held s xs → Held s ys
 held_permuted s xs ys p held = record {

@@ -37,7 +37,7 @@ use Rattle.chord_event.specs.declared.body.Body.{Body}
 use Rattle.chord_event.specs.declared.event.Event.{Event}
 use Rattle.chord_event.specs.KeyOrder.{InKeyOrder}
 use Rattle.chord_event.specs.Keys.{IsAtMost, IsBefore}
-use Rattle.chord_event.proofs.KeyLists.{all_in}
+use Rattle.chord_event.proofs.KeyLists.{all_in, IsIn-from_Contains}
 use Rattle.chord_event.proofs.Members.{All_from, contains_cons, contains_none}
 use Rattle.chord_event.proofs.Order.{at_most_from_before, at_most_self}
 use Rattle.chord_machine.specs.AuditTimes.{audit_times}
@@ -74,7 +74,7 @@ use Rattle.chord_node.specs.Ring.{initial_ring, initial_state}
 use Rattle.chord_ops.specs.Rules.{block_of, effect}
 use Rattle.chord_ops.specs.Sound.{IsSoundEvent}
 use Rattle.chord_queue.specs.EventKey.{event_key}
-use Rattle.chord_queue.proofs.Inserting.{AreApart, is_in, ordered_apart}
+use Rattle.chord_queue.proofs.Inserting.{AreApart, ordered_apart}
 use Rattle.chord_scenario.specs.declared.scenario.Scenario.{Scenario}
 use Rattle.chord_scenario.specs.Range.{IsInRange}
 use Rattle.chord_scenario.specs.Start.{start_events}
@@ -113,7 +113,7 @@ first_at horizon event rest ordered in_time = record {
       (λ x c. ⊎_elim
       (λ (same : event ≡ x). subst (λ (z : Event Body). IsAtMost event.key z.key) same (at_most_self event.key))
       (λ (later : Contains rest x). at_most_from_before event.key x.key
-      (all_in (λ (y : Event Body). IsBefore event.key y.key) rest ordered.0 x (is_in rest x later)))
+      (all_in (λ (y : Event Body). IsBefore event.key y.key) rest ordered.0 x (IsIn-from_Contains rest x later)))
       (contains_cons x event rest c));
 }
 
@@ -154,7 +154,7 @@ all_late horizon time (e ∷ es) is late ordered = All_from (λ (x : Event Body)
     ⊎_elim
     (λ (same : e ≡ x). subst (λ (z : Event Body). horizon ≤ z.key.time) same (omega (arith, late, here)))
     (λ (later : Contains es x). let after = (at_most_from_before e.key x.key
-    (all_in (λ (y : Event Body). IsBefore e.key y.key) es ordered.0 x (is_in es x later))) in omega (arith, late, here, after))
+    (all_in (λ (y : Event Body). IsBefore e.key y.key) es ordered.0 x (IsIn-from_Contains es x later))) in omega (arith, late, here, after))
     (contains_cons x e es c))
 
 -- what an engine has written is the beginning of a trace

@@ -55,8 +55,8 @@ use Rattle.chord_event.specs.declared.key.Key.{Key}
 use Rattle.chord_event.specs.KeyOrder.{InKeyOrder}
 use Rattle.chord_event.specs.Keys.{IsBefore, IsAtMost, is_before, is_same_key, key_cmp}
 use Rattle.chord_event.proofs.Compare.{less_from_before}
-use Rattle.chord_event.proofs.KeyLists.{IsIn, all_from, all_in}
-use Rattle.chord_event.proofs.Members.{AllPairs_at, AllPairs_rest, contains_cons, contains_here, contains_there}
+use Rattle.chord_event.proofs.KeyLists.{IsIn, all_from, all_in, Contains-from_IsIn, IsIn-from_Contains}
+use Rattle.chord_event.proofs.Members.{AllPairs_at, AllPairs_rest}
 use Rattle.chord_event.proofs.Order.{at_most_from_before, at_most_trans, before_from_at_most, is_before-false, is_before-true, is_same_key-true, same_key-self}
 use Rattle.chord_trace.specs.Heads.{ahead, head_cmp, put_filled, with_blocks}
 use Rattle.chord_trace.specs.Merging.{CanMerge, IsMerged, all_blocks, block_key}
@@ -64,15 +64,6 @@ use Rattle.chord_trace.specs.declared.merging.Head.{Head}
 use Rattle.chord_trace.proofs.Additive.{IsAdditive, count_by-append, same_number}
 
 -- items of lists
-
-pub contained : {A : Type 0} (xs : List A) (x : A) → IsIn x xs → Contains xs x
-contained [] x h = absurd h
-contained (y ∷ xs) x (inl e) = subst (Contains (y ∷ xs)) (sym e) (contains_here y xs)
-contained (y ∷ xs) x (inr h) = contains_there x y xs (contained xs x h)
-
-pub is_in : {A : Type 0} (xs : List A) (x : A) → Contains xs x → IsIn x xs
-is_in [] x c = absurd (omega (arith, c.1))
-is_in (y ∷ xs) x c = elim (contains_cons x y xs c) [ inl e ↦ inl (sym e) | inr r ↦ inr (is_in xs x r) ]
 
 pub in_append : {A : Type 0} (xs ys : List A) (x : A) → IsIn x (xs ++ ys) → IsIn x xs ⊎ IsIn x ys
 in_append [] ys x h = inr h
@@ -87,7 +78,7 @@ append_in (z ∷ xs) ys x (inl (inr h)) = inr (append_in xs ys x (inl h))
 append_in (z ∷ xs) ys x (inr h) = inr (append_in xs ys x (inr h))
 
 moved_in : {A : Type 0} (xs ys : List A) → IsPermutation xs ys → (z : A) → IsIn z xs → IsIn z ys
-moved_in xs ys p z h = is_in ys z (Contains-permutation xs ys z p (contained xs z h))
+moved_in xs ys p z h = IsIn-from_Contains ys z (Contains-permutation xs ys z p (Contains-from_IsIn xs z h))
 
 counts_it : {A : Type 0} (p : A → Bool) (xs : List A) (x : A) → IsIn x xs → p x ≡ true → 1 ≤ count_by p xs
 counts_it p [] x h t = absurd h
@@ -319,7 +310,7 @@ one_of_key (b ∷ bs) apart k = go (has_key k b) refl (one_of_key bs (AllPairs_r
     go : (t : Bool) → has_key k b ≡ t → count_by (has_key k) bs ≤ 1 → count_by (has_key k) (b ∷ bs) ≤ 1
     go true e rest =
         let same = is_same_key-true k b.key e in
-        let others = none_of_key k bs (λ c h s. AllPairs_at (λ (a b : Block). a.key ≢ b.key) b bs apart c (contained bs c h) (sym same ∙ s)) in
+        let others = none_of_key k bs (λ c h s. AllPairs_at (λ (a b : Block). a.key ≢ b.key) b bs apart c (Contains-from_IsIn bs c h) (sym same ∙ s)) in
         omega (arith, sum_by-cons (λ z. cond (has_key k z) 1 0) b bs, ap (λ c. cond {A = ℕ} c 1 0) e, others)
     go false e rest = omega (arith, sum_by-cons (λ z. cond (has_key k z) 1 0) b bs, ap (λ c. cond {A = ℕ} c 1 0) e, rest)
 
@@ -342,8 +333,8 @@ ended lists done g =
     record {
       ordered = g.merged;
       same = λ b. (
-        λ h. contained (all_blocks lists) b (g.only b (subst (IsIn b) (sym none) (is_in done b h))),
-        λ h. contained done b (subst (IsIn b) none (g.kept b (is_in (all_blocks lists) b h))),
+        λ h. Contains-from_IsIn (all_blocks lists) b (g.only b (subst (IsIn b) (sym none) (IsIn-from_Contains done b h))),
+        λ h. Contains-from_IsIn done b (subst (IsIn b) none (g.kept b (IsIn-from_Contains (all_blocks lists) b h))),
       );
     }
 

@@ -55,14 +55,13 @@ use Rattle.std.specs.List.Sorted.{IsPermutation}
 use Rattle.chord_event.specs.declared.block.Block.{Block}
 use Rattle.chord_event.specs.KeyOrder.{InKeyOrder, put_in_order}
 use Rattle.chord_event.specs.Keys.{is_before}
-use Rattle.chord_event.proofs.KeyLists.{all_from, ordered_put, same_list}
+use Rattle.chord_event.proofs.KeyLists.{all_from, ordered_put, same_list, Contains-from_IsIn, IsIn-from_Contains}
 use Rattle.chord_event.proofs.Members.{AllPairs_at, AllPairs_rest}
 use Rattle.chord_trace.specs.Merging.{CanMerge, IsMerged, all_blocks, block_key}
 use Rattle.chord_trace.specs.declared.piece.Piece.{Piece}
 use Rattle.chord_trace.specs.declared.piece.Piece.TheVariants as piece
 use Rattle.chord_trace.specs.declared.tally.Tally.{Tally}
 use Rattle.chord_trace.specs.Tally.{IsTallyOf}
-use Rattle.chord_trace.proofs.Merges.{contained, is_in}
 use Rattle.chord_window.specs.Tallies.{AreTalliesOf, HaveTallied, blocks_at, shares_to}
 use Rattle.chord_window.proofs.Tallied.{first_added, shares_up, with_first}
 
@@ -92,7 +91,7 @@ in_order (x ∷ blocks) apart =
       put_in_order block_key x rest.0,
       ordered_put block_key x rest.0 rest.1 (all_from (λ (y : Block). y.key ≢ x.key) rest.0 (λ y h s.
           AllPairs_at (λ (a b : Block). a.key ≢ b.key) x blocks apart y
-          (Contains-permutation rest.0 blocks y (IsPermutation-sym blocks rest.0 rest.2) (contained rest.0 y h)) (sym s))),
+          (Contains-permutation rest.0 blocks y (IsPermutation-sym blocks rest.0 rest.2) (Contains-from_IsIn rest.0 y h)) (sym s))),
       IsPermutation-trans (x ∷ blocks) (x ∷ rest.0) (put_in_order block_key x rest.0) (IsPermutation-cons x blocks rest.0 rest.2) (put_moves x rest.0),
     )
 
@@ -102,8 +101,8 @@ merged_moves lists blocks can merged =
     let sorted = in_order (all_blocks lists) can.apart in
     let back = IsPermutation-sym (all_blocks lists) sorted.0 sorted.2 in
     subst (λ bs. IsPermutation bs (all_blocks lists)) (same_list block_key sorted.0 blocks sorted.1 merged.ordered
-    (λ z h. is_in blocks z ((merged.same z).1 (Contains-permutation sorted.0 (all_blocks lists) z back (contained sorted.0 z h))))
-    (λ z h. is_in sorted.0 z (Contains-permutation (all_blocks lists) sorted.0 z sorted.2 ((merged.same z).0 (contained blocks z h)))))
+    (λ z h. IsIn-from_Contains blocks z ((merged.same z).1 (Contains-permutation sorted.0 (all_blocks lists) z back (Contains-from_IsIn sorted.0 z h))))
+    (λ z h. IsIn-from_Contains sorted.0 z (Contains-permutation (all_blocks lists) sorted.0 z sorted.2 ((merged.same z).0 (Contains-from_IsIn blocks z h)))))
     back
 
 -- Shares one after another
