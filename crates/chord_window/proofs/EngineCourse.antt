@@ -65,7 +65,6 @@ use Rattle.chord_trace.specs.Writing.{AppendsFront}
 use Rattle.chord_window.specs.declared.engine.Engine.{Engine}
 use Rattle.chord_window.specs.declared.opening.Opening.{Opening}
 use Rattle.chord_window.specs.declared.part_run.Done.{Done}
-use Rattle.chord_window.specs.declared.spares.Spares.{Spares}
 use Rattle.chord_window.specs.declared.world.World.{World}
 use Rattle.chord_window.specs.Engine.{IsAt}
 use Rattle.chord_window.specs.Exchanges.{AreDone, AreDoneFrom, block_lists, events_in}
@@ -88,11 +87,7 @@ begin_at sc old now e at = (
       (front_of_whole old now (pieces_text sc (output (chord sc) (history (chord sc) e.world.count))) at.written),
 )
 
--- which states are spare says nothing of the run
-pub at_spared : (sc : Scenario) (old now : Option (List ℕ)) (e : Engine) (s : Spares) → IsAt sc old now e → IsAt sc old now (record e { spares = s })
-at_spared sc old now e s at = record { world = at.world; audits = at.audits; written = at.written; each = at.each; tallied = at.tallied; room = at.room }
-
--- nor does the division, nor do tallies that are still empty
+-- the division says nothing of the run, nor do tallies that are still empty
 pub at_divided : (sc : Scenario) (old now : Option (List ℕ)) (e f : Engine) → IsWorldOf sc f.world → f.world.count ≡ e.world.count → f.clock ≡ e.clock
     → f.world.division.parts ≤ length f.tallies.items → ((pieces : List Piece) → HaveTallied sc.profile pieces e.tallies.items → HaveTallied sc.profile pieces f.tallies.items)
     → IsAt sc old now e → IsAt sc old now f

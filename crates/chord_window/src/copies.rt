@@ -5,7 +5,6 @@ ghost use Rattle.chord_model.specs.Windows.{Division, part_of};
 ghost use Rattle.chord_window.specs.Copies.{AreCopies, IsSlot, seen, HaveSeen};
 
 use crate::room::list_with_room;
-use crate::spares::Spares;
 use chord_event::Memory;
 use chord_node::NodeState;
 use std::alloc::Global;
@@ -45,12 +44,7 @@ impl Copies {
     }
 
     /// The index of the copy of a node's state. The first call makes the copy.
-    pub(crate) fn touch(
-        &mut self,
-        states: &[NodeState],
-        node: usize,
-        spares: &mut Spares,
-    ) -> Result<usize, Memory>
+    pub(crate) fn touch(&mut self, states: &[NodeState], node: usize) -> Result<usize, Memory>
         requires copies { (d : Division) × (part : ℕ) × AreCopies d part states.now self.old }
         requires node { node < length states.now }
         requires me { (s : AState) → (slice_index_or states.now node s).me ≡ node }
@@ -64,7 +58,7 @@ impl Copies {
             return Ok(slot);
         }
         let slot = self.states.len();
-        self.states.push(spares.copy_of(&states[node])?)?;
+        self.states.push(states[node].clone_state()?)?;
         self.slots[node] = Some(slot);
         Ok(slot)
     }

@@ -13,10 +13,9 @@ ghost use Rattle.chord_window.specs.Engine.{IsAt};
 ghost use Rattle.chord_window.specs.Exchanges.{AreDone, events_in};
 
 use crate::division::Division;
-use crate::exchanging::exchange_in_order;
+use crate::exchanging::{events_within, exchange_in_order};
 use crate::opening::Opening;
 use crate::part_run::Done;
-use crate::spares::Spares;
 use crate::tallies::{add_tallies, join_all, tally_parts};
 use crate::world::World;
 use chord_event::{Block, RunError};
@@ -35,8 +34,6 @@ pub struct Engine {
     pub(crate) clock: AuditClock,
     /// A tally for each part of this division and of earlier ones. The first also has the audits.
     pub(crate) tallies: Vec<Tally>,
-    /// The states that the last window replaced.
-    pub(crate) spares: Spares,
 }
 
 /// Writes blocks in their order.
@@ -83,7 +80,6 @@ impl Engine {
             world,
             clock,
             tallies,
-            spares: Spares::new(alloc),
         })
     }
 
@@ -111,7 +107,6 @@ impl Engine {
             world,
             clock,
             mut tallies,
-            spares,
         } = self;
         let world = world.redivide(alloc, scenario, division)?;
         add_tallies(alloc, scenario.profile(), &mut tallies, division.parts())?;
@@ -119,7 +114,6 @@ impl Engine {
             world,
             clock,
             tallies,
-            spares,
         })
     }
 
@@ -162,7 +156,6 @@ impl Engine {
             world,
             mut clock,
             mut tallies,
-            spares: _,
         } = self;
         put_audits(
             alloc,
@@ -178,7 +171,8 @@ impl Engine {
     }
 
     /// Writes what the parts of the next window leave: first the audits that are due at its first
-    /// time, then the blocks of all parts in the order of their keys.
+    /// time, then the blocks of all parts in the order of their keys. Writes nothing if the parts
+    /// together have more events than the run may still have.
     pub fn put_window<W: Write>(
         &mut self,
         alloc: Global,
@@ -200,10 +194,20 @@ impl Engine {
         ensures failed { result ≡ Err RunError.Write → has_failed writer.new ≡ true }
         ensures memory { result ≡ Err RunError.Memory → has_failed writer.new ≡ false }
         ensures over { result ≡ Err RunError.TooManyEvents → HasTooManyEvents scenario.now × (has_failed writer.new ≡ false) }
+        ensures counted_first { scenario.now.max_events < self.old.world.count + events_in dones.items → (result ≡ Err RunError.TooManyEvents) × (writer.new ≡ writer.old) }
         ensures only { IfErr result (λ e. (e ≡ RunError.Memory) ⊎ (e ≡ RunError.TooManyEvents) ⊎ (e ≡ RunError.Write)) }
     {
         scenario.recall_range();
         self.world.division.recall_division();
+        // Counted before anything is written: one part finds too many events before the window is
+        // written, so several parts must too, or the error would depend on the division.
+        let room = scenario.max_events() - self.world.count;
+        let Some(events) = events_within(room, dones.as_slice()) else {
+            return Err(RunError::TooManyEvents);
+        };
+        // Audits are of the states before the window, so they are written before the states are
+        // exchanged. An allocation that fails later comes too late to hide a failed write: a run
+        // ends with the first of the two, and no other fault is left to find.
         put_audits(
             alloc,
             scenario,
@@ -213,17 +217,7 @@ impl Engine {
             &mut self.tallies[0],
             writer,
         )?;
-        self.spares.clear();
-        let lists = match exchange_in_order(
-            alloc,
-            scenario,
-            &mut self.world,
-            dones,
-            &mut self.spares,
-        ) {
-            Ok(lists) => lists,
-            Err(error) => return Err(error),
-        };
+        let lists = exchange_in_order(alloc, scenario, &mut self.world, dones, events)?;
         tally_parts(&mut self.tallies, lists.as_slice())?;
         let blocks = merge_blocks(alloc, lists)?;
         write_blocks(alloc, scenario, blocks.as_slice(), writer)?;

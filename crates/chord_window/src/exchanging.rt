@@ -1,5 +1,5 @@
 //! The end of a window: the results of the parts become one world again.
-ghost use Rattle.std.specs.Prelude.{◌≡◌, ◌⊎◌, ◌+◌, ◌<◌, ◌≤◌, ◌++◌, ℕ, List, map, length, IfOk, IfErr, OnOk, Err};
+ghost use Rattle.std.specs.Prelude.{◌≡◌, ◌⊎◌, ◌+◌, ◌<◌, ◌≤◌, ◌++◌, ℕ, List, None, map, length, IfOk, IfErr, IfSome, OnOk, Err};
 ghost use Rattle.std.specs.List.{AllByRecursion};
 ghost use Rattle.chord_machine.specs.Run.{HasTooManyEvents};
 ghost use Rattle.chord_window.specs.Ordering.{AreBlocksInOrder, ArePartsDone};
@@ -8,30 +8,27 @@ ghost use Rattle.chord_window.specs.Worlds.{IsWorldOf};
 
 use crate::ordering::in_part_order;
 use crate::part_run::Done;
-use crate::spares::Spares;
 use crate::world::{World, deliver, open_window};
 use chord_event::{Block, Event, Memory, RunError};
 use chord_node::NodeState;
 use chord_scenario::Scenario;
 use std::alloc::Global;
-use std::mem;
 
 /// What the parts of a window leave together.
 #[derive(Drop)]
 pub struct Gathered {
-    pub events: u64,
     pub mail: Vec<Event>,
     pub blocks: Vec<Vec<Block>>,
 }
 
-/// Puts states in the places of their nodes. The replaced ones become spare.
-fn put_states(states: &mut Vec<NodeState>, nodes: Vec<NodeState>, spares: &mut Spares)
+/// Puts states in the places of their nodes.
+fn put_states(states: &mut Vec<NodeState>, nodes: Vec<NodeState>)
     requires { AllByRecursion (λ s. s.me < length states.old.items) nodes.items }
     ensures { states.new.items ≡ with_states nodes.items states.old.items }
 {
     for node in nodes {
         let at = node.me as usize;
-        spares.keep(mem::replace(&mut states[at], node));
+        states[at] = node;
     }
 }
 
@@ -48,39 +45,40 @@ fn joined(first: Vec<Event>, second: Vec<Event>) -> Result<Vec<Event>, Memory>
     Ok(list)
 }
 
+/// How many events the parts of a window ran together, or `None` if these are more than `room`.
+pub(crate) fn events_within(room: u64, dones: &[Done]) -> Option<u64>
+    ensures some { IfSome result (λ events. (events ≡ events_in dones.now) × (events ≤ room)) }
+    ensures none { result ≡ None → room < events_in dones.now }
+{
+    let mut events = 0;
+    for done in dones {
+        if done.events > room - events {
+            return None;
+        }
+        events += done.events;
+    }
+    Some(events)
+}
+
 /// Puts the states of the parts in the places of their nodes, and gathers the rest.
 fn gather(
     alloc: Global,
-    room: u64,
     states: &mut Vec<NodeState>,
     dones: Vec<Done>,
-    spares: &mut Spares,
-) -> Result<Gathered, RunError>
+) -> Result<Gathered, Memory>
     requires { NameNodes (length states.old.items) dones.items }
     ensures states { OnOk result (states.new.items ≡ with_all dones.items states.old.items) }
-    ensures events { IfOk result (λ g. (g.events ≡ events_in dones.items) × (g.events ≤ room)) }
     ensures mail { IfOk result (λ g. g.mail.items ≡ mails dones.items) }
     ensures blocks { IfOk result (λ g. g.blocks.items ≡ block_lists dones.items) }
-    ensures over { result ≡ Err RunError.TooManyEvents → room < events_in dones.items }
-    ensures only { IfErr result (λ e. (e ≡ RunError.Memory) ⊎ (e ≡ RunError.TooManyEvents)) }
 {
-    let mut events = 0;
     let mut mail = Vec::new(alloc);
     let mut blocks = Vec::new(alloc);
     for done in dones {
-        if done.events > room - events {
-            return Err(RunError::TooManyEvents);
-        }
-        events += done.events;
-        put_states(states, done.nodes, spares);
+        put_states(states, done.nodes);
         mail = joined(mail, done.mail)?;
         blocks.push(done.blocks)?;
     }
-    Ok(Gathered {
-        events,
-        mail,
-        blocks,
-    })
+    Ok(Gathered { mail, blocks })
 }
 
 /// Puts together what the parts of a window leave, and opens the next window. There is one result
@@ -106,38 +104,34 @@ pub fn exchange(
     ensures over { result ≡ Err RunError.TooManyEvents → HasTooManyEvents scenario.now }
     ensures only { IfErr result (λ e. (e ≡ RunError.Memory) ⊎ (e ≡ RunError.TooManyEvents)) }
 {
-    let mut spares = Spares::new(alloc);
+    scenario.recall_range();
     let list = in_part_order(alloc, world.division.parts(), dones)?;
-    exchange_in_order(alloc, scenario, world, list, &mut spares)
+    let room = scenario.max_events() - world.count;
+    let Some(events) = events_within(room, list.as_slice()) else {
+        return Err(RunError::TooManyEvents);
+    };
+    Ok(exchange_in_order(alloc, scenario, world, list, events)?)
 }
 
-/// `exchange`, for results in the order of their parts. The replaced states become spare.
+/// `exchange`, for results in the order of their parts, which ran this many events together.
 pub(crate) fn exchange_in_order(
     alloc: Global,
     scenario: &Scenario,
     world: &mut World,
     dones: Vec<Done>,
-    spares: &mut Spares,
-) -> Result<Vec<Vec<Block>>, RunError>
+    events: u64,
+) -> Result<Vec<Vec<Block>>, Memory>
     requires world { IsWorldOf scenario.now world.old }
     requires done { (horizon : ℕ) × AreDone scenario.now world.old horizon dones.items }
+    requires events { events ≡ events_in dones.items }
+    requires within { world.old.count + events ≤ scenario.now.max_events }
     ensures world { OnOk result (IsWorldOf scenario.now world.new) }
     ensures count { OnOk result (world.new.count ≡ world.old.count + events_in dones.items) }
     ensures division { OnOk result (world.new.division ≡ world.old.division) }
     ensures blocks { IfOk result (λ blocks. blocks.items ≡ block_lists dones.items) }
-    ensures over { result ≡ Err RunError.TooManyEvents → HasTooManyEvents scenario.now }
-    ensures only { IfErr result (λ e. (e ≡ RunError.Memory) ⊎ (e ≡ RunError.TooManyEvents)) }
 {
     scenario.recall_range();
-    let room = scenario.max_events() - world.count;
-    let Gathered {
-        events,
-        mail,
-        blocks,
-    } = match gather(alloc, room, &mut world.states, dones, spares) {
-        Ok(gathered) => gathered,
-        Err(error) => return Err(error),
-    };
+    let Gathered { mail, blocks } = gather(alloc, &mut world.states, dones)?;
     world.count += events;
     deliver(&mut world.parts, &world.division, mail)?;
     world.opening = open_window(scenario, &mut world.parts)?;

@@ -13,7 +13,6 @@ mod picked_run;
 mod picked_window;
 mod room;
 mod slots;
-mod spares;
 mod taken;
 mod tallies;
 mod worker;

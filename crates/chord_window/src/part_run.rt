@@ -13,7 +13,6 @@ ghost use Rattle.chord_window.specs.Worlds.{IsWorldOf};
 
 use crate::copies::Copies;
 use crate::room::list_with_room;
-use crate::spares::Spares;
 use crate::world::World;
 use chord_event::{Block, Event, Key, Memory, RunError};
 use chord_node::NodeState;
@@ -55,13 +54,12 @@ impl PartRun {
         scenario: &Scenario,
         states: &[NodeState],
         event: &Event,
-        spares: &mut Spares,
     ) -> Result<Vec<Event>, Memory>
         requires { (division : ADivision) × IsReady scenario.now division states.now self.old event.now }
         ensures { IfOk result (λ made. (division : ADivision) → IsReady scenario.now division states.now self.old event.now → HasHandled scenario.now division states.now event.now self.old self.new made.items) }
     {
         scenario.recall_range();
-        let slot = self.copies.touch(states, event.target as usize, spares)?;
+        let slot = self.copies.touch(states, event.target as usize)?;
         let Effect { events, block } = act(alloc, scenario, &mut self.copies.states[slot], event)?;
         self.blocks.push(block)?;
         Ok(events.into_vec())
@@ -129,7 +127,6 @@ impl PartRun {
         due: &[Event],
         horizon: u64,
         queue: &mut WindowQueue,
-        spares: &mut Spares,
     ) -> Result<Option<Key>, RunError>
         requires world { IsWorldOf scenario.now world.now }
         requires window { IsWindow scenario.now world.now horizon due.now }
@@ -153,7 +150,7 @@ impl PartRun {
             }
             let event = &due[self.taken];
             let key = event.key;
-            let made = self.handle(alloc, scenario, &world.states, event, spares)?;
+            let made = self.handle(alloc, scenario, &world.states, event)?;
             self.taken += 1;
             sort_out(made, horizon, queue, &mut self.mail)?;
             return Ok(Some(key));
@@ -165,7 +162,7 @@ impl PartRun {
             return Err(RunError::TooManyEvents);
         }
         let key = event.key;
-        let made = self.handle(alloc, scenario, &world.states, event, spares)?;
+        let made = self.handle(alloc, scenario, &world.states, event)?;
         sort_out(made, horizon, queue, &mut self.mail)?;
         Ok(Some(key))
     }
@@ -273,9 +270,7 @@ fn run_events(
     scenario.recall_range();
     let events = &world.parts[part as usize];
     let due = events.due.as_slice();
-    // A part that runs by itself has no spare states. Only `run_picked` has them.
-    let mut spares = Spares::new(alloc);
     let mut run = PartRun::start(alloc, scenario, world, part, horizon);
-    while let Some(_key) = run.step(alloc, scenario, world, due, horizon, queue, &mut spares)? {}
+    while let Some(_key) = run.step(alloc, scenario, world, due, horizon, queue)? {}
     Ok(run.finish())
 }

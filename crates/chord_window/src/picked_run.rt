@@ -16,7 +16,6 @@ use chord_scenario::Scenario;
 use chord_trace::{Report, Watched};
 use std::alloc::Global;
 use std::io::Write;
-use std::mem;
 
 /// Runs a scenario by windows, with 1 to 64 workers that take turns on the calling thread. Each
 /// pick names the worker that takes the next step. After the picks it is the lowest worker that can
@@ -62,7 +61,6 @@ pub fn run_picked<W: Write>(
             alloc, scenario, world, horizon, picks, &mut next, &mut taken,
         )?;
         engine.put_window(alloc, scenario, opening, dones, writer)?;
-        mem::swap(&mut engine.spares, &mut picked.spares);
     }
     let report = engine.finish(alloc, scenario, writer)?;
     Ok((report, taken))

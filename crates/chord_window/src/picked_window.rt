@@ -14,7 +14,6 @@ ghost use Rattle.chord_window.specs.Worlds.{IsWorldOf};
 
 use crate::part_run::Done;
 use crate::slots::{empty_slots, take_out};
-use crate::spares::Spares;
 use crate::taken::{Step, Taken};
 use crate::worker::{Progress, Worker};
 use crate::world::World;
@@ -30,8 +29,6 @@ pub struct PickedWindow {
     pub workers: Vec<Worker>,
     /// For each part its result, once it is sealed.
     pub dones: Vec<Option<Done>>,
-    /// Retired states, whose memory copies reuse.
-    pub spares: Spares,
 }
 
 impl PickedWindow {
@@ -48,7 +45,6 @@ impl PickedWindow {
             drawn: 0,
             workers: list,
             dones: Vec::new(alloc),
-            spares: Spares::new(alloc),
         })
     }
 
@@ -122,10 +118,8 @@ impl PickedWindow {
         ensures only { IfErr result (λ e. (e ≡ RunError.Memory) ⊎ (e ≡ RunError.TooManyEvents)) }
     {
         world.division.recall_division();
-        let spares = &mut self.spares;
-        let progress = self.workers[worker].step(
-            alloc, scenario, world, horizon, self.drawn, spares,
-        )?;
+        let progress =
+            self.workers[worker].step(alloc, scenario, world, horizon, self.drawn)?;
         match progress {
             Progress::Drew => {
                 let part = self.drawn;

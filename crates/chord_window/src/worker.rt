@@ -7,7 +7,6 @@ ghost use Rattle.chord_window.specs.Workers.{HasProgressed, IsIdle, MayGoOn};
 ghost use Rattle.chord_window.specs.Worlds.{IsWorldOf};
 
 use crate::part_run::{Done, PartRun};
-use crate::spares::Spares;
 use crate::world::World;
 use chord_event::{Key, RunError};
 use chord_queue::WindowQueue;
@@ -48,7 +47,6 @@ impl Worker {
         world: &World,
         horizon: u64,
         drawn: u32,
-        spares: &mut Spares,
     ) -> Result<Progress, RunError>
         requires world { IsWorldOf scenario.now world.now }
         requires horizon { IsHorizon world.now horizon }
@@ -70,7 +68,6 @@ impl Worker {
             due,
             horizon,
             &mut self.queue,
-            spares,
         )? {
             Some(key) => Ok(Progress::Ran(key)),
             None => Ok(Progress::Sealed(self.seal())),

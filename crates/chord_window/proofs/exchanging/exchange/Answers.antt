@@ -1,8 +1,16 @@
-use Rattle.std.proofs.Common.{◌+◌, ◌∙◌, ap, subst}
-use Rattle.std.proofs.lemmas.Result.{on_ok_weaker}
+use Rattle.std.proofs.Common.{◌+◌, ◌∙◌, ap, arith, refl, subst}
+use Rattle.chord_window.specs.Exchanges.{events_in}
 use Rattle.chord_window.specs.Ordering.{AreInOrder}
+use Rattle.chord_window.proofs.NextWorld.{exchange_over}
 use Rattle.chord_window.proofs.Orders.{events_in_order, parts_done}
 use Rattle.chord_window.proofs.exchanging.exchange.Goals as goal
+
+pub returns-in_default-clause-over : goal.returns-in_default-clause-over
+returns-in_default-clause-over c = λ _.
+    let order = subst (λ parts. AreInOrder c.args.dones.items parts c.in_ok-list.list.items) c.parts.ensures c.in_ok-list.ensures in
+    let done = parts_done c.args.scenario.now c.args.world.now c.requires.done.0 c.args.dones.items c.in_ok-list.list.items c.requires.done.1 order in
+    exchange_over c.args.scenario.now c.recall_range.ensures c.args.world.now c.requires.world c.requires.done.0 c.in_ok-list.list.items done
+    (omega (arith, c.in_default.ensures.none refl, ap events_in c.as_slice.ensures.value, c.max_events.ensures, c.requires.world.within))
 
 pub exchange_in_order-requires-clause-done : goal.exchange_in_order-requires-clause-done
 exchange_in_order-requires-clause-done c =
@@ -13,4 +21,4 @@ pub returns-clause-count : goal.returns-clause-count
 returns-clause-count c =
     let order = subst (λ parts. AreInOrder c.args.dones.items parts c.in_ok-list.list.items) c.parts.ensures c.in_ok-list.ensures in
     let same = events_in_order c.args.world.now.division.parts c.args.dones.items c.in_ok-list.list.items c.requires.done.1.once order in
-    on_ok_weaker c.exchange_in_order.result (λ count. count ∙ ap (λ k. c.args.world.now.count + k) same) c.exchange_in_order.ensures.count
+    c.in_ok-exchange_in_order.ensures.count ∙ ap (λ k. c.args.world.now.count + k) same

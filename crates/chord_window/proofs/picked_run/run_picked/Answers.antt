@@ -3,7 +3,7 @@ use Rattle.chord_model.specs.Windows.{Division as ADivision}
 use Rattle.chord_window.specs.declared.world.World.{World}
 use Rattle.chord_window.specs.Exchanges.{events_in}
 use Rattle.chord_window.specs.Picked.{HasStepped}
-use Rattle.chord_window.proofs.EngineCourse.{at_spared, begin_at}
+use Rattle.chord_window.proofs.EngineCourse.{begin_at}
 use Rattle.chord_window.proofs.PickedCourse.{all_steps, come_first, come_on}
 use Rattle.chord_window.proofs.picked_run.run_picked.Goals as goal
 
@@ -29,7 +29,7 @@ pub loop-opening-preserved : goal.loop-opening-preserved
 loop-opening-preserved g c =
     let inv = c.loop-opening.invariant in
     record {
-      at = at_spared c.args.scenario.now _ _ c.put_window.new.self c.swap.new.x (c.in_ok-put_window.ensures.at _ inv.at);
+      at = c.in_ok-put_window.ensures.at _ inv.at;
       sound = c.in_ok-put_window.ensures.sound;
       division = c.in_ok-put_window.ensures.division ∙ inv.division;
       workers = c.in_ok-dones.ensures.workers ∙ inv.workers;

@@ -15,7 +15,7 @@ returns-clause-copies c = λ d part in_part are.
     let none = same_read c.make_slots.new.self.slots.items c.args.node None c.index.result.now
     (omega (arith, c.requires.node, c.in_ok-make_slots.ensures.long)) ∙ sym c.index.ensures ∙ c.in_default.is in
     let slot : c.len-slot.result ≡ length c.make_slots.new.self.states.items = omega (arith, c.len-slot.ensures, c.make_slots.new.self.states.ok.0) in
-    let read = c.in_ok-copy_of.ensures ∙ c.index-states-node.is in
-    copies_more d part c.args.states.now c.make_slots.new.self _ ready c.in_ok-make_slots.ensures.long c.args.node c.in_ok-copy_of.field-0 c.requires.node
+    let read = c.in_ok-clone_state.ensures ∙ c.index-states-node.is in
+    copies_more d part c.args.states.now c.make_slots.new.self _ ready c.in_ok-make_slots.ensures.long c.args.node c.in_ok-clone_state.field-0 c.requires.node
     (ap (λ z. set c.make_slots.new.self.slots.items c.args.node (Some z)) slot) c.in_ok-push.ensures.items none in_part
     (ap (λ (z : NodeState). z.me) read ∙ c.requires.me c.index-states-node.result)
