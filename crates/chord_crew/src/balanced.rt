@@ -15,8 +15,7 @@ use std::marker::Model;
 /// the nodes in turn, the one with the greatest load first, and puts each on the part with the
 /// least load so far. Among parts of one load it takes the one with the fewest nodes, so that nodes
 /// without a load are spread too. Among equal nodes, and equal parts, the lowest number comes
-/// first. Contracts see its number of parts. More nodes than a `u32` counts are refused with
-/// `Memory`.
+/// first. Contracts see its number of parts.
 #[derive(Drop)]
 pub struct Balanced {
     alloc: Global,
@@ -141,12 +140,6 @@ impl Dealer for Balanced {
     {
         let order = heaviest_first(self.alloc, loads)?;
         let of_node = deal_in_order(self.alloc, self.parts, order.as_slice())?;
-        let Ok(nodes) = u32::try_from(of_node.len()) else {
-            return Err(Memory);
-        };
-        let Ok(division) = Division::new(nodes, self.parts, of_node) else {
-            unreachable!();
-        };
-        Ok(division)
+        Ok(Division::of_list(self.parts, of_node))
     }
 }

@@ -54,6 +54,17 @@ impl Division {
         }
     }
 
+    /// The division that gives each node the part in the list, for callers that know of each entry
+    /// that it is below the number of parts.
+    #[doc(hidden)]
+    pub fn of_list(parts: u32, of_node: Vec<u32>) -> Division
+        requires parts { (0 < parts) × (parts ≤ MOST_PARTS) }
+        requires below { All (λ p. p < parts) of_node.items }
+        ensures { result ≡ record { parts = parts; of_node = of_node.items } }
+    {
+        Division { parts, of_node }
+    }
+
     /// The division that deals the nodes to the parts in turn: the part of node i is i modulo the
     /// number of parts, which is 1 to 512.
     ///
