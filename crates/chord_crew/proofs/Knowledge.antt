@@ -4,11 +4,24 @@ use Rattle.std.proofs.Math.Decide.{dec_lt, ℕ_discrete}
 use mathlib.Core.Option.{some, some-injective}
 use lib.ListN.{get_elem?}
 use Rattle.chord_crew.specs.declared.draw_rule.View.{View}
-use Rattle.chord_crew.specs.Draws.{draws_of}
+use Rattle.std.specs.Prelude.{Some, slice_get}
+use Rattle.chord_crew.specs.Draws.{HasMoment, draws_of}
 use Rattle.chord_window.specs.Ordering.{HasEachOnce, count_of}
 use Rattle.chord_crew.specs.Seats.{Counter, SeatState, view_of, IsMomentOf, IsDrawnOnlyAt, AllAreDrawn}
 use Rattle.chord_crew.proofs.Counts.{counted_at}
 use Rattle.chord_crew.proofs.Lists.{All-at, sum_by-at, sum_by-two, sum_by-whole, get_elem-from_slice_get}
+
+-- a moment at which the seat at this place has the view that this seat has
+pub moment_of : (counter : Counter) (seat : SeatState) (place : ℕ) (v : View) → HasMoment counter.parts counter.seats place v → seat.place ≡ place
+    → view_of seat ≡ v → (word : ℕ) × (views : List View) × IsMomentOf counter seat word views
+moment_of counter seat place v moment here is = (
+  moment.0,
+  moment.1,
+  record {
+    kept = moment.2;
+    has_view = ap (slice_get moment.1) here ∙ (moment.3 ∙ ap (λ (w : View). Some w) (sym is));
+  },
+)
 
 module _ (counter : Counter) (seat : SeatState) (word : ℕ) (views : List View) (moment : IsMomentOf counter seat word views) where
   at : get_elem? views seat.place ≡ some (view_of seat)

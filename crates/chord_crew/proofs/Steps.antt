@@ -45,10 +45,10 @@ use Rattle.atomic_table.specs.Table.{keeps, Allows, Splits, Joins}
 use Rattle.chord_crew.specs.declared.draw_rule.View.{View}
 use Rattle.chord_crew.specs.declared.draw_rule.Plan.{Plan}
 use Rattle.chord_window.specs.Ordering.{count_of}
-use Rattle.chord_crew.specs.Draws.{IsCounting, draws_of, draws_past_end, IsKept, after_draw, after_split, split_off, joined, spent}
+use Rattle.chord_crew.specs.Draws.{HasMoment, IsCounting, draws_of, draws_past_end, IsKept, after_draw, after_split, split_off, joined, spent}
 use Rattle.atomic_table.proofs.Lists.{set_here, set_else}
 use Rattle.chord_crew.proofs.Counts.{count_of-push, counts_itself, length-le}
-use Rattle.chord_crew.proofs.Lists.{get_or-at, All-at, sum_by-replaced, sum_by-at}
+use Rattle.chord_crew.proofs.Lists.{get_or-at, All-at, slice_get-from_get_elem, sum_by-replaced, sum_by-at}
 
 -- what may still be drawn past the end is within the allowance
 draws_past_end-le : (v : View) → draws_past_end v ≤ v.allowance
@@ -137,7 +137,7 @@ numbers_fit parts seats word views kept id v at = length-le parts v.numbers once
 -- what a draw asks of the table
 pub draw_allowed : {S : Type 0} (plan : Plan) (slots id : ℕ) (me : View × List (ℕ × S)) → me.0.met_end ≡ false → 0 < me.0.allowance
     → plan.parts + plan.seats < 2 ^ 64 → Allows (IsCounting plan) slots id me 0 (λ n. (n + 1) % 2 ^ 64)
-    (λ found after. (after ≡ (after_draw plan.parts me.0 found, me.1)) × (length after.0.numbers ≤ plan.parts))
+    (λ found after. (after ≡ (after_draw plan.parts me.0 found, me.1)) × (length after.0.numbers ≤ plan.parts) × HasMoment plan.parts plan.seats id after.0)
 draw_allowed {S} plan slots id me open_end some_left fits s holds homes at range =
     let word = holds.0 in
     let is : slice_index s.words 0 ≡ word = ap (λ (l : List ℕ). slice_index l 0) holds.1 in
@@ -151,7 +151,11 @@ draw_allowed {S} plan slots id me open_end some_left fits s holds homes at range
       keeps,
       tt,
       (word + 1, ap₂ (λ (l : List ℕ) (n : ℕ). set l 0 n) holds.1 next, after),
-      (refl, numbers_fit plan.parts plan.seats (word + 1) (set s.views id new) after id new here),
+      (
+        refl,
+        numbers_fit plan.parts plan.seats (word + 1) (set s.views id new) after id new here,
+        (word + 1, set s.views id new, after, slice_get-from_get_elem (set s.views id new) id new here),
+      ),
     )
 
 -- a split leaves the same sums
@@ -252,3 +256,10 @@ join_allowed plan id v other w s holds at apart there =
 pub has_drawn : (parts found : ℕ) (v : View) → found < parts → 0 < count_of found (after_draw parts v found).numbers
 has_drawn parts found v below =
     rw (lt-ltb found parts below) (omega (arith, count_of-push found found v.numbers, counts_itself found))
+
+-- a draw of a number tells nothing of the end, and one past the end tells that it is met
+pub number_tells_no_end : (parts found : ℕ) (v : View) → found < parts → (after_draw parts v found).met_end ≡ v.met_end
+number_tells_no_end parts found v below = rw (lt-ltb found parts below) refl
+
+pub end_is_told : (parts found : ℕ) (v : View) → parts ≤ found → (after_draw parts v found).met_end ≡ true
+end_is_told parts found v past = rw (le-ltb found parts past) refl

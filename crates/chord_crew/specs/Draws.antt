@@ -1,7 +1,7 @@
 -- Numbers that seats draw from one word, which counts the draws: each number below `parts` goes to one seat, and no other
 -- number to any. A view is what one seat knows: the numbers that it has drawn, its share of the allowance, which is the
 -- number of seats that there can be, and whether it has met the end.
-use Rattle.std.specs.Prelude.{◌≡◌, ℕ, ◌+◌, ◌-◌, ◌<◌, ◌≤◌, min, true, false, ◌||◌, nat_lt, if◌then◌else◌, List, [], ◌∷◌, ◌++◌, All, sum_by}
+use Rattle.std.specs.Prelude.{◌≡◌, ℕ, ◌+◌, ◌-◌, ◌<◌, ◌≤◌, min, true, false, ◌||◌, nat_lt, if◌then◌else◌, List, [], ◌∷◌, ◌++◌, All, Some, slice_get, sum_by}
 use Rattle.atomic_table.specs.Table.{State}
 use Rattle.chord_crew.specs.declared.draw_rule.Plan.{Plan}
 use Rattle.chord_crew.specs.declared.draw_rule.View.{View}
@@ -23,6 +23,10 @@ pub record IsKept (parts seats word : ℕ) (views : List View) : Type 0 where
   pub spent_is_empty : All (λ v. v.allowance ≡ 0 → v.numbers ≡ []) views
   pub end_is_met : All (λ v. v.met_end ≡ true → parts ≤ word) views
   pub never_wraps : word + sum_by draws_past_end views ≤ parts + seats
+
+-- at some moment the rule holds, and the seat at this place has this view
+abbrev pub HasMoment : (parts seats place : ℕ) → View → Type 0
+HasMoment parts seats place v = (word : ℕ) × (views : List View) × IsKept parts seats word views × (slice_get views place ≡ Some v)
 
 -- a table of one word, under the rule
 abbrev pub IsCounting : {S : Type 0} → Plan → State S View → Type 0

@@ -30,13 +30,22 @@ impl TableRule<(), View, Plan> for Counting {
     ghost first = { λ plan. first_view plan.seats };
 }
 
-/// The number of numbers that the counter of a draw has. The call picks it.
-pub trait Parts {
+/// The counter and the seat of a draw: how many numbers the counter has, its whole allowance, and
+/// the seat's place. The call picks them.
+pub trait DrawOf {
     ghost parts: { ℕ };
+
+    ghost seats: { ℕ };
+
+    ghost place: { ℕ };
 }
 
-impl Parts for Brand {
+impl DrawOf for Brand {
     ghost parts = { 0 };
+
+    ghost seats = { 0 };
+
+    ghost place = { 0 };
 }
 
 /// A draw, by what its seat learns.
@@ -44,11 +53,11 @@ pub struct Drawn<P> {
     marker: PhantomData<P>,
 }
 
-impl<P: Parts> Play<(), View> for Drawn<P> {
+impl<P: DrawOf> Play<(), View> for Drawn<P> {
     ghost use Rattle.std.specs.Prelude.{◌≡◌, ◌≤◌, length};
-    ghost use Rattle.chord_crew.specs.Draws.{after_draw};
+    ghost use Rattle.chord_crew.specs.Draws.{HasMoment, after_draw};
 
-    ghost then = { λ step before found after. (after ≡ (after_draw P.parts before.0 found, before.1)) × (length after.0.numbers ≤ P.parts) };
+    ghost then = { λ step before found after. (after ≡ (after_draw P.parts before.0 found, before.1)) × (length after.0.numbers ≤ P.parts) × HasMoment P.parts P.seats P.place after.0 };
 }
 
 /// A split and a join, by the views that they leave.

@@ -1,10 +1,11 @@
 //! The counter from which the workers of a window draw its parts.
 ghost use Rattle.std.specs.Prelude.{◌≡◌, ◌+◌, ◌-◌, ◌<◌, ◌≤◌, ◌||◌, ◌&&◌, ℕ, List, [], ◌∷◌, ◌++◌, true, false, length, None, IfOk, IfSome, IfNone};
-ghost use Rattle.chord_crew.specs.Draws.{after_draw};
+ghost use Rattle.chord_crew.specs.declared.draw_rule.View.{View as AView};
+ghost use Rattle.chord_crew.specs.Draws.{HasMoment, after_draw};
 ghost use Rattle.chord_crew.specs.Seats.{AllAreDrawn, IsDrawnOnlyAt, IsFresh, IsMomentOf, Knows};
 ghost use Rattle.chord_window.specs.Ordering.{HasEachOnce};
 
-use crate::draw_rule::{Counting, Drawn, Parts, Plan, Shares, View};
+use crate::draw_rule::{Counting, DrawOf, Drawn, Plan, Shares, View};
 use crate::seat::Seat;
 use atomic_table::Table;
 use chord_event::Memory;
@@ -75,10 +76,12 @@ impl Draws {
         }
     }
 
-    /// The next number, or `None` past the end. It never blocks. A seat that knows of the end does
-    /// not touch the counter.
+    /// The next number, or `None` past the end. It waits for nobody. A seat that knows of the end
+    /// does not touch the counter.
     pub fn draw(&self, seat: &mut Seat) -> Option<u32>
         requires { seat.old.table ≡ self.now.table }
+        ensures moment { seat.old.met_end ≡ false → (word : ℕ) × (views : List AView) × IsMomentOf self.now seat.new word views }
+
         ensures drawn { IfSome result (λ n. seat.new ≡ record seat.old { numbers = seat.old.numbers ++ n ∷ [] }) }
         ensures below { IfSome result (λ n. n < self.now.parts) }
         ensures by_no_other { IfSome result (λ n. Knows self.now seat.new (IsDrawnOnlyAt seat.new.place n)) }
@@ -103,12 +106,13 @@ impl Draws {
     }
 
     /// Adds 1 to the word, and returns its old value.
-    fn step<P: Parts>(&self, token: &mut atomic_table::Seat<(), View>) -> u64
-        requires parts { P.parts ≡ self.now.parts }
+    fn step<P: DrawOf>(&self, token: &mut atomic_table::Seat<(), View>) -> u64
+        requires of { (P.parts ≡ self.now.parts) × (P.seats ≡ self.now.seats) × (P.place ≡ token.old.id) }
         requires token { (token.old.table_id ≡ self.now.table) × (token.old.me.0.met_end ≡ false) × (0 < token.old.me.0.allowance) }
         ensures same_seat { (token.new.table_id ≡ token.old.table_id) × (token.new.id ≡ token.old.id) }
         ensures drawn { token.new.me ≡ (after_draw P.parts token.old.me.0 result, token.old.me.1) }
         ensures fits { length token.new.me.0.numbers ≤ P.parts }
+        ensures moment { HasMoment P.parts P.seats P.place token.new.me.0 }
     {
         self.table.shared.fetch_add::<Drawn<P>>(token, 0, 1)
     }
