@@ -9,13 +9,11 @@ use Rattle.chord_scenario.specs.declared.scenario.Scenario.{Scenario}
 use Rattle.chord_window.specs.declared.part_run.Done.{Done}
 use Rattle.chord_window.specs.declared.world.World.{World}
 use Rattle.chord_window.specs.Ordering.{IsResult, parts_of}
-use Rattle.chord_window.specs.PartRuns.{IsHorizon}
-use Rattle.chord_window.specs.Worlds.{IsWorldOf}
+use Rattle.chord_window.specs.PartRuns.{IsNextWindow}
 
 -- the counter deals the parts of the world's next window, which ends at the horizon
 pub record IsWindowOf (sc : Scenario) (w : World) (horizon : ℕ) (draws : Counter) : Type 0 where
-  pub world : IsWorldOf sc w
-  pub next : IsHorizon w horizon
+  pub window : IsNextWindow sc w horizon
   pub parts : draws.parts ≡ w.division.parts
 
 -- what these parts leave, in this order

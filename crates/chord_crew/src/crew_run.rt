@@ -6,8 +6,7 @@ ghost use Rattle.chord_output.specs.Beginning.{IsBeginning};
 ghost use Rattle.chord_scenario.specs.World.{node_count};
 ghost use Rattle.chord_trace.specs.Watched.{wrapped, has_failed};
 ghost use Rattle.chord_window.specs.Exchanges.{AreDone};
-ghost use Rattle.chord_window.specs.PartRuns.{IsHorizon};
-ghost use Rattle.chord_window.specs.Worlds.{IsWorldOf};
+ghost use Rattle.chord_window.specs.PartRuns.{IsNextWindow};
 
 use crate::draws::{Draws, MOST_SEATS};
 use crate::gate::Gate;
@@ -18,7 +17,7 @@ use crate::workers::run_workers;
 use chord_event::RunError;
 use chord_scenario::Scenario;
 use chord_trace::{Report, Watched};
-use chord_window::{Division, Done, Engine, World, in_part_order};
+use chord_window::{Division, Done, Engine, Window, in_part_order};
 use std::alloc::Global;
 use std::io::Write;
 use std::sync::Wait;
@@ -29,31 +28,26 @@ use std::thread::Threads;
 /// `TooManyEvents`.
 pub(crate) fn run_parts<R: Threads + Wait + Sync, S: Starter, G: Gate + Sync>(
     rt: &R,
-    alloc: Global,
-    scenario: &Scenario,
-    world: &World,
-    horizon: u64,
+    window: &Window<'_>,
     workers: u32,
     starter: &mut S,
     gate: &G,
 ) -> Result<Vec<Done>, RunError>
-    requires world { IsWorldOf scenario.now world.now }
-    requires horizon { IsHorizon world.now horizon }
+    requires window { IsNextWindow window.now.scenario.now window.now.world.now window.now.horizon }
     requires workers { (0 < workers) × (workers ≤ MOST_SEATS) }
-    ensures done { IfOk result (λ dones. AreDone scenario.now world.now horizon dones.items) }
-    ensures over { result ≡ Err RunError.TooManyEvents → HasTooManyEvents scenario.now }
+    ensures done { IfOk result (λ dones. AreDone window.now.scenario.now window.now.world.now window.now.horizon dones.items) }
+    ensures over { result ≡ Err RunError.TooManyEvents → HasTooManyEvents window.now.scenario.now }
     ensures only { IfErr result (λ e. (e ≡ RunError.Worker) ⊎ (e ≡ RunError.Memory) ⊎ (e ≡ RunError.TooManyEvents)) }
 {
-    world.division.recall_division();
-    let parts = world.division.parts();
+    let division = &window.world.division;
+    division.recall_division();
+    let parts = division.parts();
+    let alloc = window.alloc;
     // New in each window: a seat that is dropped with a fault spoils the counter of one window
     // only, which then has no result.
     let (draws, seat) = Draws::start(alloc, parts, workers)?;
     let run = WindowRun {
-        alloc,
-        scenario,
-        world,
-        horizon,
+        window: *window,
         draws: &draws,
         gate,
     };
@@ -90,6 +84,7 @@ pub fn run_crew<R: Threads + Wait + Sync, G: Gate + Sync, W: Write>(
     requires sound { has_failed writer.old ≡ false }
     ensures trace { OnOk result (Appends (W.contents (wrapped writer.old)) (W.contents (wrapped writer.new)) (trace_text scenario.now)) }
     ensures report { IfOk result (λ report. IsReport scenario.now report) }
+    ensures divides { OnOk result (length division.now.of_node ≡ node_count scenario.now) }
     ensures within { OnOk result (HasTooManyEvents scenario.now → ⊥) }
     ensures beginning { IsBeginning scenario.now (W.contents (wrapped writer.old)) (W.contents (wrapped writer.new)) }
     ensures sound { OnOk result (has_failed writer.new ≡ false) }
@@ -131,6 +126,7 @@ pub fn run_crew_started<R: Threads + Wait + Sync, S: Starter, G: Gate + Sync, W:
     requires sound { has_failed writer.old ≡ false }
     ensures trace { OnOk result (Appends (W.contents (wrapped writer.old)) (W.contents (wrapped writer.new)) (trace_text scenario.now)) }
     ensures report { IfOk result (λ report. IsReport scenario.now report) }
+    ensures divides { OnOk result (length division.now.of_node ≡ node_count scenario.now) }
     ensures within { OnOk result (HasTooManyEvents scenario.now → ⊥) }
     ensures beginning { IsBeginning scenario.now (W.contents (wrapped writer.old)) (W.contents (wrapped writer.new)) }
     ensures sound { OnOk result (has_failed writer.new ≡ false) }
@@ -143,9 +139,13 @@ pub fn run_crew_started<R: Threads + Wait + Sync, S: Starter, G: Gate + Sync, W:
     scenario.recall_range();
     let mut engine = Engine::start(alloc, scenario, division)?;
     while let Some(opening) = engine.opening() {
-        let horizon = opening.horizon;
-        let world = engine.world();
-        let dones = run_parts(rt, alloc, scenario, world, horizon, workers, starter, gate)?;
+        let window = Window {
+            alloc,
+            scenario,
+            world: engine.world(),
+            horizon: opening.horizon,
+        };
+        let dones = run_parts(rt, &window, workers, starter, gate)?;
         engine.put_window(alloc, scenario, opening, dones, writer)?;
     }
     engine.finish(alloc, scenario, writer)

@@ -16,7 +16,7 @@ use crate::starter::AllStart;
 use chord_event::RunError;
 use chord_scenario::Scenario;
 use chord_trace::{Report, Watched};
-use chord_window::{Division, Engine};
+use chord_window::{Division, Engine, Window};
 use std::alloc::Global;
 use std::io::Write;
 use std::sync::Wait;
@@ -60,18 +60,13 @@ pub fn run_crew_dealt<R: Threads + Wait + Sync, D: Dealer, G: Gate + Sync, W: Wr
     while let Some(opening) = engine.opening() {
         let division = dealer.deal(loads.as_slice())?;
         engine = engine.redivide(alloc, scenario, &division)?;
-        let world = engine.world();
-        let horizon = opening.horizon;
-        let dones = run_parts(
-            rt,
+        let window = Window {
             alloc,
             scenario,
-            world,
-            horizon,
-            workers,
-            &mut AllStart,
-            gate,
-        )?;
+            world: engine.world(),
+            horizon: opening.horizon,
+        };
+        let dones = run_parts(rt, &window, workers, &mut AllStart, gate)?;
         count_events(&mut loads, dones.as_slice());
         engine.put_window(alloc, scenario, opening, dones, writer)?;
     }

@@ -11,6 +11,7 @@ mod faults;
 mod gate;
 mod gathered;
 mod loads;
+mod part_runner;
 mod seat;
 mod shift;
 mod starter;
@@ -26,3 +27,8 @@ pub use gate::{Gate, OpenGate};
 pub use seat::Seat;
 pub use shift::{Shift, work};
 pub use starter::{AllStart, Starter};
+// For a test of the order in which a worker passes gates and runs parts.
+#[doc(hidden)]
+pub use part_runner::PartRunner;
+#[doc(hidden)]
+pub use shift::work_by;

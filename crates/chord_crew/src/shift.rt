@@ -2,17 +2,15 @@
 ghost use Rattle.std.specs.Prelude.{◌≡◌, ◌<◌, ◌∷◌, ◌++◌, [], All, OnOk, OnErr, IfErr};
 ghost use Rattle.chord_crew.specs.Shifts.{IsPartFault, IsShift, IsWindowOf};
 ghost use Rattle.chord_window.specs.Ordering.{IsResult, parts_of};
-ghost use Rattle.chord_window.specs.PartRuns.{IsFresh, IsHorizon};
-ghost use Rattle.chord_window.specs.Worlds.{IsWorldOf};
+ghost use Rattle.chord_window.specs.PartRuns.{IsFresh, IsNextWindow};
 
 use crate::draws::Draws;
 use crate::gate::Gate;
+use crate::part_runner::{ByRunPart, PartRunner};
 use crate::seat::Seat;
 use chord_event::RunError;
 use chord_queue::WindowQueue;
-use chord_scenario::Scenario;
-use chord_window::{Done, World, run_part};
-use std::alloc::Global;
+use chord_window::{Done, Window};
 
 /// The result of a worker.
 #[derive(Drop)]
@@ -27,26 +25,23 @@ pub struct Shift {
 }
 
 /// Runs a part, and adds its result to the list.
-fn add_result(
-    alloc: Global,
-    scenario: &Scenario,
-    world: &World,
-    horizon: u64,
+fn add_result<P: PartRunner>(
+    runner: &P,
+    window: &Window<'_>,
     part: u32,
     queue: &mut WindowQueue,
     list: &mut Vec<Done>,
 ) -> Result<(), RunError>
-    requires world { IsWorldOf scenario.now world.now }
-    requires horizon { IsHorizon world.now horizon }
-    requires part { part < world.now.division.parts }
+    requires window { IsNextWindow window.now.scenario.now window.now.world.now window.now.horizon }
+    requires part { part < window.now.world.now.division.parts }
     requires queue { IsFresh queue.old }
     ensures queue { IsFresh queue.new }
     ensures part { OnOk result (parts_of list.new.items ≡ parts_of list.old.items ++ part ∷ []) }
-    ensures each { All (IsResult scenario.now world.now horizon) list.old.items → All (IsResult scenario.now world.now horizon) list.new.items }
+    ensures each { All (IsResult window.now.scenario.now window.now.world.now window.now.horizon) list.old.items → All (IsResult window.now.scenario.now window.now.world.now window.now.horizon) list.new.items }
     ensures unchanged { OnErr result (list.new.items ≡ list.old.items) }
-    ensures fault { IfErr result (IsPartFault scenario.now) }
+    ensures fault { IfErr result (IsPartFault window.now.scenario.now) }
 {
-    let done = match run_part(alloc, scenario, world, part, horizon, queue) {
+    let done = match runner.run(window, part, queue) {
         Ok(done) => done,
         Err(error) => return Err(error),
     };
@@ -56,33 +51,41 @@ fn add_result(
     }
 }
 
-/// One worker's window, up to the horizon in microseconds: draws a part, passes the gate and runs
-/// the part, until no part is left or one has a fault. The seat is new, and the draws have as many
-/// parts as the world's division. A caller may run this on its own threads with one seat each, then
-/// join the seats and pass all results to `chord_window::exchange`.
-pub fn work<G: Gate>(
-    alloc: Global,
-    scenario: &Scenario,
-    world: &World,
-    horizon: u64,
+/// One worker's window: draws a part, passes the gate and runs the part, until no part is left or
+/// one has a fault. The seat is new, and the draws have as many parts as the world's division. A
+/// caller may run this on its own threads with one seat each, then join the seats and pass all
+/// results to `chord_window::exchange`.
+pub fn work<G: Gate>(window: &Window<'_>, draws: &Draws, seat: Seat, worker: u32, gate: &G) -> Shift
+    requires window { IsWindowOf window.now.scenario.now window.now.world.now window.now.horizon draws.now }
+    requires of { seat.table ≡ draws.now.table }
+    requires new { seat.numbers ≡ [] }
+    ensures { IsShift window.now.scenario.now window.now.world.now window.now.horizon seat result }
+{
+    work_by(&ByRunPart, window, draws, seat, worker, gate)
+}
+
+/// `work`, with what runs the parts. So a test sees that a gate is passed before its part is run.
+#[doc(hidden)]
+pub fn work_by<P: PartRunner, G: Gate>(
+    runner: &P,
+    window: &Window<'_>,
     draws: &Draws,
     seat: Seat,
     worker: u32,
     gate: &G,
 ) -> Shift
-    requires window { IsWindowOf scenario.now world.now horizon draws.now }
+    requires window { IsWindowOf window.now.scenario.now window.now.world.now window.now.horizon draws.now }
     requires of { seat.table ≡ draws.now.table }
     requires new { seat.numbers ≡ [] }
-    ensures { IsShift scenario.now world.now horizon seat result }
+    ensures { IsShift window.now.scenario.now window.now.world.now window.now.horizon seat result }
 {
+    let alloc = window.alloc;
     let mut seat = seat;
     let mut done = Vec::new(alloc);
     let mut queue = WindowQueue::new(alloc);
     while let Some(part) = draws.draw(&mut seat) {
         gate.pass(worker, part);
-        if let Err(fault) = add_result(
-            alloc, scenario, world, horizon, part, &mut queue, &mut done,
-        ) {
+        if let Err(fault) = add_result(runner, window, part, &mut queue, &mut done) {
             return Shift {
                 seat,
                 done,

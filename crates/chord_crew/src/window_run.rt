@@ -3,19 +3,15 @@ use crate::draws::Draws;
 use crate::seat::Seat;
 use crate::shift::Shift;
 use chord_scenario::Scenario;
-use chord_window::World;
-use std::alloc::Global;
+use chord_window::{Window, World};
 use std::snapshot::Snapshot;
 use std::thread::Promise;
 
-/// What all workers of a window share: the world, which is not changed meanwhile, the window's
-/// horizon in microseconds, the draws of its parts and the gate.
+/// What all workers of a window share: the window, whose world is not changed meanwhile, the draws
+/// of its parts and the gate.
 #[derive(Drop)]
 pub struct WindowRun<'a, G> {
-    pub alloc: Global,
-    pub scenario: &'a Scenario,
-    pub world: &'a World,
-    pub horizon: u64,
+    pub window: Window<'a>,
     pub draws: &'a Draws,
     pub gate: &'a G,
 }

@@ -12,6 +12,7 @@ use crate::shift::{Shift, work};
 use crate::starter::Starter;
 use crate::window_run::{ShiftOf, WindowRun};
 use chord_event::RunError;
+use chord_window::Window;
 use std::snapshot::Snapshot;
 use std::sync::Wait;
 use std::thread;
@@ -25,12 +26,12 @@ fn start_worker<'s, E, S: Starter, G: Gate + Sync>(
     worker: u32,
     starter: &mut S,
 ) -> Result<PromisedHandle<Shift, ShiftOf<'s>>, RunError>
-    requires run { IsWindowOf run.now.scenario.now run.now.world.now run.now.horizon run.now.draws.now }
+    requires run { IsWindowOf run.now.window.scenario.now run.now.window.world.now run.now.window.horizon run.now.draws.now }
     requires of { seat.table ≡ run.now.draws.now.table }
     requires new { seat.numbers ≡ [] }
-    ensures scenario { IfOk result (λ child. child.promise.scenario.now ≡ run.now.scenario.now) }
-    ensures world { IfOk result (λ child. child.promise.world.now ≡ run.now.world.now) }
-    ensures horizon { IfOk result (λ child. child.promise.horizon ≡ run.now.horizon) }
+    ensures scenario { IfOk result (λ child. child.promise.scenario.now ≡ run.now.window.scenario.now) }
+    ensures world { IfOk result (λ child. child.promise.world.now ≡ run.now.window.world.now) }
+    ensures horizon { IfOk result (λ child. child.promise.horizon ≡ run.now.window.horizon) }
     ensures seat { IfOk result (λ child. child.promise.seat.value ≡ seat) }
     ensures refused { IfErr result (λ e. e ≡ RunError.Worker) }
 {
@@ -39,23 +40,31 @@ fn start_worker<'s, E, S: Starter, G: Gate + Sync>(
     }
     // Taken apart, since a closure that captures a struct of references loses its postcondition.
     let &WindowRun {
+        window,
+        draws,
+        gate,
+    } = run;
+    let Window {
         alloc,
         scenario,
         world,
         horizon,
-        draws,
-        gate,
-    } = run;
+    } = window;
     let promise = ShiftOf {
         scenario,
         world,
         horizon,
         seat: Snapshot::of(&seat),
     };
-    let started = scope.spawn_with(
-        promise,
-        move || work(alloc, scenario, world, horizon, draws, seat, worker, gate),
-    );
+    let started = scope.spawn_with(promise, move || {
+        let window = Window {
+            alloc,
+            scenario,
+            world,
+            horizon,
+        };
+        work(&window, draws, seat, worker, gate)
+    });
     match started {
         Ok(child) => Ok(child),
         Err(_refused) => Err(RunError::Worker),
@@ -74,14 +83,14 @@ pub(crate) fn run_workers<R: Threads + Wait + Sync, S: Starter, G: Gate + Sync>(
     left: u32,
     starter: &mut S,
 ) -> Result<Gathered, RunError>
-    requires run { IsWindowOf run.now.scenario.now run.now.world.now run.now.horizon run.now.draws.now }
+    requires run { IsWindowOf run.now.window.scenario.now run.now.window.world.now run.now.window.horizon run.now.draws.now }
     requires of { seat.table ≡ run.now.draws.now.table }
     requires new { seat.numbers ≡ [] }
     requires allowance { seat.allowance ≡ left }
     requires some { 0 < left }
     requires few { worker + left ≤ MOST_SEATS }
-    ensures ok { IfOk result (IsGathered run.now.scenario.now run.now.world.now run.now.horizon seat) }
-    ensures fault { IfErr result (IsWindowFault run.now.scenario.now) }
+    ensures ok { IfOk result (IsGathered run.now.window.scenario.now run.now.window.world.now run.now.window.horizon seat) }
+    ensures fault { IfErr result (IsWindowFault run.now.window.scenario.now) }
 {
     if left == 1 {
         return run_last(rt, run, seat, worker, starter);
@@ -91,13 +100,16 @@ pub(crate) fn run_workers<R: Threads + Wait + Sync, S: Starter, G: Gate + Sync>(
     // A closure that captures a struct of references loses its postcondition: the struct is taken
     // apart here and built again inside.
     let &WindowRun {
+        window,
+        draws,
+        gate,
+    } = run;
+    let Window {
         alloc,
         scenario,
         world,
         horizon,
-        draws,
-        gate,
-    } = run;
+    } = window;
     thread::scope(
         thread::scope_env(),
         rt,
@@ -112,11 +124,14 @@ pub(crate) fn run_workers<R: Threads + Wait + Sync, S: Starter, G: Gate + Sync>(
             ensures ok { IfOk result (IsGathered scenario.entry.now world.entry.now horizon (joined_seats seat mine)) }
             ensures fault { IfErr result (IsWindowFault scenario.entry.now) }
         {
-            let run = WindowRun {
+            let window = Window {
                 alloc,
                 scenario,
                 world,
                 horizon,
+            };
+            let run = WindowRun {
+                window,
                 draws,
                 gate,
             };
@@ -135,22 +150,25 @@ fn run_last<R: Threads + Wait + Sync, S: Starter, G: Gate + Sync>(
     worker: u32,
     starter: &mut S,
 ) -> Result<Gathered, RunError>
-    requires run { IsWindowOf run.now.scenario.now run.now.world.now run.now.horizon run.now.draws.now }
+    requires run { IsWindowOf run.now.window.scenario.now run.now.window.world.now run.now.window.horizon run.now.draws.now }
     requires of { seat.table ≡ run.now.draws.now.table }
     requires new { seat.numbers ≡ [] }
-    ensures ok { IfOk result (IsGathered run.now.scenario.now run.now.world.now run.now.horizon seat) }
-    ensures fault { IfErr result (IsWindowFault run.now.scenario.now) }
+    ensures ok { IfOk result (IsGathered run.now.window.scenario.now run.now.window.world.now run.now.window.horizon seat) }
+    ensures fault { IfErr result (IsWindowFault run.now.window.scenario.now) }
 {
     // A closure that captures a struct of references loses its postcondition: the struct is taken
     // apart here and built again inside.
     let &WindowRun {
+        window,
+        draws,
+        gate,
+    } = run;
+    let Window {
         alloc,
         scenario,
         world,
         horizon,
-        draws,
-        gate,
-    } = run;
+    } = window;
     thread::scope(
         thread::scope_env(),
         rt,
@@ -162,11 +180,14 @@ fn run_last<R: Threads + Wait + Sync, S: Starter, G: Gate + Sync>(
             ensures ok { IfOk result (IsGathered scenario.entry.now world.entry.now horizon seat) }
             ensures fault { IfErr result (IsWindowFault scenario.entry.now) }
         {
-            let run = WindowRun {
+            let window = Window {
                 alloc,
                 scenario,
                 world,
                 horizon,
+            };
+            let run = WindowRun {
+                window,
                 draws,
                 gate,
             };

@@ -1,20 +1,18 @@
 //! Runs by crews: workers in their own threads.
 ghost use Rattle.std.specs.Prelude.{◌≡◌, ◌<◌, ◌≤◌, None, Some, true, slice_get, IfOk};
 ghost use Rattle.chord_window.specs.Ordering.{ArePartsDone, HasEachOnce};
-ghost use Rattle.chord_window.specs.PartRuns.{IsHorizon};
-ghost use Rattle.chord_window.specs.Worlds.{IsWorldOf};
 
 use crate::failures::{TRACE, TWO_LOOKUPS};
-use crate::gates::{CountGate, Counting, PairGate, SizeGate};
+use crate::gates::{Broken, CountGate, Counting, Log, LogGate, LogRunner, PairGate, SizeGate};
 use crate::own_window::window_by_one;
 use crate::playing::{SETTINGS, THREE, text_of};
 use crate::windows::divide;
-use chord_crew::{Draws, Gate, MOST_SEATS, OpenGate, Seat, run_crew, work};
+use chord_crew::{Draws, Gate, MOST_SEATS, OpenGate, Seat, run_crew, work_by};
 use chord_event::{Memory, RunError};
 use chord_play::Split;
 use chord_scenario::{Scenario, read_scenario};
 use chord_trace::{Report, Watched};
-use chord_window::{Division, Done, World, exchange};
+use chord_window::{Division, Window, World, exchange, run_picked};
 use std::alloc::Global;
 use std::snapshot::Snapshot;
 use std::sync::atomic::{AtomicU64, Ordering};
@@ -51,7 +49,12 @@ fn run_by<T: AllocGlobal + Threads + Wait + Sync, G: Gate + Sync>(
 /// Two lookups at one time, in a run that allows `allowed` events.
 pub fn two_lookups(alloc: Global, allowed: u32) -> Result<Scenario, Fail> {
     let settings = format!(in alloc; "{SETTINGS}max_events = {allowed}\n")?;
-    let text = text_of(alloc, settings.as_str(), THREE, TWO_LOOKUPS)?;
+    lookups_of(alloc, settings.as_str())
+}
+
+/// Two lookups at one time, in a run of these settings.
+fn lookups_of(alloc: Global, settings: &str) -> Result<Scenario, Fail> {
+    let text = text_of(alloc, settings, THREE, TWO_LOOKUPS)?;
     let scenario = read_scenario(alloc, text.as_str().as_bytes(), b"")
         .ok()
         .ok_or("the lookups are refused")?;
@@ -118,10 +121,61 @@ fn each_window_is_put_out_at_its_end(rt: HostRuntime) -> Result<(), Fail> {
     Ok(())
 }
 
-/// One event is allowed, and the first window has two in its one part. The part's run fails, and its gate was passed
-/// before.
+/// One worker runs a window of two parts, with a gate and a runner that write to one log.
 #[test]
 fn a_gate_is_passed_before_its_part_is_run(rt: HostRuntime) -> Result<(), Fail> {
+    let alloc = rt.alloc();
+    let scenario = two_lookups(alloc, 50)?;
+    let division = divide(alloc, &scenario, Split::Blocks, 2)?;
+    let world = World::start(alloc, &scenario, &division)?;
+    let horizon = world.horizon(&scenario).ok_or("the run is over")?;
+    let window = Window {
+        alloc,
+        scenario: &scenario,
+        world: &world,
+        horizon,
+    };
+    world.division.recall_division();
+    let (draws, seat) = Draws::start(alloc, world.division.parts(), 1)?;
+    let log = Log::new();
+    let gate = LogGate { log: &log };
+    let runner = LogRunner { log: &log };
+    let shift = work_by(&runner, &window, &draws, seat, 3, &gate);
+    assert!(rt; shift.fault.is_none() && shift.done.len() == 2);
+    assert!(rt; log.count.load(Ordering::SeqCst) == 4);
+    for (note, expected) in log.notes.iter().zip([300, 0, 301, 1]) {
+        assert!(rt; note.load(Ordering::SeqCst) == expected, "{expected}");
+    }
+    Ok(())
+}
+
+/// The settings of a run whose first window has an audit, and which allows fewer events than that window has.
+const AUDITED: &str =
+    "list = 2\nduration_us = 200\nwindow_us = 10\ntimeout_us = 40\naudit_us = 100\nstabilize_us = 1000\nfinger_us = 1000\nmax_events = 1\n";
+
+/// That a window has too many events is found before any of it is written, in two parts as in one: the writer fails at
+/// the window's audit, and is never called.
+#[test]
+fn too_many_events_come_before_a_failed_write(rt: HostRuntime) -> Result<(), Fail> {
+    let alloc = rt.alloc();
+    let scenario = lookups_of(alloc, AUDITED)?;
+    let one = divide(alloc, &scenario, Split::Blocks, 1)?;
+    let two = divide(alloc, &scenario, Split::Blocks, 2)?;
+    for division in [&one, &two] {
+        let mut writer = Watched::new(Broken);
+        let outcome = run_crew(&rt, alloc, &scenario, division, 2, &OpenGate, &mut writer);
+        assert!(rt; matches!(outcome, Err(RunError::TooManyEvents)));
+        let mut writer = Watched::new(Broken);
+        let outcome = run_picked(alloc, &scenario, division, 2, &[], &mut writer);
+        assert!(rt; matches!(outcome, Err(RunError::TooManyEvents)));
+    }
+    Ok(())
+}
+
+/// One event is allowed, and the first window has two in its one part. The part's run fails, and its gate is passed
+/// once.
+#[test]
+fn a_gate_is_passed_for_a_part_that_fails(rt: HostRuntime) -> Result<(), Fail> {
     let scenario = two_lookups(rt.alloc(), 1)?;
     let division = divide(rt.alloc(), &scenario, Split::Blocks, 1)?;
     let gate = CountGate {
@@ -157,7 +211,13 @@ fn one_worker_alone(rt: HostRuntime) -> Result<(), Fail> {
     let mut world = World::start(alloc, &scenario, &division)?;
     let horizon = world.horizon(&scenario).ok_or("the run is over")?;
     assert!(rt; horizon == 110);
-    let dones = window_by_one(alloc, &scenario, &world, horizon)?;
+    let window = Window {
+        alloc,
+        scenario: &scenario,
+        world: &world,
+        horizon,
+    };
+    let dones = window_by_one(&window)?;
     assert!(rt; dones.len() == 2);
     for done in dones.iter() {
         assert!(rt; done.events == 1);

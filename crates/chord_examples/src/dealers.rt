@@ -223,6 +223,58 @@ fn a_refused_start_ends_the_run(rt: HostRuntime) -> Result<(), Fail> {
     Ok(())
 }
 
+/// Allows each start, and keeps the workers that it is asked for.
+#[derive(Drop)]
+struct Keeps {
+    workers: Vec<u32>,
+}
+
+impl Starter for Keeps {
+    fn may_start(&mut self, worker: u32) -> bool {
+        self.workers.push(worker).is_ok()
+    }
+}
+
+/// Runs the two lookups with threads for `workers` workers, and returns the workers that a starter was asked for.
+fn asked_for<T: AllocGlobal + Threads + Wait + Sync>(
+    rt: &T,
+    division: &Division,
+    workers: u32,
+) -> Result<Vec<u32>, Fail>
+    requires { (0 < workers) × (workers ≤ MOST_SEATS) }
+{
+    let alloc = rt.alloc();
+    let scenario = two_lookups(alloc, 50)?;
+    let mut starter = Keeps {
+        workers: Vec::new(alloc),
+    };
+    let mut writer = Watched::new(Vec::new(alloc));
+    let gate = &OpenGate;
+    run_crew_started(
+        rt,
+        alloc,
+        &scenario,
+        division,
+        workers,
+        &mut starter,
+        gate,
+        &mut writer,
+    )?;
+    Ok(starter.workers)
+}
+
+/// In each of the four windows a starter is asked for each worker, worker 0 first, also if there are more workers than
+/// parts.
+#[test]
+fn a_starter_is_told_each_worker(rt: HostRuntime) -> Result<(), Fail> {
+    let alloc = rt.alloc();
+    let two = asked_for(&rt, &Division::blocks(alloc, 3, 2)?, 2)?;
+    assert!(rt; two.as_slice() == [0, 1, 0, 1, 0, 1, 0, 1].as_slice());
+    let three = asked_for(&rt, &Division::blocks(alloc, 3, 1)?, 3)?;
+    assert!(rt; three.as_slice() == [0, 1, 2, 0, 1, 2, 0, 1, 2, 0, 1, 2].as_slice());
+    Ok(())
+}
+
 /// The node with the greatest load goes first, each to the part with the least load so far.
 #[test]
 fn loads_are_evened_out(rt: HostRuntime) -> Result<(), Fail> {

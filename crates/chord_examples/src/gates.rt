@@ -1,7 +1,10 @@
-//! Gates that note what passes them.
-use chord_crew::Gate;
+//! Gates that note what passes them, and writers that count or fail.
+use chord_crew::{Gate, PartRunner};
+use chord_event::RunError;
+use chord_queue::WindowQueue;
+use chord_window::{Done, Window, run_part};
 use std::io;
-use std::io::Write;
+use std::io::{ErrorKind, Write};
 use std::sync::atomic::{AtomicU64, Ordering};
 use std::sync::{Mutex, Wait};
 
@@ -121,5 +124,72 @@ impl<T: Wait> Gate for CountGate<T> {
     fn pass(&self, _worker: u32, _part: u32) {
         let mut passes = self.passes.lock(&self.rt);
         *passes = passes.saturating_add(1);
+    }
+}
+
+/// A writer that takes nothing.
+#[derive(Drop)]
+pub struct Broken;
+
+impl Write for Broken {
+    fn write(&mut self, _buf: &[u8]) -> io::Result<usize> {
+        Err(io::Error::from(ErrorKind::Other))
+    }
+
+    fn flush(&mut self) -> io::Result<()> {
+        Ok(())
+    }
+}
+
+/// The first eight notes of a gate and of what runs the parts, in the order in which they come.
+#[derive(Drop)]
+pub struct Log {
+    pub count: AtomicU64,
+    pub notes: [AtomicU64; 8],
+}
+
+impl Log {
+    pub fn new() -> Log {
+        Log {
+            count: AtomicU64::new(0),
+            notes: eight_notes(),
+        }
+    }
+
+    fn add(&self, note: u64) {
+        let at = self.count.fetch_add(1, Ordering::SeqCst);
+        if let Some(place) = self.notes.get(at as usize) {
+            place.store(note, Ordering::SeqCst);
+        }
+    }
+}
+
+/// Notes a pass of worker w before part p as 100 w + p.
+#[derive(Drop)]
+pub struct LogGate<'a> {
+    pub log: &'a Log,
+}
+
+impl Gate for LogGate<'_> {
+    fn pass(&self, worker: u32, part: u32) {
+        self.log.add(u64::from(worker) * 100 + u64::from(part));
+    }
+}
+
+/// Notes the run of part p as p, and runs it.
+#[derive(Drop)]
+pub struct LogRunner<'a> {
+    pub log: &'a Log,
+}
+
+impl PartRunner for LogRunner<'_> {
+    fn run(
+        &self,
+        window: &Window<'_>,
+        part: u32,
+        queue: &mut WindowQueue,
+    ) -> Result<Done, RunError> {
+        self.log.add(u64::from(part));
+        run_part(window, part, queue)
     }
 }

@@ -11,7 +11,7 @@ use chord_queue::WindowQueue;
 use chord_scenario::{Scenario, read_scenario};
 use chord_trace::{Report, Watched};
 use chord_window::{
-    Division, Done, MOST_PARTS, Step, Taken, World, exchange, run_part, run_picked,
+    Division, Done, MOST_PARTS, Step, Taken, Window, World, exchange, run_part, run_picked,
 };
 use std::alloc::Global;
 use std::test::Fail;
@@ -128,9 +128,15 @@ fn parts_one_by_one(rt: HostRuntime) -> Result<(), Fail> {
         return Ok(());
     };
     assert!(rt; horizon == 110 && world.count == 0 && world.division.parts() == 2);
+    let window = Window {
+        alloc,
+        scenario: &scenario,
+        world: &world,
+        horizon,
+    };
     for part in 0..world.division.parts() {
         let mut queue = WindowQueue::new(alloc);
-        let Ok(done) = run_part(alloc, &scenario, &world, part, horizon, &mut queue) else {
+        let Ok(done) = run_part(&window, part, &mut queue) else {
             assert!(rt; false, "part {part} does not end");
             return Ok(());
         };
@@ -189,11 +195,17 @@ fn parts_put_together(rt: HostRuntime) -> Result<(), Fail> {
         return Ok(());
     }
     let mut queue = WindowQueue::new(alloc);
-    let Ok(first) = run_part(alloc, &scenario, &world, 0, horizon, &mut queue) else {
+    let window = Window {
+        alloc,
+        scenario: &scenario,
+        world: &world,
+        horizon,
+    };
+    let Ok(first) = run_part(&window, 0, &mut queue) else {
         assert!(rt; false, "part 0 does not end");
         return Ok(());
     };
-    let Ok(second) = run_part(alloc, &scenario, &world, 1, horizon, &mut queue) else {
+    let Ok(second) = run_part(&window, 1, &mut queue) else {
         assert!(rt; false, "part 1 does not end");
         return Ok(());
     };
@@ -244,7 +256,13 @@ fn a_world_divided_anew(rt: HostRuntime) -> Result<(), Fail> {
     };
     assert!(rt; horizon == 110);
     let mut queue = WindowQueue::new(alloc);
-    let Ok(done) = run_part(alloc, &scenario, &world, 0, horizon, &mut queue) else {
+    let window = Window {
+        alloc,
+        scenario: &scenario,
+        world: &world,
+        horizon,
+    };
+    let Ok(done) = run_part(&window, 0, &mut queue) else {
         assert!(rt; false, "the part does not end");
         return Ok(());
     };

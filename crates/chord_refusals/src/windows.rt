@@ -1,14 +1,13 @@
 //! Calls of the engines by windows.
 ghost use Rattle.std.specs.Prelude.{◌≡◌, ◌<◌};
-ghost use Rattle.chord_window.specs.PartRuns.{IsHorizon};
-ghost use Rattle.chord_window.specs.Worlds.{IsWorldOf};
+ghost use Rattle.chord_window.specs.PartRuns.{IsNextWindow};
 
 use crate::stop::{Stop, holds};
 use chord_crew::{Balanced, Dealer};
 use chord_examples::window_by_one;
 use chord_queue::WindowQueue;
 use chord_scenario::Scenario;
-use chord_window::{Division, World, exchange, run_part};
+use chord_window::{Division, Window, World, exchange, run_part};
 use std::alloc::Global;
 
 /// Makes divisions of three nodes: dealt in turn, in blocks, a copy, and one that evens out loads.
@@ -25,19 +24,18 @@ pub fn divide_three(alloc: Global) -> Result<(), Stop> {
 
 /// Runs one part of a world's first window. After a failed allocation the world and the queue are as they were, so that
 /// the part can be run again.
-fn run_first(alloc: Global, scenario: &Scenario, world: &World, horizon: u64) -> Result<(), Stop>
-    requires world { IsWorldOf scenario.now world.now }
-    requires horizon { IsHorizon world.now horizon }
-    requires part { 0 < world.now.division.parts }
+fn run_first(window: &Window<'_>) -> Result<(), Stop>
+    requires window { IsNextWindow window.now.scenario.now window.now.world.now window.now.horizon }
+    requires part { 0 < window.now.world.now.division.parts }
 {
-    let mut queue = WindowQueue::new(alloc);
-    let first = run_part(alloc, scenario, world, 0, horizon, &mut queue);
+    let mut queue = WindowQueue::new(window.alloc);
+    let first = run_part(window, 0, &mut queue);
     holds(queue.len() == 0, "an event waits")?;
-    holds(world.count == 0, "the world has gone on")?;
+    holds(window.world.count == 0, "the world has gone on")?;
     if first.is_ok() {
         return Ok(());
     }
-    let again = run_part(alloc, scenario, world, 0, horizon, &mut queue)?;
+    let again = run_part(window, 0, &mut queue)?;
     holds(again.events == 1, "the part runs something else")?;
     first?;
     Ok(())
@@ -53,8 +51,14 @@ pub fn run_by_hand(alloc: Global, scenario: &Scenario) -> Result<(), Stop> {
         return Err(Stop::Wrong("there is no window"));
     };
     world.division.recall_division();
-    run_first(alloc, scenario, &world, horizon)?;
-    let dones = window_by_one(alloc, scenario, &world, horizon)?;
+    let window = Window {
+        alloc,
+        scenario,
+        world: &world,
+        horizon,
+    };
+    run_first(&window)?;
+    let dones = window_by_one(&window)?;
     let _blocks = exchange(alloc, scenario, &mut world, dones)?;
     holds(world.count == 2, "the window has another number of events")?;
     let dealt = Division::dealt(alloc, scenario.nodes(), 3)?;

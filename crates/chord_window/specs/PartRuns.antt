@@ -56,6 +56,7 @@ use Rattle.chord_window.specs.declared.part_run.PartRun.{PartRun}
 use Rattle.chord_window.specs.declared.world.PartEvents.{PartEvents}
 use Rattle.chord_window.specs.declared.world.World.{World}
 use Rattle.chord_window.specs.Copies.{AreCopies, seen}
+use Rattle.chord_window.specs.Worlds.{IsWorldOf}
 
 -- the state of a node as a part's run sees it
 abbrev pub seen_in : Scenario → List NodeState → PartRun → ℕ → NodeState
@@ -123,6 +124,11 @@ pub record IsRunning (sc : Scenario) (w : World) (horizon : ℕ) (due : List (Ev
 -- the world's next window ends here
 abbrev pub IsHorizon : World → (horizon : ℕ) → Type 0
 IsHorizon w horizon = (time : ℕ) × (w.opening ≡ Some (record { time = time; horizon = horizon }))
+
+-- the world is one of the scenario, and its next window ends at the horizon
+pub record IsNextWindow (sc : Scenario) (w : World) (horizon : ℕ) : Type 0 where
+  pub world : IsWorldOf sc w
+  pub next : IsHorizon w horizon
 
 -- the part's run has come so far in the world's next window
 abbrev pub IsRunningAt : Scenario → World → (horizon : ℕ) → PartRun → Queue → Type 0

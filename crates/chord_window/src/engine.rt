@@ -68,6 +68,7 @@ impl Engine {
         ensures at { IfOk result (λ engine. (now : Option (List ℕ)) → IsAt scenario.now now now engine) }
         ensures count { IfOk result (λ engine. engine.world.count ≡ 0) }
         ensures division { IfOk result (λ engine. engine.world.division ≡ division.now) }
+        ensures divides { OnOk result (length division.now.of_node ≡ node_count scenario.now) }
         ensures bad { result ≡ Err RunError.BadDivision → length division.now.of_node ≢ node_count scenario.now }
         ensures only { IfErr result (λ e. (e ≡ RunError.Memory) ⊎ (e ≡ RunError.BadDivision)) }
     {

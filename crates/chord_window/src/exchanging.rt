@@ -61,11 +61,7 @@ pub(crate) fn events_within(room: u64, dones: &[Done]) -> Option<u64>
 }
 
 /// Puts the states of the parts in the places of their nodes, and gathers the rest.
-fn gather(
-    alloc: Global,
-    states: &mut Vec<NodeState>,
-    dones: Vec<Done>,
-) -> Result<Gathered, Memory>
+fn gather(alloc: Global, states: &mut Vec<NodeState>, dones: Vec<Done>) -> Result<Gathered, Memory>
     requires { NameNodes (length states.old.items) dones.items }
     ensures states { OnOk result (states.new.items ≡ with_all dones.items states.old.items) }
     ensures mail { IfOk result (λ g. g.mail.items ≡ mails dones.items) }

@@ -15,6 +15,7 @@ mod room;
 mod slots;
 mod taken;
 mod tallies;
+mod window;
 mod worker;
 mod world;
 
@@ -25,6 +26,7 @@ pub use ordering::in_part_order;
 pub use part_run::{Done, run_part};
 pub use picked_run::run_picked;
 pub use taken::{Step, Taken};
+pub use window::Window;
 pub use world::World;
 // Other ways to run windows, such as a crew, go by the engine. Contracts name the types of its
 // fields.

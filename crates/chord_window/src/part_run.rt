@@ -8,12 +8,12 @@ ghost use Rattle.chord_machine.specs.Run.{HasTooManyEvents};
 ghost use Rattle.chord_model.specs.Windows.{Division as ADivision};
 ghost use Rattle.chord_node.specs.declared.state.NodeState.{NodeState as AState};
 ghost use Rattle.chord_queue.specs.EventKey.{event_key};
-ghost use Rattle.chord_window.specs.PartRuns.{HasBegun, HasHandled, HasLeft, IsDone, IsFresh, IsHorizon, IsNextKey, IsReady, IsRunning, IsWindow, comes_first};
+ghost use Rattle.chord_window.specs.PartRuns.{HasBegun, HasHandled, HasLeft, IsDone, IsFresh, IsNextKey, IsNextWindow, IsReady, IsRunning, IsWindow, comes_first};
 ghost use Rattle.chord_window.specs.Worlds.{IsWorldOf};
 
 use crate::copies::Copies;
 use crate::room::list_with_room;
-use crate::world::World;
+use crate::window::Window;
 use chord_event::{Block, Event, Key, Memory, RunError};
 use chord_node::NodeState;
 use chord_ops::{Effect, act};
@@ -66,18 +66,17 @@ impl PartRun {
     }
 
     /// The run of a part, before its first event.
-    pub(crate) fn start(
-        alloc: Global,
-        scenario: &Scenario,
-        world: &World,
-        part: u32,
-        horizon: u64,
-    ) -> PartRun
-        requires world { IsWorldOf scenario.now world.now }
-        requires part { part < world.now.division.parts }
-        requires horizon { IsHorizon world.now horizon }
-        ensures { HasBegun scenario.now world.now horizon part result }
+    pub(crate) fn start(window: &Window<'_>, part: u32) -> PartRun
+        requires window { IsNextWindow window.now.scenario.now window.now.world.now window.now.horizon }
+        requires part { part < window.now.world.now.division.parts }
+        ensures { HasBegun window.now.scenario.now window.now.world.now window.now.horizon part result }
     {
+        let &Window {
+            alloc,
+            scenario,
+            world,
+            horizon: _,
+        } = window;
         scenario.recall_range();
         let due = world.parts[part as usize].due.len();
         // Room for the due events and a quarter more. If memory refuses it, that is no error: the
@@ -121,26 +120,29 @@ impl PartRun {
     /// left. Returns `TooManyEvents` if an event is left but the run may have no more.
     pub(crate) fn step(
         &mut self,
-        alloc: Global,
-        scenario: &Scenario,
-        world: &World,
+        window: &Window<'_>,
         due: &[Event],
-        horizon: u64,
         queue: &mut WindowQueue,
     ) -> Result<Option<Key>, RunError>
-        requires world { IsWorldOf scenario.now world.now }
-        requires window { IsWindow scenario.now world.now horizon due.now }
-        requires part { self.old.part < world.now.division.parts }
-        requires running { IsRunning scenario.now world.now horizon due.now self.old queue.old }
-        ensures running { OnOk result (IsRunning scenario.now world.now horizon due.now self.new queue.new) }
+        requires world { IsWorldOf window.now.scenario.now window.now.world.now }
+        requires window { IsWindow window.now.scenario.now window.now.world.now window.now.horizon due.now }
+        requires part { self.old.part < window.now.world.now.division.parts }
+        requires running { IsRunning window.now.scenario.now window.now.world.now window.now.horizon due.now self.old queue.old }
+        ensures running { OnOk result (IsRunning window.now.scenario.now window.now.world.now window.now.horizon due.now self.new queue.new) }
         ensures part { OnOk result (self.new.part ≡ self.old.part) }
         ensures more { IfOk result (λ next. IfSome next (λ _. length self.new.blocks.items ≡ length self.old.blocks.items + 1)) }
-        ensures key { IfOk result (λ next. IfSome next (λ key. IsNextKey scenario.now world.now horizon self.old key)) }
+        ensures key { IfOk result (λ next. IfSome next (λ key. IsNextKey window.now.scenario.now window.now.world.now window.now.horizon self.old key)) }
         ensures ended { IfOk result (λ next. IfNone next (drop self.new.taken due.now ++ queue.new.events ≡ [])) }
         ensures kept { IfOk result (λ next. IfNone next (self.new ≡ self.old)) }
-        ensures over { result ≡ Err RunError.TooManyEvents → HasTooManyEvents scenario.now }
+        ensures over { result ≡ Err RunError.TooManyEvents → HasTooManyEvents window.now.scenario.now }
         ensures only { IfErr result (λ e. (e ≡ RunError.Memory) ⊎ (e ≡ RunError.TooManyEvents)) }
     {
+        let &Window {
+            alloc,
+            scenario,
+            world,
+            horizon,
+        } = window;
         scenario.recall_range();
         queue.recall_order();
         let full = world.count + self.blocks.len() as u64 >= scenario.max_events();
@@ -222,55 +224,37 @@ fn sort_out(
     Ok(())
 }
 
-/// Runs the events of a part before the world's horizon, in microseconds, the least first. It
-/// leaves the world as it was and the queue empty, after an error too.
+/// Runs the events of a part of a window, the least first. It leaves the world as it was and the
+/// queue empty, after an error too.
 ///
 /// # Errors
 ///
 /// `TooManyEvents`, if this part alone shows that the run has more events than the scenario allows;
 /// `Memory`.
-pub fn run_part(
-    alloc: Global,
-    scenario: &Scenario,
-    world: &World,
-    part: u32,
-    horizon: u64,
-    queue: &mut WindowQueue,
-) -> Result<Done, RunError>
-    requires world { IsWorldOf scenario.now world.now }
-    requires part { part < world.now.division.parts }
-    requires horizon { IsHorizon world.now horizon }
+pub fn run_part(window: &Window<'_>, part: u32, queue: &mut WindowQueue) -> Result<Done, RunError>
+    requires window { IsNextWindow window.now.scenario.now window.now.world.now window.now.horizon }
+    requires part { part < window.now.world.now.division.parts }
     requires queue { IsFresh queue.old }
-    ensures done { IfOk result (λ done. IsDone scenario.now world.now horizon part done) }
+    ensures done { IfOk result (λ done. IsDone window.now.scenario.now window.now.world.now window.now.horizon part done) }
     ensures queue { IsFresh queue.new }
-    ensures over { result ≡ Err RunError.TooManyEvents → HasTooManyEvents scenario.now }
+    ensures over { result ≡ Err RunError.TooManyEvents → HasTooManyEvents window.now.scenario.now }
     ensures only { IfErr result (λ e. (e ≡ RunError.Memory) ⊎ (e ≡ RunError.TooManyEvents)) }
 {
-    let outcome = run_events(alloc, scenario, world, part, horizon, queue);
-    queue.give_up();
-    outcome
-}
-
-fn run_events(
-    alloc: Global,
-    scenario: &Scenario,
-    world: &World,
-    part: u32,
-    horizon: u64,
-    queue: &mut WindowQueue,
-) -> Result<Done, RunError>
-    requires world { IsWorldOf scenario.now world.now }
-    requires part { part < world.now.division.parts }
-    requires horizon { IsHorizon world.now horizon }
-    requires queue { IsFresh queue.old }
-    ensures done { IfOk result (λ done. IsDone scenario.now world.now horizon part done) }
-    ensures over { result ≡ Err RunError.TooManyEvents → HasTooManyEvents scenario.now }
-    ensures only { IfErr result (λ e. (e ≡ RunError.Memory) ⊎ (e ≡ RunError.TooManyEvents)) }
-{
-    scenario.recall_range();
-    let events = &world.parts[part as usize];
+    window.scenario.recall_range();
+    let events = &window.world.parts[part as usize];
     let due = events.due.as_slice();
-    let mut run = PartRun::start(alloc, scenario, world, part, horizon);
-    while let Some(_key) = run.step(alloc, scenario, world, due, horizon, queue)? {}
-    Ok(run.finish())
+    let mut run = PartRun::start(window, part);
+    loop {
+        match run.step(window, due, queue) {
+            Ok(Some(_key)) => {}
+            Ok(None) => {
+                queue.give_up();
+                return Ok(run.finish());
+            }
+            Err(error) => {
+                queue.give_up();
+                return Err(error);
+            }
+        }
+    }
 }

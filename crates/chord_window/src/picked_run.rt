@@ -11,6 +11,7 @@ use crate::division::Division;
 use crate::engine::Engine;
 use crate::picked_window::PickedWindow;
 use crate::taken::Taken;
+use crate::window::Window;
 use chord_event::RunError;
 use chord_scenario::Scenario;
 use chord_trace::{Report, Watched};
@@ -39,6 +40,7 @@ pub fn run_picked<W: Write>(
     requires sound { has_failed writer.old ≡ false }
     ensures trace { OnOk result (Appends (W.contents (wrapped writer.old)) (W.contents (wrapped writer.new)) (trace_text scenario.now)) }
     ensures report { IfOk result (λ run. IsReport scenario.now run.0) }
+    ensures divides { OnOk result (length division.now.of_node ≡ node_count scenario.now) }
     ensures steps { IfOk result (λ run. AreStepsOf scenario.now division.now workers picks.now run.1.items) }
     ensures within { OnOk result (HasTooManyEvents scenario.now → ⊥) }
     ensures beginning { IsBeginning scenario.now (W.contents (wrapped writer.old)) (W.contents (wrapped writer.new)) }
@@ -55,11 +57,13 @@ pub fn run_picked<W: Write>(
     let mut next = 0;
     let mut taken = Vec::new(alloc);
     while let Some(opening) = engine.opening() {
-        let horizon = opening.horizon;
-        let world = engine.world();
-        let dones = picked.run(
-            alloc, scenario, world, horizon, picks, &mut next, &mut taken,
-        )?;
+        let window = Window {
+            alloc,
+            scenario,
+            world: engine.world(),
+            horizon: opening.horizon,
+        };
+        let dones = picked.run(&window, picks, &mut next, &mut taken)?;
         engine.put_window(alloc, scenario, opening, dones, writer)?;
     }
     let report = engine.finish(alloc, scenario, writer)?;

@@ -7,18 +7,16 @@ ghost use Rattle.chord_model.specs.Histories.{history};
 ghost use Rattle.chord_model.specs.Windows.{Window as AWindow, opened};
 ghost use Rattle.chord_event.specs.declared.body.Body.{Body as ABody};
 ghost use Rattle.chord_window.specs.Exchanges.{AreDone, events_in};
-ghost use Rattle.chord_window.specs.PartRuns.{IsHorizon};
+ghost use Rattle.chord_window.specs.PartRuns.{IsNextWindow};
 ghost use Rattle.chord_window.specs.Picked.{HasStepped, HasTakenTurns, HasTurned, IsOpened, IsPicked, can_go, lowest_by, potential, turn_by};
 ghost use Rattle.chord_window.specs.Workers.{IsIdle};
-ghost use Rattle.chord_window.specs.Worlds.{IsWorldOf};
 
 use crate::part_run::Done;
 use crate::slots::{empty_slots, take_out};
 use crate::taken::{Step, Taken};
+use crate::window::Window;
 use crate::worker::{Progress, Worker};
-use crate::world::World;
 use chord_event::{Memory, RunError};
-use chord_scenario::Scenario;
 use std::alloc::Global;
 
 /// A window whose workers take turns on the calling thread.
@@ -98,28 +96,19 @@ impl PickedWindow {
     }
 
     /// One step of a worker that can take one.
-    fn step(
-        &mut self,
-        alloc: Global,
-        scenario: &Scenario,
-        world: &World,
-        horizon: u64,
-        worker: usize,
-    ) -> Result<Step, RunError>
-        requires world { IsWorldOf scenario.now world.now }
-        requires horizon { IsHorizon world.now horizon }
-        requires picked { (w : AWindow ABody) × IsPicked scenario.now world.now horizon self.old w }
+    fn step(&mut self, window: &Window<'_>, worker: usize) -> Result<Step, RunError>
+        requires window { IsNextWindow window.now.scenario.now window.now.world.now window.now.horizon }
+        requires picked { (w : AWindow ABody) × IsPicked window.now.scenario.now window.now.world.now window.now.horizon self.old w }
         requires worker { worker < length self.old.workers.items }
         requires can_go { IsTrue (can_go self.old worker) }
-        ensures turned { IfOk result (λ step. (w : AWindow ABody) → IsPicked scenario.now world.now horizon self.old w → HasTurned scenario.now world.now horizon worker w self.new step) }
-        ensures fewer { OnOk result (potential scenario.now world.now horizon self.new < potential scenario.now world.now horizon self.old) }
+        ensures turned { IfOk result (λ step. (w : AWindow ABody) → IsPicked window.now.scenario.now window.now.world.now window.now.horizon self.old w → HasTurned window.now.scenario.now window.now.world.now window.now.horizon worker w self.new step) }
+        ensures fewer { OnOk result (potential window.now.scenario.now window.now.world.now window.now.horizon self.new < potential window.now.scenario.now window.now.world.now window.now.horizon self.old) }
         ensures workers { OnOk result (length self.new.workers.items ≡ length self.old.workers.items) }
-        ensures over { result ≡ Err RunError.TooManyEvents → HasTooManyEvents scenario.now }
+        ensures over { result ≡ Err RunError.TooManyEvents → HasTooManyEvents window.now.scenario.now }
         ensures only { IfErr result (λ e. (e ≡ RunError.Memory) ⊎ (e ≡ RunError.TooManyEvents)) }
     {
-        world.division.recall_division();
-        let progress =
-            self.workers[worker].step(alloc, scenario, world, horizon, self.drawn)?;
+        window.world.division.recall_division();
+        let progress = self.workers[worker].step(window, self.drawn)?;
         match progress {
             Progress::Drew => {
                 let part = self.drawn;
@@ -138,30 +127,27 @@ impl PickedWindow {
     /// Runs a window, from the first draw to the last seal, and returns what its parts leave.
     pub(crate) fn run(
         &mut self,
-        alloc: Global,
-        scenario: &Scenario,
-        world: &World,
-        horizon: u64,
+        window: &Window<'_>,
         picks: &[u32],
         next: &mut usize,
         taken: &mut Vec<Taken>,
     ) -> Result<Vec<Done>, RunError>
-        requires world { IsWorldOf scenario.now world.now }
-        requires horizon { IsHorizon world.now horizon }
+        requires window { IsNextWindow window.now.scenario.now window.now.world.now window.now.horizon }
         requires workers { (0 < length self.old.workers.items) × (length self.old.workers.items ≤ 64) }
         requires idle { AllByRecursion IsIdle self.old.workers.items }
         requires next { next.old ≤ length picks.now }
-        ensures done { IfOk result (λ dones. AreDone scenario.now world.now horizon dones.items) }
-        ensures steps { IfOk result (λ dones. HasStepped scenario.now world.now.division (length self.old.workers.items) world.now.count horizon (drop next.old picks.now) (drop next.new picks.now) taken.old.items taken.new.items (events_in dones.items)) }
+        ensures done { IfOk result (λ dones. AreDone window.now.scenario.now window.now.world.now window.now.horizon dones.items) }
+        ensures steps { IfOk result (λ dones. HasStepped window.now.scenario.now window.now.world.now.division (length self.old.workers.items) window.now.world.now.count window.now.horizon (drop next.old picks.now) (drop next.new picks.now) taken.old.items taken.new.items (events_in dones.items)) }
         ensures workers { OnOk result (length self.new.workers.items ≡ length self.old.workers.items) }
         ensures idle { OnOk result (AllByRecursion IsIdle self.new.workers.items) }
         ensures next { OnOk result (next.new ≤ length picks.now) }
-        ensures over { result ≡ Err RunError.TooManyEvents → HasTooManyEvents scenario.now }
+        ensures over { result ≡ Err RunError.TooManyEvents → HasTooManyEvents window.now.scenario.now }
         ensures only { IfErr result (λ e. (e ≡ RunError.Memory) ⊎ (e ≡ RunError.TooManyEvents)) }
     {
-        scenario.recall_range();
-        self.open(alloc, world.division.parts())?;
-        self.take_turns(alloc, scenario, world, horizon, picks, next, taken)?;
+        let alloc = window.alloc;
+        window.scenario.recall_range();
+        self.open(alloc, window.world.division.parts())?;
+        self.take_turns(window, picks, next, taken)?;
         let slots = std::mem::replace(&mut self.dones, Vec::new(alloc));
         let dones = take_out(alloc, slots)?;
         Ok(dones)
@@ -170,28 +156,24 @@ impl PickedWindow {
     /// Takes the steps of a window, until no worker can take one.
     fn take_turns(
         &mut self,
-        alloc: Global,
-        scenario: &Scenario,
-        world: &World,
-        horizon: u64,
+        window: &Window<'_>,
         picks: &[u32],
         next: &mut usize,
         taken: &mut Vec<Taken>,
     ) -> Result<(), RunError>
-        requires world { IsWorldOf scenario.now world.now }
-        requires horizon { IsHorizon world.now horizon }
+        requires window { IsNextWindow window.now.scenario.now window.now.world.now window.now.horizon }
         requires workers { (0 < length self.old.workers.items) × (length self.old.workers.items ≤ 64) }
-        requires opened { IsPicked scenario.now world.now horizon self.old (opened (history (chord scenario.now) world.now.count) horizon) }
+        requires opened { IsPicked window.now.scenario.now window.now.world.now window.now.horizon self.old (opened (history (chord window.now.scenario.now) window.now.world.now.count) window.now.horizon) }
         requires next { next.old ≤ length picks.now }
-        ensures turns { OnOk result (HasTakenTurns scenario.now world.now horizon self.old self.new (drop next.old picks.now) (drop next.new picks.now) taken.old.items taken.new.items) }
+        ensures turns { OnOk result (HasTakenTurns window.now.scenario.now window.now.world.now window.now.horizon self.old self.new (drop next.old picks.now) (drop next.new picks.now) taken.old.items taken.new.items) }
         ensures next { OnOk result (next.new ≤ length picks.now) }
-        ensures over { result ≡ Err RunError.TooManyEvents → HasTooManyEvents scenario.now }
+        ensures over { result ≡ Err RunError.TooManyEvents → HasTooManyEvents window.now.scenario.now }
         ensures only { IfErr result (λ e. (e ≡ RunError.Memory) ⊎ (e ≡ RunError.TooManyEvents)) }
     {
-        world.division.recall_division();
+        window.world.division.recall_division();
         while let Some(lowest) = self.lowest() {
             let worker = self.turn(lowest, picks, next);
-            let step = self.step(alloc, scenario, world, horizon, worker)?;
+            let step = self.step(window, worker)?;
             taken.push(Taken {
                 worker: worker as u32,
                 step,

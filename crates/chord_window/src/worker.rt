@@ -2,15 +2,13 @@
 ghost use Rattle.std.specs.Prelude.{◌≡◌, ◌⊎◌, IfOk, IfErr, IsSome, Err, Some};
 ghost use Rattle.chord_machine.specs.Run.{HasTooManyEvents};
 ghost use Rattle.chord_window.specs.declared.part_run.PartRun.{PartRun as APartRun};
-ghost use Rattle.chord_window.specs.PartRuns.{HasLeft, IsHorizon};
+ghost use Rattle.chord_window.specs.PartRuns.{HasLeft, IsNextWindow};
 ghost use Rattle.chord_window.specs.Workers.{HasProgressed, IsIdle, MayGoOn};
-ghost use Rattle.chord_window.specs.Worlds.{IsWorldOf};
 
 use crate::part_run::{Done, PartRun};
-use crate::world::World;
+use crate::window::Window;
 use chord_event::{Key, RunError};
 use chord_queue::WindowQueue;
-use chord_scenario::Scenario;
 use std::alloc::Global;
 
 /// A worker on the calling thread: the run of its part, if it has one, and the queue for it.
@@ -40,35 +38,20 @@ impl Worker {
     }
 
     /// Takes one step: begins the part `drawn` if it has none, or goes on with its part.
-    pub(crate) fn step(
-        &mut self,
-        alloc: Global,
-        scenario: &Scenario,
-        world: &World,
-        horizon: u64,
-        drawn: u32,
-    ) -> Result<Progress, RunError>
-        requires world { IsWorldOf scenario.now world.now }
-        requires horizon { IsHorizon world.now horizon }
-        requires may { MayGoOn scenario.now world.now horizon drawn self.old }
-        ensures progress { IfOk result (λ progress. HasProgressed scenario.now world.now horizon drawn self.old self.new progress) }
-        ensures over { result ≡ Err RunError.TooManyEvents → HasTooManyEvents scenario.now }
+    pub(crate) fn step(&mut self, window: &Window<'_>, drawn: u32) -> Result<Progress, RunError>
+        requires window { IsNextWindow window.now.scenario.now window.now.world.now window.now.horizon }
+        requires may { MayGoOn window.now.scenario.now window.now.world.now window.now.horizon drawn self.old }
+        ensures progress { IfOk result (λ progress. HasProgressed window.now.scenario.now window.now.world.now window.now.horizon drawn self.old self.new progress) }
+        ensures over { result ≡ Err RunError.TooManyEvents → HasTooManyEvents window.now.scenario.now }
         ensures only { IfErr result (λ e. (e ≡ RunError.Memory) ⊎ (e ≡ RunError.TooManyEvents)) }
     {
-        scenario.recall_range();
+        window.scenario.recall_range();
         let Some(run) = &mut self.run else {
-            self.run = Some(PartRun::start(alloc, scenario, world, drawn, horizon));
+            self.run = Some(PartRun::start(window, drawn));
             return Ok(Progress::Drew);
         };
-        let due = world.parts[run.part as usize].due.as_slice();
-        match run.step(
-            alloc,
-            scenario,
-            world,
-            due,
-            horizon,
-            &mut self.queue,
-        )? {
+        let due = window.world.parts[run.part as usize].due.as_slice();
+        match run.step(window, due, &mut self.queue)? {
             Some(key) => Ok(Progress::Ran(key)),
             None => Ok(Progress::Sealed(self.seal())),
         }

@@ -1,13 +1,17 @@
-use Rattle.std.proofs.Common.{◌∙◌, ap, sym}
+use Rattle.std.proofs.Common.{◌∙◌, ap, subst, sym}
 use Rattle.chord_window.specs.declared.world.World.{World}
+use Rattle.chord_window.specs.Worlds.{IsWorldOf}
 use Rattle.chord_window.proofs.EngineCourse.{begin_at}
 use Rattle.chord_crew.proofs.crew_run.run_crew_started.Goals as goal
 
 pub loop-opening-init : goal.loop-opening-init
 loop-opening-init g c = record { at = c.in_ok-engine.ensures.at _; sound = c.requires.sound }
 
-pub run_parts-requires-clause-horizon : goal.run_parts-requires-clause-horizon
-run_parts-requires-clause-horizon g c _ _ = (c.in-Some.opening.time, ap (λ (w : World). w.opening) c.world-world.ensures ∙ sym c.opening.ensures ∙ c.in-Some.is)
+pub run_parts-requires-clause-window : goal.run_parts-requires-clause-window
+run_parts-requires-clause-window g c _ _ = record {
+  world = subst (IsWorldOf c.args.scenario.now) (sym c.world.ensures) c.loop-opening.invariant.at.world;
+  next = (c.in-Some.opening.time, ap (λ (w : World). w.opening) c.world.ensures ∙ sym c.opening.ensures ∙ c.in-Some.is);
+}
 
 pub returns-in_err-dones-clause-beginning : goal.returns-in_err-dones-clause-beginning
 returns-in_err-dones-clause-beginning g c = begin_at c.args.scenario.now _ _ c.loop-opening.engine c.loop-opening.invariant.at

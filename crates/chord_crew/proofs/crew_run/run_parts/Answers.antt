@@ -12,5 +12,6 @@ returns-clause-done g c =
     let parts = c.in_ok-draws.ensures.draws.0 ∙ c.parts-parts.ensures in
     let once = subst (λ n. HasEachOnce n c.in-Ok.gathered.seat.numbers) parts (c.close.ensures.whole whole (c.close.ensures.exhausted gathered.exhausted)) in
     let order = subst (λ n. AreInOrder c.in-Ok.gathered.done.items n c.in_ok-dones.dones.items) c.parts-parts.ensures c.in_ok-dones.ensures in
-    parts_done c.args.scenario.now c.args.world.now c.args.horizon c.in-Ok.gathered.done.items c.in_ok-dones.dones.items
-    (all_gathered c.args.scenario.now c.args.world.now c.args.horizon c.in_ok-draws.seat c.in-Ok.gathered c.requires.horizon gathered once) order
+    parts_done c.args.window.now.scenario.now c.args.window.now.world.now c.args.window.now.horizon c.in-Ok.gathered.done.items c.in_ok-dones.dones.items
+    (all_gathered c.args.window.now.scenario.now c.args.window.now.world.now c.args.window.now.horizon c.in_ok-draws.seat c.in-Ok.gathered
+    c.requires.window.next gathered once) order

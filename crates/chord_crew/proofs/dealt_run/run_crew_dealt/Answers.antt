@@ -1,9 +1,10 @@
-use Rattle.std.proofs.Common.{◌≡◌, ◌≢◌, rules, ℕ, ◌≤◌, ◌∙◌, length, get_or, ap, arith, sym}
+use Rattle.std.proofs.Common.{◌≡◌, ◌≢◌, rules, ℕ, ◌≤◌, ◌∙◌, length, get_or, ap, arith, subst, sym}
 use Rattle.std.proofs.lemmas.List.FromFn.{length-map-range_with_len}
 use Rattle.chord_model.specs.Windows.{Division}
 use Rattle.chord_scenario.specs.World.{node_count}
 use Rattle.chord_window.specs.declared.world.World.{World}
 use Rattle.chord_window.specs.Divisions.{dealt_part}
+use Rattle.chord_window.specs.Worlds.{IsWorldOf}
 use Rattle.chord_window.proofs.EngineCourse.{begin_at}
 use Rattle.chord_crew.proofs.EventCounts.{all_nought, as_long, loads_fit, still_few, targets_fit}
 use Rattle.chord_crew.proofs.dealt_run.run_crew_dealt.Goals as goal
@@ -34,25 +35,28 @@ returns-in_err-engine-2-clause-beginning g c = begin_at c.args.scenario.now _ _ 
 pub returns-in_err-dones-clause-beginning : goal.returns-in_err-dones-clause-beginning
 returns-in_err-dones-clause-beginning g c = begin_at c.args.scenario.now _ _ c.loop-opening.engine c.loop-opening.invariant.at
 
-pub run_parts-requires-clause-horizon : goal.run_parts-requires-clause-horizon
-run_parts-requires-clause-horizon g c _ _ = (
-  c.in-Some.opening.time,
-  ap (λ (w : World). w.opening) c.world-world.ensures ∙ (c.in_ok-engine-2.ensures.opening ∙ (sym c.opening.ensures ∙ c.in-Some.is)),
-)
+pub run_parts-requires-clause-window : goal.run_parts-requires-clause-window
+run_parts-requires-clause-window g c _ _ = record {
+  world = subst (IsWorldOf c.args.scenario.now) (sym c.world.ensures) (c.in_ok-engine-2.ensures.at _ _ c.loop-opening.invariant.at).world;
+  next = (
+    c.in-Some.opening.time,
+    ap (λ (w : World). w.opening) c.world.ensures ∙ (c.in_ok-engine-2.ensures.opening ∙ (sym c.opening.ensures ∙ c.in-Some.is)),
+  );
+}
 
 pub count_events-requires-clause-targets : goal.count_events-requires-clause-targets
 count_events-requires-clause-targets g c =
-    targets_fit c.args.scenario.now c.world-world.result.now c.in-Some.opening.horizon c.in_ok-dones.dones.items c.as_slice-in-Some.result.now
+    targets_fit c.args.scenario.now c.world.result.now c.in-Some.opening.horizon c.in_ok-dones.dones.items c.as_slice-in-Some.result.now
     c.loop-opening.loads.items c.in_ok-dones.ensures.done c.as_slice-in-Some.ensures.value c.loop-opening.invariant.long
 
 pub count_events-requires-clause-room : goal.count_events-requires-clause-room
 count_events-requires-clause-room g c =
-    let world = c.world-world.result.now in
-    let count : world.count ≡ c.loop-opening.engine.world.count = ap (λ (w : World). w.count) c.world-world.ensures ∙ c.in_ok-engine-2.ensures.count in
+    let world = c.world.result.now in
+    let count : world.count ≡ c.loop-opening.engine.world.count = ap (λ (w : World). w.count) c.world.ensures ∙ c.in_ok-engine-2.ensures.count in
     let few : (node : ℕ) → get_or c.loop-opening.loads.items node 0 ≤ world.count = λ node. omega (arith, count, c.loop-opening.invariant.few node) in
     let parts : world.division.parts ≤ 512 = omega (
       arith,
-      ap (λ (w : World). w.division.parts) c.world-world.ensures,
+      ap (λ (w : World). w.division.parts) c.world.ensures,
       ap (λ (d : Division). d.parts) c.in_ok-engine-2.ensures.division,
       ap (λ (d : Division). d.parts) c.division.view_is,
       c.division.invariant.few,
@@ -63,8 +67,8 @@ count_events-requires-clause-room g c =
 
 pub loop-opening-preserved : goal.loop-opening-preserved
 loop-opening-preserved g c =
-    let world = c.world-world.result.now in
-    let count : world.count ≡ c.loop-opening.engine.world.count = ap (λ (w : World). w.count) c.world-world.ensures ∙ c.in_ok-engine-2.ensures.count in
+    let world = c.world.result.now in
+    let count : world.count ≡ c.loop-opening.engine.world.count = ap (λ (w : World). w.count) c.world.ensures ∙ c.in_ok-engine-2.ensures.count in
     let few : (node : ℕ) → get_or c.loop-opening.loads.items node 0 ≤ world.count = λ node. omega (arith, count, c.loop-opening.invariant.few node) in
     record {
       at = c.in_ok-put_window.ensures.at _ (c.in_ok-engine-2.ensures.at _ _ c.loop-opening.invariant.at);

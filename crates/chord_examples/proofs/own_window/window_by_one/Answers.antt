@@ -8,15 +8,15 @@ pub returns-in-None : goal.returns-in-None
 returns-in-None c =
     let shift = c.work-shift.result in
     let is = c.work-shift.ensures in
-    let finished = from_none shift.fault (AreResults c.args.scenario.now c.args.world.now c.args.horizon shift.seat.numbers shift.done.items)
+    let finished = from_none shift.fault (AreResults c.args.window.now.scenario.now c.args.window.now.world.now c.args.window.now.horizon shift.seat.numbers shift.done.items)
     c.in-None.is is.finished in
     let exhausted = from_none shift.fault (shift.seat.is_exhausted ≡ true) c.in-None.is is.exhausted in
     let whole = is.same_seat.allowance ∙ (c.in-Ok.ensures.seat.2 ∙ sym c.in-Ok.ensures.draws.1) in
     let parts = c.in-Ok.ensures.draws.0 ∙ c.parts-parts.ensures in
     let once = subst (λ n. HasEachOnce n shift.seat.numbers) parts (c.close.ensures.whole whole (c.close.ensures.exhausted exhausted)) in
     record {
-      time = c.requires.horizon.0;
-      opening = c.requires.horizon.1;
-      once = subst (HasEachOnce c.args.world.now.division.parts) (sym finished.parts_are) once;
+      time = c.requires.next.0;
+      opening = c.requires.next.1;
+      once = subst (HasEachOnce c.args.window.now.world.now.division.parts) (sym finished.parts_are) once;
       each = finished.each;
     }

@@ -3,6 +3,7 @@ use Rattle.chord_model.specs.Windows.{Division as ADivision}
 use Rattle.chord_window.specs.declared.world.World.{World}
 use Rattle.chord_window.specs.Exchanges.{events_in}
 use Rattle.chord_window.specs.Picked.{HasStepped}
+use Rattle.chord_window.specs.Worlds.{IsWorldOf}
 use Rattle.chord_window.proofs.EngineCourse.{begin_at}
 use Rattle.chord_window.proofs.PickedCourse.{all_steps, come_first, come_on}
 use Rattle.chord_window.proofs.picked_run.run_picked.Goals as goal
@@ -19,8 +20,11 @@ loop-opening-init g c = record {
       c.in_ok-engine.ensures.count c.new-taken.ensures.items;
 }
 
-pub run-requires-clause-horizon : goal.run-requires-clause-horizon
-run-requires-clause-horizon g c = (c.in-Some.opening.time, ap (λ (w : World). w.opening) c.world-world.ensures ∙ sym c.opening.ensures ∙ c.in-Some.is)
+pub run-requires-clause-window : goal.run-requires-clause-window
+run-requires-clause-window g c = record {
+  world = subst (IsWorldOf c.args.scenario.now) (sym c.world.ensures) c.loop-opening.invariant.at.world;
+  next = (c.in-Some.opening.time, ap (λ (w : World). w.opening) c.world.ensures ∙ sym c.opening.ensures ∙ c.in-Some.is);
+}
 
 pub returns-in_err-dones-clause-beginning : goal.returns-in_err-dones-clause-beginning
 returns-in_err-dones-clause-beginning g c = begin_at c.args.scenario.now _ _ c.loop-opening.engine c.loop-opening.invariant.at
@@ -47,7 +51,7 @@ loop-opening-preserved g c =
           c.run.new.taken.items (events_in c.in_ok-dones.dones.items)) inv.workers
           (subst (λ (w : World). HasStepped c.args.scenario.now w.division (length c.loop-opening.picked.workers.items) w.count
           c.in-Some.opening.horizon (drop c.loop-opening.next c.args.picks.now) (drop c.run.new.next c.args.picks.now) c.loop-opening.taken.items
-          c.run.new.taken.items (events_in c.in_ok-dones.dones.items)) c.world-world.ensures c.in_ok-dones.ensures.steps)))
+          c.run.new.taken.items (events_in c.in_ok-dones.dones.items)) c.world.ensures c.in_ok-dones.ensures.steps)))
           c.in_ok-put_window.ensures.count;
     }
 

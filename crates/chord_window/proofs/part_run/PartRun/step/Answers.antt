@@ -23,7 +23,8 @@ use Rattle.chord_window.proofs.part_run.PartRun.step.Goals as goal
 pub returns-then-full-clause-over : goal.returns-then-full-clause-over
 returns-then-full-clause-over c = λ same.
     let at = due_at c.args.due.now c.args.queue.now.events c.args.self.now.taken (sym c.if-comes_first.ensures) in
-    due_over c.args.scenario.now c.recall_range.ensures c.args.world.now c.requires.world c.args.horizon c.args.due.now c.requires.window
+    due_over c.args.window.now.scenario.now c.recall_range.ensures c.args.window.now.world.now c.requires.world c.args.window.now.horizon c.args.due.now
+    c.requires.window
     c.args.self.now c.args.queue.now c.requires.part c.requires.running c.recall_order.ensures
     (sym c.if-comes_first.ensures) at.0 at.1
     (omega (arith, c.if-full.true, c.len.ensures, c.max_events.ensures, c.args.self.now.blocks.ok.0))
@@ -33,60 +34,77 @@ bounds-due-self c = due_inside c.args.due.now c.args.queue.now.events c.args.sel
 
 pub handle-requires : goal.handle-requires
 handle-requires c = (
-  c.args.world.now.division,
-  subst (λ (l : List NodeState). IsReady c.args.scenario.now c.args.world.now.division l c.args.self.now c.index-due-self.result) (sym c.deref.ensures.value)
-      (due_ready c.args.scenario.now c.recall_range.ensures c.args.world.now c.requires.world c.args.horizon c.args.due.now c.requires.window
+  c.args.window.now.world.now.division,
+  subst (λ (l : List NodeState). IsReady c.args.window.now.scenario.now c.args.window.now.world.now.division l c.args.self.now c.index-due-self.result) (sym
+      c.deref.ensures.value)
+      (due_ready c.args.window.now.scenario.now c.recall_range.ensures c.args.window.now.world.now c.requires.world c.args.window.now.horizon c.args.due.now
+      c.requires.window
       c.args.self.now c.args.queue.now c.requires.part c.requires.running c.recall_order.ensures
       (sym c.if-comes_first.ensures) c.index-due-self.result c.index-due-self.is),
 )
 
 pub overflow_add-self : goal.overflow_add-self
 overflow_add-self c =
-    let h = (subst (λ (l : List NodeState). HasHandled c.args.scenario.now c.args.world.now.division l c.index-due-self.result c.args.self.now
+    let h = (subst (λ (l : List NodeState). HasHandled c.args.window.now.scenario.now c.args.window.now.world.now.division l c.index-due-self.result
+    c.args.self.now
     c.handle.new.self c.in_ok-made.made.items) c.deref.ensures.value
-    (c.in_ok-made.ensures c.args.world.now.division (subst (λ (l : List NodeState). IsReady c.args.scenario.now c.args.world.now.division l
+    (c.in_ok-made.ensures c.args.window.now.world.now.division (subst (λ (l : List NodeState). IsReady c.args.window.now.scenario.now
+    c.args.window.now.world.now.division l
     c.args.self.now c.index-due-self.result) (sym c.deref.ensures.value)
-    (due_ready c.args.scenario.now c.recall_range.ensures c.args.world.now c.requires.world c.args.horizon c.args.due.now c.requires.window
+    (due_ready c.args.window.now.scenario.now c.recall_range.ensures c.args.window.now.world.now c.requires.world c.args.window.now.horizon c.args.due.now
+    c.requires.window
     c.args.self.now c.args.queue.now c.requires.part c.requires.running c.recall_order.ensures
     (sym c.if-comes_first.ensures) c.index-due-self.result c.index-due-self.is)))) in
-    omega (arith, h.same_taken, due_inside c.args.due.now c.args.queue.now.events c.args.self.now.taken (sym c.if-comes_first.ensures), c.ranges)
+    omega (arith, h.same_taken, due_inside c.args.due.now c.args.queue.now.events c.args.self.now.taken (sym c.if-comes_first.ensures), c.well_formed)
 
 pub sort_out-requires-clause-apart : goal.sort_out-requires-clause-apart
 sort_out-requires-clause-apart c =
-    let h = (subst (λ (l : List NodeState). HasHandled c.args.scenario.now c.args.world.now.division l c.index-due-self.result c.args.self.now
+    let h = (subst (λ (l : List NodeState). HasHandled c.args.window.now.scenario.now c.args.window.now.world.now.division l c.index-due-self.result
+    c.args.self.now
     c.handle.new.self c.in_ok-made.made.items) c.deref.ensures.value
-    (c.in_ok-made.ensures c.args.world.now.division (subst (λ (l : List NodeState). IsReady c.args.scenario.now c.args.world.now.division l
+    (c.in_ok-made.ensures c.args.window.now.world.now.division (subst (λ (l : List NodeState). IsReady c.args.window.now.scenario.now
+    c.args.window.now.world.now.division l
     c.args.self.now c.index-due-self.result) (sym c.deref.ensures.value)
-    (due_ready c.args.scenario.now c.recall_range.ensures c.args.world.now c.requires.world c.args.horizon c.args.due.now c.requires.window
+    (due_ready c.args.window.now.scenario.now c.recall_range.ensures c.args.window.now.world.now c.requires.world c.args.window.now.horizon c.args.due.now
+    c.requires.window
     c.args.self.now c.args.queue.now c.requires.part c.requires.running c.recall_order.ensures
     (sym c.if-comes_first.ensures) c.index-due-self.result c.index-due-self.is)))) in
-    due_apart c.args.scenario.now c.recall_range.ensures c.args.world.now c.requires.world c.args.horizon c.args.due.now c.requires.window
+    due_apart c.args.window.now.scenario.now c.recall_range.ensures c.args.window.now.world.now c.requires.world c.args.window.now.horizon c.args.due.now
+    c.requires.window
     c.args.self.now c.args.queue.now c.requires.part c.requires.running c.recall_order.ensures
     (sym c.if-comes_first.ensures) c.index-due-self.result c.index-due-self.is c.in_ok-made.made.items h.made_is
 
 pub sort_out-requires-clause-few : goal.sort_out-requires-clause-few
 sort_out-requires-clause-few c =
-    let h = (subst (λ (l : List NodeState). HasHandled c.args.scenario.now c.args.world.now.division l c.index-due-self.result c.args.self.now
+    let h = (subst (λ (l : List NodeState). HasHandled c.args.window.now.scenario.now c.args.window.now.world.now.division l c.index-due-self.result
+    c.args.self.now
     c.handle.new.self c.in_ok-made.made.items) c.deref.ensures.value
-    (c.in_ok-made.ensures c.args.world.now.division (subst (λ (l : List NodeState). IsReady c.args.scenario.now c.args.world.now.division l
+    (c.in_ok-made.ensures c.args.window.now.world.now.division (subst (λ (l : List NodeState). IsReady c.args.window.now.scenario.now
+    c.args.window.now.world.now.division l
     c.args.self.now c.index-due-self.result) (sym c.deref.ensures.value)
-    (due_ready c.args.scenario.now c.recall_range.ensures c.args.world.now c.requires.world c.args.horizon c.args.due.now c.requires.window
+    (due_ready c.args.window.now.scenario.now c.recall_range.ensures c.args.window.now.world.now c.requires.world c.args.window.now.horizon c.args.due.now
+    c.requires.window
     c.args.self.now c.args.queue.now c.requires.part c.requires.running c.recall_order.ensures
     (sym c.if-comes_first.ensures) c.index-due-self.result c.index-due-self.is)))) in
-    due_few c.args.scenario.now c.recall_range.ensures c.args.world.now c.requires.world c.args.horizon c.args.due.now c.requires.window
+    due_few c.args.window.now.scenario.now c.recall_range.ensures c.args.window.now.world.now c.requires.world c.args.window.now.horizon c.args.due.now
+    c.requires.window
     c.args.self.now c.args.queue.now c.requires.part c.requires.running c.recall_order.ensures
     (sym c.if-comes_first.ensures) c.index-due-self.result c.index-due-self.is c.in_ok-made.made.items h.made_is
 
 pub returns-then-comes_first-clause-running : goal.returns-then-comes_first-clause-running
 returns-then-comes_first-clause-running c =
-    let h = (subst (λ (l : List NodeState). HasHandled c.args.scenario.now c.args.world.now.division l c.index-due-self.result c.args.self.now
+    let h = (subst (λ (l : List NodeState). HasHandled c.args.window.now.scenario.now c.args.window.now.world.now.division l c.index-due-self.result
+    c.args.self.now
     c.handle.new.self c.in_ok-made.made.items) c.deref.ensures.value
-    (c.in_ok-made.ensures c.args.world.now.division (subst (λ (l : List NodeState). IsReady c.args.scenario.now c.args.world.now.division l
+    (c.in_ok-made.ensures c.args.window.now.world.now.division (subst (λ (l : List NodeState). IsReady c.args.window.now.scenario.now
+    c.args.window.now.world.now.division l
     c.args.self.now c.index-due-self.result) (sym c.deref.ensures.value)
-    (due_ready c.args.scenario.now c.recall_range.ensures c.args.world.now c.requires.world c.args.horizon c.args.due.now c.requires.window
+    (due_ready c.args.window.now.scenario.now c.recall_range.ensures c.args.window.now.world.now c.requires.world c.args.window.now.horizon c.args.due.now
+    c.requires.window
     c.args.self.now c.args.queue.now c.requires.part c.requires.running c.recall_order.ensures
     (sym c.if-comes_first.ensures) c.index-due-self.result c.index-due-self.is)))) in
-    due_next c.args.scenario.now c.recall_range.ensures c.args.world.now c.requires.world c.args.horizon c.args.due.now c.requires.window
+    due_next c.args.window.now.scenario.now c.recall_range.ensures c.args.window.now.world.now c.requires.world c.args.window.now.horizon c.args.due.now
+    c.requires.window
     c.args.self.now c.args.queue.now c.requires.part c.requires.running c.recall_order.ensures
     (sym c.if-comes_first.ensures) c.index-due-self.result c.index-due-self.is c.in_ok-made.made.items h.made_is c.handle.new.self _ h
     c.sort_out.new.queue refl refl refl (omega (arith, h.same_taken)) c.in_ok-sort_out.ensures.mail
@@ -94,96 +112,117 @@ returns-then-comes_first-clause-running c =
     (omega (arith, c.if-full.false, c.len.ensures, c.max_events.ensures, c.args.self.now.blocks.ok.0))
 
 pub returns-then-comes_first-clause-part : goal.returns-then-comes_first-clause-part
-returns-then-comes_first-clause-part c = let h = (subst (λ (l : List NodeState). HasHandled c.args.scenario.now c.args.world.now.division l
+returns-then-comes_first-clause-part c = let h = (subst (λ (l : List NodeState). HasHandled c.args.window.now.scenario.now
+    c.args.window.now.world.now.division l
     c.index-due-self.result c.args.self.now c.handle.new.self c.in_ok-made.made.items) c.deref.ensures.value
-    (c.in_ok-made.ensures c.args.world.now.division (subst (λ (l : List NodeState). IsReady c.args.scenario.now c.args.world.now.division l
+    (c.in_ok-made.ensures c.args.window.now.world.now.division (subst (λ (l : List NodeState). IsReady c.args.window.now.scenario.now
+    c.args.window.now.world.now.division l
     c.args.self.now c.index-due-self.result) (sym c.deref.ensures.value)
-    (due_ready c.args.scenario.now c.recall_range.ensures c.args.world.now c.requires.world c.args.horizon c.args.due.now c.requires.window
+    (due_ready c.args.window.now.scenario.now c.recall_range.ensures c.args.window.now.world.now c.requires.world c.args.window.now.horizon c.args.due.now
+    c.requires.window
     c.args.self.now c.args.queue.now c.requires.part c.requires.running c.recall_order.ensures
     (sym c.if-comes_first.ensures) c.index-due-self.result c.index-due-self.is)))) in h.same_part
 
 pub returns-then-comes_first-clause-more : goal.returns-then-comes_first-clause-more
-returns-then-comes_first-clause-more c = let h = (subst (λ (l : List NodeState). HasHandled c.args.scenario.now c.args.world.now.division l
+returns-then-comes_first-clause-more c = let h = (subst (λ (l : List NodeState). HasHandled c.args.window.now.scenario.now
+    c.args.window.now.world.now.division l
     c.index-due-self.result c.args.self.now c.handle.new.self c.in_ok-made.made.items) c.deref.ensures.value
-    (c.in_ok-made.ensures c.args.world.now.division (subst (λ (l : List NodeState). IsReady c.args.scenario.now c.args.world.now.division l
+    (c.in_ok-made.ensures c.args.window.now.world.now.division (subst (λ (l : List NodeState). IsReady c.args.window.now.scenario.now
+    c.args.window.now.world.now.division l
     c.args.self.now c.index-due-self.result) (sym c.deref.ensures.value)
-    (due_ready c.args.scenario.now c.recall_range.ensures c.args.world.now c.requires.world c.args.horizon c.args.due.now c.requires.window
+    (due_ready c.args.window.now.scenario.now c.recall_range.ensures c.args.window.now.world.now c.requires.world c.args.window.now.horizon c.args.due.now
+    c.requires.window
     c.args.self.now c.args.queue.now c.requires.part c.requires.running c.recall_order.ensures
     (sym c.if-comes_first.ensures) c.index-due-self.result c.index-due-self.is)))) in
     omega (
       arith,
       ap length h.blocks_are,
       length-append c.args.self.now.blocks.items
-          (block_of c.args.scenario.now (seen_in c.args.scenario.now c.args.world.now.states.items c.args.self.now c.index-due-self.result.target)
+          (block_of c.args.window.now.scenario.now (seen_in c.args.window.now.scenario.now c.args.window.now.world.now.states.items c.args.self.now
+          c.index-due-self.result.target)
           c.index-due-self.result ∷ []),
     )
 
 pub returns-in_default-clause-running : goal.returns-in_default-clause-running
 returns-in_default-clause-running c =
-    (all_taken c.args.scenario.now c.recall_range.ensures c.args.world.now c.requires.world c.args.horizon c.args.due.now c.requires.window
+    (all_taken c.args.window.now.scenario.now c.recall_range.ensures c.args.window.now.world.now c.requires.world c.args.window.now.horizon c.args.due.now
+    c.requires.window
     c.args.self.now c.args.queue.now c.requires.part c.requires.running c.recall_order.ensures (sym c.if-comes_first.ensures)
     c.pop_least.follows.lender-at-none c.pop_least.follows.holds-at-none (no_first c.args.queue.now.events c.in_default.ensures.least)).1
 
 pub returns-in_default-clause-ended : goal.returns-in_default-clause-ended
 returns-in_default-clause-ended c =
-    (all_taken c.args.scenario.now c.recall_range.ensures c.args.world.now c.requires.world c.args.horizon c.args.due.now c.requires.window
+    (all_taken c.args.window.now.scenario.now c.recall_range.ensures c.args.window.now.world.now c.requires.world c.args.window.now.horizon c.args.due.now
+    c.requires.window
     c.args.self.now c.args.queue.now c.requires.part c.requires.running c.recall_order.ensures (sym c.if-comes_first.ensures)
     c.pop_least.follows.lender-at-none c.pop_least.follows.holds-at-none (no_first c.args.queue.now.events c.in_default.ensures.least)).0
 
 pub returns-then-full-2-clause-over : goal.returns-then-full-2-clause-over
 returns-then-full-2-clause-over c = λ same.
-    made_over c.args.scenario.now c.recall_range.ensures c.args.world.now c.requires.world c.args.horizon c.args.due.now c.requires.window
+    made_over c.args.window.now.scenario.now c.recall_range.ensures c.args.window.now.world.now c.requires.world c.args.window.now.horizon c.args.due.now
+    c.requires.window
     c.args.self.now c.args.queue.now c.requires.part c.requires.running c.recall_order.ensures
     (sym c.if-comes_first.ensures) c.in-Some.event.now c.in-Some.ensures.least
     (omega (arith, c.if-full-2.true, c.len.ensures, c.max_events.ensures, c.args.self.now.blocks.ok.0))
 
 pub handle-requires-2 : goal.handle-requires-2
 handle-requires-2 c = (
-  c.args.world.now.division,
-  subst (λ (l : List NodeState). IsReady c.args.scenario.now c.args.world.now.division l c.args.self.now c.in-Some.event.now) (sym c.deref-2.ensures.value)
-      (made_ready c.args.scenario.now c.recall_range.ensures c.args.world.now c.requires.world c.args.horizon c.args.due.now c.requires.window
+  c.args.window.now.world.now.division,
+  subst (λ (l : List NodeState). IsReady c.args.window.now.scenario.now c.args.window.now.world.now.division l c.args.self.now c.in-Some.event.now) (sym
+      c.deref-2.ensures.value)
+      (made_ready c.args.window.now.scenario.now c.recall_range.ensures c.args.window.now.world.now c.requires.world c.args.window.now.horizon c.args.due.now
+      c.requires.window
       c.args.self.now c.args.queue.now c.requires.part c.requires.running c.recall_order.ensures
       (sym c.if-comes_first.ensures) c.in-Some.event.now c.in-Some.ensures.least),
 )
 
 pub sort_out-requires-2-clause-apart : goal.sort_out-requires-2-clause-apart
 sort_out-requires-2-clause-apart c =
-    let h = (subst (λ (l : List NodeState). HasHandled c.args.scenario.now c.args.world.now.division l c.in-Some.event.now c.args.self.now
+    let h = (subst (λ (l : List NodeState). HasHandled c.args.window.now.scenario.now c.args.window.now.world.now.division l c.in-Some.event.now c.args.self.now
     c.handle-2.new.self c.in_ok-made-2.made.items) c.deref-2.ensures.value
-    (c.in_ok-made-2.ensures c.args.world.now.division (subst (λ (l : List NodeState). IsReady c.args.scenario.now c.args.world.now.division l
+    (c.in_ok-made-2.ensures c.args.window.now.world.now.division (subst (λ (l : List NodeState). IsReady c.args.window.now.scenario.now
+    c.args.window.now.world.now.division l
     c.args.self.now c.in-Some.event.now) (sym c.deref-2.ensures.value)
-    (made_ready c.args.scenario.now c.recall_range.ensures c.args.world.now c.requires.world c.args.horizon c.args.due.now c.requires.window
+    (made_ready c.args.window.now.scenario.now c.recall_range.ensures c.args.window.now.world.now c.requires.world c.args.window.now.horizon c.args.due.now
+    c.requires.window
     c.args.self.now c.args.queue.now c.requires.part c.requires.running c.recall_order.ensures
     (sym c.if-comes_first.ensures) c.in-Some.event.now c.in-Some.ensures.least)))) in
-    made_apart c.args.scenario.now c.recall_range.ensures c.args.world.now c.requires.world c.args.horizon c.args.due.now c.requires.window
+    made_apart c.args.window.now.scenario.now c.recall_range.ensures c.args.window.now.world.now c.requires.world c.args.window.now.horizon c.args.due.now
+    c.requires.window
     c.args.self.now c.args.queue.now c.requires.part c.requires.running c.recall_order.ensures
     (sym c.if-comes_first.ensures) c.in-Some.event.now c.in-Some.ensures.least c.in_ok-made-2.made.items h.made_is c.pop_least.follows.lender-at-none
     c.pop_least.follows.holds-at-none
 
 pub sort_out-requires-2-clause-few : goal.sort_out-requires-2-clause-few
 sort_out-requires-2-clause-few c =
-    let h = (subst (λ (l : List NodeState). HasHandled c.args.scenario.now c.args.world.now.division l c.in-Some.event.now c.args.self.now
+    let h = (subst (λ (l : List NodeState). HasHandled c.args.window.now.scenario.now c.args.window.now.world.now.division l c.in-Some.event.now c.args.self.now
     c.handle-2.new.self c.in_ok-made-2.made.items) c.deref-2.ensures.value
-    (c.in_ok-made-2.ensures c.args.world.now.division (subst (λ (l : List NodeState). IsReady c.args.scenario.now c.args.world.now.division l
+    (c.in_ok-made-2.ensures c.args.window.now.world.now.division (subst (λ (l : List NodeState). IsReady c.args.window.now.scenario.now
+    c.args.window.now.world.now.division l
     c.args.self.now c.in-Some.event.now) (sym c.deref-2.ensures.value)
-    (made_ready c.args.scenario.now c.recall_range.ensures c.args.world.now c.requires.world c.args.horizon c.args.due.now c.requires.window
+    (made_ready c.args.window.now.scenario.now c.recall_range.ensures c.args.window.now.world.now c.requires.world c.args.window.now.horizon c.args.due.now
+    c.requires.window
     c.args.self.now c.args.queue.now c.requires.part c.requires.running c.recall_order.ensures
     (sym c.if-comes_first.ensures) c.in-Some.event.now c.in-Some.ensures.least)))) in
-    made_few c.args.scenario.now c.recall_range.ensures c.args.world.now c.requires.world c.args.horizon c.args.due.now c.requires.window
+    made_few c.args.window.now.scenario.now c.recall_range.ensures c.args.window.now.world.now c.requires.world c.args.window.now.horizon c.args.due.now
+    c.requires.window
     c.args.self.now c.args.queue.now c.requires.part c.requires.running c.recall_order.ensures
     (sym c.if-comes_first.ensures) c.in-Some.event.now c.in-Some.ensures.least c.in_ok-made-2.made.items h.made_is c.pop_least.follows.lender-at-none
     c.pop_least.follows.holds-at-none
 
 pub returns-clause-running : goal.returns-clause-running
 returns-clause-running c =
-    let h = (subst (λ (l : List NodeState). HasHandled c.args.scenario.now c.args.world.now.division l c.in-Some.event.now c.args.self.now
+    let h = (subst (λ (l : List NodeState). HasHandled c.args.window.now.scenario.now c.args.window.now.world.now.division l c.in-Some.event.now c.args.self.now
     c.handle-2.new.self c.in_ok-made-2.made.items) c.deref-2.ensures.value
-    (c.in_ok-made-2.ensures c.args.world.now.division (subst (λ (l : List NodeState). IsReady c.args.scenario.now c.args.world.now.division l
+    (c.in_ok-made-2.ensures c.args.window.now.world.now.division (subst (λ (l : List NodeState). IsReady c.args.window.now.scenario.now
+    c.args.window.now.world.now.division l
     c.args.self.now c.in-Some.event.now) (sym c.deref-2.ensures.value)
-    (made_ready c.args.scenario.now c.recall_range.ensures c.args.world.now c.requires.world c.args.horizon c.args.due.now c.requires.window
+    (made_ready c.args.window.now.scenario.now c.recall_range.ensures c.args.window.now.world.now c.requires.world c.args.window.now.horizon c.args.due.now
+    c.requires.window
     c.args.self.now c.args.queue.now c.requires.part c.requires.running c.recall_order.ensures
     (sym c.if-comes_first.ensures) c.in-Some.event.now c.in-Some.ensures.least)))) in
-    made_next c.args.scenario.now c.recall_range.ensures c.args.world.now c.requires.world c.args.horizon c.args.due.now c.requires.window
+    made_next c.args.window.now.scenario.now c.recall_range.ensures c.args.window.now.world.now c.requires.world c.args.window.now.horizon c.args.due.now
+    c.requires.window
     c.args.self.now c.args.queue.now c.requires.part c.requires.running c.recall_order.ensures
     (sym c.if-comes_first.ensures) c.in-Some.event.now c.in-Some.ensures.least c.in_ok-made-2.made.items h.made_is c.pop_least.follows.lender-at-none
     c.pop_least.follows.holds-at-none
@@ -192,38 +231,47 @@ returns-clause-running c =
     (omega (arith, c.if-full-2.false, c.len.ensures, c.max_events.ensures, c.args.self.now.blocks.ok.0))
 
 pub returns-clause-part : goal.returns-clause-part
-returns-clause-part c = let h = (subst (λ (l : List NodeState). HasHandled c.args.scenario.now c.args.world.now.division l c.in-Some.event.now
+returns-clause-part c = let h = (subst (λ (l : List NodeState). HasHandled c.args.window.now.scenario.now c.args.window.now.world.now.division l
+    c.in-Some.event.now
     c.args.self.now c.handle-2.new.self c.in_ok-made-2.made.items) c.deref-2.ensures.value
-    (c.in_ok-made-2.ensures c.args.world.now.division (subst (λ (l : List NodeState). IsReady c.args.scenario.now c.args.world.now.division l
+    (c.in_ok-made-2.ensures c.args.window.now.world.now.division (subst (λ (l : List NodeState). IsReady c.args.window.now.scenario.now
+    c.args.window.now.world.now.division l
     c.args.self.now c.in-Some.event.now) (sym c.deref-2.ensures.value)
-    (made_ready c.args.scenario.now c.recall_range.ensures c.args.world.now c.requires.world c.args.horizon c.args.due.now c.requires.window
+    (made_ready c.args.window.now.scenario.now c.recall_range.ensures c.args.window.now.world.now c.requires.world c.args.window.now.horizon c.args.due.now
+    c.requires.window
     c.args.self.now c.args.queue.now c.requires.part c.requires.running c.recall_order.ensures
     (sym c.if-comes_first.ensures) c.in-Some.event.now c.in-Some.ensures.least)))) in h.same_part
 
 pub returns-clause-more : goal.returns-clause-more
-returns-clause-more c = let h = (subst (λ (l : List NodeState). HasHandled c.args.scenario.now c.args.world.now.division l c.in-Some.event.now
+returns-clause-more c = let h = (subst (λ (l : List NodeState). HasHandled c.args.window.now.scenario.now c.args.window.now.world.now.division l
+    c.in-Some.event.now
     c.args.self.now c.handle-2.new.self c.in_ok-made-2.made.items) c.deref-2.ensures.value
-    (c.in_ok-made-2.ensures c.args.world.now.division (subst (λ (l : List NodeState). IsReady c.args.scenario.now c.args.world.now.division l
+    (c.in_ok-made-2.ensures c.args.window.now.world.now.division (subst (λ (l : List NodeState). IsReady c.args.window.now.scenario.now
+    c.args.window.now.world.now.division l
     c.args.self.now c.in-Some.event.now) (sym c.deref-2.ensures.value)
-    (made_ready c.args.scenario.now c.recall_range.ensures c.args.world.now c.requires.world c.args.horizon c.args.due.now c.requires.window
+    (made_ready c.args.window.now.scenario.now c.recall_range.ensures c.args.window.now.world.now c.requires.world c.args.window.now.horizon c.args.due.now
+    c.requires.window
     c.args.self.now c.args.queue.now c.requires.part c.requires.running c.recall_order.ensures
     (sym c.if-comes_first.ensures) c.in-Some.event.now c.in-Some.ensures.least)))) in
     omega (
       arith,
       ap length h.blocks_are,
       length-append c.args.self.now.blocks.items
-          (block_of c.args.scenario.now (seen_in c.args.scenario.now c.args.world.now.states.items c.args.self.now c.in-Some.event.now.target)
+          (block_of c.args.window.now.scenario.now (seen_in c.args.window.now.scenario.now c.args.window.now.world.now.states.items c.args.self.now
+          c.in-Some.event.now.target)
           c.in-Some.event.now ∷ []),
     )
 
 pub returns-then-comes_first-clause-key : goal.returns-then-comes_first-clause-key
 returns-then-comes_first-clause-key c =
-    due_key c.args.scenario.now c.recall_range.ensures c.args.world.now c.requires.world c.args.horizon c.args.due.now c.requires.window
+    due_key c.args.window.now.scenario.now c.recall_range.ensures c.args.window.now.world.now c.requires.world c.args.window.now.horizon c.args.due.now
+    c.requires.window
     c.args.self.now c.args.queue.now c.requires.part c.requires.running c.recall_order.ensures
     (sym c.if-comes_first.ensures) c.index-due-self.result c.index-due-self.is
 
 pub returns-clause-key : goal.returns-clause-key
 returns-clause-key c =
-    made_key c.args.scenario.now c.recall_range.ensures c.args.world.now c.requires.world c.args.horizon c.args.due.now c.requires.window
+    made_key c.args.window.now.scenario.now c.recall_range.ensures c.args.window.now.world.now c.requires.world c.args.window.now.horizon c.args.due.now
+    c.requires.window
     c.args.self.now c.args.queue.now c.requires.part c.requires.running c.recall_order.ensures
     (sym c.if-comes_first.ensures) c.in-Some.event.now c.in-Some.ensures.least

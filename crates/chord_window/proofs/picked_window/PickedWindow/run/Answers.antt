@@ -12,7 +12,8 @@ pub returns-clause-done : goal.returns-clause-done
 returns-clause-done c =
     let same = ap (λ (v : Vec Worker Global). length v.items) c.in_ok-open.ensures.same_workers in
     let some : 0 < length c.open.new.self.workers.items = omega (arith, same, c.requires.workers.0) in
-    turns_done c.args.scenario.now c.args.world.now c.args.horizon c.recall_range.ensures c.requires.world c.requires.horizon c.open.new.self
+    turns_done c.args.window.now.scenario.now c.args.window.now.world.now c.args.window.now.horizon c.recall_range.ensures c.requires.window.world
+    c.requires.window.next c.open.new.self
     c.take_turns.new.self _ _ _ _ some c.in_ok-take_turns.ensures.turns
     c.in_ok-dones.dones.items (c.in_ok-dones.ensures ∙ ap (λ (v : Vec (Option Done) Global). in_slots v.items) c.replace-slots.ensures.value)
 
@@ -20,10 +21,12 @@ pub returns-clause-steps : goal.returns-clause-steps
 returns-clause-steps c =
     let same = ap (λ (v : Vec Worker Global). length v.items) c.in_ok-open.ensures.same_workers in
     let some : 0 < length c.open.new.self.workers.items = omega (arith, same, c.requires.workers.0) in
-    subst (λ (n : ℕ). HasStepped c.args.scenario.now c.args.world.now.division n c.args.world.now.count c.args.horizon
+    subst (λ (n : ℕ). HasStepped c.args.window.now.scenario.now c.args.window.now.world.now.division n c.args.window.now.world.now.count
+    c.args.window.now.horizon
     (drop c.args.next.now c.args.picks.now) (drop c.take_turns.new.next c.args.picks.now) c.args.taken.now.items c.take_turns.new.taken.items
     (events_in c.in_ok-dones.dones.items)) same
-    (turns_stepped c.args.scenario.now c.args.world.now c.args.horizon c.recall_range.ensures c.requires.world c.requires.horizon c.open.new.self
+    (turns_stepped c.args.window.now.scenario.now c.args.window.now.world.now c.args.window.now.horizon c.recall_range.ensures c.requires.window.world
+    c.requires.window.next c.open.new.self
     c.take_turns.new.self _ _ _ _ some c.in_ok-take_turns.ensures.turns
     c.in_ok-dones.dones.items (c.in_ok-dones.ensures ∙ ap (λ (v : Vec (Option Done) Global). in_slots v.items) c.replace-slots.ensures.value))
 
@@ -31,5 +34,6 @@ pub returns-clause-idle : goal.returns-clause-idle
 returns-clause-idle c =
     let same = ap (λ (v : Vec Worker Global). length v.items) c.in_ok-open.ensures.same_workers in
     let some : 0 < length c.open.new.self.workers.items = omega (arith, same, c.requires.workers.0) in
-    turns_idle c.args.scenario.now c.args.world.now c.args.horizon c.recall_range.ensures c.requires.world c.requires.horizon c.open.new.self
+    turns_idle c.args.window.now.scenario.now c.args.window.now.world.now c.args.window.now.horizon c.recall_range.ensures c.requires.window.world
+    c.requires.window.next c.open.new.self
     c.take_turns.new.self _ _ _ _ some c.in_ok-take_turns.ensures.turns

@@ -9,13 +9,14 @@ use Rattle.chord_window.proofs.picked_window.PickedWindow.take_turns.Goals as go
 
 pub loop-lowest-init : goal.loop-lowest-init
 loop-lowest-init c = record {
-  window = opened (history (chord c.args.scenario.now) c.args.world.now.count) c.args.horizon;
+  window = opened (history (chord c.args.window.now.scenario.now) c.args.window.now.world.now.count) c.args.window.now.horizon;
   picked = c.requires.opened;
   same_workers = refl;
   steps = [];
   told = sym (append-nil c.args.taken.now.items);
-  leads = begins c.args.scenario.now c.args.world.now.division (length c.args.self.now.workers.items)
-      (history (chord c.args.scenario.now) c.args.world.now.count) c.args.horizon (drop c.args.next.now c.args.picks.now) c.recall_division.ensures.few.0;
+  leads = begins c.args.window.now.scenario.now c.args.window.now.world.now.division (length c.args.self.now.workers.items)
+      (history (chord c.args.window.now.scenario.now) c.args.window.now.world.now.count) c.args.window.now.horizon (drop c.args.next.now c.args.picks.now)
+      c.recall_division.ensures.few.0;
   inside = c.requires.next;
 }
 
@@ -30,18 +31,23 @@ loop-lowest-preserved c =
       steps = inv.steps ++ (c.turn-worker.result, t.step) ∷ [];
       told = c.in_ok-push.ensures.items ∙ told_more c.args.taken.now.items c.loop-lowest.taken.items inv.steps c.turn-worker.result t.step
           c.in_ok-step.step inv.told t.shown_is;
-      leads = subst (λ (n : ℕ). Leads c.args.scenario.now c.args.world.now.division n
-          (opened (history (chord c.args.scenario.now) c.args.world.now.count) c.args.horizon) (drop c.args.next.now c.args.picks.now)
+      leads = subst (λ (n : ℕ). Leads c.args.window.now.scenario.now c.args.window.now.world.now.division n
+          (opened (history (chord c.args.window.now.scenario.now) c.args.window.now.world.now.count) c.args.window.now.horizon) (drop c.args.next.now
+          c.args.picks.now)
           (inv.steps ++ (c.turn-worker.result, t.step) ∷ [])
-          (λ number. settled (chord c.args.scenario.now) (λ _. c.args.world.now.division) number (after_step inv.window c.turn-worker.result t.step))
+          (λ number. settled (chord c.args.window.now.scenario.now) (λ _. c.args.window.now.world.now.division) number (after_step inv.window
+          c.turn-worker.result t.step))
           (drop c.turn-worker.new.next c.args.picks.now)) inv.same_workers
-          (leads_on c.args.scenario.now c.args.world.now c.args.horizon c.loop-lowest.self.drawn c.loop-lowest.self.workers.items
-          c.loop-lowest.self.dones.items inv.window inv.picked (opened (history (chord c.args.scenario.now) c.args.world.now.count) c.args.horizon)
+          (leads_on c.args.window.now.scenario.now c.args.window.now.world.now c.args.window.now.horizon c.loop-lowest.self.drawn
+          c.loop-lowest.self.workers.items
+          c.loop-lowest.self.dones.items inv.window inv.picked (opened (history (chord c.args.window.now.scenario.now) c.args.window.now.world.now.count)
+          c.args.window.now.horizon)
           (drop c.args.next.now c.args.picks.now) (drop c.loop-lowest.next c.args.picks.now) (drop c.turn-worker.new.next c.args.picks.now) inv.steps
           c.turn-worker.result t.step
-          (subst (λ (n : ℕ). Leads c.args.scenario.now c.args.world.now.division n
-          (opened (history (chord c.args.scenario.now) c.args.world.now.count) c.args.horizon) (drop c.args.next.now c.args.picks.now) inv.steps
-          (λ number. settled (chord c.args.scenario.now) (λ _. c.args.world.now.division) number inv.window)
+          (subst (λ (n : ℕ). Leads c.args.window.now.scenario.now c.args.window.now.world.now.division n
+          (opened (history (chord c.args.window.now.scenario.now) c.args.window.now.world.now.count) c.args.window.now.horizon) (drop c.args.next.now
+          c.args.picks.now) inv.steps
+          (λ number. settled (chord c.args.window.now.scenario.now) (λ _. c.args.window.now.world.now.division) number inv.window)
           (drop c.loop-lowest.next c.args.picks.now)) (sym inv.same_workers) inv.leads)
           c.turn-worker.ensures.worker c.turn-worker.ensures.can_go c.turn-worker.ensures.turn t.next_is);
       inside = c.turn-worker.ensures.next;

@@ -1,12 +1,12 @@
 use Rattle.std.proofs.Common.{◌-◌, length}
 use Rattle.chord_crew.specs.Shifts.{AreResults, IsSameSeat}
 use Rattle.chord_window.specs.PartRuns.{IsFresh}
-use Rattle.chord_crew.proofs.shift.work.Given as goal
+use Rattle.chord_crew.proofs.shift.work_by.Given as goal
 
 abbrev pub invariant-loop-part : goal.invariant-loop-part
 invariant-loop-part g l = record {
   same_seat : IsSameSeat l.fn.seat l.seat;
-  results : AreResults l.scenario l.world l.horizon l.seat.numbers l.done.items;
+  results : AreResults l.window.scenario.now l.window.world.now l.window.horizon l.seat.numbers l.done.items;
   queue : IsFresh l.queue;
 }
 
