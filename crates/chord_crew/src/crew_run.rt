@@ -1,10 +1,10 @@
 //! Runs by crews: windows whose parts are run by workers in threads.
-ghost use Rattle.std.specs.Prelude.{◌≡◌, ◌≢◌, ◌⊎◌, ◌<◌, ◌≤◌, true, false, length, OnOk, IfOk, IfErr, Err};
-ghost use Rattle.std.specs.Io.KnownBytes.{Appends};
-ghost use Rattle.chord_machine.specs.Run.{HasTooManyEvents, IsReport, trace_text};
-ghost use Rattle.chord_output.specs.Beginning.{IsBeginning};
+ghost use Rattle.std.specs.Prelude.{◌≡◌, ◌≢◌, ◌⊎◌, ◌<◌, ◌≤◌, false, length, OnOk, IfOk, IfErr, Err};
+ghost use Rattle.chord_machine.specs.Run.{HasTooManyEvents};
+ghost use Rattle.chord_output.specs.Runs.{IsRun};
 ghost use Rattle.chord_scenario.specs.World.{node_count};
 ghost use Rattle.chord_trace.specs.Watched.{wrapped, has_failed};
+ghost use Rattle.chord_trace.specs.Writing.{is_write};
 ghost use Rattle.chord_window.specs.Exchanges.{AreDone};
 ghost use Rattle.chord_window.specs.PartRuns.{IsNextWindow};
 
@@ -82,16 +82,9 @@ pub fn run_crew<R: Threads + Wait + Sync, G: Gate + Sync, W: Write>(
 ) -> Result<Report, RunError>
     requires workers { (0 < workers) × (workers ≤ MOST_SEATS) }
     requires sound { has_failed writer.old ≡ false }
-    ensures trace { OnOk result (Appends (W.contents (wrapped writer.old)) (W.contents (wrapped writer.new)) (trace_text scenario.now)) }
-    ensures report { IfOk result (λ report. IsReport scenario.now report) }
+    ensures run { IsRun scenario.now (W.contents (wrapped writer.old)) (W.contents (wrapped writer.new)) result }
+    ensures writer { has_failed writer.new ≡ is_write result }
     ensures divides { OnOk result (length division.now.of_node ≡ node_count scenario.now) }
-    ensures within { OnOk result (HasTooManyEvents scenario.now → ⊥) }
-    ensures beginning { IsBeginning scenario.now (W.contents (wrapped writer.old)) (W.contents (wrapped writer.new)) }
-    ensures sound { OnOk result (has_failed writer.new ≡ false) }
-    ensures failed { result ≡ Err RunError.Write → has_failed writer.new ≡ true }
-    ensures memory { result ≡ Err RunError.Memory → has_failed writer.new ≡ false }
-    ensures worker { result ≡ Err RunError.Worker → has_failed writer.new ≡ false }
-    ensures over { result ≡ Err RunError.TooManyEvents → (HasTooManyEvents scenario.now) × (has_failed writer.new ≡ false) }
     ensures bad { result ≡ Err RunError.BadDivision → (length division.now.of_node ≢ node_count scenario.now) × (writer.new ≡ writer.old) }
 {
     run_crew_started(
@@ -124,16 +117,9 @@ pub fn run_crew_started<R: Threads + Wait + Sync, S: Starter, G: Gate + Sync, W:
 ) -> Result<Report, RunError>
     requires workers { (0 < workers) × (workers ≤ MOST_SEATS) }
     requires sound { has_failed writer.old ≡ false }
-    ensures trace { OnOk result (Appends (W.contents (wrapped writer.old)) (W.contents (wrapped writer.new)) (trace_text scenario.now)) }
-    ensures report { IfOk result (λ report. IsReport scenario.now report) }
+    ensures run { IsRun scenario.now (W.contents (wrapped writer.old)) (W.contents (wrapped writer.new)) result }
+    ensures writer { has_failed writer.new ≡ is_write result }
     ensures divides { OnOk result (length division.now.of_node ≡ node_count scenario.now) }
-    ensures within { OnOk result (HasTooManyEvents scenario.now → ⊥) }
-    ensures beginning { IsBeginning scenario.now (W.contents (wrapped writer.old)) (W.contents (wrapped writer.new)) }
-    ensures sound { OnOk result (has_failed writer.new ≡ false) }
-    ensures failed { result ≡ Err RunError.Write → has_failed writer.new ≡ true }
-    ensures memory { result ≡ Err RunError.Memory → has_failed writer.new ≡ false }
-    ensures worker { result ≡ Err RunError.Worker → has_failed writer.new ≡ false }
-    ensures over { result ≡ Err RunError.TooManyEvents → (HasTooManyEvents scenario.now) × (has_failed writer.new ≡ false) }
     ensures bad { result ≡ Err RunError.BadDivision → (length division.now.of_node ≢ node_count scenario.now) × (writer.new ≡ writer.old) }
 {
     scenario.recall_range();

@@ -1,11 +1,10 @@
 //! Runs by crews whose nodes are divided again before each window.
-ghost use Rattle.std.specs.Prelude.{◌≡◌, ◌≢◌, ◌<◌, ◌≤◌, true, false, length, OnOk, IfOk, Err};
-ghost use Rattle.std.specs.Io.KnownBytes.{Appends};
-ghost use Rattle.chord_machine.specs.Run.{HasTooManyEvents, IsReport, trace_text};
+ghost use Rattle.std.specs.Prelude.{◌≡◌, ◌≢◌, ◌<◌, ◌≤◌, false, length, Err};
 ghost use Rattle.chord_model.specs.Windows.{Division as ADivision};
-ghost use Rattle.chord_output.specs.Beginning.{IsBeginning};
+ghost use Rattle.chord_output.specs.Runs.{IsRun};
 ghost use Rattle.chord_scenario.specs.World.{node_count};
 ghost use Rattle.chord_trace.specs.Watched.{wrapped, has_failed};
+ghost use Rattle.chord_trace.specs.Writing.{is_write};
 
 use crate::crew_run::run_parts;
 use crate::dealer::Dealer;
@@ -40,15 +39,8 @@ pub fn run_crew_dealt<R: Threads + Wait + Sync, D: Dealer, G: Gate + Sync, W: Wr
 ) -> Result<Report, RunError>
     requires workers { (0 < workers) × (workers ≤ MOST_SEATS) }
     requires sound { has_failed writer.old ≡ false }
-    ensures trace { OnOk result (Appends (W.contents (wrapped writer.old)) (W.contents (wrapped writer.new)) (trace_text scenario.now)) }
-    ensures report { IfOk result (λ report. IsReport scenario.now report) }
-    ensures within { OnOk result (HasTooManyEvents scenario.now → ⊥) }
-    ensures beginning { IsBeginning scenario.now (W.contents (wrapped writer.old)) (W.contents (wrapped writer.new)) }
-    ensures sound { OnOk result (has_failed writer.new ≡ false) }
-    ensures failed { result ≡ Err RunError.Write → has_failed writer.new ≡ true }
-    ensures memory { result ≡ Err RunError.Memory → has_failed writer.new ≡ false }
-    ensures worker { result ≡ Err RunError.Worker → has_failed writer.new ≡ false }
-    ensures over { result ≡ Err RunError.TooManyEvents → (HasTooManyEvents scenario.now) × (has_failed writer.new ≡ false) }
+    ensures run { IsRun scenario.now (W.contents (wrapped writer.old)) (W.contents (wrapped writer.new)) result }
+    ensures writer { has_failed writer.new ≡ is_write result }
     ensures bad { result ≡ Err RunError.BadDivision → (has_failed writer.new ≡ false) × ((d : ADivision) × D.can_name (node_count scenario.now) d × (length d.of_node ≢ node_count scenario.now)) }
 {
     scenario.recall_range();

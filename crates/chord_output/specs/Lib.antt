@@ -1,2 +1,2 @@
-pub mod Beginning
 pub mod Output
+pub mod Runs

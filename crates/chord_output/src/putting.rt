@@ -1,5 +1,5 @@
 //! How blocks and audits are written to the trace and added to the tally of the report.
-ghost use Rattle.std.specs.Prelude.{◌≡◌, ◌⊎◌, ℕ, ◌+◌, ◌<◌, ◌≤◌, ◌^◌, ◌∷◌, [], true, false, length, nat_lt, OnOk, IfErr, Err};
+ghost use Rattle.std.specs.Prelude.{◌≡◌, ◌⊎◌, ℕ, ◌+◌, ◌<◌, ◌≤◌, ◌^◌, ◌∷◌, [], false, length, nat_lt, OnOk, IfErr};
 ghost use Rattle.std.specs.List.{All, filter};
 ghost use Rattle.chord_audit.specs.Audit.{AreStates};
 ghost use Rattle.chord_node.specs.declared.state.NodeState.{NodeState as AState};
@@ -11,7 +11,7 @@ ghost use Rattle.chord_trace.specs.declared.piece.Piece.TheVariants as piece;
 ghost use Rattle.chord_trace.specs.Tally.{taken};
 ghost use Rattle.chord_trace.specs.Texts.{pieces_text};
 ghost use Rattle.chord_trace.specs.Watched.{wrapped, has_failed};
-ghost use Rattle.chord_trace.specs.Writing.{AppendsFront};
+ghost use Rattle.chord_trace.specs.Writing.{AppendsFront, is_write};
 
 use chord_audit::audit;
 use chord_event::{Block, RunError};
@@ -37,9 +37,7 @@ pub fn put_block<W: Write>(
     ensures adds { OnOk result (Adds scenario.now (W.contents (wrapped writer.old)) (W.contents (wrapped writer.new)) tally.old tally.new (piece.OfEvent block.now ∷ [])) }
     ensures size { OnOk result (taken tally.new ≡ taken tally.old + 1) }
     ensures front { AppendsFront (W.contents (wrapped writer.old)) (W.contents (wrapped writer.new)) (pieces_text scenario.now (piece.OfEvent block.now ∷ [])) }
-    ensures sound { OnOk result (has_failed writer.new ≡ false) }
-    ensures failed { result ≡ Err RunError.Write → has_failed writer.new ≡ true }
-    ensures memory { result ≡ Err RunError.Memory → has_failed writer.new ≡ false }
+    ensures writer { has_failed writer.new ≡ is_write result }
     ensures only { IfErr result (λ e. (e ≡ RunError.Memory) ⊎ (e ≡ RunError.Write)) }
 {
     write_block(alloc, scenario, block, writer)?;
@@ -63,9 +61,7 @@ fn put_audit<W: Write>(
     ensures adds { OnOk result ((state : ℕ → AState) → AreStates scenario.now states.now state → Adds scenario.now (W.contents (wrapped writer.old)) (W.contents (wrapped writer.new)) tally.old tally.new (audits_at scenario.now state (time ∷ []))) }
     ensures size { OnOk result (taken tally.new ≡ taken tally.old + 1) }
     ensures front { (state : ℕ → AState) → AreStates scenario.now states.now state → AppendsFront (W.contents (wrapped writer.old)) (W.contents (wrapped writer.new)) (pieces_text scenario.now (audits_at scenario.now state (time ∷ []))) }
-    ensures sound { OnOk result (has_failed writer.new ≡ false) }
-    ensures failed { result ≡ Err RunError.Write → has_failed writer.new ≡ true }
-    ensures memory { result ≡ Err RunError.Memory → has_failed writer.new ≡ false }
+    ensures writer { has_failed writer.new ≡ is_write result }
     ensures only { IfErr result (λ e. (e ≡ RunError.Memory) ⊎ (e ≡ RunError.Write)) }
 {
     let line = audit(alloc, scenario, states, time)?;
@@ -93,9 +89,7 @@ pub fn put_audits<W: Write>(
     ensures left { OnOk result (clock.new ≡ filter (λ t. nat_lt time t) clock.old) }
     ensures size { OnOk result (taken tally.new + length clock.new ≡ taken tally.old + length clock.old) }
     ensures front { (state : ℕ → AState) → AreStates scenario.now states.now state → AppendsFront (W.contents (wrapped writer.old)) (W.contents (wrapped writer.new)) (pieces_text scenario.now (audits_at scenario.now state (due time clock.old))) }
-    ensures sound { OnOk result (has_failed writer.new ≡ false) }
-    ensures failed { result ≡ Err RunError.Write → has_failed writer.new ≡ true }
-    ensures memory { result ≡ Err RunError.Memory → has_failed writer.new ≡ false }
+    ensures writer { has_failed writer.new ≡ is_write result }
     ensures only { IfErr result (λ e. (e ≡ RunError.Memory) ⊎ (e ≡ RunError.Write)) }
 {
     while let Some(at) = clock.take_due(time) {

@@ -81,7 +81,7 @@ use Rattle.chord_scenario.specs.Start.{start_events}
 use Rattle.chord_scenario.specs.World.{node_count}
 use Rattle.chord_serial.specs.declared.engine.Engine.{Engine}
 use Rattle.chord_serial.specs.Engine.{HasTaken, IsAt}
-use Rattle.chord_output.specs.Beginning.{IsBeginning}
+use Rattle.chord_output.specs.Runs.{IsBeginning}
 use Rattle.chord_output.specs.Output.{Adds, audits_at, due}
 use Rattle.chord_output.proofs.Ends.{audits-few, audits_at_start, whole_trace_is}
 use Rattle.chord_output.proofs.Outputs.{adds_then, fronts_longer, fronts_then, texts-append}

@@ -1,11 +1,11 @@
 //! The engine that takes one event at a time.
-ghost use Rattle.std.specs.Prelude.{◌≡◌, ◌⊎◌, ℕ, ◌+◌, ◌<◌, ◌≤◌, List, Option, None, true, false, OnOk, IfOk, IfErr, IfSome, Ok, Err};
-ghost use Rattle.std.specs.Io.KnownBytes.{Appends};
+ghost use Rattle.std.specs.Prelude.{◌≡◌, ◌⊎◌, ℕ, ◌+◌, ◌≤◌, List, Option, None, false, OnOk, IfOk, IfErr, IfSome, Ok, Err};
 ghost use Rattle.std.specs.List.{All};
-ghost use Rattle.chord_machine.specs.Run.{HasTooManyEvents, IsReport, trace_text};
+ghost use Rattle.chord_machine.specs.Run.{HasTooManyEvents};
 ghost use Rattle.chord_serial.specs.Engine.{HasTaken, IsAt};
-ghost use Rattle.chord_output.specs.Beginning.{IsBeginning};
+ghost use Rattle.chord_output.specs.Runs.{IsBeginning, IsRun};
 ghost use Rattle.chord_trace.specs.Watched.{wrapped, has_failed};
+ghost use Rattle.chord_trace.specs.Writing.{is_write};
 
 use chord_event::{Event, RunError};
 use chord_machine::AuditClock;
@@ -86,9 +86,7 @@ impl Engine {
         ensures at { OnOk result ((old : Option (List ℕ)) → HasTaken scenario.now old (W.contents (wrapped writer.old)) self.old event.now → IsAt scenario.now old (W.contents (wrapped writer.new)) self.new) }
         ensures count { OnOk result (self.new.count ≡ self.old.count + 1) }
         ensures front { (old : Option (List ℕ)) → HasTaken scenario.now old (W.contents (wrapped writer.old)) self.old event.now → IsBeginning scenario.now old (W.contents (wrapped writer.new)) }
-        ensures sound { OnOk result (has_failed writer.new ≡ false) }
-        ensures failed { result ≡ Err RunError.Write → has_failed writer.new ≡ true }
-        ensures memory { result ≡ Err RunError.Memory → has_failed writer.new ≡ false }
+        ensures writer { has_failed writer.new ≡ is_write result }
         ensures only { IfErr result (λ e. (e ≡ RunError.Memory) ⊎ (e ≡ RunError.Write)) }
     {
         scenario.recall_range();
@@ -119,13 +117,8 @@ impl Engine {
         requires at { (old : Option (List ℕ)) × IsAt scenario.now old (W.contents (wrapped writer.old)) self.old }
         requires ended { All (λ e. scenario.now.duration ≤ e.key.time) self.old.pending }
         requires sound { has_failed writer.old ≡ false }
-        ensures whole { OnOk result ((old : Option (List ℕ)) → IsAt scenario.now old (W.contents (wrapped writer.old)) self.old → Appends old (W.contents (wrapped writer.new)) (trace_text scenario.now)) }
-        ensures report { IfOk result (λ report. IsReport scenario.now report) }
-        ensures within { OnOk result (HasTooManyEvents scenario.now → ⊥) }
-        ensures front { (old : Option (List ℕ)) → IsAt scenario.now old (W.contents (wrapped writer.old)) self.old → IsBeginning scenario.now old (W.contents (wrapped writer.new)) }
-        ensures sound { OnOk result (has_failed writer.new ≡ false) }
-        ensures failed { result ≡ Err RunError.Write → has_failed writer.new ≡ true }
-        ensures memory { result ≡ Err RunError.Memory → has_failed writer.new ≡ false }
+        ensures run { (old : Option (List ℕ)) → IsAt scenario.now old (W.contents (wrapped writer.old)) self.old → IsRun scenario.now old (W.contents (wrapped writer.new)) result }
+        ensures writer { has_failed writer.new ≡ is_write result }
         ensures only { IfErr result (λ e. (e ≡ RunError.Memory) ⊎ (e ≡ RunError.Write)) }
     {
         scenario.recall_range();

@@ -1,11 +1,11 @@
 //! The text of an event's block.
-ghost use Rattle.std.specs.Prelude.{◌≡◌, ◌⊎◌, ◌<◌, ◌++◌, true, false, OnOk, IfErr, string_bytes, Err};
+ghost use Rattle.std.specs.Prelude.{◌≡◌, ◌⊎◌, ◌<◌, ◌++◌, false, OnOk, IfErr, string_bytes};
 ghost use Rattle.std.specs.Io.KnownBytes.{Appends};
 ghost use Rattle.chord_scenario.specs.World.{node_count};
 ghost use Rattle.chord_scenario.specs.Blocks.{IsBlockOf, IsLineOf};
 ghost use Rattle.chord_trace.specs.Texts.{message_text, command_text, line_words, line_text, block_text};
 ghost use Rattle.chord_trace.specs.Watched.{wrapped, has_failed};
-ghost use Rattle.chord_trace.specs.Writing.{AppendsFront};
+ghost use Rattle.chord_trace.specs.Writing.{AppendsFront, is_write};
 
 use crate::watched::Watched;
 use crate::writing::write_text;
@@ -27,9 +27,7 @@ pub fn write_block<W: Write>(
     requires sound { has_failed writer.old ≡ false }
     ensures whole { OnOk result (Appends (W.contents (wrapped writer.old)) (W.contents (wrapped writer.new)) (block_text scenario.now block.now)) }
     ensures front { AppendsFront (W.contents (wrapped writer.old)) (W.contents (wrapped writer.new)) (block_text scenario.now block.now) }
-    ensures sound { OnOk result (has_failed writer.new ≡ false) }
-    ensures failed { result ≡ Err RunError.Write → has_failed writer.new ≡ true }
-    ensures memory { result ≡ Err RunError.Memory → has_failed writer.new ≡ false }
+    ensures writer { has_failed writer.new ≡ is_write result }
     ensures only { IfErr result (λ e. (e ≡ RunError.Memory) ⊎ (e ≡ RunError.Write)) }
 {
     let mut text = String::new(alloc);

@@ -1,11 +1,11 @@
 //! The report of a run.
-ghost use Rattle.std.specs.Prelude.{◌≡◌, ◌⊎◌, ℕ, ◌++◌, true, false, List, map, OnOk, IfErr, string_bytes, Err};
+ghost use Rattle.std.specs.Prelude.{◌≡◌, ◌⊎◌, ℕ, ◌++◌, false, List, map, OnOk, IfErr, string_bytes};
 ghost use Rattle.std.specs.Io.KnownBytes.{Appends};
 ghost use Rattle.std.specs.List.Sorted.{IsPermutation};
 ghost use Rattle.chord_trace.specs.Report.{IsReportOf};
 ghost use Rattle.chord_trace.specs.ReportText.{numbers_of, report_text, number_text};
 ghost use Rattle.chord_trace.specs.Watched.{wrapped, has_failed};
-ghost use Rattle.chord_trace.specs.Writing.{AppendsFront};
+ghost use Rattle.chord_trace.specs.Writing.{AppendsFront, is_write};
 ghost use Rattle.chord_trace.specs.declared.piece.Piece.{Piece};
 
 use crate::audit_counts::AuditCounts;
@@ -41,9 +41,7 @@ impl Report {
         requires { has_failed writer.old ≡ false }
         ensures whole { OnOk result (Appends (W.contents (wrapped writer.old)) (W.contents (wrapped writer.new)) (report_text self.now)) }
         ensures front { AppendsFront (W.contents (wrapped writer.old)) (W.contents (wrapped writer.new)) (report_text self.now) }
-        ensures sound { OnOk result (has_failed writer.new ≡ false) }
-        ensures failed { result ≡ Err RunError.Write → has_failed writer.new ≡ true }
-        ensures memory { result ≡ Err RunError.Memory → has_failed writer.new ≡ false }
+        ensures writer { has_failed writer.new ≡ is_write result }
         ensures only { IfErr result (λ e. (e ≡ RunError.Memory) ⊎ (e ≡ RunError.Write)) }
     {
         let mut text = String::new(alloc);

@@ -1,8 +1,8 @@
 //! Writing a text.
-ghost use Rattle.std.specs.Prelude.{◌≡◌, true, false, OnOk, OnErr, IfErr};
+ghost use Rattle.std.specs.Prelude.{◌≡◌, false, OnOk, IfErr};
 ghost use Rattle.std.specs.Io.KnownBytes.{Appends};
 ghost use Rattle.chord_trace.specs.Watched.{wrapped, has_failed};
-ghost use Rattle.chord_trace.specs.Writing.{AppendsFront};
+ghost use Rattle.chord_trace.specs.Writing.{AppendsFront, is_write};
 
 use crate::watched::Watched;
 use chord_event::RunError;
@@ -14,8 +14,7 @@ pub fn write_text<W: Write>(text: &[u8], writer: &mut Watched<W>) -> Result<(), 
     requires { has_failed writer.old ≡ false }
     ensures whole { OnOk result (Appends (W.contents (wrapped writer.old)) (W.contents (wrapped writer.new)) text.now) }
     ensures front { AppendsFront (W.contents (wrapped writer.old)) (W.contents (wrapped writer.new)) text.now }
-    ensures sound { OnOk result (has_failed writer.new ≡ false) }
-    ensures failed { OnErr result (has_failed writer.new ≡ true) }
+    ensures writer { has_failed writer.new ≡ is_write result }
     ensures only { IfErr result (λ e. e ≡ RunError.Write) }
 {
     let mut taken = 0;

@@ -41,7 +41,7 @@ use Rattle.chord_model.proofs.Horizons.{whole_from}
 use Rattle.chord_model.proofs.Runs.{history_is_legal}
 use Rattle.chord_scenario.specs.declared.scenario.Scenario.{Scenario}
 use Rattle.chord_scenario.specs.Range.{IsInRange}
-use Rattle.chord_output.specs.Beginning.{IsBeginning}
+use Rattle.chord_output.specs.Runs.{IsBeginning}
 use Rattle.chord_output.specs.Output.{Adds, audits_at, due}
 use Rattle.chord_output.proofs.Ends.{audits-few, audits_at_start, whole_trace_is}
 use Rattle.chord_output.proofs.Outputs.{fronts_then, texts-append}

@@ -52,7 +52,7 @@ use Rattle.chord_node.specs.Invariant.{AllNodes}
 use Rattle.chord_scenario.specs.declared.scenario.Scenario.{Scenario}
 use Rattle.chord_scenario.specs.Range.{IsInRange}
 use Rattle.chord_scenario.specs.World.{node_count}
-use Rattle.chord_output.specs.Beginning.{IsBeginning}
+use Rattle.chord_output.specs.Runs.{IsBeginning}
 use Rattle.chord_output.specs.Output.{Adds, audits_at, due}
 use Rattle.chord_output.proofs.Outputs.{fronts_longer, fronts_then, texts-append}
 use Rattle.chord_trace.proofs.Fronts.{front_of_whole}

@@ -1,12 +1,14 @@
 -- Runs whose workers take their steps in turn.
-use Rattle.std.specs.Prelude.{◌≡◌, ◌++◌, ℕ, List, [], map}
+use Rattle.std.specs.Prelude.{◌≡◌, ◌++◌, ℕ, List, [], map, Result, Ok, Err}
 use Rattle.chord_event.specs.declared.body.Body.{Body}
+use Rattle.chord_event.specs.declared.error.RunError.{RunError}
 use Rattle.chord_event.specs.declared.event.Event.{Event}
 use Rattle.chord_machine.specs.Chord.{chord}
 use Rattle.chord_model.specs.Histories.{history}
 use Rattle.chord_model.specs.Schedules.{Goes, begun}
 use Rattle.chord_model.specs.Windows.{Division, Step}
 use Rattle.chord_scenario.specs.declared.scenario.Scenario.{Scenario}
+use Rattle.chord_trace.specs.declared.report.Report.{Report}
 use Rattle.chord_window.specs.declared.taken.Taken.{Taken}
 use Rattle.chord_window.specs.Picked.{shown}
 
@@ -25,3 +27,8 @@ pub record HasCome (sc : Scenario) (d : Division) (workers : ℕ) (picks rest : 
   pub leads : (more : List (ℕ × Step Body)) (h : List (Event Body)) → Goes (chord sc) (λ _. d) workers
       (begun (chord sc) number (history (chord sc) count)) rest more h
       → Goes (chord sc) (λ _. d) workers (begun (chord sc) 0 []) picks (steps ++ more) h
+
+-- the result without the steps
+abbrev pub report_in : {S : Type 0} → Result (Report × S) RunError → Result Report RunError
+report_in (Ok run) = Ok run.0
+report_in (Err error) = Err error

@@ -1,14 +1,14 @@
 //! The engine of all runs by windows, from the start to the report.
-ghost use Rattle.std.specs.Prelude.{◌≡◌, ◌≢◌, ◌⊎◌, ℕ, ◌+◌, ◌<◌, List, Option, None, Some, true, false, length, OnOk, IfOk, IfErr, Err};
+ghost use Rattle.std.specs.Prelude.{◌≡◌, ◌≢◌, ◌⊎◌, ℕ, ◌+◌, ◌<◌, List, Option, None, Some, false, length, OnOk, IfOk, IfErr, Err};
 ghost use Rattle.std.specs.List.{All, flat_map};
-ghost use Rattle.chord_machine.specs.Run.{HasTooManyEvents, IsReport, trace_text};
+ghost use Rattle.chord_machine.specs.Run.{HasTooManyEvents};
 ghost use Rattle.std.specs.Io.KnownBytes.{Appends};
 ghost use Rattle.chord_scenario.specs.World.{node_count};
-ghost use Rattle.chord_output.specs.Beginning.{IsBeginning};
+ghost use Rattle.chord_output.specs.Runs.{IsBeginning, IsRun};
 ghost use Rattle.chord_scenario.specs.Blocks.{IsBlockOf};
 ghost use Rattle.chord_trace.specs.Texts.{block_text};
 ghost use Rattle.chord_trace.specs.Watched.{wrapped, has_failed};
-ghost use Rattle.chord_trace.specs.Writing.{AppendsFront};
+ghost use Rattle.chord_trace.specs.Writing.{AppendsFront, is_write};
 ghost use Rattle.chord_window.specs.Engine.{IsAt};
 ghost use Rattle.chord_window.specs.Exchanges.{AreDone, events_in};
 
@@ -47,9 +47,7 @@ fn write_blocks<W: Write>(
     requires sound { has_failed writer.old ≡ false }
     ensures whole { OnOk result (Appends (W.contents (wrapped writer.old)) (W.contents (wrapped writer.new)) (flat_map (block_text scenario.now) blocks.now)) }
     ensures front { AppendsFront (W.contents (wrapped writer.old)) (W.contents (wrapped writer.new)) (flat_map (block_text scenario.now) blocks.now) }
-    ensures sound { OnOk result (has_failed writer.new ≡ false) }
-    ensures failed { result ≡ Err RunError.Write → has_failed writer.new ≡ true }
-    ensures memory { result ≡ Err RunError.Memory → has_failed writer.new ≡ false }
+    ensures writer { has_failed writer.new ≡ is_write result }
     ensures only { IfErr result (λ e. (e ≡ RunError.Memory) ⊎ (e ≡ RunError.Write)) }
 {
     for block in blocks {
@@ -142,13 +140,8 @@ impl Engine {
         requires at { (old : Option (List ℕ)) × IsAt scenario.now old (W.contents (wrapped writer.old)) self }
         requires ended { self.world.opening ≡ None }
         requires sound { has_failed writer.old ≡ false }
-        ensures whole { OnOk result ((old : Option (List ℕ)) → IsAt scenario.now old (W.contents (wrapped writer.old)) self → Appends old (W.contents (wrapped writer.new)) (trace_text scenario.now)) }
-        ensures report { IfOk result (λ report. IsReport scenario.now report) }
-        ensures within { OnOk result (HasTooManyEvents scenario.now → ⊥) }
-        ensures front { (old : Option (List ℕ)) → IsAt scenario.now old (W.contents (wrapped writer.old)) self → IsBeginning scenario.now old (W.contents (wrapped writer.new)) }
-        ensures sound { OnOk result (has_failed writer.new ≡ false) }
-        ensures failed { result ≡ Err RunError.Write → has_failed writer.new ≡ true }
-        ensures memory { result ≡ Err RunError.Memory → has_failed writer.new ≡ false }
+        ensures run { (old : Option (List ℕ)) → IsAt scenario.now old (W.contents (wrapped writer.old)) self → IsRun scenario.now old (W.contents (wrapped writer.new)) result }
+        ensures writer { has_failed writer.new ≡ is_write result }
         ensures only { IfErr result (λ e. (e ≡ RunError.Memory) ⊎ (e ≡ RunError.Write)) }
     {
         scenario.recall_range();
@@ -191,10 +184,8 @@ impl Engine {
         ensures division { OnOk result (self.new.world.division ≡ self.old.world.division) }
         ensures more { OnOk result (self.old.world.count < self.new.world.count) }
         ensures front { (old : Option (List ℕ)) → IsAt scenario.now old (W.contents (wrapped writer.old)) self.old → IsBeginning scenario.now old (W.contents (wrapped writer.new)) }
-        ensures sound { OnOk result (has_failed writer.new ≡ false) }
-        ensures failed { result ≡ Err RunError.Write → has_failed writer.new ≡ true }
-        ensures memory { result ≡ Err RunError.Memory → has_failed writer.new ≡ false }
-        ensures over { result ≡ Err RunError.TooManyEvents → HasTooManyEvents scenario.now × (has_failed writer.new ≡ false) }
+        ensures writer { has_failed writer.new ≡ is_write result }
+        ensures over { result ≡ Err RunError.TooManyEvents → HasTooManyEvents scenario.now }
         ensures counted_first { scenario.now.max_events < self.old.world.count + events_in dones.items → (result ≡ Err RunError.TooManyEvents) × (writer.new ≡ writer.old) }
         ensures only { IfErr result (λ e. (e ≡ RunError.Memory) ⊎ (e ≡ RunError.TooManyEvents) ⊎ (e ≡ RunError.Write)) }
     {

@@ -1,11 +1,10 @@
 //! Runs whose workers take turns on the calling thread.
-ghost use Rattle.std.specs.Prelude.{◌≡◌, ◌≢◌, ◌⊎◌, ◌<◌, ◌≤◌, true, false, length, OnOk, IfOk, IfErr, Err};
-ghost use Rattle.std.specs.Io.KnownBytes.{Appends};
-ghost use Rattle.chord_machine.specs.Run.{HasTooManyEvents, IsReport, trace_text};
-ghost use Rattle.chord_output.specs.Beginning.{IsBeginning};
+ghost use Rattle.std.specs.Prelude.{◌≡◌, ◌≢◌, ◌⊎◌, ◌<◌, ◌≤◌, false, length, OnOk, IfOk, IfErr, Err};
+ghost use Rattle.chord_output.specs.Runs.{IsRun};
 ghost use Rattle.chord_scenario.specs.World.{node_count};
 ghost use Rattle.chord_trace.specs.Watched.{wrapped, has_failed};
-ghost use Rattle.chord_window.specs.PickedRuns.{AreStepsOf};
+ghost use Rattle.chord_trace.specs.Writing.{is_write};
+ghost use Rattle.chord_window.specs.PickedRuns.{AreStepsOf, report_in};
 
 use crate::division::Division;
 use crate::engine::Engine;
@@ -38,16 +37,10 @@ pub fn run_picked<W: Write>(
 ) -> Result<(Report, Vec<Taken>), RunError>
     requires workers { (0 < workers) × (workers ≤ 64) }
     requires sound { has_failed writer.old ≡ false }
-    ensures trace { OnOk result (Appends (W.contents (wrapped writer.old)) (W.contents (wrapped writer.new)) (trace_text scenario.now)) }
-    ensures report { IfOk result (λ run. IsReport scenario.now run.0) }
+    ensures run { IsRun scenario.now (W.contents (wrapped writer.old)) (W.contents (wrapped writer.new)) (report_in result) }
     ensures divides { OnOk result (length division.now.of_node ≡ node_count scenario.now) }
     ensures steps { IfOk result (λ run. AreStepsOf scenario.now division.now workers picks.now run.1.items) }
-    ensures within { OnOk result (HasTooManyEvents scenario.now → ⊥) }
-    ensures beginning { IsBeginning scenario.now (W.contents (wrapped writer.old)) (W.contents (wrapped writer.new)) }
-    ensures sound { OnOk result (has_failed writer.new ≡ false) }
-    ensures failed { result ≡ Err RunError.Write → has_failed writer.new ≡ true }
-    ensures memory { result ≡ Err RunError.Memory → has_failed writer.new ≡ false }
-    ensures over { result ≡ Err RunError.TooManyEvents → (HasTooManyEvents scenario.now) × (has_failed writer.new ≡ false) }
+    ensures writer { has_failed writer.new ≡ is_write result }
     ensures bad { result ≡ Err RunError.BadDivision → (length division.now.of_node ≢ node_count scenario.now) × (writer.new ≡ writer.old) }
     ensures only { IfErr result (λ e. (e ≡ RunError.Memory) ⊎ (e ≡ RunError.TooManyEvents) ⊎ (e ≡ RunError.Write) ⊎ (e ≡ RunError.BadDivision)) }
 {

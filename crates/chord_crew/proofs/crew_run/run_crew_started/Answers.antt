@@ -1,4 +1,5 @@
-use Rattle.std.proofs.Common.{◌∙◌, ap, subst, sym}
+use Rattle.std.proofs.Common.{◌∙◌, ap, rules, subst, sym, Err}
+use Rattle.chord_output.proofs.Runs.{run_stopped}
 use Rattle.chord_window.specs.declared.world.World.{World}
 use Rattle.chord_window.specs.Worlds.{IsWorldOf}
 use Rattle.chord_window.proofs.EngineCourse.{begin_at}
@@ -13,5 +14,6 @@ run_parts-requires-clause-window g c _ _ = record {
   next = (c.in-Some.opening.time, ap (λ (w : World). w.opening) c.world.ensures ∙ sym c.opening.ensures ∙ c.in-Some.is);
 }
 
-pub returns-in_err-dones-clause-beginning : goal.returns-in_err-dones-clause-beginning
-returns-in_err-dones-clause-beginning g c = begin_at c.args.scenario.now _ _ c.loop-opening.engine c.loop-opening.invariant.at
+pub returns-in_err-dones-clause-run : goal.returns-in_err-dones-clause-run
+returns-in_err-dones-clause-run g c = run_stopped c.args.scenario.now _ _ _ c.in_err-dones.field-0.0 (search (rules, c.from_residual-in_err-dones.ensures))
+    (λ is. c.in_err-dones.ensures.over (ap Err is)) (begin_at c.args.scenario.now _ _ c.loop-opening.engine c.loop-opening.invariant.at)

@@ -1,6 +1,8 @@
-use Rattle.std.proofs.Common.{◌≡◌, ◌≢◌, rules, ℕ, ◌≤◌, ◌∙◌, length, get_or, ap, arith, subst, sym}
+use Rattle.std.proofs.Common.{◌≡◌, ◌≢◌, rules, ℕ, ◌≤◌, ◌∙◌, length, get_or, ap, arith, subst, sym, Err}
 use Rattle.std.proofs.lemmas.List.FromFn.{length-map-range_with_len}
+use Rattle.chord_event.specs.declared.error.RunError.TheVariants as run
 use Rattle.chord_model.specs.Windows.{Division}
+use Rattle.chord_output.proofs.Runs.{run_refused, run_stopped}
 use Rattle.chord_scenario.specs.World.{node_count}
 use Rattle.chord_window.specs.declared.world.World.{World}
 use Rattle.chord_window.specs.Divisions.{dealt_part}
@@ -26,14 +28,20 @@ loop-opening-init g c =
       few = λ node. omega (arith, all_nought c.nodes-2.result node c.in_ok-loads.loads.items noughts);
     }
 
-pub returns-in_err-division-clause-beginning : goal.returns-in_err-division-clause-beginning
-returns-in_err-division-clause-beginning g c = begin_at c.args.scenario.now _ _ c.loop-opening.engine c.loop-opening.invariant.at
+pub returns-in_err-loads-clause-run : goal.returns-in_err-loads-clause-run
+returns-in_err-loads-clause-run g c = run_refused c.args.scenario.now _ _ run.Memory (search (rules, c.from_residual-in_err-loads.ensures)) (λ over. cc)
 
-pub returns-in_err-engine-2-clause-beginning : goal.returns-in_err-engine-2-clause-beginning
-returns-in_err-engine-2-clause-beginning g c = begin_at c.args.scenario.now _ _ c.loop-opening.engine c.loop-opening.invariant.at
+pub returns-in_err-division-clause-run : goal.returns-in_err-division-clause-run
+returns-in_err-division-clause-run g c = run_stopped c.args.scenario.now _ _ _ run.Memory (search (rules, c.from_residual-in_err-division.ensures))
+    (λ is. cc) (begin_at c.args.scenario.now _ _ c.loop-opening.engine c.loop-opening.invariant.at)
 
-pub returns-in_err-dones-clause-beginning : goal.returns-in_err-dones-clause-beginning
-returns-in_err-dones-clause-beginning g c = begin_at c.args.scenario.now _ _ c.loop-opening.engine c.loop-opening.invariant.at
+pub returns-in_err-engine-2-clause-run : goal.returns-in_err-engine-2-clause-run
+returns-in_err-engine-2-clause-run g c = run_stopped c.args.scenario.now _ _ _ c.in_err-engine-2.field-0.0 (search (rules, c.from_residual-in_err-engine-2.ensures))
+    (λ is. search (rules, is, c.in_err-engine-2.ensures.only)) (begin_at c.args.scenario.now _ _ c.loop-opening.engine c.loop-opening.invariant.at)
+
+pub returns-in_err-dones-clause-run : goal.returns-in_err-dones-clause-run
+returns-in_err-dones-clause-run g c = run_stopped c.args.scenario.now _ _ _ c.in_err-dones.field-0.0 (search (rules, c.from_residual-in_err-dones.ensures))
+    (λ is. c.in_err-dones.ensures.over (ap Err is)) (begin_at c.args.scenario.now _ _ c.loop-opening.engine c.loop-opening.invariant.at)
 
 pub run_parts-requires-clause-window : goal.run_parts-requires-clause-window
 run_parts-requires-clause-window g c _ _ = record {
@@ -72,7 +80,7 @@ loop-opening-preserved g c =
     let few : (node : ℕ) → get_or c.loop-opening.loads.items node 0 ≤ world.count = λ node. omega (arith, count, c.loop-opening.invariant.few node) in
     record {
       at = c.in_ok-put_window.ensures.at _ (c.in_ok-engine-2.ensures.at _ _ c.loop-opening.invariant.at);
-      sound = c.in_ok-put_window.ensures.sound;
+      sound = c.in_ok-put_window.ensures.writer;
       long = c.count_events.ensures.long ∙ c.loop-opening.invariant.long;
       few = still_few c.args.scenario.now world c.in-Some.opening.horizon _ c.in_ok-dones.dones.items c.as_slice-in-Some.result.now
           c.loop-opening.loads.items _ c.in_ok-dones.ensures.done c.as_slice-in-Some.ensures.value few c.count_events.ensures.counted

@@ -20,7 +20,7 @@ loop-at-preserved g c = record {
   left = sym (ap (filter (λ t. nat_lt c.args.time t)) c.in-Some.ensures.0 ∙ left-first c.args.time c.in-Some.at _ c.in-Some.ensures.1)
       ∙ c.loop-at.invariant.left;
   size = omega (arith, c.in_ok-put_audit.ensures.size, c.loop-at.invariant.size, ap length c.in-Some.ensures.0);
-  sound = c.in_ok-put_audit.ensures.sound;
+  sound = c.in_ok-put_audit.ensures.writer;
 }
 
 pub returns-in_err-put_audit-clause-front : goal.returns-in_err-put_audit-clause-front

@@ -1,8 +1,11 @@
-use Rattle.std.proofs.Common.{◌∙◌, ap, arith, drop, length, subst, sym}
+use Rattle.std.proofs.Common.{◌≡◌, ◌∙◌, ap, arith, drop, length, rules, subst, sym, Err}
+use Rattle.chord_event.specs.declared.error.RunError.TheVariants as run
 use Rattle.chord_model.specs.Windows.{Division as ADivision}
+use Rattle.chord_output.proofs.Runs.{run_refused, run_stopped}
 use Rattle.chord_window.specs.declared.world.World.{World}
 use Rattle.chord_window.specs.Exchanges.{events_in}
 use Rattle.chord_window.specs.Picked.{HasStepped}
+use Rattle.chord_window.specs.PickedRuns.{report_in}
 use Rattle.chord_window.specs.Worlds.{IsWorldOf}
 use Rattle.chord_window.proofs.EngineCourse.{begin_at}
 use Rattle.chord_window.proofs.PickedCourse.{all_steps, come_first, come_on}
@@ -26,15 +29,21 @@ run-requires-clause-window g c = record {
   next = (c.in-Some.opening.time, ap (λ (w : World). w.opening) c.world.ensures ∙ sym c.opening.ensures ∙ c.in-Some.is);
 }
 
-pub returns-in_err-dones-clause-beginning : goal.returns-in_err-dones-clause-beginning
-returns-in_err-dones-clause-beginning g c = begin_at c.args.scenario.now _ _ c.loop-opening.engine c.loop-opening.invariant.at
+pub returns-in_err-picked-clause-run : goal.returns-in_err-picked-clause-run
+returns-in_err-picked-clause-run g c =
+    let is : c.from_residual-in_err-picked.result ≡ Err run.Memory = search (rules, c.from_residual-in_err-picked.ensures) in
+    run_refused c.args.scenario.now _ _ run.Memory (ap report_in is) (λ over. cc)
+
+pub returns-in_err-dones-clause-run : goal.returns-in_err-dones-clause-run
+returns-in_err-dones-clause-run g c = run_stopped c.args.scenario.now _ _ _ c.in_err-dones.field-0.0 (search (rules, c.from_residual-in_err-dones.ensures))
+    (λ is. c.in_err-dones.ensures.over (ap Err is)) (begin_at c.args.scenario.now _ _ c.loop-opening.engine c.loop-opening.invariant.at)
 
 pub loop-opening-preserved : goal.loop-opening-preserved
 loop-opening-preserved g c =
     let inv = c.loop-opening.invariant in
     record {
       at = c.in_ok-put_window.ensures.at _ inv.at;
-      sound = c.in_ok-put_window.ensures.sound;
+      sound = c.in_ok-put_window.ensures.writer;
       division = c.in_ok-put_window.ensures.division ∙ inv.division;
       workers = c.in_ok-dones.ensures.workers ∙ inv.workers;
       idle = c.in_ok-dones.ensures.idle;

@@ -38,11 +38,9 @@ use Rattle.chord_window.proofs.WindowOutput.{can_merge}
 use Rattle.chord_window.proofs.engine.Engine.put_window.Goals as goal
 
 pub returns-in_default-clause-over : goal.returns-in_default-clause-over
-returns-in_default-clause-over g c = λ _. (
-  exchange_over c.args.scenario.now c.recall_range.ensures c.args.self.now.world c.requires.at.1.world c.args.opening.horizon c.args.dones.items
-      c.requires.done (omega (arith, c.in_default.ensures.none refl, ap events_in c.as_slice.ensures.value, c.max_events.ensures, c.requires.at.1.world.within)),
-  c.requires.sound,
-)
+returns-in_default-clause-over g c = λ _.
+    exchange_over c.args.scenario.now c.recall_range.ensures c.args.self.now.world c.requires.at.1.world c.args.opening.horizon c.args.dones.items
+    c.requires.done (omega (arith, c.in_default.ensures.none refl, ap events_in c.as_slice.ensures.value, c.max_events.ensures, c.requires.at.1.world.within))
 
 pub returns-in_default-clause-front : goal.returns-in_default-clause-front
 returns-in_default-clause-front g c = λ old t. begin_at c.args.scenario.now old _ c.args.self.now t
