@@ -36,6 +36,8 @@ mod gates;
 #[cfg(test)]
 mod largest;
 #[cfg(test)]
+mod planned_runs;
+#[cfg(test)]
 mod plans;
 #[cfg(test)]
 mod random;

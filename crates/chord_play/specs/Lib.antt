@@ -1,4 +1,5 @@
 pub mod Faults
 pub mod Plans
 pub mod Played
+pub mod Readings
 pub mod Texts

@@ -2,9 +2,9 @@
 use Rattle.std.specs.Prelude.{ℕ, map}
 use Rattle.std.specs.List.{range_with_len}
 use Rattle.chord_model.specs.Windows.{Division}
-use Rattle.chord_play.specs.declared.plan.Plan.{Plan}
-use Rattle.chord_play.specs.declared.plan.Split.{Split}
-use Rattle.chord_play.specs.declared.plan.Split.TheVariants as split
+use Rattle.chord_plan.specs.declared.plan.Plan.{Plan}
+use Rattle.chord_plan.specs.declared.plan.Split.{Split}
+use Rattle.chord_plan.specs.declared.plan.Split.TheVariants as split
 use Rattle.chord_window.specs.Divisions.{block_part, dealt_part}
 
 -- the part of a node, of this number of nodes in this number of parts

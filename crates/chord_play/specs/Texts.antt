@@ -18,10 +18,6 @@ IsTooLong text = IfSome text (λ bytes. most_bytes < length bytes)
 abbrev pub IsShort : Option (List ℕ) → Type 0
 IsShort text = IfSome text (λ bytes. length bytes ≤ most_bytes)
 
--- neither text is too long
-abbrev pub AreShort : (scenario latency : Option (List ℕ)) → Type 0
-AreShort scenario latency = IsShort scenario × IsShort latency
-
 -- a text that is too long was read one byte beyond the limit, and no further
 pub record IsCutOff (old new : Option (List ℕ)) : Type 0 where
   pub long : IsTooLong old

@@ -2,9 +2,9 @@
 ghost use Rattle.std.specs.Prelude.{◌≡◌};
 ghost use Rattle.chord_play.specs.Faults.{fault_of_text};
 
-use crate::reading::TextFault;
-use crate::text::Text;
+use crate::text_reader::TextFault;
 use chord_event::RunError;
+use chord_plan::Text;
 use chord_scenario::ScenarioFault;
 use std::alloc::AllocError;
 

@@ -2,13 +2,13 @@
 #![tactic(auto)]
 
 mod fault;
-mod plan;
 mod playing;
-mod reading;
 mod running;
-mod text;
+mod text_reader;
 
+pub use chord_plan::{Plan, Split, Text};
 pub use fault::PlayFault;
-pub use plan::{Plan, Split};
 pub use playing::{load, play};
-pub use text::Text;
+// `play` runs a scenario by it. It is public so that a test can count the threads and see the parts.
+#[doc(hidden)]
+pub use running::run_planned;

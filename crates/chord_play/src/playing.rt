@@ -1,19 +1,19 @@
 //! From bytes to bytes: `load` and `play`.
-ghost use Rattle.std.specs.Prelude.{◌≡◌, ◌≢◌, ◌⊎◌, true, false, IfErr, IfOk, OnOk, Err};
+ghost use Rattle.std.specs.Prelude.{◌≡◌, ◌⊎◌, false, IfErr, IfOk, OnOk, Ok, Err};
 ghost use Rattle.chord_event.specs.declared.error.RunError.{RunError};
-ghost use Rattle.chord_play.specs.Faults.{is_of_run};
-ghost use Rattle.chord_play.specs.Played.{HasBegun, IsOver, IsPlayed};
-ghost use Rattle.chord_play.specs.Texts.{AreShort, Gives, IsCutOff, IsShort, Lacks};
-ghost use Rattle.chord_scenario.specs.declared.fault.ScenarioFault.{ScenarioFault};
+ghost use Rattle.chord_play.specs.Faults.{is_of_run, is_write_fault};
+ghost use Rattle.chord_play.specs.Played.{IsPlayed};
+ghost use Rattle.chord_play.specs.Readings.{IsFaultOf, WasRead, reading};
+ghost use Rattle.chord_play.specs.Texts.{Gives};
 ghost use Rattle.chord_trace.specs.Watched.{wrapped, has_failed};
 
 use crate::fault::{PlayFault, fault_of_text};
-use crate::plan::Plan;
-use crate::reading::read_text;
 use crate::running::run_planned;
-use crate::text::Text;
+use crate::text_reader::read_text;
+use chord_crew::{AllStart, OpenGate};
 use chord_event::RunError;
-use chord_scenario::{Scenario, ScenarioFault, read_scenario};
+use chord_plan::{Plan, Text};
+use chord_scenario::{Scenario, read_scenario};
 use chord_trace::{Report, Watched};
 use std::alloc::Global;
 use std::io::{Read, Write};
@@ -30,15 +30,8 @@ pub fn load<R: Read, Q: Read>(
     requires scenario_sound { has_failed scenario.old ≡ false }
     requires latency_sound { has_failed latency.old ≡ false }
     ensures accepted { IfOk result (Gives (R.remaining (wrapped scenario.old)) (Q.remaining (wrapped latency.old))) }
-    ensures short { OnOk result (AreShort (R.remaining (wrapped scenario.old)) (Q.remaining (wrapped latency.old))) }
-    ensures refused { (e : ScenarioFault) → result ≡ Err (PlayFault.Scenario e) → (e ≢ ScenarioFault.Memory) × Lacks (R.remaining (wrapped scenario.old)) (Q.remaining (wrapped latency.old)) e }
-    ensures refused_short { (e : ScenarioFault) → result ≡ Err (PlayFault.Scenario e) → AreShort (R.remaining (wrapped scenario.old)) (Q.remaining (wrapped latency.old)) }
-    ensures unread_scenario { result ≡ Err (PlayFault.Read Text.Scenario) → has_failed scenario.new ≡ true }
-    ensures unread_latency { result ≡ Err (PlayFault.Read Text.Latency) → has_failed latency.new ≡ true }
-    ensures long_scenario { result ≡ Err (PlayFault.TooLong Text.Scenario) → IsCutOff (R.remaining (wrapped scenario.old)) (R.remaining (wrapped scenario.new)) }
-    ensures long_latency { result ≡ Err (PlayFault.TooLong Text.Latency) → IsCutOff (Q.remaining (wrapped latency.old)) (Q.remaining (wrapped latency.new)) }
-    ensures scenario_first { (result ≡ Err (PlayFault.Read Text.Scenario)) ⊎ (result ≡ Err (PlayFault.TooLong Text.Scenario)) → latency.new ≡ latency.old }
-    ensures latency_second { (result ≡ Err (PlayFault.Read Text.Latency)) ⊎ (result ≡ Err (PlayFault.TooLong Text.Latency)) → (has_failed scenario.new ≡ false) × IsShort (R.remaining (wrapped scenario.old)) }
+    ensures read { OnOk result (WasRead (reading R.remaining scenario.old scenario.new) × WasRead (reading Q.remaining latency.old latency.new)) }
+    ensures faults { IfErr result (IsFaultOf (reading R.remaining scenario.old scenario.new) (reading Q.remaining latency.old latency.new)) }
     ensures memory { (e : RunError) → result ≡ Err (PlayFault.Run e) → e ≡ RunError.Memory }
 {
     let toml = match read_text(alloc, scenario) {
@@ -67,26 +60,16 @@ pub fn play<T: Threads + Wait + Sync, R: Read, Q: Read, W: Write>(
     requires scenario_sound { has_failed scenario.old ≡ false }
     requires latency_sound { has_failed latency.old ≡ false }
     requires writer_sound { has_failed writer.old ≡ false }
-    ensures played { IfOk result (IsPlayed (R.remaining (wrapped scenario.old)) (Q.remaining (wrapped latency.old)) (W.contents (wrapped writer.old)) (W.contents (wrapped writer.new))) }
-    ensures short { OnOk result (AreShort (R.remaining (wrapped scenario.old)) (Q.remaining (wrapped latency.old))) }
-    ensures beginning { (writer.new ≡ writer.old) ⊎ HasBegun (R.remaining (wrapped scenario.old)) (Q.remaining (wrapped latency.old)) (W.contents (wrapped writer.old)) (W.contents (wrapped writer.new)) }
-    ensures refused { (e : ScenarioFault) → result ≡ Err (PlayFault.Scenario e) → (e ≢ ScenarioFault.Memory) × Lacks (R.remaining (wrapped scenario.old)) (Q.remaining (wrapped latency.old)) e }
-    ensures refused_short { (e : ScenarioFault) → result ≡ Err (PlayFault.Scenario e) → AreShort (R.remaining (wrapped scenario.old)) (Q.remaining (wrapped latency.old)) }
-    ensures unread_scenario { result ≡ Err (PlayFault.Read Text.Scenario) → has_failed scenario.new ≡ true }
-    ensures unread_latency { result ≡ Err (PlayFault.Read Text.Latency) → has_failed latency.new ≡ true }
-    ensures long_scenario { result ≡ Err (PlayFault.TooLong Text.Scenario) → IsCutOff (R.remaining (wrapped scenario.old)) (R.remaining (wrapped scenario.new)) }
-    ensures long_latency { result ≡ Err (PlayFault.TooLong Text.Latency) → IsCutOff (Q.remaining (wrapped latency.old)) (Q.remaining (wrapped latency.new)) }
-    ensures scenario_first { (result ≡ Err (PlayFault.Read Text.Scenario)) ⊎ (result ≡ Err (PlayFault.TooLong Text.Scenario)) → latency.new ≡ latency.old }
-    ensures latency_second { (result ≡ Err (PlayFault.Read Text.Latency)) ⊎ (result ≡ Err (PlayFault.TooLong Text.Latency)) → (has_failed scenario.new ≡ false) × IsShort (R.remaining (wrapped scenario.old)) }
+    ensures played { IfOk result (λ report. IsPlayed (R.remaining (wrapped scenario.old)) (Q.remaining (wrapped latency.old)) (W.contents (wrapped writer.old)) (W.contents (wrapped writer.new)) (Ok report)) }
+    ensures stopped { (e : RunError) → result ≡ Err (PlayFault.Run e) → IsPlayed (R.remaining (wrapped scenario.old)) (Q.remaining (wrapped latency.old)) (W.contents (wrapped writer.old)) (W.contents (wrapped writer.new)) (Err e) ⊎ ((e ≡ RunError.Memory) × (writer.new ≡ writer.old)) }
+    ensures read { OnOk result (WasRead (reading R.remaining scenario.old scenario.new) × WasRead (reading Q.remaining latency.old latency.new)) }
+    ensures faults { IfErr result (IsFaultOf (reading R.remaining scenario.old scenario.new) (reading Q.remaining latency.old latency.new)) }
     ensures untouched { IfErr result (λ fault. is_of_run fault ≡ false → writer.new ≡ writer.old) }
-    ensures over { result ≡ Err (PlayFault.Run RunError.TooManyEvents) → IsOver (R.remaining (wrapped scenario.old)) (Q.remaining (wrapped latency.old)) × (has_failed writer.new ≡ false) }
-    ensures sound { OnOk result (has_failed writer.new ≡ false) }
-    ensures failed { result ≡ Err (PlayFault.Run RunError.Write) → has_failed writer.new ≡ true }
-    ensures memory { result ≡ Err (PlayFault.Run RunError.Memory) → has_failed writer.new ≡ false }
-    ensures worker { result ≡ Err (PlayFault.Run RunError.Worker) → (plan.now.serial ≡ false) × (has_failed writer.new ≡ false) }
+    ensures writer { has_failed writer.new ≡ is_write_fault result }
+    ensures worker { result ≡ Err (PlayFault.Run RunError.Worker) → plan.now.serial ≡ false }
     ensures only { (e : RunError) → result ≡ Err (PlayFault.Run e) → (e ≡ RunError.Memory) ⊎ (e ≡ RunError.Worker) ⊎ (e ≡ RunError.TooManyEvents) ⊎ (e ≡ RunError.Write) }
 {
     let loaded = load(alloc, scenario, latency)?;
-    let report = run_planned(rt, alloc, &loaded, plan, writer)?;
+    let report = run_planned(rt, alloc, &loaded, plan, &mut AllStart, &OpenGate, writer)?;
     Ok(report)
 }

@@ -1,14 +1,13 @@
 //! How a plan is carried out.
-ghost use Rattle.std.specs.Prelude.{◌≡◌, ◌⊎◌, ◌<◌, false, true, IfErr, IfOk, OnOk, Err};
-ghost use Rattle.std.specs.Io.KnownBytes.{Appends};
-ghost use Rattle.chord_machine.specs.Run.{HasTooManyEvents, IsReport, trace_text};
-ghost use Rattle.chord_output.specs.Beginning.{IsBeginning};
+ghost use Rattle.std.specs.Prelude.{◌≡◌, ◌⊎◌, ◌<◌, false, IfErr, IfOk, Err};
+ghost use Rattle.chord_output.specs.Runs.{IsRun};
 ghost use Rattle.chord_play.specs.Plans.{planned};
 ghost use Rattle.chord_trace.specs.Watched.{wrapped, has_failed};
+ghost use Rattle.chord_trace.specs.Writing.{is_write};
 
-use crate::plan::{Plan, Split};
-use chord_crew::{OpenGate, run_crew};
+use chord_crew::{Gate, Starter, run_crew_started};
 use chord_event::{Memory, RunError};
+use chord_plan::{Plan, Split};
 use chord_scenario::Scenario;
 use chord_serial::run_serial;
 use chord_trace::{Report, Watched};
@@ -29,24 +28,21 @@ fn divide(alloc: Global, plan: &Plan, nodes: u32) -> Result<Division, Memory>
     }
 }
 
-/// Runs a scenario as the plan says.
-pub(crate) fn run_planned<T: Threads + Wait + Sync, W: Write>(
+/// Runs a scenario as the plan says. The threads of its workers start if the starter allows it, and
+/// each passes the gate before it runs a part: `play` allows all and holds none.
+pub fn run_planned<T: Threads + Wait + Sync, S: Starter, G: Gate + Sync, W: Write>(
     rt: &T,
     alloc: Global,
     scenario: &Scenario,
     plan: &Plan,
+    starter: &mut S,
+    gate: &G,
     writer: &mut Watched<W>,
 ) -> Result<Report, RunError>
     requires sound { has_failed writer.old ≡ false }
-    ensures trace { OnOk result (Appends (W.contents (wrapped writer.old)) (W.contents (wrapped writer.new)) (trace_text scenario.now)) }
-    ensures report { IfOk result (λ report. IsReport scenario.now report) }
-    ensures within { OnOk result (HasTooManyEvents scenario.now → ⊥) }
-    ensures beginning { IsBeginning scenario.now (W.contents (wrapped writer.old)) (W.contents (wrapped writer.new)) }
-    ensures sound { OnOk result (has_failed writer.new ≡ false) }
-    ensures failed { result ≡ Err RunError.Write → has_failed writer.new ≡ true }
-    ensures memory { result ≡ Err RunError.Memory → has_failed writer.new ≡ false }
-    ensures worker { result ≡ Err RunError.Worker → (plan.now.serial ≡ false) × (has_failed writer.new ≡ false) }
-    ensures over { result ≡ Err RunError.TooManyEvents → (HasTooManyEvents scenario.now) × (has_failed writer.new ≡ false) }
+    ensures run { IsRun scenario.now (W.contents (wrapped writer.old)) (W.contents (wrapped writer.new)) result }
+    ensures writer { has_failed writer.new ≡ is_write result }
+    ensures worker { result ≡ Err RunError.Worker → plan.now.serial ≡ false }
     ensures only { IfErr result (λ e. (e ≡ RunError.Memory) ⊎ (e ≡ RunError.Worker) ⊎ (e ≡ RunError.TooManyEvents) ⊎ (e ≡ RunError.Write)) }
 {
     if plan.serial {
@@ -54,13 +50,14 @@ pub(crate) fn run_planned<T: Threads + Wait + Sync, W: Write>(
     }
     scenario.recall_range();
     let division = divide(alloc, plan, scenario.nodes())?;
-    run_crew(
+    run_crew_started(
         rt,
         alloc,
         scenario,
         &division,
         plan.workers,
-        &OpenGate,
+        starter,
+        gate,
         writer,
     )
 }

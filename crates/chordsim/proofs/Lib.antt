@@ -1,3 +1,1 @@
-pub mod CommandFacts
-pub mod Options
 pub mod Idents

@@ -1,29 +1,24 @@
 -- What the program prints, and the status that it ends with.
 use Rattle.std.specs.Io.KnownBytes.{Appends}
-use Rattle.std.specs.Prelude.{◌≡◌, ◌⊎◌, ℕ, List, [], ◌++◌, codes, decimal, length, string_bytes, Option, Result, Ok, Err}
+use Rattle.std.specs.Prelude.{◌≡◌, ◌⊎◌, ℕ, List, [], ◌++◌, codes, decimal, length, Option, Result, Ok, Err}
 use Rattle.std.specs.List.{flat_map, range_with_len}
-use Rattle.std.specs.Option.{option_map_or}
-use Rattle.chord_machine.specs.Run.{IsReport}
+use Rattle.chord_machine.specs.Run.{HasTooManyEvents, IsReport}
+use Rattle.chord_output.specs.Runs.{IsBeginning}
 use Rattle.clap.specs.Words.{kind_of}
 use Rattle.clap.specs.declared.error.kind.ErrorKind.{ErrorKind}
 use Rattle.clap.specs.declared.error.kind.ErrorKind.TheVariants as kind
 use Rattle.chord_play.specs.declared.fault.PlayFault.{PlayFault}
 use Rattle.chord_play.specs.declared.fault.PlayFault.TheVariants as fault
-use Rattle.chord_play.specs.declared.text.Text.{Text}
-use Rattle.chord_play.specs.declared.text.Text.TheVariants as text
 use Rattle.chord_play.specs.Texts.{Gives}
 use Rattle.chord_scenario.specs.declared.scenario.Scenario.{Scenario}
 use Rattle.chord_scenario.specs.World.{ident_of, name_of as node_name, node_count}
 use Rattle.chord_trace.specs.ReportText.{report_text}
 use Rattle.chord_trace.specs.Writing.{AppendsFront}
 use Rattle.chord_trace.specs.declared.report.Report.{Report}
-use Rattle.chordsim.specs.declared.answers.Question.{Question}
-use Rattle.chordsim.specs.declared.answers.Question.TheVariants as question
-use Rattle.chordsim.specs.declared.order.Files.{Files}
-use Rattle.chordsim.specs.declared.order.Order.{Order}
-use Rattle.chordsim.specs.declared.order.Order.TheVariants as order
-use Rattle.chordsim.specs.declared.words.WordFault.{WordFault}
-use Rattle.chordsim.specs.declared.words.WordFault.TheVariants as word
+use Rattle.chordsim.specs.declared.questions.Question.{Question}
+use Rattle.chordsim.specs.declared.questions.Question.TheVariants as question
+use Rattle.chord_command.specs.declared.words.WordFault.{WordFault}
+use Rattle.chord_command.specs.declared.words.WordFault.TheVariants as word
 
 -- What is printed
 
@@ -56,6 +51,18 @@ pub record HasAnswered (text : Scenario → List ℕ) (scenario latency old new 
   pub given : Gives scenario latency setup
   pub front : AppendsFront old new (text setup)
 
+-- a beginning of the trace of the scenario that the two files give was written
+pub record HasBegun (scenario latency old new : Option (List ℕ)) : Type 0 where
+  pub setup : Scenario
+  pub given : Gives scenario latency setup
+  pub beginning : IsBeginning setup old new
+
+-- the scenario that the two files give has more events than it allows
+pub record IsOver (scenario latency : Option (List ℕ)) : Type 0 where
+  pub setup : Scenario
+  pub given : Gives scenario latency setup
+  pub over : HasTooManyEvents setup
+
 -- the report of the scenario that the two files give was written
 pub record IsReported (scenario latency old new : Option (List ℕ)) : Type 0 where
   pub setup : Scenario
@@ -73,17 +80,6 @@ pub record HasReported (scenario latency old new : Option (List ℕ)) : Type 0 w
   pub front : AppendsFront old new (report_text report)
 
 -- The status of an order that is not carried out
-
--- the files that an order names
-abbrev pub files_of : Order → Files
-files_of (order.Check files) = files
-files_of (order.Ids files) = files
-files_of (order.Run files plan trace) = files
-
--- the name of the file of a text, which is empty if the order names none
-abbrev pub name_of : Text → Files → List ℕ
-name_of text.Scenario files = string_bytes files.scenario
-name_of text.Latency files = option_map_or string_bytes files.latency []
 
 -- the exit status for a fault
 abbrev pub status_of : PlayFault → ℕ

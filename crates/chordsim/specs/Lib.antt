@@ -1,5 +1,2 @@
 pub mod Answers
-pub mod Commands
 pub mod LatencyFiles
-pub mod Orders
-pub mod Readings

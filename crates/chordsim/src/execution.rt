@@ -4,11 +4,11 @@ ghost use Rattle.std.specs.Io.Buffered.{writer_inner};
 ghost use Rattle.std.specs.Process.{exit_status};
 ghost use Rattle.chord_trace.specs.Watched.{has_failed};
 
-use crate::answering::{or_write_fault, run, tell};
-use crate::answers::Question;
 use crate::latency_file::LatencyFile;
-use crate::order::{Files, Order};
+use crate::questions::Question;
+use crate::session::{or_write_fault, run, tell};
 use crate::status::{conclude, refuse_trace};
+use chord_command::{Files, Order};
 use chord_event::RunError;
 use chord_play::{Plan, PlayFault, Text};
 use chord_trace::Watched;

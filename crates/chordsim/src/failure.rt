@@ -2,7 +2,7 @@
 ghost use Rattle.std.specs.Prelude.{◌≡◌};
 ghost use Rattle.chordsim.specs.Answers.{status_of};
 
-use crate::order::Files;
+use chord_command::Files;
 use chord_event::RunError;
 use chord_play::PlayFault;
 use std::fmt::{self, Display};

@@ -1,23 +1,18 @@
 //! The program `chordsim`: simulates a Chord ring from a scenario file.
 #![tactic(auto)]
 
-mod answering;
-mod answers;
-mod commands;
 mod execution;
 mod failure;
 mod latency_file;
-mod order;
-mod process;
+mod questions;
+mod session;
 mod status;
-#[cfg(test)]
-mod tests;
-mod words;
 
+use chord_command::read_process;
 use std::process::ExitCode;
 
 fn main(rt: HostRuntime) -> ExitCode {
-    match process::read_process(&rt) {
+    match read_process(&rt) {
         Ok(order) => execution::carry_out(&rt, &rt, order),
         Err(fault) => status::refuse(&rt, fault),
     }

@@ -4,8 +4,7 @@ ghost use Rattle.std.specs.Process.{exit_status};
 ghost use Rattle.chordsim.specs.Answers.{IsShown, status_of_outcome, status_of_words};
 
 use crate::failure::{FAILED, FailedRun, Failure};
-use crate::order::Files;
-use crate::words::WordFault;
+use chord_command::{Files, WordFault};
 use chord_event::RunError;
 use chord_play::{PlayFault, Text};
 use std::fmt::Display;

@@ -10,4 +10,4 @@ returns-clause-only g c =
     let plan = c.args.plan.now in
     let nodes = c.nodes.result in
     let long = ap (λ (d : Division). length d.of_node) c.in_ok-division.ensures ∙ length-map-range_with_len (part_by plan.split nodes plan.parts) 0 nodes in
-    errors_of c.run_crew.result (λ is. (c.run_crew.ensures.bad is).0 (long ∙ c.nodes.ensures))
+    errors_of c.run_crew_started.result (λ is. (c.run_crew_started.ensures.bad is).0 (long ∙ c.nodes.ensures))

@@ -1,0 +1,22 @@
+use Rattle.std.proofs.Common.{◌∙◌, ◌∷◌, [], ap, map, sym, refl, string_bytes, subst}
+use Rattle.clap.specs.Words.{fault_of, is_simple, is_simple_and_free, matches_of}
+use Rattle.chord_command.specs.Orders.{HasFiles}
+use Rattle.chord_command.specs.Commands.{latency_rule}
+use Rattle.chord_command.proofs.CommandFacts.{ids_is_free, ids_is_simple, ids_rules, scenario_given}
+use Rattle.chord_command.proofs.words.files_of_ids.Goals as goal
+
+pub files_in-requires : goal.files_in-requires
+files_in-requires c =
+    scenario_given c.in_ok-command.command c.in_ok-matches.matches c.in_ok-matches.ensures.parsed (latency_rule ∷ [])
+    (ids_rules c.in_ok-command.command c.in_ok-command.ensures) refl
+
+pub returns-clause-files : goal.returns-clause-files
+returns-clause-files c =
+    let app = c.in_ok-command.ensures in
+    let rows = (c.in_ok-matches.ensures.matches (ap is_simple app ∙ ids_is_simple)).0 ∙ ap (λ a. matches_of a (map string_bytes c.args.words.now)) app in
+    subst (λ rs. HasFiles rs c.in_ok-files.files) rows c.in_ok-files.ensures
+
+pub returns-clause-accepted : goal.returns-clause-accepted
+returns-clause-accepted c =
+    let app = c.in_ok-command.ensures in
+    ap (λ a. fault_of a (map string_bytes c.args.words.now)) (sym app) ∙ c.in_ok-matches.ensures.kinds (ap is_simple_and_free app ∙ ids_is_free)

@@ -1,0 +1,67 @@
+-- The order that the arguments of the program give.
+use Rattle.std.specs.Prelude.{◌≡◌, ◌⊎◌, ◌↔◌, ◌≤◌, ℕ, true, List, [], drop, slice_get, codes, Option, Some, option_map, string_bytes, IsTrue, String}
+use Rattle.std.specs.Global.{Global}
+use Rattle.std.specs.Option.{option_map_or}
+use Rattle.std.specs.Str.Parse.{IsNumeral, digits_value, without_leading_plus}
+use Rattle.clap.specs.Words.{Row, Text, fault_of, first_of, matches_of, one_of, takes}
+use Rattle.chord_command.specs.Commands.{SplitNames, IsSplitNames, check_app, ids_app, run_app}
+use Rattle.chord_command.specs.declared.order.Files.{Files}
+use Rattle.chord_plan.specs.declared.plan.Plan.{Plan}
+use Rattle.chord_plan.specs.declared.plan.Split.TheVariants.{Blocks}
+use Rattle.chord_command.specs.declared.order.Order.{Order}
+use Rattle.chord_command.specs.declared.order.Order.TheVariants as order
+
+-- the number that a text of decimal digits writes
+abbrev pub number_of : Text → ℕ
+number_of text = digits_value 10 (without_leading_plus text)
+
+-- the text writes a number from 1 to `most`
+abbrev pub IsCountUpTo : ℕ → Text → Type 0
+IsCountUpTo most text = IsNumeral 10 (without_leading_plus text) × (1 ≤ number_of text) × (number_of text ≤ most)
+
+-- the number that the option was given, and 1 without the option
+abbrev pub count_or_one : Option Text → ℕ
+count_or_one text = option_map_or number_of text 1
+
+-- the file names are those of the options
+pub record HasFiles (rows : List Row) (f : Files) : Type 0 where
+  pub scenario : first_of (codes "scenario") rows ≡ Some (string_bytes f.scenario)
+  pub latency : first_of (codes "latency") rows ≡ option_map string_bytes f.latency
+
+-- the plan is the one of the options, with the defaults of those left out
+pub record HasPlan (rows : List Row) (p : Plan) : Type 0 where
+  pub serial : IsTrue p.serial ↔ (first_of (codes "serial") rows ≡ Some (codes "true"))
+  pub workers : p.workers ≡ count_or_one (one_of (codes "workers") rows)
+  pub parts : p.parts ≡ count_or_one (one_of (codes "parts") rows)
+  pub split : (p.split ≡ Blocks) ↔ (first_of (codes "split") rows ≡ Some (codes "block"))
+
+-- the argument after the program's name
+abbrev pub command_word : List Text → Option Text
+command_word words = slice_get words 1
+
+-- the arguments from `run` on give these files, this plan and this trace
+abbrev pub IsRunOf : List Text → Files → Plan → Option (String Global) → Type 0
+IsRunOf words files plan trace = (names : SplitNames) × IsSplitNames names
+    × (fault_of (run_app names) words ≡ [])
+    × HasFiles (matches_of (run_app names) words) files
+    × HasPlan (matches_of (run_app names) words) plan
+    × (first_of (codes "trace") (matches_of (run_app names) words) ≡ option_map string_bytes trace)
+
+-- the arguments give this order: `clap` finds no fault in them, and the order has what it matched
+abbrev pub IsOrderOf : List Text → Order → Type 0
+IsOrderOf words (order.Check files) =
+    (command_word words ≡ Some (codes "check")) × (fault_of check_app (drop 1 words) ≡ [])
+    × HasFiles (matches_of check_app (drop 1 words)) files
+IsOrderOf words (order.Ids files) =
+    (command_word words ≡ Some (codes "ids")) × (fault_of ids_app (drop 1 words) ≡ [])
+    × HasFiles (matches_of ids_app (drop 1 words)) files
+IsOrderOf words (order.Run files plan trace) =
+    (command_word words ≡ Some (codes "run")) × IsRunOf (drop 1 words) files plan trace
+
+-- `clap` takes the arguments
+abbrev pub TakesWords : List Text → Type 0
+TakesWords words =
+    ((command_word words ≡ Some (codes "check")) × (takes check_app (drop 1 words) ≡ true))
+    ⊎ ((command_word words ≡ Some (codes "ids")) × (takes ids_app (drop 1 words) ≡ true))
+    ⊎ ((command_word words ≡ Some (codes "run"))
+    × ((names : SplitNames) → IsSplitNames names → takes (run_app names) (drop 1 words) ≡ true))

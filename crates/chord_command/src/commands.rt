@@ -1,0 +1,155 @@
+//! The command line of the program, for clap to read.
+ghost use Rattle.std.specs.Prelude.{◌≡◌, false, IfOk};
+ghost use Rattle.clap.specs.Words.{app_of, rule_of};
+ghost use Rattle.chord_command.specs.Commands.{IsSplitNames, SplitNames, check_app, ids_app, latency_rule, parts_rule, run_app, scenario_rule, serial_rule, split_rule, trace_rule, workers_rule};
+
+use clap::{Arg, ArgAction, Command, value_parser};
+use std::alloc::{AllocError, Global};
+
+/// The version that `--version` prints. CHANGELOG.md says what is in it.
+const VERSION: &str = "0.1.0";
+
+/// The whole command line, which writes the texts for `--help` and `--version`, and refuses arguments that name
+/// no command.
+pub fn whole_command<'a>(alloc: Global) -> Result<Command<'a>, AllocError> {
+    Command::new(alloc, "chordsim")
+        .version(VERSION)
+        .about(
+            "Simulates a ring of the Chord protocol under churn, as a scenario file describes it",
+        )
+        .after_help(
+            "All times are in microseconds. Exit status: 0 on success, 1 if a file is refused, 2 if the arguments are refused, 3 if a run fails.",
+        )
+        .subcommand_required(true)
+        .subcommand(check_command(alloc)?)?
+        .subcommand(ids_command(alloc)?)?
+        .subcommand(run_command(alloc)?)
+}
+
+/// The command `check`.
+#[tactic(auto, unfolding(crate::specs::Commands::check_app))]
+pub fn check_command<'a>(alloc: Global) -> Result<Command<'a>, AllocError>
+    ensures { IfOk result (λ c. app_of c ≡ check_app) }
+{
+    Command::new(alloc, "check")
+        .bin_name("chordsim check")?
+        .about("Checks the files, and prints how many nodes and commands the scenario has")
+        .arg(scenario_argument(alloc))?
+        .arg(latency_argument(alloc))
+}
+
+/// The command `ids`.
+#[tactic(auto, unfolding(crate::specs::Commands::ids_app))]
+pub fn ids_command<'a>(alloc: Global) -> Result<Command<'a>, AllocError>
+    ensures { IfOk result (λ c. app_of c ≡ ids_app) }
+{
+    Command::new(alloc, "ids")
+        .bin_name("chordsim ids")?
+        .about("Prints the name and the decimal identifier of each node, in file order")
+        .arg(scenario_argument(alloc))?
+        .arg(latency_argument(alloc))
+}
+
+/// The command `run`.
+pub fn run_command<'a>(alloc: Global) -> Result<Command<'a>, AllocError>
+    ensures { IfOk result (λ c. (names : SplitNames) × IsSplitNames names × (app_of c ≡ run_app names)) }
+{
+    Command::new(alloc, "run")
+        .bin_name("chordsim run")?
+        .about("Runs the scenario, and prints its trace and then its report")
+        .arg(scenario_argument(alloc))?
+        .arg(latency_argument(alloc))?
+        .arg(workers_argument(alloc))?
+        .arg(parts_argument(alloc))?
+        .arg(split_argument(alloc))?
+        .arg(serial_argument(alloc))?
+        .arg(trace_argument(alloc))
+}
+
+fn scenario_argument<'a>(alloc: Global) -> Arg<'a>
+    ensures rule { rule_of result ≡ scenario_rule }
+    ensures local { result.global ≡ false }
+{
+    Arg::new(alloc, "scenario")
+        .long("scenario")
+        .value_name("FILE")
+        .help("Scenario file: TOML, at most 16777216 bytes")
+        .required(true)
+        .action(ArgAction::Set)
+}
+
+fn latency_argument<'a>(alloc: Global) -> Arg<'a>
+    ensures rule { rule_of result ≡ latency_rule }
+    ensures local { result.global ≡ false }
+{
+    Arg::new(alloc, "latency")
+        .long("latency")
+        .value_name("FILE")
+        .help(
+            "Latency file: CSV, at most 16777216 bytes, rows of two node names and the microseconds between them [default: no rows]",
+        )
+        .action(ArgAction::Set)
+}
+
+fn workers_argument<'a>(alloc: Global) -> Arg<'a>
+    ensures rule { rule_of result ≡ workers_rule }
+    ensures local { result.global ≡ false }
+{
+    Arg::new(alloc, "workers")
+        .long("workers")
+        .value_name("COUNT")
+        .help("Number of worker threads, 1 to 64 [default: 1]")
+        .action(ArgAction::Set)
+        .value_parser(value_parser!(u32).range(1..=64))
+}
+
+fn parts_argument<'a>(alloc: Global) -> Arg<'a>
+    ensures rule { rule_of result ≡ parts_rule }
+    ensures local { result.global ≡ false }
+{
+    Arg::new(alloc, "parts")
+        .long("parts")
+        .value_name("COUNT")
+        .help("Number of parts that the nodes are divided into, 1 to 512 [default: 1]")
+        .action(ArgAction::Set)
+        .value_parser(value_parser!(u32).range(1..=512))
+}
+
+static SPLITS: [&str; 2] = ["rr", "block"];
+
+fn split_argument<'a>(alloc: Global) -> Arg<'a>
+    ensures rule { (names : SplitNames) × IsSplitNames names × (rule_of result ≡ split_rule names) }
+    ensures local { result.global ≡ false }
+{
+    Arg::new(alloc, "split")
+        .long("split")
+        .value_name("WAY")
+        .help(
+            "How the nodes are divided: rr deals them out in turn, block keeps neighbours in the file together [default: rr]",
+        )
+        .action(ArgAction::Set)
+        .value_parser(SPLITS.as_slice())
+}
+
+fn serial_argument<'a>(alloc: Global) -> Arg<'a>
+    ensures rule { rule_of result ≡ serial_rule }
+    ensures local { result.global ≡ false }
+{
+    Arg::new(alloc, "serial")
+        .long("serial")
+        .help("Runs one event at a time on one thread, and ignores --workers, --parts and --split")
+        .action(ArgAction::SetTrue)
+}
+
+fn trace_argument<'a>(alloc: Global) -> Arg<'a>
+    ensures rule { rule_of result ≡ trace_rule }
+    ensures local { result.global ≡ false }
+{
+    Arg::new(alloc, "trace")
+        .long("trace")
+        .value_name("FILE")
+        .help(
+            "File for the trace; its old content is lost, even if the scenario is then refused [default: standard output]",
+        )
+        .action(ArgAction::Set)
+}

@@ -1,0 +1,53 @@
+//! Orders: what the arguments of the program ask for.
+ghost use Rattle.std.specs.Prelude.{◌≡◌};
+ghost use Rattle.chord_command.specs.Files.{files_of, name_of};
+
+use chord_plan::{Plan, Text};
+
+/// What the arguments of the program ask for.
+#[derive(Debug, Drop)]
+pub enum Order {
+    /// Check the files, and print how many nodes and commands the scenario has.
+    Check(Files),
+    /// Print the identifier of each node.
+    Ids(Files),
+    /// Run the scenario. The trace goes to the file of this name, or to standard output.
+    Run {
+        files: Files,
+        plan: Plan,
+        trace: Option<String>,
+    },
+}
+
+impl Order {
+    /// The files that the scenario is read from.
+    pub fn files(&self) -> &Files
+        ensures { result.now ≡ files_of self.now }
+    {
+        match self {
+            Order::Check(files) => files,
+            Order::Ids(files) => files,
+            Order::Run { files, .. } => files,
+        }
+    }
+}
+
+/// The names of the files that a scenario is read from.
+#[derive(Debug, Drop)]
+pub struct Files {
+    pub scenario: String,
+    pub latency: Option<String>,
+}
+
+impl Files {
+    /// The name of the file of a text, which is empty if the order names none.
+    pub fn name(&self, text: Text) -> &str
+        ensures { result.now ≡ name_of text self.now }
+    {
+        match (text, &self.latency) {
+            (Text::Scenario, _) => self.scenario.as_str(),
+            (Text::Latency, Some(name)) => name.as_str(),
+            (Text::Latency, None) => "",
+        }
+    }
+}

@@ -1,0 +1,189 @@
+//! The arguments of the program, read by clap.
+ghost use Rattle.std.specs.Prelude.{◌≡◌, ◌↔◌, Some, IsTrue, true, map, codes, is_some, option_map, string_bytes, [], OnOk, IfOk, IfErr, IfSome};
+ghost use Rattle.clap.specs.Words.{fault_of, first_of, first_value, found_of, kind_of, matches_of, one_of, one_text, rows_of, takes};
+ghost use Rattle.clap.specs.declared.error.kind.ErrorKind.TheVariants.{OutOfMemory};
+ghost use Rattle.chord_command.specs.Commands.{IsSplitNames, SplitNames, check_app, ids_app, run_app};
+ghost use Rattle.chord_command.specs.Orders.{HasFiles, HasPlan, IsCountUpTo, IsOrderOf, IsRunOf, TakesWords, count_or_one};
+ghost use Rattle.chord_command.specs.declared.words.WordFault.TheVariants.{Memory};
+
+use crate::commands::{check_command, ids_command, run_command, whole_command};
+use crate::order::{Files, Order};
+use chord_plan::{Plan, Split};
+use clap::error::ErrorKind;
+use clap::{ArgMatches, Error};
+use std::alloc::{AllocError, Global};
+
+/// Why the arguments of the program give no order.
+#[derive(Debug, Drop)]
+pub enum WordFault {
+    /// Clap refuses them, with this text. For `--help` and `--version` it is the text that they ask for.
+    Refused(Error),
+    /// One of them is not UTF-8 text.
+    NotText,
+    /// An allocation failed.
+    Memory,
+}
+
+impl From<AllocError> for WordFault {
+    ghost from_gives = { λ _ fault. fault ≡ Memory };
+
+    fn from(_error: AllocError) -> WordFault {
+        WordFault::Memory
+    }
+}
+
+impl From<Error> for WordFault {
+    ghost from_gives = { λ error fault. kind_of error ≡ OutOfMemory → fault ≡ Memory };
+
+    fn from(error: Error) -> WordFault {
+        if error.kind() == ErrorKind::OutOfMemory {
+            WordFault::Memory
+        } else {
+            WordFault::Refused(error)
+        }
+    }
+}
+
+/// Reads the arguments of the program, its name first, then `check`, `ids` or `run`, and then options.
+/// Arguments that clap does not take are refused; so are `--help` and `--version`, with the text to print.
+pub fn read_words(alloc: Global, words: Vec<String>) -> Result<Order, WordFault>
+    ensures order { IfOk result (IsOrderOf (map string_bytes words.items)) }
+    ensures taken { TakesWords (map string_bytes words.items) → IfErr result (λ e. e ≡ WordFault.Memory) }
+{
+    order_in(alloc, words.as_slice())
+}
+
+/// The order of these arguments. The one after the program's name picks the command, which reads the rest.
+fn order_in(alloc: Global, words: &[String]) -> Result<Order, WordFault>
+    ensures order { IfOk result (IsOrderOf (map string_bytes words.now)) }
+    ensures taken { TakesWords (map string_bytes words.now) → IfErr result (λ e. e ≡ WordFault.Memory) }
+{
+    let Some((_, rest)) = words.split_first() else {
+        return Err(refusal(alloc, words));
+    };
+    let Some(name) = rest.first() else {
+        return Err(refusal(alloc, words));
+    };
+    match name.as_str() {
+        "check" => Ok(Order::Check(files_of_check(alloc, rest)?)),
+        "ids" => Ok(Order::Ids(files_of_ids(alloc, rest)?)),
+        "run" => {
+            let (files, plan, trace) = run_options(alloc, rest)?;
+            Ok(Order::Run { files, plan, trace })
+        }
+        _ => Err(refusal(alloc, words)),
+    }
+}
+
+fn files_of_check(alloc: Global, words: &[String]) -> Result<Files, WordFault>
+    ensures accepted { OnOk result (fault_of check_app (map string_bytes words.now) ≡ []) }
+    ensures files { IfOk result (HasFiles (matches_of check_app (map string_bytes words.now))) }
+    ensures taken { takes check_app (map string_bytes words.now) ≡ true → IfErr result (λ e. e ≡ WordFault.Memory) }
+{
+    let command = check_command(alloc)?;
+    let matches = command.try_get_matches_from(words)?;
+    let files = files_in(alloc, &matches)?;
+    Ok(files)
+}
+
+fn files_of_ids(alloc: Global, words: &[String]) -> Result<Files, WordFault>
+    ensures accepted { OnOk result (fault_of ids_app (map string_bytes words.now) ≡ []) }
+    ensures files { IfOk result (HasFiles (matches_of ids_app (map string_bytes words.now))) }
+    ensures taken { takes ids_app (map string_bytes words.now) ≡ true → IfErr result (λ e. e ≡ WordFault.Memory) }
+{
+    let command = ids_command(alloc)?;
+    let matches = command.try_get_matches_from(words)?;
+    let files = files_in(alloc, &matches)?;
+    Ok(files)
+}
+
+fn run_options(alloc: Global, words: &[String]) -> Result<(Files, Plan, Option<String>), WordFault>
+    ensures order { IfOk result (λ r. IsRunOf (map string_bytes words.now) r.0 r.1 r.2) }
+    ensures taken { ((names : SplitNames) → IsSplitNames names → takes (run_app names) (map string_bytes words.now) ≡ true) → IfErr result (λ e. e ≡ WordFault.Memory) }
+{
+    let command = run_command(alloc)?;
+    let matches = command.try_get_matches_from(words)?;
+    let files = files_in(alloc, &matches)?;
+    let plan = plan_in(&matches);
+    let trace = text_in(alloc, &matches, "trace")?;
+    Ok((files, plan, trace))
+}
+
+fn plan_in(matches: &ArgMatches<'_>) -> Plan
+    requires workers { IfSome (one_text (found_of matches.now) (codes "workers")) (IsCountUpTo 64) }
+    requires parts { IfSome (one_text (found_of matches.now) (codes "parts")) (IsCountUpTo 512) }
+    ensures { HasPlan (rows_of (found_of matches.now)) result }
+{
+    Plan {
+        serial: has_text(matches, "serial", "true"),
+        workers: count_in(matches, "workers"),
+        parts: count_in(matches, "parts"),
+        split: split_in(matches),
+    }
+}
+
+fn split_in(matches: &ArgMatches<'_>) -> Split
+    ensures { (result ≡ Split.Blocks) ↔ (first_of (codes "split") (rows_of (found_of matches.now)) ≡ Some (codes "block")) }
+{
+    if has_text(matches, "split", "block") {
+        Split::Blocks
+    } else {
+        Split::RoundRobin
+    }
+}
+
+/// Whether the option has this value.
+fn has_text(matches: &ArgMatches<'_>, id: &str, text: &str) -> bool
+    ensures { IsTrue result ↔ (first_of id.now (rows_of (found_of matches.now)) ≡ Some text.now) }
+{
+    match matches.get_str(id) {
+        Some(found) => found == text,
+        None => false,
+    }
+}
+
+/// The number that the option was given, and 1 without the option.
+fn count_in(matches: &ArgMatches<'_>, id: &str) -> u32
+    requires { IfSome (one_text (found_of matches.now) id.now) (IsCountUpTo 512) }
+    ensures { result ≡ count_or_one (one_of id.now (rows_of (found_of matches.now))) }
+{
+    matches.get_one::<u32>(id).unwrap_or(1)
+}
+
+fn files_in(alloc: Global, matches: &ArgMatches<'_>) -> Result<Files, AllocError>
+    requires { is_some (first_value (found_of matches.now) (codes "scenario")) ≡ true }
+    ensures { IfOk result (HasFiles (rows_of (found_of matches.now))) }
+{
+    let scenario = matches.get_str("scenario").unwrap();
+    let scenario = String::from_str(alloc, scenario)?;
+    let latency = text_in(alloc, matches, "latency")?;
+    Ok(Files { scenario, latency })
+}
+
+fn text_in(alloc: Global, matches: &ArgMatches<'_>, id: &str) -> Result<Option<String>, AllocError>
+    ensures { IfOk result (λ text. first_of id.now (rows_of (found_of matches.now)) ≡ option_map string_bytes text) }
+{
+    match matches.get_str(id) {
+        Some(text) => Ok(Some(String::from_str(alloc, text)?)),
+        None => Ok(None),
+    }
+}
+
+/// Why the whole command line refuses arguments that name none of its commands.
+fn refusal(alloc: Global, words: &[String]) -> WordFault {
+    match refused(alloc, words) {
+        Ok(fault) => fault,
+        Err(AllocError) => WordFault::Memory,
+    }
+}
+
+fn refused<'a>(alloc: Global, words: &'a [String]) -> Result<WordFault, AllocError> {
+    let mut command = whole_command(alloc)?;
+    match command.try_get_matches_from_mut(words) {
+        Err(error) => Ok(WordFault::from(error)),
+        Ok(_) => {
+            let error = command.error(ErrorKind::MissingSubcommand, "a command is required")?;
+            Ok(WordFault::Refused(error))
+        }
+    }
+}

@@ -1,0 +1,66 @@
+use Rattle.std.proofs.Common.{◌≡◌, ◌⊎◌, rules, ℕ, false, List, Option, Result, Ok, Err, inl, inr, refl, subst, sym}
+use Rattle.std.proofs.KnownBytes.{Appends-kept, Keeps-refl}
+use Rattle.std.specs.Io.KnownBytes.{Keeps}
+use Rattle.chord_event.specs.declared.error.RunError.{RunError}
+use Rattle.chord_event.specs.declared.error.RunError.TheVariants as run
+use Rattle.chord_play.specs.Faults.{is_of_run}
+use Rattle.chord_play.specs.Played.{IsPlayed}
+use Rattle.chord_play.specs.declared.fault.PlayFault.{PlayFault}
+use Rattle.chord_play.specs.declared.fault.PlayFault.TheVariants as fault
+use Rattle.chord_trace.specs.Watched.{wrapped}
+use Rattle.chord_trace.specs.declared.report.Report.{Report}
+use Rattle.chord_trace.specs.declared.watched.Watched.{Watched}
+use Rattle.chordsim.specs.Answers.{HasBegun, IsOver}
+use Rattle.chordsim.proofs.session.run.Goals as goal
+
+-- a run has begun the trace, whatever its result, and a flush keeps it
+begun_kept : (scenario latency old mid new : Option (List ℕ)) (result : Result Report RunError) → IsPlayed scenario latency old mid result
+    → Keeps mid new → HasBegun scenario latency old new
+begun_kept scenario latency old mid new result played keeps =
+    let front = played.run.beginning.1 in
+    let kept = Appends-kept old mid new _ front.1 keeps in
+    record { setup = played.setup; given = played.given; beginning = (played.run.beginning.0, (front.0, kept)) }
+
+-- nothing was written
+same_kept : {X : Type 0} (contents : X → Option (List ℕ)) (old new : Watched X) → new ≡ old
+    → Keeps (contents (wrapped old)) (contents (wrapped new))
+same_kept {X = X} contents old new same =
+    subst (λ (w : Watched X). Keeps (contents (wrapped old)) (contents (wrapped w))) (sym same) (Keeps-refl (contents (wrapped old)))
+
+-- what a simulation that was stopped has left of the trace
+stopped : {X : Type 0} (contents : X → Option (List ℕ)) (scenario latency : Option (List ℕ)) (old new : Watched X) (f : PlayFault)
+    → ((e : RunError) → ◌≡◌ {A = Result Report PlayFault} (Err f) (Err (fault.Run e))
+    → IsPlayed scenario latency (contents (wrapped old)) (contents (wrapped new)) (Err e) ⊎ ((e ≡ run.Memory) × (new ≡ old)))
+    → (is_of_run f ≡ false → new ≡ old)
+    → Keeps (contents (wrapped old)) (contents (wrapped new)) ⊎ HasBegun scenario latency (contents (wrapped old)) (contents (wrapped new))
+stopped contents scenario latency old new (fault.Run e) of_run of_texts = elim (of_run e refl) [
+  | inl played ↦ inr (begun_kept scenario latency _ _ _ (Err e) played (Keeps-refl (contents (wrapped new))))
+  | inr memory ↦ inl (same_kept contents old new memory.1)
+]
+stopped contents scenario latency old new (fault.Scenario e) of_run of_texts = inl (same_kept contents old new (of_texts refl))
+stopped contents scenario latency old new (fault.Read text) of_run of_texts = inl (same_kept contents old new (of_texts refl))
+stopped contents scenario latency old new (fault.TooLong text) of_run of_texts = inl (same_kept contents old new (of_texts refl))
+
+-- a simulation with too many events
+over : {A : Type 0} (scenario latency old new : Option (List ℕ)) → IsPlayed scenario latency old new (Err run.TooManyEvents) ⊎ ((run.TooManyEvents ≡ run.Memory) × A)
+    → IsOver scenario latency
+over scenario latency old new (inl played) = record { setup = played.setup; given = played.given; over = played.run.over refl }
+over scenario latency old new (inr memory) = absurd (cc)
+
+pub returns-in_err-report-clause-beginning : goal.returns-in_err-report-clause-beginning
+returns-in_err-report-clause-beginning g c =
+    stopped g.V.Write.contents _ _ _ _ c.in_err-report.field-0.0 c.in_err-report.ensures.stopped c.in_err-report.ensures.untouched
+
+pub returns-in_err-report-clause-over : goal.returns-in_err-report-clause-over
+returns-in_err-report-clause-over g c = λ is.
+    let f_is : c.in_err-report.field-0.0 ≡ fault.Run run.TooManyEvents = search (rules, is, c.from_residual.ensures) in
+    over _ _ _ _ (c.in_err-report.ensures.stopped run.TooManyEvents (rw f_is refl))
+
+pub returns-in_err-or_write_fault-clause-beginning : goal.returns-in_err-or_write_fault-clause-beginning
+returns-in_err-or_write_fault-clause-beginning g c = inr (begun_kept _ _ _ _ _ _ c.in_ok-report.ensures.played c.flush.ensures.bytes)
+
+pub returns-in_err-write-clause-beginning : goal.returns-in_err-write-clause-beginning
+returns-in_err-write-clause-beginning g c = inr (begun_kept _ _ _ _ _ _ c.in_ok-report.ensures.played c.flush.ensures.bytes)
+
+pub returns-clause-beginning : goal.returns-clause-beginning
+returns-clause-beginning g c = inr (begun_kept _ _ _ _ _ _ c.in_ok-report.ensures.played c.flush.ensures.bytes)
