@@ -1,6 +1,6 @@
 //! What can be tried, by its name.
 use crate::queues::{insert_and_copy, push_two, reserve_chunks};
-use crate::runs::run_examples;
+use crate::runs::{run_examples, run_started};
 use crate::stop::Stop;
 use crate::texts::{copy_the_start, load_example, play_example};
 use crate::windows::{divide_three, run_by_hand};
@@ -9,7 +9,7 @@ use std::sync::Wait;
 use std::thread::Threads;
 
 /// The names of all tasks.
-pub const TASKS: [&str; 12] = [
+pub const TASKS: [&str; 13] = [
     "arena",
     "pending",
     "queue",
@@ -21,6 +21,7 @@ pub const TASKS: [&str; 12] = [
     "serial",
     "picked",
     "crew",
+    "started",
     "dealt",
 ];
 
@@ -39,6 +40,7 @@ pub fn do_task<T: AllocGlobal + Threads + Wait + Sync>(rt: &T, name: &str) -> Re
         "serial" => run_examples(rt, Engine::Serial),
         "picked" => run_examples(rt, Engine::Picked),
         "crew" => run_examples(rt, Engine::Crew),
+        "started" => run_started(rt, &TWO_LOOKUPS),
         "dealt" => run_examples(rt, Engine::Dealt),
         _ => Err(Stop::Wrong("there is no such task")),
     }
