@@ -11,7 +11,7 @@ pub mod LatencyLemmas
 pub mod NoRows
 pub mod RowScans
 pub mod DistinctNames
-pub mod NearnessLemmas
+pub mod WindowCheckLemmas
 pub mod Questions
 pub mod Scenarios
 pub mod Squares

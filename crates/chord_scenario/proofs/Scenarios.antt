@@ -13,7 +13,7 @@ use Rattle.chord_scenario.specs.Faults.{bad_name, same_name, same_id, bad_latenc
 use Rattle.chord_scenario.specs.Groups.{node_questions}
 use Rattle.chord_scenario.specs.World.{latency}
 use Rattle.chord_scenario.proofs.DistinctNames.{or_none}
-use Rattle.chord_scenario.proofs.NearnessLemmas.{latency_in-between, at_place}
+use Rattle.chord_scenario.proofs.WindowCheckLemmas.{latency_in-between, at_place}
 
 pub node_questions-distinct : (ss : List Section) (nodes : List Node) → first_answer (node_questions ss nodes) ≡ None → same_name nodes ≡ None
 node_questions-distinct ss nodes h =

@@ -10,7 +10,7 @@ mod latency;
 mod link_check;
 mod name;
 mod names;
-mod nearness;
+mod window_check;
 mod node;
 mod node_check;
 mod operation;

@@ -20,7 +20,7 @@ use crate::keys_check::{missing_key, out_of_range, unknown_key, wrong_type};
 use crate::latency::latencies;
 use crate::link_check::{bad_latency_row, self_link, time_after_end, unknown_node};
 use crate::names::Names;
-use crate::nearness::latency_below_window;
+use crate::window_check::latency_below_window;
 use crate::node::nodes;
 use crate::node_check::{bad_name, same_id, same_name, too_few_initial};
 use crate::row::Rows;

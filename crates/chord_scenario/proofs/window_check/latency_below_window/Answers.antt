@@ -4,9 +4,9 @@ use Rattle.chord_scenario.specs.declared.setting.Node.{Node}
 use Rattle.chord_scenario.specs.declared.fault.ScenarioFault.TheVariants.{LatencyBelowWindow}
 use Rattle.chord_scenario.specs.Rows.{rows_of}
 use Rattle.chord_scenario.specs.Faults.{latency_by_rows, latency_below_window}
-use Rattle.chord_scenario.proofs.NearnessLemmas.{meeting-here}
+use Rattle.chord_scenario.proofs.WindowCheckLemmas.{meeting-here}
 use Rattle.chord_scenario.proofs.NoRows.{no_rows, far_by_default}
-use Rattle.chord_scenario.proofs.nearness.latency_below_window.Goals as goal
+use Rattle.chord_scenario.proofs.window_check.latency_below_window.Goals as goal
 
 pub returns-then-window-default : goal.returns-then-window-default
 returns-then-window-default c =

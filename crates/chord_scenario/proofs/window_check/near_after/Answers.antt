@@ -4,8 +4,8 @@ use Rattle.chord_scenario.specs.declared.setting.Node.{Node}
 use Rattle.chord_scenario.specs.Rows.{rows_of}
 use Rattle.chord_scenario.specs.Faults.{latency_by_rows}
 use Rattle.chord_scenario.specs.Latencies.{square_or_zeros}
-use Rattle.chord_scenario.proofs.NearnessLemmas.{latency_in-between, find-here, find-next, at_place}
-use Rattle.chord_scenario.proofs.nearness.near_after.Goals as goal
+use Rattle.chord_scenario.proofs.WindowCheckLemmas.{latency_in-between, find-here, find-next, at_place}
+use Rattle.chord_scenario.proofs.window_check.near_after.Goals as goal
 
 pub returns-then-latency_in-window : goal.returns-then-latency_in-window
 returns-then-latency_in-window c =

@@ -2,7 +2,7 @@ use Rattle.std.proofs.Common.{◌≡◌, drop, nat_lt}
 use Rattle.chord_scenario.specs.Search.{first_meeting}
 use Rattle.chord_scenario.specs.Rows.{rows_of}
 use Rattle.chord_scenario.specs.Faults.{latency_by_rows}
-use Rattle.chord_scenario.proofs.nearness.latency_below_window.Given as goal
+use Rattle.chord_scenario.proofs.window_check.latency_below_window.Given as goal
 
 -- the first two of the nodes left are those of all
 abbrev pub invariant-loop-i : goal.invariant-loop-i

@@ -1,7 +1,7 @@
 use Rattle.std.proofs.Common.{◌≡◌, ◌+◌, drop, find, nat_lt}
 use Rattle.chord_scenario.specs.Rows.{rows_of}
 use Rattle.chord_scenario.specs.Faults.{latency_by_rows}
-use Rattle.chord_scenario.proofs.nearness.near_after.Given as goal
+use Rattle.chord_scenario.proofs.window_check.near_after.Given as goal
 
 -- the first of the nodes left is that of all
 abbrev pub invariant-loop-j : goal.invariant-loop-j
