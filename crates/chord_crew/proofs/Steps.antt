@@ -43,7 +43,7 @@ use mathlib.Core.Option.{some}
 use lib.ListN.{get_elem?}
 use Rattle.atomic_table.specs.Table.{keeps, Allows, Splits, Joins}
 use Rattle.chord_crew.specs.declared.draw_rule.View.{View}
-use Rattle.chord_crew.specs.declared.draw_rule.Plan.{Plan}
+use Rattle.chord_crew.specs.declared.draw_rule.Counts.{Counts}
 use Rattle.chord_window.specs.Ordering.{count_of}
 use Rattle.chord_crew.specs.Draws.{HasMoment, IsCounting, draws_of, draws_past_end, IsKept, after_draw, after_split, split_off, joined, spent}
 use Rattle.atomic_table.proofs.Lists.{set_here, set_else}
@@ -135,16 +135,16 @@ numbers_fit parts seats word views kept id v at = length-le parts v.numbers once
     past x h = omega (arith, in_all x, kept.no_other x (omega arith))
 
 -- what a draw asks of the table
-pub draw_allowed : {S : Type 0} (plan : Plan) (slots id : ℕ) (me : View × List (ℕ × S)) → me.0.met_end ≡ false → 0 < me.0.allowance
-    → plan.parts + plan.seats < 2 ^ 64 → Allows (IsCounting plan) slots id me 0 (λ n. (n + 1) % 2 ^ 64)
-    (λ found after. (after ≡ (after_draw plan.parts me.0 found, me.1)) × (length after.0.numbers ≤ plan.parts) × HasMoment plan.parts plan.seats id after.0)
-draw_allowed {S} plan slots id me open_end some_left fits s holds homes at range =
+pub draw_allowed : {S : Type 0} (counts : Counts) (slots id : ℕ) (me : View × List (ℕ × S)) → me.0.met_end ≡ false → 0 < me.0.allowance
+    → counts.parts + counts.seats < 2 ^ 64 → Allows (IsCounting counts) slots id me 0 (λ n. (n + 1) % 2 ^ 64)
+    (λ found after. (after ≡ (after_draw counts.parts me.0 found, me.1)) × (length after.0.numbers ≤ counts.parts) × HasMoment counts.parts counts.seats id after.0)
+draw_allowed {S} counts slots id me open_end some_left fits s holds homes at range =
     let word = holds.0 in
     let is : slice_index s.words 0 ≡ word = ap (λ (l : List ℕ). slice_index l 0) holds.1 in
-    let below : word < plan.parts + plan.seats = word_below plan.parts plan.seats word s.views holds.2 id me.0 at open_end some_left in
+    let below : word < counts.parts + counts.seats = word_below counts.parts counts.seats word s.views holds.2 id me.0 at open_end some_left in
     let next : (word + 1) % 2 ^ 64 ≡ word + 1 = mod-eq_of_lt (omega arith) in
-    let new : View = after_draw plan.parts me.0 word in
-    let after = draw_keeps plan.parts plan.seats word s.views holds.2 id me.0 at open_end some_left in
+    let new : View = after_draw counts.parts me.0 word in
+    let after = draw_keeps counts.parts counts.seats word s.views holds.2 id me.0 at open_end some_left in
     let here : get_elem? (set s.views id new) id ≡ some new = set_here s.views id new (get_or-at s.views id me.0 me.0 at).0 in
     rw is (
       new,
@@ -153,7 +153,7 @@ draw_allowed {S} plan slots id me open_end some_left fits s holds homes at range
       (word + 1, ap₂ (λ (l : List ℕ) (n : ℕ). set l 0 n) holds.1 next, after),
       (
         refl,
-        numbers_fit plan.parts plan.seats (word + 1) (set s.views id new) after id new here,
+        numbers_fit counts.parts counts.seats (word + 1) (set s.views id new) after id new here,
         (word + 1, set s.views id new, after, slice_get-from_get_elem (set s.views id new) id new here),
       ),
     )
@@ -244,13 +244,13 @@ join_keeps parts seats word views kept id v other w at there apart there' =
     either_knows false b p q e = q e
 
 -- what a split and a join ask of the table
-pub split_allowed : {S : Type 0} (plan : Plan) (id : ℕ) (v : View) → 2 ≤ v.allowance → Splits {S = S} (IsCounting plan) id v (after_split v) (split_off v)
-split_allowed plan id v enough s holds at = (holds.0, holds.1, split_keeps plan.parts plan.seats holds.0 s.views holds.2 id v at enough)
+pub split_allowed : {S : Type 0} (counts : Counts) (id : ℕ) (v : View) → 2 ≤ v.allowance → Splits {S = S} (IsCounting counts) id v (after_split v) (split_off v)
+split_allowed counts id v enough s holds at = (holds.0, holds.1, split_keeps counts.parts counts.seats holds.0 s.views holds.2 id v at enough)
 
-pub join_allowed : {S : Type 0} (plan : Plan) (id : ℕ) (v : View) (other : ℕ) (w : View) → Joins {S = S} (IsCounting plan) id v other w (joined v w) spent
-join_allowed plan id v other w s holds at apart there =
+pub join_allowed : {S : Type 0} (counts : Counts) (id : ℕ) (v : View) (other : ℕ) (w : View) → Joins {S = S} (IsCounting counts) id v other w (joined v w) spent
+join_allowed counts id v other w s holds at apart there =
     let there' : get_elem? s.views other ≡ some w = sym (set_else s.views id other (joined v w) apart) ∙ there in
-    (holds.0, holds.1, join_keeps plan.parts plan.seats holds.0 s.views holds.2 id v other w at there' apart there)
+    (holds.0, holds.1, join_keeps counts.parts counts.seats holds.0 s.views holds.2 id v other w at there' apart there)
 
 -- a number that a draw found below `parts` is in the seat's list
 pub has_drawn : (parts found : ℕ) (v : View) → found < parts → 0 < count_of found (after_draw parts v found).numbers

@@ -3,7 +3,7 @@
 -- number of seats that there can be, and whether it has met the end.
 use Rattle.std.specs.Prelude.{◌≡◌, ℕ, ◌+◌, ◌-◌, ◌<◌, ◌≤◌, min, true, false, ◌||◌, nat_lt, if◌then◌else◌, List, [], ◌∷◌, ◌++◌, All, Some, slice_get, sum_by}
 use Rattle.atomic_table.specs.Table.{State}
-use Rattle.chord_crew.specs.declared.draw_rule.Plan.{Plan}
+use Rattle.chord_crew.specs.declared.draw_rule.Counts.{Counts}
 use Rattle.chord_crew.specs.declared.draw_rule.View.{View}
 use Rattle.chord_window.specs.Ordering.{count_of}
 
@@ -29,8 +29,8 @@ abbrev pub HasMoment : (parts seats place : ℕ) → View → Type 0
 HasMoment parts seats place v = (word : ℕ) × (views : List View) × IsKept parts seats word views × (slice_get views place ≡ Some v)
 
 -- a table of one word, under the rule
-abbrev pub IsCounting : {S : Type 0} → Plan → State S View → Type 0
-IsCounting plan state = (word : ℕ) × (state.words ≡ word ∷ []) × IsKept plan.parts plan.seats word state.views
+abbrev pub IsCounting : {S : Type 0} → Counts → State S View → Type 0
+IsCounting counts state = (word : ℕ) × (state.words ≡ word ∷ []) × IsKept counts.parts counts.seats word state.views
 
 -- the first seat
 abbrev pub first_view : ℕ → View

@@ -3,7 +3,7 @@ ghost use Rattle.std.specs.Prelude.{◌≡◌, ℕ, ◌<◌, ◌≤◌, length, 
 ghost use Rattle.std.specs.BinaryHeap.{heap_items, heap_len};
 ghost use Rattle.std.specs.List.{All};
 
-use crate::dealer::Dealer;
+use crate::hooks::Dealer;
 use chord_event::Memory;
 use chord_window::{Division, MOST_PARTS};
 use std::alloc::Global;

@@ -7,11 +7,9 @@ ghost use Rattle.chord_trace.specs.Watched.{wrapped, has_failed};
 ghost use Rattle.chord_trace.specs.Writing.{is_write};
 
 use crate::crew_run::run_parts;
-use crate::dealer::Dealer;
+use crate::hooks::{AllStart, Dealer, Gate};
 use crate::draws::MOST_SEATS;
-use crate::gate::Gate;
 use crate::loads::count_events;
-use crate::starter::AllStart;
 use chord_event::RunError;
 use chord_scenario::Scenario;
 use chord_trace::{Report, Watched};

@@ -14,7 +14,7 @@ pub struct View {
 
 /// The number of numbers to draw, and the greatest number of seats.
 #[derive(Clone, Copy)]
-pub struct Plan {
+pub struct Counts {
     pub parts: u32,
     pub seats: u32,
 }
@@ -22,12 +22,12 @@ pub struct Plan {
 /// The rule of the word.
 pub struct Counting;
 
-impl TableRule<(), View, Plan> for Counting {
+impl TableRule<(), View, Counts> for Counting {
     ghost use Rattle.chord_crew.specs.Draws.{IsCounting, first_view};
 
     ghost holds = { IsCounting };
 
-    ghost first = { λ plan. first_view plan.seats };
+    ghost first = { λ counts. first_view counts.seats };
 }
 
 /// The counter and the seat of a draw: how many numbers the counter has, its whole allowance, and

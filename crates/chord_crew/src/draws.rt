@@ -5,7 +5,7 @@ ghost use Rattle.chord_crew.specs.Draws.{HasMoment, after_draw};
 ghost use Rattle.chord_crew.specs.Seats.{AllAreDrawn, IsDrawnOnlyAt, IsFresh, IsMomentOf, Knows};
 ghost use Rattle.chord_window.specs.Ordering.{HasEachOnce};
 
-use crate::draw_rule::{Counting, DrawOf, Drawn, Plan, Shares, View};
+use crate::draw_rule::{Counting, DrawOf, Drawn, Counts, Shares, View};
 use crate::seat::Seat;
 use atomic_table::Table;
 use chord_event::Memory;
@@ -21,7 +21,7 @@ pub const MOST_SEATS: u32 = 64;
 /// allowance, which is the number of seats that there can be at once.
 #[derive(Drop)]
 pub struct Draws {
-    table: Table<(), View, Plan, Counting, Global>,
+    table: Table<(), View, Counts, Counting, Global>,
     parts: u32,
 }
 
@@ -50,8 +50,8 @@ impl Draws {
         ensures draws { IfOk result (λ r. (r.0.parts ≡ parts) × (r.0.seats ≡ seats)) }
         ensures seat { IfOk result (λ r. (r.1.table ≡ r.0.table) × IsFresh r.1 × (r.1.allowance ≡ seats) × (r.1.met_end ≡ false)) }
     {
-        let plan = Plan { parts, seats };
-        let (table, token) = Table::of_words(alloc, &[0], &plan)?;
+        let counts = Counts { parts, seats };
+        let (table, token) = Table::of_words(alloc, &[0], &counts)?;
         let seat = Seat {
             token,
             met_end: false,

@@ -3,30 +3,25 @@
 
 mod balanced;
 mod crew_run;
-mod dealer;
 mod dealt_run;
 mod draw_rule;
 mod draws;
-mod faults;
-mod gate;
 mod gathered;
+mod hooks;
 mod loads;
 mod part_runner;
 mod seat;
 mod shift;
-mod starter;
 mod window_run;
 mod workers;
 
 pub use balanced::Balanced;
 pub use crew_run::{run_crew, run_crew_started};
-pub use dealer::Dealer;
 pub use dealt_run::run_crew_dealt;
 pub use draws::{Draws, MOST_SEATS};
-pub use gate::{Gate, OpenGate};
+pub use hooks::{AllStart, Dealer, Gate, OpenGate, Starter};
 pub use seat::Seat;
 pub use shift::{Shift, work};
-pub use starter::{AllStart, Starter};
 // For a test of the order in which a worker passes gates and runs parts.
 #[doc(hidden)]
 pub use part_runner::PartRunner;

@@ -5,7 +5,7 @@ ghost use Rattle.chord_window.specs.Ordering.{IsResult, parts_of};
 ghost use Rattle.chord_window.specs.PartRuns.{IsFresh, IsNextWindow};
 
 use crate::draws::Draws;
-use crate::gate::Gate;
+use crate::hooks::Gate;
 use crate::part_runner::{ByRunPart, PartRunner};
 use crate::seat::Seat;
 use chord_event::RunError;

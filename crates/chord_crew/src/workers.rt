@@ -5,11 +5,10 @@ ghost use Rattle.chord_crew.specs.Shifts.{IsWindowOf};
 ghost use Rattle.chord_crew.specs.Windows.{IsGathered, IsWindowFault, joined_seats};
 
 use crate::draws::MOST_SEATS;
-use crate::gate::Gate;
+use crate::hooks::{Gate, Starter};
 use crate::gathered::{Gathered, alone, gather};
 use crate::seat::Seat;
 use crate::shift::{Shift, work};
-use crate::starter::Starter;
 use crate::window_run::{ShiftOf, WindowRun};
 use chord_event::RunError;
 use chord_window::Window;

@@ -2,6 +2,6 @@
 //! use it.
 #![tactic(auto)]
 
-mod putting;
+mod pieces;
 
-pub use putting::{put_audits, put_block};
+pub use pieces::{put_audits, put_block};

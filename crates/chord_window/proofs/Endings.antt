@@ -54,7 +54,7 @@ use Rattle.chord_trace.specs.Tally.{IsTallyOf, taken}
 use Rattle.chord_trace.specs.Texts.{pieces_text}
 use Rattle.chord_trace.specs.Writing.{AppendsFront}
 use Rattle.chord_window.specs.declared.engine.Engine.{Engine}
-use Rattle.chord_window.specs.declared.opening.Opening.{Opening}
+use Rattle.chord_window.specs.declared.world.Opening.{Opening}
 use Rattle.chord_window.specs.Engine.{IsAt}
 use Rattle.chord_window.specs.Tallies.{AreTalliesOf, HaveTallied, shares_to}
 use Rattle.chord_window.specs.Worlds.{IsWorldOf}

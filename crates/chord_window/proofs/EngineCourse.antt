@@ -63,7 +63,7 @@ use Rattle.chord_trace.specs.Tally.{IsTallyOf, taken}
 use Rattle.chord_trace.specs.Texts.{block_text, pieces_text}
 use Rattle.chord_trace.specs.Writing.{AppendsFront}
 use Rattle.chord_window.specs.declared.engine.Engine.{Engine}
-use Rattle.chord_window.specs.declared.opening.Opening.{Opening}
+use Rattle.chord_window.specs.declared.world.Opening.{Opening}
 use Rattle.chord_window.specs.declared.part_run.Done.{Done}
 use Rattle.chord_window.specs.declared.world.World.{World}
 use Rattle.chord_window.specs.Engine.{IsAt}

@@ -20,7 +20,7 @@ use Rattle.chord_scenario.specs.declared.scenario.Scenario.{Scenario}
 use Rattle.chord_scenario.specs.Range.{IsInRange}
 use Rattle.chord_scenario.specs.World.{node_count}
 use Rattle.chord_trace.specs.declared.piece.Piece.TheVariants as piece
-use Rattle.chord_window.specs.declared.opening.Opening.{Opening}
+use Rattle.chord_window.specs.declared.world.Opening.{Opening}
 use Rattle.chord_window.specs.declared.part_run.Done.{Done}
 use Rattle.chord_window.specs.declared.part_run.PartRun.{PartRun}
 use Rattle.chord_window.specs.declared.world.PartEvents.{PartEvents}

@@ -11,8 +11,8 @@ use Rattle.chord_model.specs.Schedules.Goes.{ends}
 use Rattle.chord_model.specs.Schedules.Run.{Ended, Within}
 use Rattle.chord_model.specs.Windows.{Division, opened}
 use Rattle.chord_scenario.specs.declared.scenario.Scenario.{Scenario}
-use Rattle.chord_window.specs.declared.opening.Opening.{Opening}
-use Rattle.chord_window.specs.declared.taken.Taken.{Taken}
+use Rattle.chord_window.specs.declared.world.Opening.{Opening}
+use Rattle.chord_window.specs.declared.step.Taken.{Taken}
 use Rattle.chord_window.specs.declared.world.World.{World}
 use Rattle.chord_window.specs.Picked.{HasStepped, shown}
 use Rattle.chord_window.specs.PickedRuns.{AreStepsOf, HasCome}

@@ -46,8 +46,8 @@ use Rattle.chord_model.proofs.Turns.{someone_can_step}
 use Rattle.chord_scenario.specs.declared.scenario.Scenario.{Scenario}
 use Rattle.chord_window.specs.declared.part_run.Done.{Done}
 use Rattle.chord_window.specs.declared.part_run.PartRun.{PartRun}
-use Rattle.chord_window.specs.declared.taken.Step.{Step as AStep}
-use Rattle.chord_window.specs.declared.taken.Taken.{Taken}
+use Rattle.chord_window.specs.declared.step.Step.{Step as AStep}
+use Rattle.chord_window.specs.declared.step.Taken.{Taken}
 use Rattle.chord_window.specs.declared.worker.Worker.{Worker}
 use Rattle.chord_window.specs.declared.world.World.{World}
 use Rattle.chord_window.specs.Picked.{IsHeldBy, IsPartOf, IsPickedWith, Leads, can_go_with, has_part, lowest_by, shown, shown_step, turn_by}

@@ -2,8 +2,8 @@
 use Rattle.std.specs.Prelude.{◌*◌, ◌/◌, ◌%◌, ◌<◌, ◌≤◌, ◌==◌, nat_lt, nat_le, not, if◌then◌else◌, ℕ, List, Option, None, Some, length}
 use Rattle.std.specs.List.{All, list_any}
 use Rattle.chord_window.specs.declared.division.TheConstants.{MOST_PARTS}
-use Rattle.chord_window.specs.declared.division_fault.DivisionFault.{DivisionFault}
-use Rattle.chord_window.specs.declared.division_fault.DivisionFault.TheVariants as fault
+use Rattle.chord_window.specs.declared.division.DivisionFault.{DivisionFault}
+use Rattle.chord_window.specs.declared.division.DivisionFault.TheVariants as fault
 
 -- there are parts, and not too many, and the part of each node is one of them
 pub record AreWithin (parts : ℕ) (of_node : List ℕ) : Type 0 where

@@ -45,9 +45,9 @@ use Rattle.chord_scenario.specs.declared.scenario.Scenario.{Scenario}
 use Rattle.chord_window.specs.declared.part_run.Done.{Done}
 use Rattle.chord_window.specs.declared.part_run.PartRun.{PartRun}
 use Rattle.chord_window.specs.declared.picked_window.PickedWindow.{PickedWindow}
-use Rattle.chord_window.specs.declared.taken.Step.{Step as AStep}
-use Rattle.chord_window.specs.declared.taken.Step.TheVariants as answer
-use Rattle.chord_window.specs.declared.taken.Taken.{Taken}
+use Rattle.chord_window.specs.declared.step.Step.{Step as AStep}
+use Rattle.chord_window.specs.declared.step.Step.TheVariants as answer
+use Rattle.chord_window.specs.declared.step.Taken.{Taken}
 use Rattle.chord_window.specs.declared.worker.Worker.{Worker}
 use Rattle.chord_window.specs.declared.world.World.{World}
 use Rattle.chord_window.specs.PartRuns.{IsDone, ran_by}

@@ -9,7 +9,7 @@ use Rattle.chord_model.specs.Schedules.{Goes, begun}
 use Rattle.chord_model.specs.Windows.{Division, Step}
 use Rattle.chord_scenario.specs.declared.scenario.Scenario.{Scenario}
 use Rattle.chord_trace.specs.declared.report.Report.{Report}
-use Rattle.chord_window.specs.declared.taken.Taken.{Taken}
+use Rattle.chord_window.specs.declared.step.Taken.{Taken}
 use Rattle.chord_window.specs.Picked.{shown}
 
 -- these are the steps of the window machine under the picks, from the first window to the end of the run

@@ -4,7 +4,7 @@ ghost use Rattle.chord_node.specs.declared.state.NodeState.{NodeState as AState}
 ghost use Rattle.chord_model.specs.Windows.{Division, part_of};
 ghost use Rattle.chord_window.specs.Copies.{AreCopies, IsSlot, seen, HaveSeen};
 
-use crate::room::list_with_room;
+use crate::part_run::list_with_room;
 use chord_event::Memory;
 use chord_node::NodeState;
 use std::alloc::Global;

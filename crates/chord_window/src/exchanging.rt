@@ -6,7 +6,7 @@ ghost use Rattle.chord_window.specs.Ordering.{AreBlocksInOrder, ArePartsDone};
 ghost use Rattle.chord_window.specs.Exchanges.{AreDone, NameNodes, block_lists, events_in, mails, with_all, with_states};
 ghost use Rattle.chord_window.specs.Worlds.{IsWorldOf};
 
-use crate::ordering::in_part_order;
+use crate::part_order::in_part_order;
 use crate::part_run::Done;
 use crate::world::{World, deliver, open_window};
 use chord_event::{Block, Event, Memory, RunError};

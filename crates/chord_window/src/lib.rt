@@ -3,29 +3,24 @@
 
 mod copies;
 mod division;
-mod division_fault;
 mod engine;
 mod exchanging;
-mod opening;
-mod ordering;
+mod part_order;
 mod part_run;
 mod picked_run;
 mod picked_window;
-mod room;
-mod slots;
-mod taken;
+mod step;
 mod tallies;
 mod window;
 mod worker;
 mod world;
 
-pub use division::{Division, MOST_PARTS};
-pub use division_fault::DivisionFault;
+pub use division::{Division, DivisionFault, MOST_PARTS};
 pub use exchanging::exchange;
-pub use ordering::in_part_order;
+pub use part_order::in_part_order;
 pub use part_run::{Done, run_part};
 pub use picked_run::run_picked;
-pub use taken::{Step, Taken};
+pub use step::{Step, Taken};
 pub use window::Window;
 pub use world::World;
 // Other ways to run windows, such as a crew, go by the engine. Contracts name the types of its
@@ -33,12 +28,10 @@ pub use world::World;
 #[doc(hidden)]
 pub use engine::Engine;
 #[doc(hidden)]
-pub use opening::Opening;
-#[doc(hidden)]
 pub use part_run::PartRun;
 #[doc(hidden)]
 pub use picked_window::PickedWindow;
 #[doc(hidden)]
 pub use worker::{Progress, Worker};
 #[doc(hidden)]
-pub use world::PartEvents;
+pub use world::{Opening, PartEvents};

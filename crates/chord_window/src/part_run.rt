@@ -1,5 +1,5 @@
 //! The run of one part in one window.
-ghost use Rattle.std.specs.Prelude.{◌≡◌, ◌≢◌, ◌⊎◌, ◌+◌, ◌-◌, ◌*◌, ◌<◌, ◌≤◌, ◌^◌, ◌↔◌, ◌++◌, ◌∷◌, [], ℕ, Some, drop, length, nat_le, slice_index_or, IfOk, IfErr, IfSome, OnOk, Err, IfNone};
+ghost use Rattle.std.specs.Prelude.{◌≡◌, [], ◌≢◌, ◌⊎◌, ◌+◌, ◌-◌, ◌*◌, ◌<◌, ◌≤◌, ◌^◌, ◌↔◌, ◌++◌, ◌∷◌, ℕ, Some, drop, length, nat_le, slice_index_or, IfOk, IfErr, IfSome, OnOk, Err, IfNone};
 ghost use Rattle.std.specs.List.{AllPairs, Contains, list_all};
 ghost use Rattle.chord_event.specs.declared.body.Body.{Body as ABody};
 ghost use Rattle.chord_event.specs.declared.event.Event.{Event as AnEvent};
@@ -12,7 +12,6 @@ ghost use Rattle.chord_window.specs.PartRuns.{HasBegun, HasHandled, HasLeft, IsD
 ghost use Rattle.chord_window.specs.Worlds.{IsWorldOf};
 
 use crate::copies::Copies;
-use crate::room::list_with_room;
 use crate::window::Window;
 use chord_event::{Block, Event, Key, Memory, RunError};
 use chord_node::NodeState;
@@ -256,5 +255,15 @@ pub fn run_part(window: &Window<'_>, part: u32, queue: &mut WindowQueue) -> Resu
                 return Err(error);
             }
         }
+    }
+}
+
+/// An empty list, with room for `many` items if memory allows it.
+pub(crate) fn list_with_room<T: Drop>(alloc: Global, many: usize) -> Vec<T>
+    ensures { result.items ≡ [] }
+{
+    match Vec::with_capacity(alloc, many) {
+        Ok(list) => list,
+        Err(_) => Vec::new(alloc),
     }
 }

@@ -9,7 +9,7 @@ ghost use Rattle.chord_window.specs.PickedRuns.{AreStepsOf, report_in};
 use crate::division::Division;
 use crate::engine::Engine;
 use crate::picked_window::PickedWindow;
-use crate::taken::Taken;
+use crate::step::Taken;
 use crate::window::Window;
 use chord_event::RunError;
 use chord_scenario::Scenario;

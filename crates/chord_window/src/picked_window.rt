@@ -12,8 +12,8 @@ ghost use Rattle.chord_window.specs.Picked.{HasStepped, HasTakenTurns, HasTurned
 ghost use Rattle.chord_window.specs.Workers.{IsIdle};
 
 use crate::part_run::Done;
-use crate::slots::{empty_slots, take_out};
-use crate::taken::{Step, Taken};
+use crate::part_order::{empty_slots, take_out};
+use crate::step::{Step, Taken};
 use crate::window::Window;
 use crate::worker::{Progress, Worker};
 use chord_event::{Memory, RunError};

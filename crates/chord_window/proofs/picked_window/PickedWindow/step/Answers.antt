@@ -1,5 +1,5 @@
 use Rattle.std.proofs.Common.{◌<◌, arith, sym, subst, ap}
-use Rattle.chord_window.specs.declared.taken.Step.TheVariants as answer
+use Rattle.chord_window.specs.declared.step.Step.TheVariants as answer
 use Rattle.chord_window.specs.Workers.{HasProgressed}
 use Rattle.chord_model.specs.Windows.Step.{Drew, Ran, Sealed}
 use Rattle.chord_window.proofs.PickedSteps.{

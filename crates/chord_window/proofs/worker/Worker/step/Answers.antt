@@ -2,7 +2,7 @@ use Rattle.std.proofs.Common.{◌≡◌, ◌∙◌, ◌+◌, Some, arith, get_or
 use Rattle.chord_event.specs.declared.body.Body.{Body}
 use Rattle.chord_event.specs.declared.event.Event.{Event}
 use Rattle.chord_event.specs.declared.key.Key.{Key}
-use Rattle.chord_window.specs.declared.opening.Opening.{Opening}
+use Rattle.chord_window.specs.declared.world.Opening.{Opening}
 use Rattle.chord_window.specs.declared.part_run.PartRun.{PartRun}
 use Rattle.chord_window.specs.declared.worker.Worker.{Worker}
 use Rattle.chord_window.specs.PartRuns.{IsDone, IsNextKey, IsRunning, IsWindow}

@@ -6,7 +6,7 @@ use Rattle.chord_node.specs.declared.state.NodeState.{NodeState}
 use Rattle.chord_trace.specs.Tally.{taken}
 use Rattle.chord_trace.specs.Watched.{wrapped, has_failed}
 use Rattle.chord_output.proofs.Outputs.{HasPut}
-use Rattle.chord_output.proofs.putting.put_audits.Given as goal
+use Rattle.chord_output.proofs.pieces.put_audits.Given as goal
 
 abbrev pub invariant-loop-at : goal.invariant-loop-at
 invariant-loop-at g l = record {

@@ -2,7 +2,7 @@ use Rattle.std.proofs.Common.{◌≡◌, inr, sym, subst, rules}
 use Rattle.std.specs.Vec.Iter.{into_iter_items}
 use Rattle.chord_window.specs.Ordering.{AreOf, IsToCome}
 use Rattle.chord_window.proofs.Orders.{all_are_of, all_to_come}
-use Rattle.chord_window.proofs.ordering.place.Goals as goal
+use Rattle.chord_window.proofs.part_order.place.Goals as goal
 
 pub loop-done-init : goal.loop-done-init
 loop-done-init c =

@@ -1,7 +1,7 @@
 use Rattle.std.proofs.Common.{◌≡◌, ◌<◌, ◌⊎◌, ℕ, None, length, slice_index_or}
 use Rattle.std.specs.Vec.Iter.{into_iter_items}
 use Rattle.chord_window.specs.Ordering.{AreOf, IsFilled, IsToCome}
-use Rattle.chord_window.proofs.ordering.place.Given as goal
+use Rattle.chord_window.proofs.part_order.place.Given as goal
 
 abbrev pub invariant-loop-done : goal.invariant-loop-done
 invariant-loop-done l = record {

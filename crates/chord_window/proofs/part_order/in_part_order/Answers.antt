@@ -3,7 +3,7 @@ use Rattle.std.proofs.lemmas.Result.{IfOk-weaker}
 use Rattle.chord_window.specs.Ordering.{AreInOrder, AreInOrderFrom}
 use Rattle.chord_window.specs.Slots.{in_slots}
 use Rattle.chord_window.proofs.Orders.{filled_in_order}
-use Rattle.chord_window.proofs.ordering.in_part_order.Goals as goal
+use Rattle.chord_window.proofs.part_order.in_part_order.Goals as goal
 
 pub returns : goal.returns
 returns c =

@@ -1,7 +1,7 @@
 use Rattle.std.proofs.Common.{◌≡◌, ◌++◌}
 use Rattle.std.specs.Vec.Iter.{into_iter_items}
 use Rattle.chord_window.specs.Slots.{in_slots}
-use Rattle.chord_window.proofs.slots.take_out.Given as goal
+use Rattle.chord_window.proofs.part_order.take_out.Given as goal
 
 abbrev pub invariant-loop-slot : goal.invariant-loop-slot
 invariant-loop-slot l = record {

@@ -2,7 +2,7 @@ use Rattle.std.proofs.Common.{◌∙◌, sym, ap, arith, refl, length}
 use Rattle.std.specs.Prelude.{nat_lt}
 use Rattle.std.specs.List.{filter}
 use Rattle.chord_output.proofs.Outputs.{all-left, left-first, put_all, put_front, put_more, put_none, put_whole}
-use Rattle.chord_output.proofs.putting.put_audits.Goals as goal
+use Rattle.chord_output.proofs.pieces.put_audits.Goals as goal
 
 pub loop-at-init : goal.loop-at-init
 loop-at-init g c = record {

@@ -1,4 +1,5 @@
 //! The steps of workers.
+
 use chord_event::Key;
 
 /// One step of a worker: it draws a part, or runs its part's least event before the horizon, which

@@ -3,7 +3,7 @@ use Rattle.std.specs.Io.KnownBytes.{Appends}
 use Rattle.chord_trace.specs.declared.piece.Piece.TheVariants as piece
 use Rattle.chord_trace.specs.Watched.{wrapped}
 use Rattle.chord_output.proofs.Outputs.{text-one}
-use Rattle.chord_output.proofs.putting.put_block.Goals as goal
+use Rattle.chord_output.proofs.pieces.put_block.Goals as goal
 
 pub returns-clause-adds : goal.returns-clause-adds
 returns-clause-adds g c = record {

@@ -1,6 +1,6 @@
 use Rattle.chord_audit.specs.Audit.{audit_facts}
 use Rattle.chord_output.proofs.Outputs.{audit-adds, audit-front}
-use Rattle.chord_output.proofs.putting.put_audit.Goals as goal
+use Rattle.chord_output.proofs.pieces.put_audit.Goals as goal
 
 pub returns-in_err-write_audit-clause-front : goal.returns-in_err-write_audit-clause-front
 returns-in_err-write_audit-clause-front g c = λ state are.

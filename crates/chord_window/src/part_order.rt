@@ -1,11 +1,37 @@
 //! The results of the parts, in the order of the parts.
-ghost use Rattle.std.specs.Prelude.{◌≡◌, ◌<◌, ℕ, None, length, slice_index_or, IfOk};
+ghost use Rattle.std.specs.Prelude.{◌≡◌, None, length, IfOk, ◌<◌, ℕ, slice_index_or};
+ghost use Rattle.std.specs.List.{AllByRecursion};
+ghost use Rattle.chord_window.specs.Slots.{in_slots};
 ghost use Rattle.chord_window.specs.Ordering.{AreInOrder, HasEachOnce, IsFilled, parts_of};
 
 use crate::part_run::Done;
-use crate::slots::{empty_slots, take_out};
 use chord_event::Memory;
 use std::alloc::Global;
+
+/// `parts` empty places.
+pub(crate) fn empty_slots(alloc: Global, parts: u32) -> Result<Vec<Option<Done>>, Memory>
+    ensures long { IfOk result (λ slots. length slots.items ≡ parts) }
+    ensures empty { IfOk result (λ slots. AllByRecursion (λ slot. slot ≡ None) slots.items) }
+{
+    let mut slots = Vec::new(alloc);
+    for _part in 0..parts {
+        slots.push(None)?;
+    }
+    Ok(slots)
+}
+
+/// What the places hold.
+pub(crate) fn take_out(alloc: Global, slots: Vec<Option<Done>>) -> Result<Vec<Done>, Memory>
+    ensures { IfOk result (λ list. list.items ≡ in_slots slots.items) }
+{
+    let mut list = Vec::new(alloc);
+    for slot in slots {
+        if let Some(done) = slot {
+            list.push(done)?;
+        }
+    }
+    Ok(list)
+}
 
 /// Puts the result of each part at the place of the part.
 fn place(alloc: Global, parts: u32, dones: Vec<Done>) -> Result<Vec<Option<Done>>, Memory>

@@ -1,6 +1,6 @@
 use Rattle.std.proofs.Common.{◌≡◌, None, length}
 use Rattle.std.specs.List.{AllByRecursion}
-use Rattle.chord_window.proofs.slots.empty_slots.Given as goal
+use Rattle.chord_window.proofs.part_order.empty_slots.Given as goal
 
 abbrev pub invariant-loop-part : goal.invariant-loop-part
 invariant-loop-part l = record {
