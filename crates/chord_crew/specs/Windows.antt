@@ -13,14 +13,6 @@ use Rattle.chord_window.specs.declared.world.World.{World}
 abbrev pub IsWindowFault : Scenario → RunError → Type 0
 IsWindowFault sc fault = (fault ≡ run.Worker) ⊎ IsPartFault sc fault
 
--- the rank of a fault if several meet in one window: the lowest is reported, a thread that could not be started first
-abbrev pub rank_of : RunError → ℕ
-rank_of run.Worker = 0
-rank_of run.Memory = 1
-rank_of run.TooManyEvents = 2
-rank_of run.Write = 3
-rank_of run.BadDivision = 4
-
 -- the seat that two seats of one counter make
 abbrev pub joined_seats : SeatState → SeatState → SeatState
 joined_seats first second =

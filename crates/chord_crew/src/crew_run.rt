@@ -9,8 +9,8 @@ ghost use Rattle.chord_window.specs.Exchanges.{AreDone};
 ghost use Rattle.chord_window.specs.PartRuns.{IsNextWindow};
 
 use crate::draws::{Draws, MOST_SEATS};
-use crate::hooks::{AllStart, Gate, Starter};
 use crate::gathered::Gathered;
+use crate::hooks::{AllStart, Gate, Starter};
 use crate::window_run::WindowRun;
 use crate::workers::run_workers;
 use chord_event::RunError;

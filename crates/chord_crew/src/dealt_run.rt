@@ -7,8 +7,8 @@ ghost use Rattle.chord_trace.specs.Watched.{wrapped, has_failed};
 ghost use Rattle.chord_trace.specs.Writing.{is_write};
 
 use crate::crew_run::run_parts;
-use crate::hooks::{AllStart, Dealer, Gate};
 use crate::draws::MOST_SEATS;
+use crate::hooks::{AllStart, Dealer, Gate};
 use crate::loads::count_events;
 use chord_event::RunError;
 use chord_scenario::Scenario;

@@ -5,7 +5,7 @@ ghost use Rattle.chord_crew.specs.Draws.{HasMoment, after_draw};
 ghost use Rattle.chord_crew.specs.Seats.{AllAreDrawn, IsDrawnOnlyAt, IsFresh, IsMomentOf, Knows};
 ghost use Rattle.chord_window.specs.Ordering.{HasEachOnce};
 
-use crate::draw_rule::{Counting, DrawOf, Drawn, Counts, Shares, View};
+use crate::draw_rule::{Counting, Counts, DrawOf, Drawn, Shares, View};
 use crate::seat::Seat;
 use atomic_table::Table;
 use chord_event::Memory;

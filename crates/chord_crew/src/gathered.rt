@@ -1,35 +1,15 @@
-//! The joined results of a window's workers, and which of their faults is reported.
+//! The joined results of a window's workers.
 ghost use Rattle.std.specs.Prelude.{◌≡◌, ◌⊎◌, ◌≤◌, ◌++◌, Some, None, Err, IfOk, IfErr, IfSome};
-ghost use Rattle.chord_crew.specs.Windows.{rank_of, JoinsBoth, joined_seats};
+ghost use Rattle.chord_crew.specs.Windows.{JoinsBoth, joined_seats};
+ghost use Rattle.chord_output.specs.Faults.{rank_of};
 ghost use Rattle.std.specs.Result.{ForOk};
 
 use crate::draws::Draws;
 use crate::seat::Seat;
 use crate::shift::Shift;
 use chord_event::RunError;
+use chord_output::graver;
 use chord_window::Done;
-
-fn rank(fault: RunError) -> u8
-    ensures { result ≡ rank_of fault }
-{
-    match fault {
-        RunError::Worker => 0,
-        RunError::Memory => 1,
-        RunError::TooManyEvents => 2,
-        RunError::Write => 3,
-        RunError::BadDivision => 4,
-    }
-}
-
-/// The one of two faults that is reported: `Worker` before `Memory`, and that before
-/// `TooManyEvents`.
-pub(crate) fn graver(one: RunError, other: RunError) -> RunError
-    ensures either { (result ≡ one) ⊎ (result ≡ other) }
-    ensures first { rank_of result ≤ rank_of one }
-    ensures second { rank_of result ≤ rank_of other }
-{
-    if rank(other) < rank(one) { other } else { one }
-}
 
 /// The joined results of the workers of a window: the joined seat, and what the parts that they
 /// drew leave, in the order of its numbers.

@@ -5,8 +5,8 @@ ghost use Rattle.chord_crew.specs.Shifts.{IsWindowOf};
 ghost use Rattle.chord_crew.specs.Windows.{IsGathered, IsWindowFault, joined_seats};
 
 use crate::draws::MOST_SEATS;
-use crate::hooks::{Gate, Starter};
 use crate::gathered::{Gathered, alone, gather};
+use crate::hooks::{Gate, Starter};
 use crate::seat::Seat;
 use crate::shift::{Shift, work};
 use crate::window_run::{ShiftOf, WindowRun};

@@ -2,6 +2,10 @@
 //! use it.
 #![tactic(auto)]
 
+mod faults;
 mod pieces;
 
+// Two ways to run windows by workers go by it.
+#[doc(hidden)]
+pub use faults::graver;
 pub use pieces::{put_audits, put_block};

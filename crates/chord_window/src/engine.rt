@@ -14,9 +14,9 @@ ghost use Rattle.chord_window.specs.Exchanges.{AreDone, events_in};
 
 use crate::division::Division;
 use crate::exchanging::{events_within, exchange_in_order};
-use crate::world::{Opening, World};
 use crate::part_run::Done;
 use crate::tallies::{add_tallies, join_all, tally_parts};
+use crate::world::{Opening, World};
 use chord_event::{Block, RunError};
 use chord_machine::AuditClock;
 use chord_output::put_audits;

@@ -23,8 +23,8 @@ pub use picked_run::run_picked;
 pub use step::{Step, Taken};
 pub use window::Window;
 pub use world::World;
-// Other ways to run windows, such as a crew, go by the engine. Contracts name the types of its
-// fields.
+// Other ways to run windows, such as a crew or a team, go by these. Contracts name the types of the
+// engine's fields.
 #[doc(hidden)]
 pub use engine::Engine;
 #[doc(hidden)]
@@ -32,6 +32,8 @@ pub use part_run::PartRun;
 #[doc(hidden)]
 pub use picked_window::PickedWindow;
 #[doc(hidden)]
+pub use tallies::join_all;
+#[doc(hidden)]
 pub use worker::{Progress, Worker};
 #[doc(hidden)]
-pub use world::{Opening, PartEvents};
+pub use world::{Opening, PartEvents, horizon_from, sooner};

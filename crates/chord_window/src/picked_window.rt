@@ -11,8 +11,8 @@ ghost use Rattle.chord_window.specs.PartRuns.{IsNextWindow};
 ghost use Rattle.chord_window.specs.Picked.{HasStepped, HasTakenTurns, HasTurned, IsOpened, IsPicked, can_go, lowest_by, potential, turn_by};
 ghost use Rattle.chord_window.specs.Workers.{IsIdle};
 
-use crate::part_run::Done;
 use crate::part_order::{empty_slots, take_out};
+use crate::part_run::Done;
 use crate::step::{Step, Taken};
 use crate::window::Window;
 use crate::worker::{Progress, Worker};

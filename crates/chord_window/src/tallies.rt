@@ -54,7 +54,7 @@ pub(crate) fn tally_parts(tallies: &mut Vec<Tally>, lists: &[Vec<Block>]) -> Res
 }
 
 /// All tallies joined, in their order. All are of this profile.
-pub(crate) fn join_all(alloc: Global, profile: u32, tallies: Vec<Tally>) -> Result<Tally, Memory>
+pub fn join_all(alloc: Global, profile: u32, tallies: Vec<Tally>) -> Result<Tally, Memory>
     requires room { (share : ℕ → List Piece) × AreTalliesOf profile share tallies.items × (length (shares_to share (length tallies.items)) ≤ 2 ^ 40) }
     ensures pieces { IfOk result (λ joined. (share : ℕ → List Piece) → AreTalliesOf profile share tallies.items → IsTallyOf profile (shares_to share (length tallies.items)) joined) }
 {
