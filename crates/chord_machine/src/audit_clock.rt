@@ -1,5 +1,5 @@
 //! The clock of the audits.
-ghost use Rattle.std.specs.Prelude.{◌≡◌, ◌<◌, ◌≤◌, ◌∷◌, length, IfOk, MatchOption};
+ghost use Rattle.std.specs.Prelude.{◌≡◌, ◌<◌, ◌≤◌, ◌∷◌, length, slice_get, IfOk, MatchOption};
 ghost use Rattle.std.specs.List.{AllByRecursion};
 ghost use Rattle.chord_machine.specs.AuditTimes.{IsAscending, audit_times};
 
@@ -39,6 +39,13 @@ impl AuditClock {
         }
         times.push(scenario.duration())?;
         Ok(AuditClock { times, next: 0 })
+    }
+
+    /// The time of the first audit.
+    pub fn first(&self) -> Option<u64>
+        ensures { result ≡ slice_get self.now 0 }
+    {
+        self.times.get(self.next).copied()
     }
 
     /// Takes the first audit, if it is due by this time.
