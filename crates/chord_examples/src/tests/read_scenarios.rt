@@ -1,5 +1,5 @@
 //! Scenarios as they are read.
-use crate::faults::BASE;
+use crate::tests::refused_texts::BASE;
 use chord_event::{Body, Event, Key};
 use chord_scenario::{Action, read_scenario};
 use std::test::Fail;

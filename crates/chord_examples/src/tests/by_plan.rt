@@ -1,10 +1,12 @@
 //! Neither the workers nor the parts of a plan change what a scenario leaves.
 ghost use Rattle.std.specs.Prelude.{◌≡◌, ◌≤◌};
 
-use crate::examples::EXAMPLES;
-use crate::failures::TWO_LOOKUPS;
-use crate::playing::{Played, SERIAL, SETTINGS, THREE, play_text, play_texts, shown, text_of};
-use crate::random::{Dice, RandomTexts, random_texts};
+use crate::examples::play::{
+    Played, SERIAL, SETTINGS, THREE, play_text, play_texts, shown, text_of,
+};
+use crate::examples::table::EXAMPLES;
+use crate::tests::random_texts::{Dice, RandomTexts, random_texts};
+use crate::tests::reader_failures::TWO_LOOKUPS;
 use chord_event::RunError;
 use chord_play::{Plan, PlayFault, Split};
 use std::sync::Wait;

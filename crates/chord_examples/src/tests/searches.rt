@@ -2,7 +2,7 @@
 ghost use Rattle.std.specs.Prelude.{◌≡◌, true};
 ghost use Rattle.chord_node.specs.Invariant.{AllNodes};
 
-use crate::playing::{SETTINGS, THREE, text_of};
+use crate::examples::play::{SETTINGS, THREE, text_of};
 use chord_circle::Raw;
 use chord_event::Answer;
 use chord_node::initial_ring;

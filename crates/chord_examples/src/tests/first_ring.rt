@@ -1,5 +1,5 @@
 //! The ring at the start, and what its nodes know.
-use crate::playing::{SETTINGS, THREE, text_of};
+use crate::examples::play::{SETTINGS, THREE, text_of};
 use chord_circle::{Circle, Raw};
 use chord_node::initial_ring;
 use chord_scenario::read_scenario;

@@ -1,5 +1,5 @@
 //! The table of worked examples.
-use crate::playing::{SETTINGS, THREE, text_of};
+use crate::examples::play::{SETTINGS, THREE, text_of};
 use chord_scenario::{Scenario, ScenarioFault, read_scenario};
 use std::alloc::Global;
 

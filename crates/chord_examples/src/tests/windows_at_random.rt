@@ -1,7 +1,7 @@
 //! Random scenarios, divisions and picks.
 ghost use Rattle.std.specs.Prelude.{◌<◌};
 
-use crate::random::{Dice, RandomTexts, random_texts};
+use crate::tests::random_texts::{Dice, RandomTexts, random_texts};
 use chord_event::RunError;
 use chord_scenario::read_scenario;
 use chord_serial::run_serial;

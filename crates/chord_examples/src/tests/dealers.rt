@@ -1,10 +1,10 @@
 //! Crews whose nodes are divided again before each window, or whose threads may not all start.
 ghost use Rattle.std.specs.Prelude.{◌≡◌, ◌<◌, ◌≤◌, length};
 
-use crate::crews::{Ran, two_lookups};
-use crate::failures::TRACE;
-use crate::gates::SizeGate;
-use crate::playing::{SETTINGS, text_of};
+use crate::examples::play::{SETTINGS, text_of};
+use crate::tests::crews::{Ran, two_lookups};
+use crate::tests::gates::SizeGate;
+use crate::tests::reader_failures::TRACE;
 use chord_crew::{
     Balanced, Dealer, Gate, MOST_SEATS, OpenGate, Starter, run_crew_dealt, run_crew_started,
 };

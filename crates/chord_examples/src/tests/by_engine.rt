@@ -1,9 +1,9 @@
 //! What holds of a run by any engine.
-use crate::crews::two_lookups;
-use crate::engines::{ENGINES, Engine, Shape, run_by};
-use crate::examples::{EXAMPLES, TWO_LOOKUPS};
-use crate::failures::TRACE;
-use crate::playing::shown;
+use crate::examples::engines::{ENGINES, Engine, Shape, run_by};
+use crate::examples::play::shown;
+use crate::examples::table::{EXAMPLES, TWO_LOOKUPS};
+use crate::tests::crews::two_lookups;
+use crate::tests::reader_failures::TRACE;
 use chord_crew::MOST_SEATS;
 use chord_event::RunError;
 use chord_scenario::{Scenario, read_scenario};

@@ -1,5 +1,5 @@
 //! The random streams of the nodes in a run.
-use crate::playing::{SETTINGS, THREE, play_text, text_of};
+use crate::examples::play::{SETTINGS, THREE, play_text, text_of};
 use chord_stream::Stream;
 use std::test::Fail;
 

@@ -1,7 +1,7 @@
 //! Divisions, and runs with divisions that do not fit.
 ghost use Rattle.std.specs.Prelude.{◌≡◌};
 
-use crate::playing::{SETTINGS, THREE, text_of};
+use crate::examples::play::{SETTINGS, THREE, text_of};
 use chord_event::RunError;
 use chord_scenario::read_scenario;
 use chord_trace::Watched;

@@ -1,8 +1,8 @@
 //! Values as great as they may be: an allocation that fails without need would be seen here.
-use crate::engines::ENGINES;
-use crate::example_tests::repeated;
-use crate::playing::THREE;
-use crate::second_profile::{ONE_HOP, PAIR, ring_of, told_by};
+use crate::examples::engines::ENGINES;
+use crate::examples::play::THREE;
+use crate::tests::by_example::repeated;
+use crate::tests::second_profile::{ONE_HOP, PAIR, ring_of, told_by};
 use chord_scenario::read_scenario;
 use std::test::Fail;
 

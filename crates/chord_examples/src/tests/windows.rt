@@ -3,8 +3,8 @@ ghost use Rattle.std.specs.Prelude.{◌≡◌, ◌<◌, ◌≤◌, OnOk};
 ghost use Rattle.chord_window.specs.PartRuns.{IsDone, IsHorizon};
 ghost use Rattle.chord_window.specs.Worlds.{IsWorldOf};
 
-use crate::failures::TWO_LOOKUPS;
-use crate::playing::{SETTINGS, THREE, text_of};
+use crate::examples::play::{SETTINGS, THREE, text_of};
+use crate::tests::reader_failures::TWO_LOOKUPS;
 use chord_event::{Block, Key, Memory, RunError};
 use chord_play::Split;
 use chord_queue::WindowQueue;

@@ -4,7 +4,7 @@ use Rattle.chord_window.specs.declared.part_run.Done.{Done}
 use Rattle.chord_window.specs.declared.world.World.{World}
 use Rattle.chord_window.specs.Ordering.{ArePartsDone, HasEachOnce, IsResult, count_of, parts_of}
 use Rattle.chord_window.specs.PartRuns.{IsDone}
-use Rattle.chord_examples.proofs.windows.put_together.Goals as goal
+use Rattle.chord_examples.proofs.tests.windows.put_together.Goals as goal
 
 counted : (x : ℕ) → x < 2 → count_of x (1 ∷ 0 ∷ []) ≡ 1
 counted zero l = refl

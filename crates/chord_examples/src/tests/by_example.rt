@@ -1,7 +1,7 @@
 //! Plays of examples.
-use crate::examples::EXAMPLES;
-use crate::playing::{SERIAL, SETTINGS, THREE, play_text, play_texts, shown, text_of};
-use crate::second_profile::{ONE_HOP, lines_of};
+use crate::examples::play::{SERIAL, SETTINGS, THREE, play_text, play_texts, shown, text_of};
+use crate::examples::table::EXAMPLES;
+use crate::tests::second_profile::{ONE_HOP, lines_of};
 use std::alloc::Global;
 use std::test::Fail;
 

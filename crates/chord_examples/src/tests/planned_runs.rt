@@ -1,7 +1,7 @@
 //! The threads and the parts by which a plan is carried out. They leave no byte, so a starter and a gate note them.
-use crate::crews::two_lookups;
-use crate::failures::TRACE;
-use crate::gates::SizeGate;
+use crate::tests::crews::two_lookups;
+use crate::tests::gates::SizeGate;
+use crate::tests::reader_failures::TRACE;
 use chord_crew::Starter;
 use chord_play::{Plan, Split, run_planned};
 use chord_trace::Watched;

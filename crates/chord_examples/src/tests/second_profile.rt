@@ -1,10 +1,10 @@
 //! Worked examples of the second profile: messages that are lost or late, wide identifiers, many nodes.
 ghost use Rattle.std.specs.Prelude.{◌<◌, ◌≤◌};
 
-use crate::engines::{ENGINES, Engine, Shape, run_by};
-use crate::examples::{EXAMPLES, Example};
-use crate::faults::{BASE, answer};
-use crate::playing::{SETTINGS, THREE, text_of};
+use crate::examples::engines::{ENGINES, Engine, Shape, run_by};
+use crate::examples::play::{SETTINGS, THREE, text_of};
+use crate::examples::table::{EXAMPLES, Example};
+use crate::tests::refused_texts::{BASE, answer};
 use chord_circle::Raw;
 use chord_crew::MOST_SEATS;
 use chord_scenario::{Scenario, read_scenario};

@@ -1,5 +1,5 @@
 //! Texts of scenarios, each with its first fault.
-use crate::reading::NAMED;
+use crate::tests::read_scenarios::NAMED;
 use chord_scenario::read_scenario;
 use std::test::Fail;
 

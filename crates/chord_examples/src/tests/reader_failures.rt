@@ -1,5 +1,5 @@
 //! Plays whose readers fail or whose texts are too long.
-use crate::playing::{Played, SERIAL, SETTINGS, THREE, play_text, play_texts, text_of};
+use crate::examples::play::{Played, SERIAL, SETTINGS, THREE, play_text, play_texts, text_of};
 use chord_play::{PlayFault, Text, load, play};
 use chord_scenario::ScenarioFault;
 use chord_trace::Watched;

@@ -2,7 +2,7 @@ use Rattle.std.proofs.Common.{◌≡◌, ◌∙◌, true, subst, sym}
 use Rattle.chord_window.specs.Ordering.{HasEachOnce}
 use Rattle.chord_crew.specs.Shifts.{AreResults}
 use Rattle.chord_crew.proofs.Gathering.{from_none}
-use Rattle.chord_examples.proofs.own_window.window_by_one.Goals as goal
+use Rattle.chord_examples.proofs.examples.own_window.window_by_one.Goals as goal
 
 pub returns-in-None : goal.returns-in-None
 returns-in-None c =

@@ -1,6 +1,6 @@
 //! Runs that take the branches which the other examples do not. An allocation may fail in each of these branches, and
 //! no clause could say that a branch does not fail without need: so each is taken once.
-use crate::playing::{Played, SERIAL, play_text, play_texts, shown};
+use crate::examples::play::{Played, SERIAL, play_text, play_texts, shown};
 use chord_circle::{Circle, Ident};
 use chord_event::{Answer, Body, Listed, Memory};
 use chord_play::{Plan, Split};

@@ -1,6 +1,6 @@
 use Rattle.std.proofs.Common.{◌≡◌, ◌||◌, None, true, ap, ◌∙◌, sym, arith}
 use Rattle.std.proofs.lemmas.Grind.{common_steps}
-use Rattle.chord_examples.proofs.crews.draw_in_turn.Goals as goal
+use Rattle.chord_examples.proofs.tests.crews.draw_in_turn.Goals as goal
 
 pub returns-clause-each_once : goal.returns-clause-each_once
 returns-clause-each_once c none =

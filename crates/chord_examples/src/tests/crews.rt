@@ -2,11 +2,13 @@
 ghost use Rattle.std.specs.Prelude.{◌≡◌, ◌<◌, ◌≤◌, None, Some, true, slice_get, IfOk};
 ghost use Rattle.chord_window.specs.Ordering.{ArePartsDone, HasEachOnce};
 
-use crate::failures::{TRACE, TWO_LOOKUPS};
-use crate::gates::{Broken, CountGate, Counting, Log, LogGate, LogRunner, PairGate, SizeGate};
-use crate::own_window::window_by_one;
-use crate::playing::{SETTINGS, THREE, text_of};
-use crate::windows::divide;
+use crate::examples::own_window::window_by_one;
+use crate::examples::play::{SETTINGS, THREE, text_of};
+use crate::tests::gates::{
+    Broken, CountGate, Counting, Log, LogGate, LogRunner, PairGate, SizeGate,
+};
+use crate::tests::reader_failures::{TRACE, TWO_LOOKUPS};
+use crate::tests::windows::divide;
 use chord_crew::{Draws, Gate, MOST_SEATS, OpenGate, Seat, run_crew, work_by};
 use chord_event::{Memory, RunError};
 use chord_play::Split;

@@ -1,0 +1,21 @@
+//! Tests, and what they share.
+mod by_engine;
+mod by_example;
+mod by_plan;
+mod crews;
+mod dealers;
+mod divisions;
+mod first_ring;
+mod gates;
+mod greatest_sizes;
+mod memory_branches;
+mod planned_runs;
+mod random_texts;
+mod read_scenarios;
+mod reader_failures;
+mod refused_texts;
+mod searches;
+mod second_profile;
+mod streams;
+mod windows;
+mod windows_at_random;
