@@ -5,6 +5,7 @@ use std::alloc::Global;
 
 /// An example: its settings, nodes and commands, its trace, and those lines of its report whose
 /// number is not 0.
+#[derive(Drop)]
 pub struct Example {
     pub name: &'static str,
     pub settings: &'static str,
@@ -15,7 +16,7 @@ pub struct Example {
 }
 
 /// Two nodes opposite each other.
-const TWO_NODES: &str = "[[node]]\n\
+pub const TWO_NODES: &str = "[[node]]\n\
     name = \"n0\"\n\
     id = 0\n\
     initial = true\n\
@@ -25,7 +26,7 @@ const TWO_NODES: &str = "[[node]]\n\
     initial = true\n";
 
 /// The ring of three, and a node that is down.
-const FOUR: &str = "[[node]]\n\
+pub const FOUR: &str = "[[node]]\n\
     name = \"n0\"\n\
     id = 0\n\
     initial = true\n\
@@ -97,7 +98,7 @@ pub const TWO_LOOKUPS: Example = Example {
 };
 
 /// The examples.
-pub const EXAMPLES: [Example; 19] = [
+pub const EXAMPLES: [Example; 25] = [
     Example {
         name: "three lookups",
         settings: SETTINGS,
@@ -595,6 +596,203 @@ pub const EXAMPLES: [Example; 19] = [
             drops 2\n\
             timeouts 1\n\
             audits 1\n\
+            insufficient 1\n",
+    },
+    Example {
+        name: "lookups of one hop and of two",
+        settings: SETTINGS,
+        nodes: THREE,
+        commands: "[[command]]\n\
+            at_us = 100\n\
+            do = \"lookup\"\n\
+            node = \"n0\"\n\
+            key = 4\n\
+            [[command]]\n\
+            at_us = 100\n\
+            do = \"lookup\"\n\
+            node = \"n3\"\n\
+            key = 2\n",
+        trace: "100 n0 lookup 4\n\
+            100 n3 lookup 2\n\
+            120 n0 found 4 n0 hops=1 timeouts=0 us=20\n\
+            140 n3 found 2 n3 hops=2 timeouts=0 us=40\n\
+            200 audit members=3 dead=0 ring=3 ordered=yes principals=3 sufficient=yes\n",
+        report: "events 11\n\
+            lookups 2\n\
+            found 2\n\
+            hops-sum 3\n\
+            hops-greatest 2\n\
+            us-sum 60\n\
+            us-least 20\n\
+            us-median 20\n\
+            us-greatest 40\n\
+            audits 1\n",
+    },
+    // n1 is down, and n0 is a member already.
+    Example {
+        name: "commands that are ignored",
+        settings: SETTINGS,
+        nodes: THREE,
+        commands: "[[command]]\n\
+            at_us = 50\n\
+            do = \"crash\"\n\
+            node = \"n1\"\n\
+            [[command]]\n\
+            at_us = 60\n\
+            do = \"lookup\"\n\
+            node = \"n1\"\n\
+            key = 4\n\
+            [[command]]\n\
+            at_us = 70\n\
+            do = \"join\"\n\
+            node = \"n0\"\n\
+            via = \"n3\"\n",
+        trace: "50 n1 crash\n\
+            60 n1 ignored lookup\n\
+            70 n0 ignored join\n\
+            200 audit members=2 dead=0 ring=2 ordered=yes principals=2 sufficient=no\n",
+        report: "events 3\n\
+            crashes 1\n\
+            ignored 2\n\
+            audits 1\n\
+            insufficient 1\n",
+    },
+    // n6 crashes before the list of n3 comes, which would make it a member.
+    Example {
+        name: "a join cut short by a crash",
+        settings: "list = 2\n\
+            duration_us = 300\n\
+            window_us = 10\n\
+            timeout_us = 40\n\
+            audit_us = 300\n\
+            stabilize_us = 70\n\
+            finger_us = 1000\n",
+        nodes: FOUR,
+        commands: "[[command]]\n\
+            at_us = 50\n\
+            do = \"join\"\n\
+            node = \"n6\"\n\
+            via = \"n0\"\n\
+            [[command]]\n\
+            at_us = 105\n\
+            do = \"crash\"\n\
+            node = \"n6\"\n",
+        trace: "50 n6 join n0\n\
+            105 n6 crash\n\
+            110 n6 drop list-reply n3\n\
+            300 audit members=3 dead=0 ring=3 ordered=yes principals=3 sufficient=yes\n",
+        report: "events 63\n\
+            crashes 1\n\
+            drops 1\n\
+            audits 1\n",
+    },
+    // n6 has asked n0 for its state, n3 asks n6 for its list, and n0 pings n6 because n3 notifies n0.
+    Example {
+        name: "messages to a node that crashed",
+        settings: "list = 2\n\
+            duration_us = 300\n\
+            window_us = 10\n\
+            timeout_us = 40\n\
+            audit_us = 300\n\
+            stabilize_us = 70\n\
+            finger_us = 1000\n",
+        nodes: FOUR,
+        commands: "[[command]]\n\
+            at_us = 50\n\
+            do = \"join\"\n\
+            node = \"n6\"\n\
+            via = \"n0\"\n\
+            [[command]]\n\
+            at_us = 195\n\
+            do = \"crash\"\n\
+            node = \"n6\"\n",
+        trace: "50 n6 join n0\n\
+            110 n6 member n3\n\
+            195 n6 crash\n\
+            210 n6 drop state-reply n0\n\
+            240 n6 drop get-list n3\n\
+            270 n3 timeout n6\n\
+            290 n6 drop ping n0\n\
+            300 audit members=3 dead=0 ring=3 ordered=yes principals=3 sufficient=yes\n",
+        report: "events 78\n\
+            members 1\n\
+            crashes 1\n\
+            drops 3\n\
+            timeouts 1\n\
+            audits 1\n",
+    },
+    // n3 notifies n0, whose predecessor is n6 by then. So n0 pings n6, and crashes before the pong comes.
+    Example {
+        name: "a pong to a node that crashed",
+        settings: "list = 2\n\
+            duration_us = 300\n\
+            window_us = 10\n\
+            timeout_us = 40\n\
+            audit_us = 300\n\
+            stabilize_us = 120\n\
+            finger_us = 1000\n",
+        nodes: FOUR,
+        commands: "[[command]]\n\
+            at_us = 100\n\
+            do = \"join\"\n\
+            node = \"n6\"\n\
+            via = \"n0\"\n\
+            [[command]]\n\
+            at_us = 275\n\
+            do = \"crash\"\n\
+            node = \"n0\"\n",
+        trace: "100 n6 join n0\n\
+            160 n6 member n3\n\
+            275 n0 crash\n\
+            290 n0 drop pong n6\n\
+            300 audit members=3 dead=0 ring=2 ordered=yes principals=2 sufficient=no\n",
+        report: "events 48\n\
+            members 1\n\
+            crashes 1\n\
+            drops 1\n\
+            audits 1\n\
+            insufficient 1\n",
+    },
+    // Two timeouts and six useless replies are eight failures: the replies of n0 come every 20 us from 240 on.
+    Example {
+        name: "a join that finds no way on",
+        settings: "list = 2\n\
+            duration_us = 500\n\
+            window_us = 10\n\
+            timeout_us = 40\n\
+            audit_us = 500\n\
+            stabilize_us = 1000\n\
+            finger_us = 1000\n",
+        nodes: FOUR,
+        commands: "[[command]]\n\
+            at_us = 50\n\
+            do = \"crash\"\n\
+            node = \"n1\"\n\
+            [[command]]\n\
+            at_us = 50\n\
+            do = \"crash\"\n\
+            node = \"n3\"\n\
+            [[command]]\n\
+            at_us = 100\n\
+            do = \"join\"\n\
+            node = \"n6\"\n\
+            via = \"n0\"\n",
+        trace: "50 n1 crash\n\
+            50 n3 crash\n\
+            100 n6 join n0\n\
+            130 n3 drop step n6\n\
+            160 n6 timeout n3\n\
+            190 n1 drop step n6\n\
+            220 n6 timeout n1\n\
+            340 n6 join-failed\n\
+            500 audit members=1 dead=1 ring=0 ordered=yes principals=1 sufficient=no\n",
+        report: "events 31\n\
+            join-failed 1\n\
+            crashes 2\n\
+            drops 2\n\
+            timeouts 2\n\
+            audits 1\n\
+            ringless 1\n\
             insufficient 1\n",
     },
 ];

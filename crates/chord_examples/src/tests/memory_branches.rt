@@ -10,69 +10,6 @@ use std::fmt::Write as _;
 use std::process::Abort;
 use std::test::Fail;
 
-/// When n6 joins, the nodes that n0 names have crashed. After that n0 knows no next node, five times more.
-const JOIN_STUCK: &str = r#"profile = 1
-bits = 3
-seed = 1
-latency_us = 10
-list = 2
-duration_us = 500
-window_us = 10
-timeout_us = 40
-audit_us = 500
-stabilize_us = 1000
-finger_us = 1000
-[[node]]
-name = "n0"
-id = 0
-initial = true
-[[node]]
-name = "n1"
-id = 1
-initial = true
-[[node]]
-name = "n3"
-id = 3
-initial = true
-[[node]]
-name = "n6"
-id = 6
-[[command]]
-at_us = 50
-do = "crash"
-node = "n1"
-[[command]]
-at_us = 50
-do = "crash"
-node = "n3"
-[[command]]
-at_us = 100
-do = "join"
-node = "n6"
-via = "n0"
-"#;
-
-/// Two timeouts and six useless replies are eight failures: the replies of n0 come every 20 us from 240 on.
-const JOIN_STUCK_TRACE: &str = "50 n1 crash\n\
-    50 n3 crash\n\
-    100 n6 join n0\n\
-    130 n3 drop step n6\n\
-    160 n6 timeout n3\n\
-    190 n1 drop step n6\n\
-    220 n6 timeout n1\n\
-    340 n6 join-failed\n\
-    500 audit members=1 dead=1 ring=0 ordered=yes principals=1 sufficient=no\n";
-
-/// Three commands, ten requests, eight replies and ten timeouts.
-const JOIN_STUCK_REPORT: &str = "events 31\n\
-    join-failed 1\n\
-    crashes 2\n\
-    drops 2\n\
-    timeouts 2\n\
-    audits 1\n\
-    ringless 1\n\
-    insufficient 1\n";
-
 /// The plans of these runs.
 const PLANS: [Plan; 2] = [
     SERIAL,
@@ -99,15 +36,6 @@ fn leaves(
     };
     let lines = shown(rt.alloc(), &numbers)?;
     assert!(rt; lines.as_str() == report, "{lines}");
-    Ok(())
-}
-
-#[test]
-fn a_join_that_finds_no_way_on(rt: HostRuntime) -> Result<(), Fail> {
-    for plan in &PLANS {
-        let played = play_texts(&rt, JOIN_STUCK.as_bytes(), b"", plan);
-        leaves(&rt, played, JOIN_STUCK_TRACE, JOIN_STUCK_REPORT)?;
-    }
     Ok(())
 }
 
