@@ -2,8 +2,7 @@
 use crate::examples::engines::{ENGINES, Engine, Shape, run_by};
 use crate::examples::play::shown;
 use crate::examples::table::{EXAMPLES, TWO_LOOKUPS};
-use crate::tests::crews::two_lookups;
-use crate::tests::reader_failures::TRACE;
+use crate::tests::ring_of_three::{is_beginning, two_lookups};
 use chord_crew::MOST_SEATS;
 use chord_event::RunError;
 use chord_scenario::{Scenario, read_scenario};
@@ -15,7 +14,7 @@ use std::io::{ErrorKind, Write};
 use std::test::Fail;
 
 /// Two parts, and a worker for each.
-const PAIR: Shape = Shape {
+pub const PAIR: Shape = Shape {
     parts: 2,
     workers: 2,
 };
@@ -86,8 +85,9 @@ fn examples_by_engines(rt: HostRuntime) -> Result<(), Fail> {
 fn writers_that_fail_by_engines(rt: HostRuntime) -> Result<(), Fail> {
     let alloc = rt.alloc();
     let scenario = two_lookups(alloc, 50)?;
+    let whole = TWO_LOOKUPS.trace.len();
     for engine in ENGINES {
-        for room in 0..=TRACE.len() {
+        for room in 0..=whole {
             for (most, takes_nothing) in [(1, false), (1, true), (190, false), (190, true)] {
                 let mut writer = Watched::new(Bounded {
                     taken: Vec::new(alloc),
@@ -98,12 +98,12 @@ fn writers_that_fail_by_engines(rt: HostRuntime) -> Result<(), Fail> {
                 let outcome = run_by(&rt, alloc, engine, PAIR, &scenario, &mut writer);
                 let fails = matches!(outcome, Err(RunError::Write));
                 assert!(rt;
-                    fails == (room < TRACE.len()) && outcome.is_ok() == (room == TRACE.len()),
+                    fails == (room < whole) && outcome.is_ok() == (room == whole),
                     "{engine:?}, room {room}, {most}"
                 );
                 let taken = writer.into_inner().taken;
                 assert!(rt;
-                    taken.as_slice() == &TRACE.as_bytes()[..room],
+                    is_beginning(taken.as_slice(), room),
                     "{engine:?}, room {room}, {most}"
                 );
             }
@@ -144,7 +144,8 @@ fn too_many_events_by_engines(rt: HostRuntime) -> Result<(), Fail> {
                 by_windows
             };
             assert!(rt;
-                TRACE.starts_with(trace.as_str()) && trace.as_str().lines().count() == lines,
+                TWO_LOOKUPS.trace.starts_with(trace.as_str())
+                    && trace.as_str().lines().count() == lines,
                 "{engine:?}, {allowed}: {trace}"
             );
         }
@@ -162,7 +163,10 @@ fn two_workers_without_picks(rt: HostRuntime) -> Result<(), Fail> {
         let mut writer = Watched::new(Vec::new(alloc));
         let (report, steps) = run_picked(alloc, &scenario, &division, 2, &[], &mut writer)?;
         let trace = String::from_utf8_lossy(alloc, writer.into_inner().as_slice())?;
-        assert!(rt; trace.as_str() == TRACE, "{parts} parts: {trace}");
+        assert!(rt;
+            trace.as_str() == TWO_LOOKUPS.trace,
+            "{parts} parts: {trace}"
+        );
         let lines = shown(alloc, &report)?;
         assert!(rt;
             lines.as_str() == TWO_LOOKUPS.report,

@@ -1,7 +1,8 @@
 //! Plays of examples.
-use crate::examples::play::{SERIAL, SETTINGS, THREE, play_text, play_texts, shown, text_of};
+use crate::examples::play::{SERIAL, play_text, play_texts, shown, text_of};
 use crate::examples::table::EXAMPLES;
-use crate::tests::second_profile::{ONE_HOP, lines_of};
+use crate::tests::ring_of_three::{ONE_HOP, text_of_three};
+use crate::tests::second_profile::lines_of;
 use std::alloc::Global;
 use std::test::Fail;
 
@@ -55,7 +56,7 @@ fn sixty_lookups_and_one_more(rt: HostRuntime) -> Result<(), Fail> {
         "{begun}100 n3 busy 1\n{found}\
          200 audit members=3 dead=0 ring=3 ordered=yes principals=3 sufficient=yes\n"
     )?;
-    let text = text_of(alloc, SETTINGS, THREE, commands.as_str())?;
+    let text = text_of_three(alloc, commands.as_str())?;
     for (profile, last) in [("profile = 1", ""), ("profile = 2", "losses 0\n")] {
         let text = text.as_str().replacen(alloc, "profile = 1", profile, 1)?;
         let played = play_text(&rt, text.as_str().as_bytes());
@@ -72,8 +73,7 @@ fn sixty_lookups_and_one_more(rt: HostRuntime) -> Result<(), Fail> {
 #[test]
 fn a_latency_of_its_own(rt: HostRuntime) -> Result<(), Fail> {
     let alloc = rt.alloc();
-    let commands = "[[command]]\nat_us = 100\ndo = \"lookup\"\nnode = \"n3\"\nkey = 1\n";
-    let text = text_of(alloc, SETTINGS, THREE, commands)?;
+    let text = text_of_three(alloc, ONE_HOP)?;
     let played = play_texts(&rt, text.as_str().as_bytes(), b"n0,n3,15", &SERIAL);
     assert!(rt; played.outcome.is_ok());
     let trace = String::from_utf8_lossy(alloc, played.trace.as_slice())?;

@@ -1,15 +1,20 @@
-//! Neither the workers nor the parts of a plan change what a scenario leaves.
+//! Neither the workers nor the parts of a plan change what a scenario leaves, but a run has those that its plan says: a
+//! starter and a gate note them.
 ghost use Rattle.std.specs.Prelude.{◌≡◌, ◌≤◌};
 
 use crate::examples::play::{
     Played, SERIAL, SETTINGS, THREE, play_text, play_texts, shown, text_of,
 };
-use crate::examples::table::EXAMPLES;
+use crate::examples::table::{EXAMPLES, TWO_LOOKUPS};
+use crate::tests::gates::{NotesStarts, SizeGate};
 use crate::tests::random_texts::{Dice, RandomTexts, random_texts};
-use crate::tests::reader_failures::TWO_LOOKUPS;
+use crate::tests::ring_of_three::two_lookups;
 use chord_event::RunError;
-use chord_play::{Plan, PlayFault, Split};
+use chord_play::{Plan, PlayFault, Split, run_planned};
+use chord_trace::Watched;
+use std::process::Abort;
 use std::sync::Wait;
+use std::sync::atomic::{AtomicU64, Ordering};
 use std::test::Fail;
 use std::thread::Threads;
 
@@ -84,7 +89,7 @@ fn examples_by_plans(rt: HostRuntime) -> Result<(), Fail> {
 fn plans_differ_in_what_fails(rt: HostRuntime) -> Result<(), Fail> {
     let alloc = rt.alloc();
     let settings = format!(in alloc; "{SETTINGS}max_events = 1\n")?;
-    let text = text_of(alloc, settings.as_str(), THREE, TWO_LOOKUPS)?;
+    let text = text_of(alloc, settings.as_str(), THREE, TWO_LOOKUPS.commands)?;
     let serial = play_text(&rt, text.as_str().as_bytes());
     assert!(rt; serial.outcome.is_err());
     assert!(rt; serial.trace.as_slice() == b"100 n0 lookup 4\n".as_slice());
@@ -129,5 +134,66 @@ fn random_scenarios_by_plans(rt: HostRuntime) -> Result<(), Fail> {
         }
     }
     assert!(rt; accepted.len() >= 40, "{accepted:?}");
+    Ok(())
+}
+
+/// Runs two lookups by a plan with this gate. Returns the number of each worker that is started.
+fn starts_by<T: Abort + AllocGlobal + Threads + Wait + Sync>(
+    rt: &T,
+    plan: &Plan,
+    gate: &SizeGate<'_>,
+) -> Result<Vec<u32>, Fail> {
+    let alloc = rt.alloc();
+    let scenario = two_lookups(alloc, 50)?;
+    let mut starter = NotesStarts::new(alloc);
+    let mut writer = Watched::new(Vec::new(alloc));
+    run_planned(rt, alloc, &scenario, plan, &mut starter, gate, &mut writer)?;
+    assert!(rt; writer.into_inner().as_slice() == TWO_LOOKUPS.trace.as_bytes());
+    Ok(starter.workers)
+}
+
+/// Whether these are the parts 0 to 2, in any order.
+fn are_three(parts: &[AtomicU64]) -> bool {
+    parts.len() == 3
+        && (0..3u64).all(|part| parts.iter().any(|pass| pass.load(Ordering::SeqCst) == part))
+}
+
+/// Each of the four windows has two threads and three parts.
+#[test]
+fn two_workers_and_three_parts(rt: HostRuntime) -> Result<(), Fail> {
+    let plan = Plan {
+        serial: false,
+        workers: 2,
+        parts: 3,
+        split: Split::Blocks,
+    };
+    let taken = AtomicU64::new(0);
+    let gate = SizeGate::new(&taken);
+    let workers = starts_by(&rt, &plan, &gate)?;
+    assert!(rt; workers.as_slice() == [0, 1, 0, 1, 0, 1, 0, 1].as_slice());
+    assert!(rt; gate.passes.load(Ordering::SeqCst) == 12);
+    assert!(rt; are_three(&gate.parts[..3]) && are_three(&gate.parts[3..6]));
+    Ok(())
+}
+
+/// More workers than parts have a thread each, too.
+#[test]
+fn three_workers_on_one_part(rt: HostRuntime) -> Result<(), Fail> {
+    let plan = Plan {
+        serial: false,
+        workers: 3,
+        parts: 1,
+        split: Split::RoundRobin,
+    };
+    let taken = AtomicU64::new(0);
+    let gate = SizeGate::new(&taken);
+    let workers = starts_by(&rt, &plan, &gate)?;
+    assert!(rt; workers.as_slice() == [0, 1, 2, 0, 1, 2, 0, 1, 2, 0, 1, 2].as_slice());
+    assert!(rt; gate.passes.load(Ordering::SeqCst) == 4);
+    assert!(rt;
+        gate.parts[..4]
+            .iter()
+            .all(|part| part.load(Ordering::SeqCst) == 0)
+    );
     Ok(())
 }

@@ -3,16 +3,16 @@ ghost use Rattle.std.specs.Prelude.{◌≡◌, ◌<◌, ◌≤◌, None, Some, t
 ghost use Rattle.chord_window.specs.Ordering.{ArePartsDone, HasEachOnce};
 
 use crate::examples::own_window::window_by_one;
-use crate::examples::play::{SETTINGS, THREE, text_of};
+use crate::examples::table::TWO_LOOKUPS;
 use crate::tests::gates::{
     Broken, CountGate, Counting, Log, LogGate, LogRunner, PairGate, SizeGate,
 };
-use crate::tests::reader_failures::{TRACE, TWO_LOOKUPS};
+use crate::tests::ring_of_three::{ring_with, two_lookups};
 use crate::tests::windows::divide;
 use chord_crew::{Draws, Gate, MOST_SEATS, OpenGate, Seat, run_crew, work_by};
 use chord_event::{Memory, RunError};
 use chord_play::Split;
-use chord_scenario::{Scenario, read_scenario};
+use chord_scenario::Scenario;
 use chord_trace::{Report, Watched};
 use chord_window::{Division, Window, World, exchange, run_picked};
 use std::alloc::Global;
@@ -48,21 +48,6 @@ fn run_by<T: AllocGlobal + Threads + Wait + Sync, G: Gate + Sync>(
     }
 }
 
-/// Two lookups at one time, in a run that allows `allowed` events.
-pub fn two_lookups(alloc: Global, allowed: u32) -> Result<Scenario, Fail> {
-    let settings = format!(in alloc; "{SETTINGS}max_events = {allowed}\n")?;
-    lookups_of(alloc, settings.as_str())
-}
-
-/// Two lookups at one time, in a run of these settings.
-fn lookups_of(alloc: Global, settings: &str) -> Result<Scenario, Fail> {
-    let text = text_of(alloc, settings, THREE, TWO_LOOKUPS)?;
-    let scenario = read_scenario(alloc, text.as_str().as_bytes(), b"")
-        .ok()
-        .ok_or("the lookups are refused")?;
-    Ok(scenario)
-}
-
 /// A division of four nodes does not fit a ring of three, and nothing is written.
 #[test]
 fn a_crew_with_a_division_of_other_nodes(rt: HostRuntime) -> Result<(), Fail> {
@@ -82,7 +67,7 @@ fn two_workers_pass_in_pairs(rt: HostRuntime) -> Result<(), Fail> {
     let division = divide(alloc, &scenario, Split::Blocks, 2)?;
     let gate = PairGate::new();
     let ran = run_by(&rt, &scenario, &division, 2, &gate);
-    assert!(rt; ran.trace.as_slice() == TRACE.as_bytes());
+    assert!(rt; ran.trace.as_slice() == TWO_LOOKUPS.trace.as_bytes());
     assert!(rt; gate.passes.load(Ordering::SeqCst) == 8);
     assert!(rt; gate.alone.load(Ordering::SeqCst) == 0);
     for pair in gate.workers.chunks(2) {
@@ -160,7 +145,7 @@ const AUDITED: &str =
 #[test]
 fn too_many_events_come_before_a_failed_write(rt: HostRuntime) -> Result<(), Fail> {
     let alloc = rt.alloc();
-    let scenario = lookups_of(alloc, AUDITED)?;
+    let scenario = ring_with(alloc, AUDITED, TWO_LOOKUPS.commands)?;
     let one = divide(alloc, &scenario, Split::Blocks, 1)?;
     let two = divide(alloc, &scenario, Split::Blocks, 2)?;
     for division in [&one, &two] {
@@ -199,7 +184,7 @@ fn a_gate_may_wait(rt: HostRuntime) -> Result<(), Fail> {
         passes: Mutex::new(0),
     };
     let ran = run_by(&rt, &scenario, &division, 3, &gate);
-    assert!(rt; ran.trace.as_slice() == TRACE.as_bytes());
+    assert!(rt; ran.trace.as_slice() == TWO_LOOKUPS.trace.as_bytes());
     assert!(rt; *gate.passes.lock(&rt) == 12);
     Ok(())
 }

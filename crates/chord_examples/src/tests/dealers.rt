@@ -2,9 +2,10 @@
 ghost use Rattle.std.specs.Prelude.{◌≡◌, ◌<◌, ◌≤◌, length};
 
 use crate::examples::play::{SETTINGS, text_of};
-use crate::tests::crews::{Ran, two_lookups};
-use crate::tests::gates::SizeGate;
-use crate::tests::reader_failures::TRACE;
+use crate::examples::table::TWO_LOOKUPS;
+use crate::tests::crews::Ran;
+use crate::tests::gates::{NotesStarts, SizeGate};
+use crate::tests::ring_of_three::{is_beginning, two_lookups};
 use chord_crew::{
     Balanced, Dealer, Gate, MOST_SEATS, OpenGate, Starter, run_crew_dealt, run_crew_started,
 };
@@ -97,11 +98,6 @@ fn run_dealt<T: AllocGlobal + Threads + Wait + Sync, D: Dealer, G: Gate + Sync>(
     }
 }
 
-/// Whether a trace is the first `taken` bytes of that of the two lookups.
-fn is_beginning(trace: &[u8], taken: usize) -> bool {
-    trace.len() == taken && TRACE.as_bytes().starts_with(trace)
-}
-
 /// The dealer is asked before each of the four windows, and passed what each node has handled so far.
 #[test]
 fn a_dealer_is_told_the_loads(rt: HostRuntime) -> Result<(), Fail> {
@@ -109,7 +105,7 @@ fn a_dealer_is_told_the_loads(rt: HostRuntime) -> Result<(), Fail> {
     let mut dealer = InTurn::new(rt.alloc(), Answer::ByTurns, Answer::ByBlocks);
     let ran = run_dealt(&rt, &scenario, 2, &mut dealer, &OpenGate);
     assert!(rt; ran.outcome.is_ok());
-    assert!(rt; ran.trace.as_slice() == TRACE.as_bytes());
+    assert!(rt; ran.trace.as_slice() == TWO_LOOKUPS.trace.as_bytes());
     assert!(rt; dealer.calls == 4);
     assert!(rt; dealer.loads.as_slice() == [0, 0, 0, 1, 0, 1, 2, 0, 2, 3, 0, 3].as_slice());
     Ok(())
@@ -161,7 +157,7 @@ fn each_window_has_its_own_parts(rt: HostRuntime) -> Result<(), Fail> {
     let taken = AtomicU64::new(0);
     let gate = SizeGate::new(&taken);
     let ran = run_dealt(&rt, &scenario, 2, &mut dealer, &gate);
-    assert!(rt; ran.trace.as_slice() == TRACE.as_bytes());
+    assert!(rt; ran.trace.as_slice() == TWO_LOOKUPS.trace.as_bytes());
     assert!(rt; gate.passes.load(Ordering::SeqCst) == 8);
     assert!(rt; is_one_then_three(&gate.parts[..4]) && is_one_then_three(&gate.parts[4..]));
     Ok(())
@@ -223,18 +219,6 @@ fn a_refused_start_ends_the_run(rt: HostRuntime) -> Result<(), Fail> {
     Ok(())
 }
 
-/// Allows each start, and keeps the workers that it is asked for.
-#[derive(Drop)]
-struct Keeps {
-    workers: Vec<u32>,
-}
-
-impl Starter for Keeps {
-    fn may_start(&mut self, worker: u32) -> bool {
-        self.workers.push(worker).is_ok()
-    }
-}
-
 /// Runs the two lookups with threads for `workers` workers, and returns the workers that a starter was asked for.
 fn asked_for<T: AllocGlobal + Threads + Wait + Sync>(
     rt: &T,
@@ -245,9 +229,7 @@ fn asked_for<T: AllocGlobal + Threads + Wait + Sync>(
 {
     let alloc = rt.alloc();
     let scenario = two_lookups(alloc, 50)?;
-    let mut starter = Keeps {
-        workers: Vec::new(alloc),
-    };
+    let mut starter = NotesStarts::new(alloc);
     let mut writer = Watched::new(Vec::new(alloc));
     let gate = &OpenGate;
     run_crew_started(

@@ -1,9 +1,8 @@
 //! Divisions, and runs with divisions that do not fit.
 ghost use Rattle.std.specs.Prelude.{◌≡◌};
 
-use crate::examples::play::{SETTINGS, THREE, text_of};
+use crate::tests::ring_of_three::ring_of_three;
 use chord_event::RunError;
-use chord_scenario::read_scenario;
 use chord_trace::Watched;
 use chord_window::{Division, DivisionFault, run_picked};
 use std::test::Fail;
@@ -77,11 +76,7 @@ fn parts_may_be_more_than_nodes(rt: HostRuntime) -> Result<(), Fail> {
 #[test]
 fn a_division_of_another_number_of_nodes(rt: HostRuntime) -> Result<(), Fail> {
     let alloc = rt.alloc();
-    let text = text_of(alloc, SETTINGS, THREE, "")?;
-    let Ok(scenario) = read_scenario(alloc, text.as_str().as_bytes(), b"") else {
-        assert!(rt; false, "the ring is refused");
-        return Ok(());
-    };
+    let scenario = ring_of_three(alloc, "")?;
     let division = Division::dealt(alloc, 4, 2)?;
     let mut writer = Watched::new(Vec::new(alloc));
     let outcome = run_picked(alloc, &scenario, &division, 2, &[], &mut writer);

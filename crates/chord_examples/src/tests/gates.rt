@@ -1,8 +1,9 @@
-//! Gates that note what passes them, and writers that count or fail.
-use chord_crew::{Gate, PartRunner};
+//! Gates and starters that note what passes them, and writers that count or fail.
+use chord_crew::{Gate, PartRunner, Starter};
 use chord_event::RunError;
 use chord_queue::WindowQueue;
 use chord_window::{Done, Window, run_part};
+use std::alloc::Global;
 use std::io;
 use std::io::{ErrorKind, Write};
 use std::sync::atomic::{AtomicU64, Ordering};
@@ -124,6 +125,26 @@ impl<T: Wait> Gate for CountGate<T> {
     fn pass(&self, _worker: u32, _part: u32) {
         let mut passes = self.passes.lock(&self.rt);
         *passes = passes.saturating_add(1);
+    }
+}
+
+/// Lets every thread start, and notes the number of its worker.
+#[derive(Drop)]
+pub struct NotesStarts {
+    pub workers: Vec<u32>,
+}
+
+impl NotesStarts {
+    pub fn new(alloc: Global) -> NotesStarts {
+        NotesStarts {
+            workers: Vec::new(alloc),
+        }
+    }
+}
+
+impl Starter for NotesStarts {
+    fn may_start(&mut self, worker: u32) -> bool {
+        self.workers.push(worker).is_ok()
     }
 }
 

@@ -1,8 +1,11 @@
 //! Values as great as they may be: an allocation that fails without need would be seen here.
 use crate::examples::engines::ENGINES;
 use crate::examples::play::THREE;
+use crate::examples::table::TWO_NODES;
+use crate::tests::by_engine::PAIR;
 use crate::tests::by_example::repeated;
-use crate::tests::second_profile::{ONE_HOP, PAIR, ring_of, told_by};
+use crate::tests::ring_of_three::ONE_HOP;
+use crate::tests::second_profile::{ring_of, told_by};
 use chord_scenario::read_scenario;
 use std::test::Fail;
 
@@ -51,8 +54,7 @@ fn a_spread_of_a_thousand_seconds(rt: HostRuntime) -> Result<(), Fail> {
 /// has begun sixty lookups.
 const STRANDED: &str =
     "profile = 2\nbits = 3\nseed = 1\nlatency_us = 10\nloss_ppm = 1000000\nlist = 1\n\
-    duration_us = 140\nwindow_us = 10\ntimeout_us = 40\naudit_us = 140\nstabilize_us = 90\nfinger_us = 1000\n\
-    [[node]]\nname = \"n0\"\nid = 0\ninitial = true\n[[node]]\nname = \"n4\"\nid = 4\ninitial = true\n";
+    duration_us = 140\nwindow_us = 10\ntimeout_us = 40\naudit_us = 140\nstabilize_us = 90\nfinger_us = 1000\n";
 
 /// All lines of the report of this run.
 const STRANDED_REPORT: &str =
@@ -66,7 +68,7 @@ fn a_block_of_63_lines(rt: HostRuntime) -> Result<(), Fail> {
     let alloc = rt.alloc();
     let command = "[[command]]\nat_us = 100\ndo = \"lookup\"\nnode = \"n0\"\nkey = 5\n";
     let commands = repeated(alloc, command, 60)?;
-    let text = format!(in alloc; "{STRANDED}{commands}")?;
+    let text = format!(in alloc; "{STRANDED}{TWO_NODES}{commands}")?;
     let begun = repeated(alloc, "100 n0 lookup 5\n100 n0 lose step n4\n", 60)?;
     let lost = repeated(alloc, "130 n0 lost 5 hops=0 timeouts=0 us=30\n", 60)?;
     let trace = format!(in alloc;

@@ -1,7 +1,8 @@
-//! Tests, and what they share.
+//! Tests, and what they share: `gates`, `random_texts` and `ring_of_three`.
 mod by_engine;
 mod by_example;
 mod by_plan;
+mod circles;
 mod crews;
 mod dealers;
 mod divisions;
@@ -9,11 +10,11 @@ mod first_ring;
 mod gates;
 mod greatest_sizes;
 mod memory_branches;
-mod planned_runs;
 mod random_texts;
 mod read_scenarios;
 mod reader_failures;
 mod refused_texts;
+mod ring_of_three;
 mod searches;
 mod second_profile;
 mod streams;

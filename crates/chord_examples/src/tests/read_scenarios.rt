@@ -1,5 +1,5 @@
 //! Scenarios as they are read.
-use crate::tests::refused_texts::BASE;
+use crate::tests::ring_of_three::{NO_HOP, text_of_three};
 use chord_event::{Body, Event, Key};
 use chord_scenario::{Action, read_scenario};
 use std::test::Fail;
@@ -38,11 +38,12 @@ do = "crash"
 node = "a"
 "#;
 
-/// The texts and the latencies of the base, and identifiers of names.
+/// The texts and the latencies of the ring of three with one lookup.
 #[test]
 fn readers(rt: HostRuntime) -> Result<(), Fail> {
-    let Ok(scenario) = read_scenario(rt.alloc(), BASE.as_bytes(), b"n3,n0,15\n") else {
-        assert!(rt; false, "the base is refused");
+    let text = text_of_three(rt.alloc(), NO_HOP)?;
+    let Ok(scenario) = read_scenario(rt.alloc(), text.as_str().as_bytes(), b"n3,n0,15\n") else {
+        assert!(rt; false, "the ring is refused");
         return Ok(());
     };
     assert!(rt; scenario.nodes() == 3);

@@ -1,5 +1,7 @@
 //! Plays whose readers fail or whose texts are too long.
 use crate::examples::play::{Played, SERIAL, SETTINGS, THREE, play_text, play_texts, text_of};
+use crate::examples::table::{TWO_LOOKUPS, TWO_NODES};
+use crate::tests::ring_of_three::text_of_three;
 use chord_play::{PlayFault, Text, load, play};
 use chord_scenario::ScenarioFault;
 use chord_trace::Watched;
@@ -8,15 +10,6 @@ use std::io::{ErrorKind, Read};
 use std::sync::Wait;
 use std::test::Fail;
 use std::thread::Threads;
-
-/// Two lookups at one time, and what they leave.
-pub const TWO_LOOKUPS: &str = "[[command]]\nat_us = 100\ndo = \"lookup\"\nnode = \"n0\"\nkey = 4\n\
-    [[command]]\nat_us = 100\ndo = \"lookup\"\nnode = \"n3\"\nkey = 1\n";
-
-pub const TRACE: &str = "100 n0 lookup 4\n100 n3 lookup 1\n\
-    120 n3 found 1 n1 hops=1 timeouts=0 us=20\n\
-    120 n0 found 4 n0 hops=1 timeouts=0 us=20\n\
-    200 audit members=3 dead=0 ring=3 ordered=yes principals=3 sufficient=yes\n";
 
 /// A reader that gives a text byte by byte, and then fails instead of ending.
 #[derive(Drop)]
@@ -67,7 +60,7 @@ fn single_bytes(text: &[u8], fails: bool) -> Halting<'_> {
 #[test]
 fn readers_that_fail(rt: HostRuntime) -> Result<(), Fail> {
     let alloc = rt.alloc();
-    let text = text_of(alloc, SETTINGS, THREE, TWO_LOOKUPS)?;
+    let text = text_of_three(alloc, TWO_LOOKUPS.commands)?;
     let toml = text.as_str().as_bytes();
     let csv = b"n0,n3,10\n".as_slice();
     for count in 0..=toml.len() {
@@ -95,14 +88,14 @@ fn readers_that_fail(rt: HostRuntime) -> Result<(), Fail> {
 #[test]
 fn readers_of_single_bytes(rt: HostRuntime) -> Result<(), Fail> {
     let alloc = rt.alloc();
-    let text = text_of(alloc, SETTINGS, THREE, TWO_LOOKUPS)?;
+    let text = text_of_three(alloc, TWO_LOOKUPS.commands)?;
     let csv = b"n0,n3,10\n".as_slice();
     let played = play_halting(
         &rt,
         single_bytes(text.as_str().as_bytes(), false),
         single_bytes(csv, false),
     );
-    assert!(rt; played.outcome.is_ok() && played.trace.as_slice() == TRACE.as_bytes());
+    assert!(rt; played.outcome.is_ok() && played.trace.as_slice() == TWO_LOOKUPS.trace.as_bytes());
     Ok(())
 }
 
@@ -110,12 +103,14 @@ fn readers_of_single_bytes(rt: HostRuntime) -> Result<(), Fail> {
 #[test]
 fn latency_texts_that_are_too_long(rt: HostRuntime) -> Result<(), Fail> {
     let alloc = rt.alloc();
-    let text = text_of(alloc, SETTINGS, THREE, TWO_LOOKUPS)?;
+    let text = text_of_three(alloc, TWO_LOOKUPS.commands)?;
     let toml = text.as_str().as_bytes();
     let mut csv = Vec::new(alloc);
     csv.resize(16_777_216, b'\n')?;
     let longest = play_texts(&rt, toml, csv.as_slice(), &SERIAL);
-    assert!(rt; longest.outcome.is_ok() && longest.trace.as_slice() == TRACE.as_bytes());
+    assert!(rt;
+        longest.outcome.is_ok() && longest.trace.as_slice() == TWO_LOOKUPS.trace.as_bytes()
+    );
     csv.resize(16_777_217 + 9000, b'\n')?;
     let mut scenario = Watched::new(toml);
     let mut latency = Watched::new(csv.as_slice());
@@ -167,10 +162,12 @@ fn faults_of_both_texts(rt: HostRuntime) -> Result<(), Fail> {
 #[test]
 fn texts_that_are_too_long(rt: HostRuntime) -> Result<(), Fail> {
     let alloc = rt.alloc();
-    let mut text = text_of(alloc, SETTINGS, THREE, TWO_LOOKUPS)?.into_bytes();
+    let mut text = text_of_three(alloc, TWO_LOOKUPS.commands)?.into_bytes();
     text.resize(16_777_216, b'\n')?;
     let longest = play_text(&rt, text.as_slice());
-    assert!(rt; longest.outcome.is_ok() && longest.trace.as_slice() == TRACE.as_bytes());
+    assert!(rt;
+        longest.outcome.is_ok() && longest.trace.as_slice() == TWO_LOOKUPS.trace.as_bytes()
+    );
     text.push(b'\n')?;
     let longer = play_text(&rt, text.as_slice());
     assert!(rt; matches!(longer.outcome, Err(PlayFault::TooLong(Text::Scenario))));
@@ -196,13 +193,11 @@ fn refusal<T: AllocGlobal + Threads + Wait + Sync>(
 #[test]
 fn scenarios_that_are_refused(rt: HostRuntime) -> Result<(), Fail> {
     let alloc = rt.alloc();
-    let opposite = "[[node]]\nname = \"n0\"\nid = 0\ninitial = true\n\
-        [[node]]\nname = \"n4\"\nid = 4\ninitial = true\n";
     let wide =
         "list = 1\nduration_us = 200\nwindow_us = 11\ntimeout_us = 40\naudit_us = 200\nstabilize_us = 1000\nfinger_us = 1000\n";
-    let near = refusal(&rt, wide, opposite)?;
+    let near = refusal(&rt, wide, TWO_NODES)?;
     assert!(rt; near.as_str() == "S15 LatencyBelowWindow n0 n4", "{near}");
-    let few = refusal(&rt, SETTINGS, opposite)?;
+    let few = refusal(&rt, SETTINGS, TWO_NODES)?;
     assert!(rt; few.as_str() == "S10 TooFewInitial", "{few}");
     let twins = THREE.replacen(alloc, "id = 1", "id = 0", 1)?;
     let same = refusal(&rt, SETTINGS, twins.as_str())?;

@@ -1,42 +1,12 @@
 //! Texts of scenarios, each with its first fault.
 use crate::tests::read_scenarios::NAMED;
+use crate::tests::ring_of_three::{NO_HOP, text_of_three};
 use chord_scenario::read_scenario;
 use std::test::Fail;
 
-/// Three nodes in a ring, and one lookup.
-pub const BASE: &str = r#"profile = 1
-bits = 3
-list = 2
-seed = 1
-duration_us = 200
-window_us = 10
-latency_us = 10
-timeout_us = 40
-audit_us = 200
-stabilize_us = 1000
-finger_us = 1000
-[[node]]
-name = "n0"
-id = 0
-initial = true
-[[node]]
-name = "n1"
-id = 1
-initial = true
-[[node]]
-name = "n3"
-id = 3
-initial = true
-[[command]]
-at_us = 100
-do = "lookup"
-node = "n0"
-key = 1
-"#;
-
 const GOOD: &str = "ok nodes=3 commands=1";
 
-/// The base with one text replaced by another, and the result.
+/// The ring of three with one lookup, one text replaced by another, and the result.
 const CHANGES: [(&str, &str, &str); 107] = [
     ("", "", GOOD),
     ("[[node]]", "[[nod", "S1 NotToml"),
@@ -460,13 +430,15 @@ pub fn answer(rt: &HostRuntime, toml: &[u8], csv: &[u8]) -> Result<String, Fail>
 
 #[test]
 fn first_faults(rt: HostRuntime) -> Result<(), Fail> {
+    let base = text_of_three(rt.alloc(), NO_HOP)?;
+    let base = base.as_str();
     for (old, new, want) in &CHANGES {
-        let text = BASE.replacen(rt.alloc(), *old, *new, 1)?;
+        let text = base.replacen(rt.alloc(), *old, *new, 1)?;
         let got = answer(&rt, text.as_str().as_bytes(), b"")?;
         assert!(rt; got.as_str() == *want, "{got}, not {want}, at {new}");
     }
     for (csv, want) in &ROWS {
-        let got = answer(&rt, BASE.as_bytes(), csv.as_bytes())?;
+        let got = answer(&rt, base.as_bytes(), csv.as_bytes())?;
         assert!(rt; got.as_str() == *want, "{got}, not {want}, at {csv}");
     }
     Ok(())
@@ -474,8 +446,10 @@ fn first_faults(rt: HostRuntime) -> Result<(), Fail> {
 
 #[test]
 fn limits_of_numbers(rt: HostRuntime) -> Result<(), Fail> {
+    let base = text_of_three(rt.alloc(), NO_HOP)?;
+    let base = base.as_str();
     for (old, new, want) in &LIMITS {
-        let text = BASE.replacen(rt.alloc(), *old, *new, 1)?;
+        let text = base.replacen(rt.alloc(), *old, *new, 1)?;
         let got = answer(&rt, text.as_str().as_bytes(), b"")?;
         assert!(rt; got.as_str() == *want, "{got}, not {want}, at {new}");
     }
@@ -493,16 +467,19 @@ fn ends_of_texts(rt: HostRuntime) -> Result<(), Fail> {
     assert!(rt; cut.as_str() == "S1 NotToml", "{cut}");
     let empty = answer(&rt, b"", b"")?;
     assert!(rt; empty.as_str() == "S3 MissingKey top profile", "{empty}");
-    for i in 0..BASE.len() {
-        let mut bytes = Vec::from_slice(rt.alloc(), BASE.as_bytes())?;
-        bytes[i] = 255;
+    let base = text_of_three(rt.alloc(), NO_HOP)?;
+    for i in 0..base.len() {
+        let mut bytes = Vec::from_slice(rt.alloc(), base.as_str().as_bytes())?;
+        if let Some(byte) = bytes.get_mut(i) {
+            *byte = 255;
+        }
         let no_text = answer(&rt, bytes.as_slice(), b"")?;
         assert!(rt; no_text.as_str() == "S1 NotToml", "{no_text} at {i}");
     }
     let narrow = NAMED.replacen(rt.alloc(), "bits = 8", "bits = 3", 1)?;
     let twins = answer(&rt, narrow.as_str().as_bytes(), b"")?;
     assert!(rt; twins.as_str() == "S8 SameId a c", "{twins}");
-    let row = answer(&rt, BASE.as_bytes(), &[255])?;
+    let row = answer(&rt, base.as_str().as_bytes(), &[255])?;
     assert!(rt; row.as_str() == "S12 BadLatencyRow row 1", "{row}");
     for (nodes, want) in [
         (512, "ok nodes=512 commands=0"),
@@ -559,7 +536,7 @@ fn least_of_each(rt: HostRuntime) -> Result<(), Fail> {
 /// The most commands allowed, and one more.
 #[test]
 fn many_commands(rt: HostRuntime) -> Result<(), Fail> {
-    let mut text = String::from_str(rt.alloc(), BASE)?;
+    let mut text = text_of_three(rt.alloc(), NO_HOP)?;
     for _ in 1..100_000 {
         text.push_str("[[command]]\nat_us = 1\ndo = \"crash\"\nnode = \"n0\"\n")?;
     }

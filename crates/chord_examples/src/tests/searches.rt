@@ -2,12 +2,12 @@
 ghost use Rattle.std.specs.Prelude.{◌≡◌, true};
 ghost use Rattle.chord_node.specs.Invariant.{AllNodes};
 
-use crate::examples::play::{SETTINGS, THREE, text_of};
+use crate::tests::ring_of_three::ring_of_three;
 use chord_circle::Raw;
 use chord_event::Answer;
 use chord_node::initial_ring;
 use chord_ops::{closest_preceding, step_answer};
-use chord_scenario::{Scenario, read_scenario};
+use chord_scenario::Scenario;
 use std::test::Fail;
 
 /// For a node, a key and nodes to avoid: the closest preceding node and the step answer.
@@ -56,11 +56,7 @@ fn are_known(scenario: &Scenario, nodes: &[u32]) -> bool
 #[test]
 fn searches_of_the_first_ring(rt: HostRuntime) -> Result<(), Fail> {
     let alloc = rt.alloc();
-    let text = text_of(alloc, SETTINGS, THREE, "")?;
-    let Ok(scenario) = read_scenario(alloc, text.as_str().as_bytes(), b"") else {
-        assert!(rt; false, "the ring is refused");
-        return Ok(());
-    };
+    let scenario = ring_of_three(alloc, "")?;
     let Ok(states) = initial_ring(alloc, &scenario) else {
         assert!(rt; false, "no memory");
         return Ok(());

@@ -4,7 +4,9 @@ ghost use Rattle.std.specs.Prelude.{◌<◌, ◌≤◌};
 use crate::examples::engines::{ENGINES, Engine, Shape, run_by};
 use crate::examples::play::{SETTINGS, THREE, text_of};
 use crate::examples::table::{EXAMPLES, Example};
-use crate::tests::refused_texts::{BASE, answer};
+use crate::tests::by_engine::PAIR;
+use crate::tests::refused_texts::answer;
+use crate::tests::ring_of_three::{NO_HOP, ONE_HOP, text_of_three};
 use chord_circle::Raw;
 use chord_crew::MOST_SEATS;
 use chord_scenario::{Scenario, read_scenario};
@@ -15,12 +17,6 @@ use std::alloc::Global;
 use std::sync::Wait;
 use std::test::Fail;
 use std::thread::Threads;
-
-/// Two parts, and a worker for each.
-pub const PAIR: Shape = Shape {
-    parts: 2,
-    workers: 2,
-};
 
 /// What a run left: its trace, and all lines of its report.
 #[derive(Drop)]
@@ -93,9 +89,6 @@ fn examples_without_loss(rt: HostRuntime) -> Result<(), Fail> {
     }
     Ok(())
 }
-
-/// The example in which n3 looks 1 up and asks n0.
-pub const ONE_HOP: &str = "[[command]]\nat_us = 100\ndo = \"lookup\"\nnode = \"n3\"\nkey = 1\n";
 
 /// A lookup of n3 whose messages are all lost.
 const LOSE_ALL: Example = Example {
@@ -178,7 +171,7 @@ fn spreads_are_added(rt: HostRuntime) -> Result<(), Fail> {
     Ok(())
 }
 
-/// The base in the second profile with one text replaced by another, and the result.
+/// The ring of three with one lookup in the second profile, one text replaced by another, and the result.
 const CHANGES: [(&str, &str, &str); 17] = [
     ("", "", "ok nodes=3 commands=1"),
     (
@@ -254,7 +247,10 @@ const CHANGES: [(&str, &str, &str); 17] = [
 /// The keys and ranges of the second profile.
 #[test]
 fn texts_of_the_second_profile(rt: HostRuntime) -> Result<(), Fail> {
-    let base = BASE.replacen(rt.alloc(), "profile = 1", "profile = 2", 1)?;
+    let base = text_of_three(rt.alloc(), NO_HOP)?;
+    let base = base
+        .as_str()
+        .replacen(rt.alloc(), "profile = 1", "profile = 2", 1)?;
     for (old, new, want) in &CHANGES {
         let text = base.as_str().replacen(rt.alloc(), *old, *new, 1)?;
         let got = answer(&rt, text.as_str().as_bytes(), b"")?;
@@ -264,7 +260,7 @@ fn texts_of_the_second_profile(rt: HostRuntime) -> Result<(), Fail> {
 }
 
 /// The report of the lookup that needs no hop.
-const NO_HOP: &str =
+const NO_HOP_REPORT: &str =
     "events 1\nmembers 0\njoin-failed 0\ncrashes 0\nstranded 0\ndrops 0\nlate 0\ntimeouts 0\n\
     lookups 1\nfound 1\nlost 0\nbusy 0\nignored 0\nunfinished 0\nhops-sum 0\nhops-greatest 0\n\
     us-sum 0\nus-least 0\nus-median 0\nus-greatest 0\naudits 1\nringless 0\nunordered 0\n\
@@ -274,7 +270,13 @@ const NO_HOP: &str =
 #[test]
 fn the_widest_identifier(rt: HostRuntime) -> Result<(), Fail> {
     let alloc = rt.alloc();
-    let text = BASE.replacen(alloc, "profile = 1\nbits = 3", "profile = 2\nbits = 128", 1)?;
+    let text = text_of_three(alloc, NO_HOP)?;
+    let text = text.as_str().replacen(
+        alloc,
+        "profile = 1\nbits = 3",
+        "profile = 2\nbits = 128",
+        1,
+    )?;
     let wide = "id = \"ffffffffffffffffffffffffffffffff\"";
     let text = text.as_str().replacen(alloc, "id = 3", wide, 1)?;
     let scenario = read_scenario(alloc, text.as_str().as_bytes(), b"")
@@ -288,7 +290,7 @@ fn the_widest_identifier(rt: HostRuntime) -> Result<(), Fail> {
         100 n0 found 1 n1 hops=0 timeouts=0 us=0\n\
         200 audit members=3 dead=0 ring=3 ordered=yes principals=3 sufficient=yes\n";
     assert!(rt; told.trace.as_str() == trace, "{}", told.trace);
-    assert!(rt; told.report.as_str() == NO_HOP, "{}", told.report);
+    assert!(rt; told.report.as_str() == NO_HOP_REPORT, "{}", told.report);
     Ok(())
 }
 

@@ -3,12 +3,12 @@ ghost use Rattle.std.specs.Prelude.{◌≡◌, ◌<◌, ◌≤◌, OnOk};
 ghost use Rattle.chord_window.specs.PartRuns.{IsDone, IsHorizon};
 ghost use Rattle.chord_window.specs.Worlds.{IsWorldOf};
 
-use crate::examples::play::{SETTINGS, THREE, text_of};
-use crate::tests::reader_failures::TWO_LOOKUPS;
+use crate::examples::table::TWO_LOOKUPS;
+use crate::tests::ring_of_three::{NO_HOP, ring_of_three};
 use chord_event::{Block, Key, Memory, RunError};
 use chord_play::Split;
 use chord_queue::WindowQueue;
-use chord_scenario::{Scenario, read_scenario};
+use chord_scenario::Scenario;
 use chord_trace::{Report, Watched};
 use chord_window::{
     Division, Done, MOST_PARTS, Step, Taken, Window, World, exchange, run_part, run_picked,
@@ -73,12 +73,7 @@ fn run_way(alloc: Global, scenario: &Scenario, way: &Way) -> Result<Ran, Memory>
 #[test]
 fn steps_as_they_are_picked(rt: HostRuntime) -> Result<(), Fail> {
     let alloc = rt.alloc();
-    let commands = "[[command]]\nat_us = 100\ndo = \"lookup\"\nnode = \"n0\"\nkey = 1\n";
-    let text = text_of(alloc, SETTINGS, THREE, commands)?;
-    let Ok(scenario) = read_scenario(alloc, text.as_str().as_bytes(), b"") else {
-        assert!(rt; false, "the lookup is refused");
-        return Ok(());
-    };
+    let scenario = ring_of_three(alloc, NO_HOP)?;
     let way = Way {
         split: Split::RoundRobin,
         parts: 2,
@@ -113,11 +108,7 @@ fn steps_as_they_are_picked(rt: HostRuntime) -> Result<(), Fail> {
 #[test]
 fn parts_one_by_one(rt: HostRuntime) -> Result<(), Fail> {
     let alloc = rt.alloc();
-    let text = text_of(alloc, SETTINGS, THREE, TWO_LOOKUPS)?;
-    let Ok(scenario) = read_scenario(alloc, text.as_str().as_bytes(), b"") else {
-        assert!(rt; false, "the lookups are refused");
-        return Ok(());
-    };
+    let scenario = ring_of_three(alloc, TWO_LOOKUPS.commands)?;
     let division = divide(alloc, &scenario, Split::Blocks, 2)?;
     let Ok(world) = World::start(alloc, &scenario, &division) else {
         assert!(rt; false, "no start");
@@ -176,11 +167,7 @@ fn put_together(
 #[test]
 fn parts_put_together(rt: HostRuntime) -> Result<(), Fail> {
     let alloc = rt.alloc();
-    let text = text_of(alloc, SETTINGS, THREE, TWO_LOOKUPS)?;
-    let Ok(scenario) = read_scenario(alloc, text.as_str().as_bytes(), b"") else {
-        assert!(rt; false, "the lookups are refused");
-        return Ok(());
-    };
+    let scenario = ring_of_three(alloc, TWO_LOOKUPS.commands)?;
     let division = divide(alloc, &scenario, Split::Blocks, 2)?;
     let Ok(mut world) = World::start(alloc, &scenario, &division) else {
         assert!(rt; false, "no start");
@@ -225,11 +212,7 @@ fn parts_put_together(rt: HostRuntime) -> Result<(), Fail> {
 #[test]
 fn a_world_divided_anew(rt: HostRuntime) -> Result<(), Fail> {
     let alloc = rt.alloc();
-    let text = text_of(alloc, SETTINGS, THREE, TWO_LOOKUPS)?;
-    let Ok(scenario) = read_scenario(alloc, text.as_str().as_bytes(), b"") else {
-        assert!(rt; false, "the lookups are refused");
-        return Ok(());
-    };
+    let scenario = ring_of_three(alloc, TWO_LOOKUPS.commands)?;
     let dealt = Division::dealt(alloc, 3, 2)?;
     let blocks = Division::blocks(alloc, 3, 2)?;
     let whole = Division::dealt(alloc, 3, 1)?;
