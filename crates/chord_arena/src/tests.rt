@@ -1,3 +1,4 @@
+//! Records are placed up to the room, and each is dropped once.
 use crate::RecordArena;
 use chord_event::Memory;
 use std::cell::Cell;
