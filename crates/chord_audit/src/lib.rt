@@ -9,8 +9,6 @@ mod ranks;
 mod ring;
 mod successors;
 mod tables;
-#[cfg(test)]
-mod tests;
 
 pub use audit_line::AuditLine;
 pub use facts::audit;

@@ -23,8 +23,3 @@ pub use report::{Report, reports_are_unique, reports_need_no_order};
 pub use tally::Tally;
 pub use watched::Watched;
 pub use writing::write_text;
-
-#[cfg(test)]
-mod block_tests;
-#[cfg(test)]
-mod tests;

@@ -1,4 +1,5 @@
 //! Tests, and what they share: `gates`, `random_texts` and `ring_of_three`.
+mod audits;
 mod by_engine;
 mod by_example;
 mod by_plan;
@@ -14,9 +15,11 @@ mod random_texts;
 mod read_scenarios;
 mod reader_failures;
 mod refused_texts;
+mod report_text;
 mod ring_of_three;
 mod searches;
 mod second_profile;
 mod streams;
+mod watched;
 mod windows;
 mod windows_at_random;

@@ -2,7 +2,7 @@ use Rattle.std.proofs.Common.{◌≡◌, ◌∙◌, ℕ, ◌<◌, List, get_or, 
 use Rattle.std.specs.List.{All}
 use Rattle.std.proofs.lemmas.List.{get_or_default}
 use Rattle.chord_node.specs.declared.state.NodeState.{NodeState}
-use Rattle.chord_audit.proofs.tests.names_nodes.Goals as goal
+use Rattle.chord_examples.proofs.tests.audits.names_nodes.Goals as goal
 
 pub loop-state-preserved : goal.loop-state-preserved
 loop-state-preserved c = λ k d lt.

@@ -1,6 +1,6 @@
 use Rattle.std.proofs.Common.{ℕ, ◌<◌, get_or, subst, sym, below_more}
 use Rattle.std.proofs.lemmas.List.{get_or_default}
-use Rattle.chord_audit.proofs.tests.is_below.Goals as goal
+use Rattle.chord_examples.proofs.tests.audits.is_below.Goals as goal
 
 pub loop-node-preserved : goal.loop-node-preserved
 loop-node-preserved c = λ k d lt.

@@ -1,0 +1,53 @@
+//! The text of a report.
+use chord_trace::{AuditCounts, LineCounts, Report, Watched};
+use std::test::Fail;
+
+/// A report whose numbers all differ.
+const REPORT: Report = Report {
+    events: 1,
+    lines: LineCounts {
+        members: 2,
+        join_failed: 3,
+        crashes: 4,
+        stranded: 5,
+        drops: 6,
+        late: 7,
+        timeouts: 8,
+        lookups: 9,
+        found: 10,
+        lost: 11,
+        busy: 12,
+        ignored: 13,
+    },
+    unfinished: 14,
+    hops_sum: 15,
+    hops_greatest: 16,
+    us_sum: 340282366920938463463374607431768211455,
+    us_least: 18,
+    us_median: 19,
+    us_greatest: 18446744073709551615,
+    audits: AuditCounts {
+        audits: 21,
+        ringless: 22,
+        unordered: 23,
+        insufficient: 24,
+    },
+    losses: Some(18446744073709551614),
+};
+
+const TEXT: &str =
+    "events 1\nmembers 2\njoin-failed 3\ncrashes 4\nstranded 5\ndrops 6\nlate 7\ntimeouts 8\n\
+    lookups 9\nfound 10\nlost 11\nbusy 12\nignored 13\nunfinished 14\nhops-sum 15\n\
+    hops-greatest 16\nus-sum 340282366920938463463374607431768211455\nus-least 18\nus-median 19\n\
+    us-greatest 18446744073709551615\naudits 21\nringless 22\nunordered 23\ninsufficient 24\n\
+    losses 18446744073709551614\n";
+
+#[test]
+fn each_number_has_its_line(rt: HostRuntime) -> Result<(), Fail> {
+    let alloc = rt.alloc();
+    let mut writer = Watched::new(Vec::new(alloc));
+    REPORT.write(alloc, &mut writer)?;
+    let text = String::from_utf8_lossy(alloc, writer.into_inner().as_slice())?;
+    assert!(rt; text.as_str() == TEXT, "{text}");
+    Ok(())
+}
