@@ -1,6 +1,6 @@
 //! Plays whose readers fail or whose texts are too long.
-use crate::examples::play::{Played, SERIAL, SETTINGS, THREE, play_text, play_texts, text_of};
-use crate::examples::table::{TWO_LOOKUPS, TWO_NODES};
+use crate::examples::play::{Played, SERIAL, play_text, play_texts};
+use crate::examples::table::TWO_LOOKUPS;
 use crate::tests::ring_of_three::text_of_three;
 use chord_play::{PlayFault, Text, load, play};
 use chord_scenario::ScenarioFault;
@@ -172,35 +172,5 @@ fn texts_that_are_too_long(rt: HostRuntime) -> Result<(), Fail> {
     let longer = play_text(&rt, text.as_slice());
     assert!(rt; matches!(longer.outcome, Err(PlayFault::TooLong(Text::Scenario))));
     assert!(rt; longer.trace.is_empty());
-    Ok(())
-}
-
-/// The text of the fault that a scenario is refused for.
-fn refusal<T: AllocGlobal + Threads + Wait + Sync>(
-    rt: &T,
-    settings: &str,
-    nodes: &str,
-) -> Result<String, Fail> {
-    let alloc = rt.alloc();
-    let text = text_of(alloc, settings, nodes, "")?;
-    let Played { outcome, .. } = play_text(rt, text.as_str().as_bytes());
-    match outcome {
-        Err(PlayFault::Scenario(fault)) => Ok(format!(in alloc; "{fault}")?),
-        _ => Ok(format!(in alloc; "not refused")?),
-    }
-}
-
-#[test]
-fn scenarios_that_are_refused(rt: HostRuntime) -> Result<(), Fail> {
-    let alloc = rt.alloc();
-    let wide =
-        "list = 1\nduration_us = 200\nwindow_us = 11\ntimeout_us = 40\naudit_us = 200\nstabilize_us = 1000\nfinger_us = 1000\n";
-    let near = refusal(&rt, wide, TWO_NODES)?;
-    assert!(rt; near.as_str() == "S15 LatencyBelowWindow n0 n4", "{near}");
-    let few = refusal(&rt, SETTINGS, TWO_NODES)?;
-    assert!(rt; few.as_str() == "S10 TooFewInitial", "{few}");
-    let twins = THREE.replacen(alloc, "id = 1", "id = 0", 1)?;
-    let same = refusal(&rt, SETTINGS, twins.as_str())?;
-    assert!(rt; same.as_str() == "S8 SameId n0 n1", "{same}");
     Ok(())
 }
