@@ -2,15 +2,13 @@
 use crate::examples::engines::{ENGINES, Engine, Shape, run_by};
 use crate::examples::play::shown;
 use crate::examples::table::{EXAMPLES, TWO_LOOKUPS};
-use crate::tests::ring_of_three::{is_beginning, two_lookups};
+use crate::tests::ring_of_three::two_lookups;
 use chord_crew::MOST_SEATS;
 use chord_event::RunError;
 use chord_scenario::{Scenario, read_scenario};
 use chord_trace::Watched;
 use chord_window::{Division, MOST_PARTS, run_picked};
 use std::alloc::Global;
-use std::io;
-use std::io::{ErrorKind, Write};
 use std::test::Fail;
 
 /// Two parts, and a worker for each.
@@ -18,36 +16,6 @@ pub const PAIR: Shape = Shape {
     parts: 2,
     workers: 2,
 };
-
-/// A writer with room for some bytes, which takes a limited number of them in a call. After that it fails, or takes
-/// nothing.
-#[derive(Drop)]
-struct Bounded {
-    taken: Vec<u8>,
-    room: usize,
-    most: usize,
-    takes_nothing: bool,
-}
-
-impl Write for Bounded {
-    fn write(&mut self, buf: &[u8]) -> io::Result<usize> {
-        let count = buf.len().min(self.room).min(self.most);
-        if count == 0 {
-            return if self.takes_nothing {
-                Ok(0)
-            } else {
-                Err(io::Error::from(ErrorKind::Other))
-            };
-        }
-        self.taken.extend_from_slice(&buf[..count])?;
-        self.room -= count;
-        Ok(count)
-    }
-
-    fn flush(&mut self) -> io::Result<()> {
-        Ok(())
-    }
-}
 
 /// Each example has the trace and the report that it has by the rules, with any engine, parts and workers.
 #[test]
@@ -72,39 +40,6 @@ fn examples_by_engines(rt: HostRuntime) -> Result<(), Fail> {
                 assert!(rt;
                     report.as_str() == example.report,
                     "{name}, {engine:?}, {shape:?}: {report}"
-                );
-            }
-        }
-    }
-    Ok(())
-}
-
-/// A writer that takes some bytes, one by one or in whole pieces, and then fails or takes nothing, has taken just that
-/// beginning of the trace. A writer with room for the whole trace has all of it.
-#[test]
-fn writers_that_fail_by_engines(rt: HostRuntime) -> Result<(), Fail> {
-    let alloc = rt.alloc();
-    let scenario = two_lookups(alloc, 50)?;
-    let whole = TWO_LOOKUPS.trace.len();
-    for engine in ENGINES {
-        for room in 0..=whole {
-            for (most, takes_nothing) in [(1, false), (1, true), (190, false), (190, true)] {
-                let mut writer = Watched::new(Bounded {
-                    taken: Vec::new(alloc),
-                    room,
-                    most,
-                    takes_nothing,
-                });
-                let outcome = run_by(&rt, alloc, engine, PAIR, &scenario, &mut writer);
-                let fails = matches!(outcome, Err(RunError::Write));
-                assert!(rt;
-                    fails == (room < whole) && outcome.is_ok() == (room == whole),
-                    "{engine:?}, room {room}, {most}"
-                );
-                let taken = writer.into_inner().taken;
-                assert!(rt;
-                    is_beginning(taken.as_slice(), room),
-                    "{engine:?}, room {room}, {most}"
                 );
             }
         }

@@ -23,3 +23,4 @@ mod streams;
 mod watched;
 mod windows;
 mod windows_at_random;
+mod writer_failures;
