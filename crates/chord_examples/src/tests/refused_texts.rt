@@ -287,8 +287,8 @@ const CHANGES: [(&str, &str, &str); 107] = [
     ),
     ("do = \"lookup\"", "do = \"join\"\nvia = \"n1\"", GOOD),
     (
-        "window_us = 10\nlatency_us = 10",
-        "window_us = 1000000000\nlatency_us = 1000000000",
+        "latency_us = 10\nlist = 2\nduration_us = 200\nwindow_us = 10",
+        "latency_us = 1000000000\nlist = 2\nduration_us = 200\nwindow_us = 1000000000",
         GOOD,
     ),
     (
@@ -316,28 +316,28 @@ const CHANGES: [(&str, &str, &str); 107] = [
 /// The same for numbers at the ends of their ranges.
 const LIMITS: [(&str, &str, &str); 23] = [
     (
-        "duration_us = 200\nwindow_us = 10\nlatency_us = 10\ntimeout_us = 40\naudit_us = 200",
-        "duration_us = 1000000000000\nwindow_us = 10\nlatency_us = 10\ntimeout_us = 40\naudit_us = 1000000",
+        "duration_us = 200\nwindow_us = 10\ntimeout_us = 40\naudit_us = 200",
+        "duration_us = 1000000000000\nwindow_us = 10\ntimeout_us = 40\naudit_us = 1000000",
         GOOD,
     ),
     (
-        "duration_us = 200\nwindow_us = 10\nlatency_us = 10\ntimeout_us = 40\naudit_us = 200",
-        "duration_us = 1000000000000\nwindow_us = 10\nlatency_us = 10\ntimeout_us = 40\naudit_us = 999999",
+        "duration_us = 200\nwindow_us = 10\ntimeout_us = 40\naudit_us = 200",
+        "duration_us = 1000000000000\nwindow_us = 10\ntimeout_us = 40\naudit_us = 999999",
         "S5 OutOfRange top audit_us",
     ),
     (
-        "duration_us = 200\nwindow_us = 10\nlatency_us = 10\ntimeout_us = 40\naudit_us = 200",
-        "duration_us = 1000000\nwindow_us = 10\nlatency_us = 10\ntimeout_us = 40\naudit_us = 1",
+        "duration_us = 200\nwindow_us = 10\ntimeout_us = 40\naudit_us = 200",
+        "duration_us = 1000000\nwindow_us = 10\ntimeout_us = 40\naudit_us = 1",
         GOOD,
     ),
     (
-        "duration_us = 200\nwindow_us = 10\nlatency_us = 10\ntimeout_us = 40\naudit_us = 200",
-        "duration_us = 1000001\nwindow_us = 10\nlatency_us = 10\ntimeout_us = 40\naudit_us = 1",
+        "duration_us = 200\nwindow_us = 10\ntimeout_us = 40\naudit_us = 200",
+        "duration_us = 1000001\nwindow_us = 10\ntimeout_us = 40\naudit_us = 1",
         "S5 OutOfRange top audit_us",
     ),
     (
-        "window_us = 10\nlatency_us = 10",
-        "window_us = 1\nlatency_us = 1",
+        "latency_us = 10\nlist = 2\nduration_us = 200\nwindow_us = 10",
+        "latency_us = 1\nlist = 2\nduration_us = 200\nwindow_us = 1",
         GOOD,
     ),
     ("timeout_us = 40", "timeout_us = 1", GOOD),
@@ -433,6 +433,7 @@ fn first_faults(rt: HostRuntime) -> Result<(), Fail> {
     let base = text_of_three(rt.alloc(), NO_HOP)?;
     let base = base.as_str();
     for (old, new, want) in &CHANGES {
+        assert!(rt; base.contains(*old), "no {old}");
         let text = base.replacen(rt.alloc(), *old, *new, 1)?;
         let got = answer(&rt, text.as_str().as_bytes(), b"")?;
         assert!(rt; got.as_str() == *want, "{got}, not {want}, at {new}");
@@ -449,6 +450,7 @@ fn limits_of_numbers(rt: HostRuntime) -> Result<(), Fail> {
     let base = text_of_three(rt.alloc(), NO_HOP)?;
     let base = base.as_str();
     for (old, new, want) in &LIMITS {
+        assert!(rt; base.contains(*old), "no {old}");
         let text = base.replacen(rt.alloc(), *old, *new, 1)?;
         let got = answer(&rt, text.as_str().as_bytes(), b"")?;
         assert!(rt; got.as_str() == *want, "{got}, not {want}, at {new}");
@@ -487,7 +489,7 @@ fn ends_of_texts(rt: HostRuntime) -> Result<(), Fail> {
     ] {
         let mut text = String::from_str(
             rt.alloc(),
-            "profile = 1\nbits = 64\nlist = 16\nseed = 1\nduration_us = 200\nwindow_us = 10\nlatency_us = 10\ntimeout_us = 40\naudit_us = 200\nstabilize_us = 1000\nfinger_us = 1000\n",
+            "profile = 1\nbits = 64\nlist = 16\nseed = 1\nduration_us = 200\nwindow_us = 10\ntimeout_us = 40\naudit_us = 200\nstabilize_us = 1000\nfinger_us = 1000\n",
         )?;
         for i in 0..nodes {
             text.push_str(format!(in rt.alloc();

@@ -252,6 +252,7 @@ fn texts_of_the_second_profile(rt: HostRuntime) -> Result<(), Fail> {
         .as_str()
         .replacen(rt.alloc(), "profile = 1", "profile = 2", 1)?;
     for (old, new, want) in &CHANGES {
+        assert!(rt; base.as_str().contains(*old), "no {old}");
         let text = base.as_str().replacen(rt.alloc(), *old, *new, 1)?;
         let got = answer(&rt, text.as_str().as_bytes(), b"")?;
         assert!(rt; got.as_str() == *want, "{got}, not {want}, at {new}");
