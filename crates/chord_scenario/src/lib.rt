@@ -10,7 +10,6 @@ mod latency;
 mod link_check;
 mod name;
 mod names;
-mod window_check;
 mod node;
 mod node_check;
 mod operation;
@@ -21,6 +20,7 @@ mod section;
 mod setting;
 mod start;
 mod value;
+mod window_check;
 
 pub use fault::ScenarioFault;
 pub use key::{FileKey, Place};
