@@ -1,0 +1,9 @@
+pub mod Heads
+pub mod Keys
+pub mod Merged
+pub mod Names
+pub mod Runs
+pub mod TeamMail
+pub mod TeamOrders
+pub mod Texts
+pub mod WindowFaults

@@ -1,0 +1,64 @@
+-- The gravest of the faults of a window.
+use Rattle.std.proofs.Common.{◌≡◌, ◌∙◌, ◌+◌, ◌<◌, ◌≤◌, ◌⊎◌, ⊎_elim, ℕ, List, [], Option, None, Some, ap, arith, get_or, length, subst, sym, take, refl}
+use Rattle.std.specs.Prelude.{IfSome}
+use Rattle.std.specs.List.{All}
+use Rattle.std.proofs.lemmas.List.Elements.{All-more, All-nil, All-weaker}
+use Rattle.chord_event.specs.declared.error.RunError.{RunError}
+use Rattle.chord_output.specs.Faults.{rank_of}
+use Rattle.chord_scenario.specs.declared.scenario.Scenario.{Scenario}
+use Rattle.chord_team.specs.declared.part.Finished.{Finished}
+use Rattle.chord_team.specs.Orders.{HaveNoFault, IsFault}
+
+-- the fault is at least as grave as that of the result, if it has one
+abbrev pub IsGraver : RunError → Finished → Type 0
+IsGraver e f = IfSome f.fault (λ g. rank_of e ≤ rank_of g)
+
+-- no result has a fault that is graver than this, and none has one if there is none
+pub record IsGravest (fs : List Finished) (gravest : Option RunError) : Type 0 where
+  pub none : gravest ≡ None → HaveNoFault fs
+  pub first : (e : RunError) → gravest ≡ Some e → All (IsGraver e) fs
+
+pub gravest_at_start : IsGravest [] None
+gravest_at_start = record {
+  none = λ is. All-nil (λ (f : Finished). f.fault ≡ None);
+  first = λ e is. All-nil (IsGraver e);
+}
+
+if_some : {X : Type 0} (o : Option X) (P : X → Type 0) (x : X) → o ≡ Some x → IfSome o P → P x
+if_some o P x is fact = rw is at fact
+
+no_graver : (e : RunError) (f : Finished) → f.fault ≡ None → IsGraver e f
+no_graver e f is = subst (λ o. IfSome o (λ g. rank_of e ≤ rank_of g)) (sym is) tt
+
+still_graver : (e old : RunError) (f : Finished) → rank_of e ≤ rank_of old → IsGraver old f → IsGraver e f
+still_graver e old f le is = go f.fault is
+  where
+    go : (o : Option RunError) → IfSome o (λ g. rank_of old ≤ rank_of g) → IfSome o (λ g. rank_of e ≤ rank_of g)
+    go None h = tt
+    go (Some g) h = omega (arith, le, h)
+
+-- the graver of this fault and that of one result more
+pub gravest_more : (fs : List Finished) (i : ℕ) (f : Finished) (old new : Option RunError) → i < length fs → f ≡ get_or fs i f → IsGravest (take i fs) old
+    → (new ≡ None → (old ≡ None) × (f.fault ≡ None))
+    → IfSome new (λ e. IfSome old (λ g. rank_of e ≤ rank_of g)) → IfSome new (λ e. IfSome f.fault (λ g. rank_of e ≤ rank_of g))
+    → IsGravest (take (i + 1) fs) new
+gravest_more fs i f old new lt is before none first second = record {
+  none = λ n. All-more (λ (g : Finished). g.fault ≡ None) fs i f lt (before.none (none n).0) (ap (λ (g : Finished). g.fault) (sym is) ∙ (none n).1);
+  first = λ e n. All-more (IsGraver e) fs i f lt (rest e n old refl) (subst (IsGraver e) is (if_some new (λ x. IsGraver x f) e n second));
+}
+  where
+    rest : (e : RunError) → new ≡ Some e → (o : Option RunError) → old ≡ o → All (IsGraver e) (take i fs)
+    rest e n None o = All-weaker (λ (g : Finished). g.fault ≡ None) (IsGraver e) (λ g is. no_graver e g is) (take i fs) (before.none o)
+    rest e n (Some g) o = All-weaker (IsGraver g) (IsGraver e)
+        (λ x h. still_graver e g x (if_some old (λ y. rank_of e ≤ rank_of y) g o (if_some new (λ z. IfSome old (λ y. rank_of z ≤ rank_of y)) e n first)) h)
+        (take i fs) (before.first g o)
+
+-- a fault of one result is one of the scenario, if those of all are
+pub fault_more : (sc : Scenario) (fs : List Finished) (i : ℕ) (f : Finished) (old new : Option RunError) → i < length fs → f ≡ get_or fs i f
+    → All (λ (g : Finished). IfSome g.fault (IsFault sc)) fs → IfSome old (IsFault sc) → IfSome new (λ e. (old ≡ Some e) ⊎ (f.fault ≡ Some e))
+    → IfSome new (IsFault sc)
+fault_more sc fs i f old None lt is all before either = tt
+fault_more sc fs i f old (Some e) lt is all before either = ⊎_elim
+    (λ o. if_some old (IsFault sc) e o before)
+    (λ o. if_some f.fault (IsFault sc) e o (subst (λ (g : Finished). IfSome g.fault (IsFault sc)) (sym is) (all i f lt)))
+    either

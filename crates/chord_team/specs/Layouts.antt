@@ -1,0 +1,16 @@
+-- Where the states of the nodes lie.
+use Rattle.std.specs.Prelude.{◌≡◌, ◌<◌, ℕ, length, slice_index}
+use Rattle.chord_model.specs.Windows.{Divides, part_of}
+use Rattle.chord_scenario.specs.declared.scenario.Scenario.{Scenario}
+use Rattle.chord_scenario.specs.World.{node_count}
+use Rattle.chord_team.specs.declared.layout.Layout.{Layout}
+
+-- the place of a node's state in its part
+abbrev pub slot_of : Layout → ℕ → ℕ
+slot_of l i = slice_index l.slots.items i
+
+-- each node has a part, and in it a place of its own
+pub record IsLayout (sc : Scenario) (l : Layout) : Type 0 where
+  pub divides : Divides l.division (node_count sc)
+  pub long : length l.slots.items ≡ node_count sc
+  pub apart : (i j : ℕ) → i < node_count sc → j < node_count sc → part_of l.division i ≡ part_of l.division j → slot_of l i ≡ slot_of l j → i ≡ j

@@ -1,0 +1,96 @@
+-- What goes to the workers and what comes back.
+use Rattle.std.specs.Prelude.{◌≡◌, ◌≢◌, ◌⊎◌, ◌+◌, ◌<◌, ◌≤◌, ◌++◌, ◌↔◌, ℕ, suc, List, [], ◌∷◌, None, Some, IfNone, IfSome, map, reverse, length, slice_index_or, Vec, ⊤}
+use Rattle.std.specs.Global.{Global}
+use Rattle.std.specs.List.{All, AllPairs, Contains}
+use Rattle.chord_event.specs.declared.block.Block.{Block}
+use Rattle.chord_event.specs.declared.body.Body.{Body}
+use Rattle.chord_event.specs.declared.event.Event.{Event}
+use Rattle.chord_event.specs.declared.error.RunError.{RunError}
+use Rattle.chord_event.specs.declared.error.RunError.TheVariants as run
+use Rattle.chord_machine.specs.Chord.{chord}
+use Rattle.chord_machine.specs.Run.{HasTooManyEvents}
+use Rattle.chord_model.specs.Histories.{history}
+use Rattle.chord_model.specs.PartRuns.{part_run}
+use Rattle.chord_model.specs.Windows.{part_of, IsSealedRun, made_since, pieces_since}
+use Rattle.chord_scenario.specs.declared.scenario.Scenario.{Scenario}
+use Rattle.chord_trace.specs.declared.piece.Piece.TheVariants as piece
+use Rattle.chord_window.specs.Worlds.{opening_after}
+use Rattle.chord_window.specs.PartRuns.{IsShortBlock}
+use Rattle.chord_team.specs.declared.layout.Layout.{Layout}
+use Rattle.chord_team.specs.declared.part.Parcel.{Parcel}
+use Rattle.chord_team.specs.declared.part.Finished.{Finished}
+use Rattle.chord_team.specs.Layouts.{IsLayout}
+use Rattle.chord_team.specs.Outputs.{IsText}
+use Rattle.chord_team.specs.Owned.{HasSentAll, HasTakenAll, IsOwned, LeastTimeIs, all_of}
+
+-- the next window after so many events ends at the horizon
+abbrev pub OpensTo : Scenario → (count horizon : ℕ) → Type 0
+OpensTo sc count horizon = (time : ℕ) × (opening_after sc (history (chord sc) count) ≡ Some (record { time = time; horizon = horizon }))
+
+-- the part may run its window: it has what the first events of the run leave it, and nothing else
+pub record IsOrder (sc : Scenario) (l : Layout) (o : Parcel) : Type 0 where
+  pub layout : IsLayout sc l
+  pub within : o.count ≤ sc.max_events
+  pub long : length (history (chord sc) o.count) ≡ o.count
+  pub opens : OpensTo sc o.count o.horizon
+  pub owned : IsOwned sc l (history (chord sc) o.count) o.part
+  pub none_sent : HasSentAll o.part
+  pub no_text : IsText sc [] o.output
+
+-- the order of this part for this window
+pub record IsOrderOf (sc : Scenario) (l : Layout) (part count horizon : ℕ) (o : Parcel) : Type 0 where
+  pub part_is : o.part.part ≡ part
+  pub count_is : o.count ≡ count
+  pub horizon_is : o.horizon ≡ horizon
+  pub order : IsOrder sc l o
+
+-- the events that a part ran in the window
+abbrev pub ran_by : Scenario → Layout → Finished → List (Event Body)
+ran_by sc l f = part_run (chord sc) l.division (history (chord sc) f.parcel.count) f.parcel.horizon f.parcel.part.part f.events
+
+-- the part has run its window: it has the states and the events that are left to it, what it made for others, and its text
+pub record HasRun (sc : Scenario) (l : Layout) (f : Finished) : Type 0 where
+  pub sealed : IsSealedRun (chord sc) l.division (history (chord sc) f.parcel.count) f.parcel.horizon f.parcel.part.part (ran_by sc l f)
+  pub long : length (ran_by sc l f) ≡ f.events
+  pub within : f.parcel.count + f.events ≤ sc.max_events
+  pub owned : IsOwned sc l (ran_by sc l f ++ history (chord sc) f.parcel.count) f.parcel.part
+  pub taken_in : HasTakenAll f.parcel.part
+  pub sent : (q : ℕ) (v : Vec (Event Body) Global) (x : Event Body) → q < l.division.parts
+      → Contains (slice_index_or f.parcel.part.outbox.items q v).items x
+      ↔ (Contains (made_since (chord sc) (history (chord sc) f.parcel.count) (ran_by sc l f)) x × (part_of l.division x.target ≡ q) × (q ≢ f.parcel.part.part))
+  pub sent_apart : (q : ℕ) (v : Vec (Event Body) Global) → q < l.division.parts
+      → AllPairs (λ (a b : Event Body). a.key ≢ b.key) (slice_index_or f.parcel.part.outbox.items q v).items
+  pub next_is : LeastTimeIs (f.parcel.part.pending ++ all_of f.parcel.part.outbox.items) f.next
+  pub blocks : List Block
+  pub blocks_are : All (IsShortBlock sc) blocks
+  pub pieces_are : map piece.OfEvent blocks ≡ reverse (map (λ b. b.1) (pieces_since (chord sc) (history (chord sc) f.parcel.count) (ran_by sc l f)))
+  pub text_is : IsText sc blocks f.parcel.output
+
+-- or there is a fault: memory, or too many events
+abbrev pub IsFault : Scenario → RunError → Type 0
+IsFault sc e = (e ≡ run.Memory) ⊎ ((e ≡ run.TooManyEvents) × HasTooManyEvents sc)
+
+pub record IsFinished (sc : Scenario) (l : Layout) (f : Finished) : Type 0 where
+  pub ran : IfNone f.fault (HasRun sc l f)
+  pub failed : IfSome f.fault (IsFault sc)
+
+-- the result of this part in this window
+pub record IsResultOf (sc : Scenario) (l : Layout) (part count horizon : ℕ) (f : Finished) : Type 0 where
+  pub part_is : f.parcel.part.part ≡ part
+  pub count_is : f.parcel.count ≡ count
+  pub horizon_is : f.parcel.horizon ≡ horizon
+  pub finished : IsFinished sc l f
+
+-- the results of the parts from this one on
+abbrev pub AreResultsFrom : Scenario → Layout → (count horizon part : ℕ) → List Finished → Type 0
+AreResultsFrom sc l count horizon part [] = ⊤
+AreResultsFrom sc l count horizon part (f ∷ fs) = IsResultOf sc l part count horizon f × AreResultsFrom sc l count horizon (suc part) fs
+
+-- the results of all parts
+pub record AreResults (sc : Scenario) (l : Layout) (count horizon : ℕ) (fs : List Finished) : Type 0 where
+  pub long : length fs ≡ l.division.parts
+  pub each : AreResultsFrom sc l count horizon 0 fs
+
+-- none of them has a fault
+abbrev pub HaveNoFault : List Finished → Type 0
+HaveNoFault fs = All (λ (f : Finished). f.fault ≡ None) fs

@@ -1,0 +1,40 @@
+//! The rings between the caller and a worker.
+use crate::named::Named;
+use crate::order::{Order, Reply};
+use crate::waiting::wait_a_turn;
+use rtrb::{Consumer, Producer};
+use std::sync::Wait;
+use std::thread::Parker;
+
+/// The caller's ends.
+#[derive(Drop)]
+pub struct Link<J: Named> {
+    pub orders: Producer<Order<J>>,
+    pub replies: Consumer<Reply<J>>,
+}
+
+/// The worker's ends.
+#[derive(Drop)]
+pub struct Desk<J: Named> {
+    pub orders: Consumer<Order<J>>,
+    pub replies: Producer<Reply<J>>,
+}
+
+/// The next item, or `None` if no other can come.
+pub fn next_item<R: Wait, T>(rt: &R, ring: &mut Consumer<T>, parker: &Parker) -> Option<T> {
+    let mut turn = 0u32;
+    for _ in rt.forever() {
+        if let Ok(item) = ring.pop() {
+            return Some(item);
+        }
+        if ring.is_abandoned() {
+            return match ring.pop() {
+                Ok(item) => Some(item),
+                Err(_) => None,
+            };
+        }
+        wait_a_turn(rt, turn, parker);
+        turn = turn.saturating_add(1);
+    }
+    unreachable!()
+}

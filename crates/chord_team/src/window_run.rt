@@ -1,0 +1,131 @@
+//! How parts are sent to their workers for a window, and what comes back.
+ghost use Rattle.std.specs.Prelude.{◌≡◌, ◌⊎◌, ◌<◌, ◌≤◌, ℕ, List, Option, None, Some, length, OnOk, IfOk, IfErr, IfSome, Err};
+ghost use Rattle.std.specs.List.{All};
+ghost use Rattle.chord_output.specs.Faults.{rank_of};
+ghost use Rattle.chord_scenario.specs.declared.scenario.Scenario.{Scenario as AScenario};
+ghost use Rattle.chord_team.specs.Orders.{HaveNoFault, IsFault, IsResultOf};
+ghost use Rattle.chord_team.specs.Teams.{CanSend};
+
+use crate::course::Course;
+use crate::link::{Link, next_item};
+use crate::named::Named;
+use crate::order::Order;
+use crate::part::Finished;
+use crate::team::Team;
+use chord_event::RunError;
+use chord_output::graver;
+use std::sync::Wait;
+
+/// The worker that has a part for the whole run. Neighbouring parts have one worker, so those of
+/// worker 0, which is the calling thread, come first.
+fn worker_of(part: u32, parts: u32, workers: usize) -> usize {
+    let before = u64::from(part).saturating_mul(workers as u64);
+    (before / u64::from(parts.max(1))) as usize
+}
+
+/// Sends a part to its worker, if the part is here.
+fn send_part<J: Named>(
+    course: &Course<'_>,
+    team: &mut Team,
+    link: &mut Link<J>,
+    part: u32,
+) -> Result<(), RunError>
+    requires named { J.run ≡ Some (course.now.scenario.now, course.now.layout.now) }
+    requires part { part < length team.old.parcels.items }
+    requires can_send { CanSend course.now.scenario.now course.now.layout.now team.old }
+    ensures can_send { CanSend course.now.scenario.now course.now.layout.now team.new }
+    ensures others { team.new ≡ record team.old { parcels = team.new.parcels } }
+    ensures only { IfErr result (λ e. e ≡ RunError.Worker) }
+{
+    let Some(parcel) = team.take_out(part) else {
+        return Ok(());
+    };
+    match link.orders.push(Order::new(parcel)) {
+        Ok(()) => Ok(()),
+        Err(_) => Err(RunError::Worker),
+    }
+}
+
+/// Sends the parts of the other workers to them, and wakes each.
+pub fn send_others<J: Named>(
+    course: &Course<'_>,
+    team: &mut Team,
+    links: &mut Vec<Link<J>>,
+) -> Result<(), RunError>
+    requires named { J.run ≡ Some (course.now.scenario.now, course.now.layout.now) }
+    requires can_send { CanSend course.now.scenario.now course.now.layout.now team.old }
+    ensures can_send { CanSend course.now.scenario.now course.now.layout.now team.new }
+    ensures others { team.new ≡ record team.old { parcels = team.new.parcels } }
+    ensures only { IfErr result (λ e. e ≡ RunError.Worker) }
+{
+    let parts = course.layout.division.parts();
+    let workers = links.len() + 1;
+    for part in 0..parts {
+        let worker = worker_of(part, parts, workers);
+        if 0 < worker && worker < workers {
+            send_part(course, team, &mut links[worker - 1], part)?;
+            if let Some(parker) = course.parkers.get(worker) {
+                parker.unpark();
+            }
+        }
+    }
+    Ok(())
+}
+
+/// Receives what a worker leaves of a part.
+pub fn receive<J: Named, R: Wait>(
+    rt: &R,
+    course: &Course<'_>,
+    team: &Team,
+    link: &mut Link<J>,
+    part: u32,
+) -> Result<Finished, RunError>
+    requires named { J.run ≡ Some (course.now.scenario.now, course.now.layout.now) }
+    ensures of { IfOk result (IsResultOf course.now.scenario.now course.now.layout.now part team.now.count team.now.window.horizon) }
+    ensures only { IfErr result (λ e. e ≡ RunError.Worker) }
+{
+    let Some(caller) = course.parkers.first() else {
+        return Err(RunError::Worker);
+    };
+    let Some(reply) = next_item(rt, &mut link.replies, caller) else {
+        return Err(RunError::Worker);
+    };
+    let result = reply.expect(
+        course.scenario,
+        course.layout,
+        part,
+        team.count,
+        team.window.horizon,
+    );
+    match result {
+        Some(left) => Ok(left),
+        None => Err(RunError::Worker),
+    }
+}
+
+/// The graver of two faults, of which either may be missing.
+fn graver_of(one: Option<RunError>, other: Option<RunError>) -> Option<RunError>
+    ensures none { result ≡ None → (one ≡ None) × (other ≡ None) }
+    ensures either { IfSome result (λ e. (one ≡ Some e) ⊎ (other ≡ Some e)) }
+    ensures first { IfSome result (λ e. IfSome one (λ f. rank_of e ≤ rank_of f)) }
+    ensures second { IfSome result (λ e. IfSome other (λ f. rank_of e ≤ rank_of f)) }
+{
+    match (one, other) {
+        (Some(fault), None) | (None, Some(fault)) => Some(fault),
+        (Some(fault), Some(next)) => Some(graver(fault, next)),
+        (None, None) => None,
+    }
+}
+
+/// The gravest fault of the results, if there is one.
+pub fn gravest_fault(results: &[Finished]) -> Option<RunError>
+    ensures none { result ≡ None → HaveNoFault results.now }
+    ensures fault { (sc : AScenario) → All (λ f. IfSome f.fault (IsFault sc)) results.now → IfSome result (IsFault sc) }
+    ensures gravest { IfSome result (λ e. All (λ f. IfSome f.fault (λ g. rank_of e ≤ rank_of g)) results.now) }
+{
+    let mut gravest = None;
+    for left in results {
+        gravest = graver_of(gravest, left.fault);
+    }
+    gravest
+}
