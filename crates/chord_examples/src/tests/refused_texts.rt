@@ -489,7 +489,7 @@ fn ends_of_texts(rt: HostRuntime) -> Result<(), Fail> {
     ] {
         let mut text = String::from_str(
             rt.alloc(),
-            "profile = 1\nbits = 64\nlist = 16\nseed = 1\nduration_us = 200\nwindow_us = 10\ntimeout_us = 40\naudit_us = 200\nstabilize_us = 1000\nfinger_us = 1000\n",
+            "profile = 1\nbits = 64\nlist = 16\nseed = 1\nduration_us = 200\nwindow_us = 10\nlatency_us = 10\ntimeout_us = 40\naudit_us = 200\nstabilize_us = 1000\nfinger_us = 1000\n",
         )?;
         for i in 0..nodes {
             text.push_str(format!(in rt.alloc();
