@@ -32,7 +32,7 @@ pub none_here : (o : Option Parcel) (p : Parcel) → o ≡ None → o ≡ Some p
 unfolding is_here
 none_here o p a b = subst is_here (sym b ∙ a) tt
 
-first : {A : Type 0} (xs : List A) → 0 < length xs → A
+pub first : {A : Type 0} (xs : List A) → 0 < length xs → A
 first [] l = absurd (omega (arith, l))
 first (x ∷ xs) l = x
 

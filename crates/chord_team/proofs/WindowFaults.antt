@@ -1,13 +1,42 @@
 -- The gravest of the faults of a window.
-use Rattle.std.proofs.Common.{◌≡◌, ◌∙◌, ◌+◌, ◌<◌, ◌≤◌, ◌⊎◌, ⊎_elim, ℕ, List, [], Option, None, Some, ap, arith, get_or, length, subst, sym, take, refl}
+use Rattle.std.proofs.Common.{
+  ◌≡◌,
+  ◌∙◌,
+  ◌+◌,
+  ◌<◌,
+  ◌≤◌,
+  ◌⊎◌,
+  ⊎_elim,
+  inl,
+  inr,
+  ℕ,
+  List,
+  [],
+  ◌∷◌,
+  Option,
+  None,
+  Some,
+  ap,
+  arith,
+  get_or,
+  length,
+  subst,
+  sym,
+  take,
+  refl,
+  suc,
+}
 use Rattle.std.specs.Prelude.{IfSome}
 use Rattle.std.specs.List.{All}
-use Rattle.std.proofs.lemmas.List.Elements.{All-more, All-nil, All-weaker}
+use Rattle.std.proofs.lemmas.List.Elements.{All-cons, All-more, All-nil, All-weaker}
 use Rattle.chord_event.specs.declared.error.RunError.{RunError}
+use Rattle.chord_event.specs.declared.error.RunError.TheVariants as run
+use Rattle.chord_machine.specs.Run.{HasTooManyEvents}
 use Rattle.chord_output.specs.Faults.{rank_of}
 use Rattle.chord_scenario.specs.declared.scenario.Scenario.{Scenario}
+use Rattle.chord_team.specs.declared.layout.Layout.{Layout}
 use Rattle.chord_team.specs.declared.part.Finished.{Finished}
-use Rattle.chord_team.specs.Orders.{HaveNoFault, IsFault}
+use Rattle.chord_team.specs.Orders.{AreResultsFrom, HaveNoFault, IsFault}
 
 -- the fault is at least as grave as that of the result, if it has one
 abbrev pub IsGraver : RunError → Finished → Type 0
@@ -62,3 +91,22 @@ fault_more sc fs i f old (Some e) lt is all before either = ⊎_elim
     (λ o. if_some old (IsFault sc) e o before)
     (λ o. if_some f.fault (IsFault sc) e o (subst (λ (g : Finished). IfSome g.fault (IsFault sc)) (sym is) (all i f lt)))
     either
+
+-- the faults of all results are of the scenario
+pub faults_are : (sc : Scenario) (l : Layout) (count horizon k : ℕ) (fs : List Finished) → AreResultsFrom sc l count horizon k fs
+    → All (λ (f : Finished). IfSome f.fault (IsFault sc)) fs
+faults_are sc l count horizon k [] each = All-nil (λ (f : Finished). IfSome f.fault (IsFault sc))
+faults_are sc l count horizon k (f ∷ fs) each =
+    All-cons (λ (f : Finished). IfSome f.fault (IsFault sc)) f fs each.0.finished.failed (faults_are sc l count horizon (suc k) fs each.1)
+
+-- a fault of the scenario is memory or too many events
+pub too_many_from : (sc : Scenario) (e : RunError) → IsFault sc e → e ≡ run.TooManyEvents → HasTooManyEvents sc
+too_many_from sc e (inl m) is = absurd (told (sym m ∙ is))
+  where
+    told : run.Memory ≡ run.TooManyEvents → ⊥
+    told same = cc
+too_many_from sc e (inr t) is = t.1
+
+pub memory_or_many : (sc : Scenario) (e : RunError) → IsFault sc e → (e ≡ run.Memory) ⊎ (e ≡ run.TooManyEvents)
+memory_or_many sc e (inl m) = inl m
+memory_or_many sc e (inr t) = inr t.0

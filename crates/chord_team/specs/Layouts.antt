@@ -1,6 +1,6 @@
 -- Where the states of the nodes lie.
-use Rattle.std.specs.Prelude.{◌≡◌, ◌<◌, ℕ, length, slice_index}
-use Rattle.chord_model.specs.Windows.{Divides, part_of}
+use Rattle.std.specs.Prelude.{◌≡◌, ◌<◌, ◌+◌, ◌==◌, ℕ, zero, suc, if◌then◌else◌, length, slice_index}
+use Rattle.chord_model.specs.Windows.{Division, Divides, part_of}
 use Rattle.chord_scenario.specs.declared.scenario.Scenario.{Scenario}
 use Rattle.chord_scenario.specs.World.{node_count}
 use Rattle.chord_team.specs.declared.layout.Layout.{Layout}
@@ -9,8 +9,14 @@ use Rattle.chord_team.specs.declared.layout.Layout.{Layout}
 abbrev pub slot_of : Layout → ℕ → ℕ
 slot_of l i = slice_index l.slots.items i
 
--- each node has a part, and in it a place of its own
+-- how many of the first n nodes are in a part
+abbrev pub nodes_before : Division → (part n : ℕ) → ℕ
+nodes_before d part zero = 0
+nodes_before d part (suc n) = let before = nodes_before d part n in if part_of d n == part then before + 1 else before
+
+-- each node has a part, and in it a place of its own: a part counts its nodes in the order of their numbers
 pub record IsLayout (sc : Scenario) (l : Layout) : Type 0 where
   pub divides : Divides l.division (node_count sc)
   pub long : length l.slots.items ≡ node_count sc
   pub apart : (i j : ℕ) → i < node_count sc → j < node_count sc → part_of l.division i ≡ part_of l.division j → slot_of l i ≡ slot_of l j → i ≡ j
+  pub counted : (i : ℕ) → i < node_count sc → slot_of l i ≡ nodes_before l.division (part_of l.division i) i

@@ -1,7 +1,11 @@
-pub mod Layouts
+pub mod Exchanges
 pub mod Heads
+pub mod Layouts
+pub mod Orders
 pub mod Outputs
 pub mod Owned
-pub mod Orders
-pub mod Exchanges
+pub mod Running
+pub mod Shares
+pub mod Starts
+pub mod Swaps
 pub mod Teams

@@ -12,4 +12,17 @@ pub struct Course<'a> {
     pub layout: &'a Layout,
     /// One for each worker, to be woken by. That of worker 0 is the caller's.
     pub parkers: &'a [Parker],
+    /// So many events of a window are worth the wake-up of a worker. If it is 0, all are woken in
+    /// each window.
+    pub worth: u64,
+}
+
+/// How many workers a team has, and when it wakes them.
+#[derive(Clone, Copy, Debug, Drop)]
+pub struct Hands {
+    /// The number of workers, of which the calling thread is one.
+    pub workers: u32,
+    /// So many events of a window are worth the wake-up of a worker. If it is 0, all are woken in
+    /// each window.
+    pub worth: u64,
 }

@@ -1,9 +1,58 @@
 //! Where the state of each node lies.
+ghost use Rattle.std.specs.Prelude.{◌≡◌, ◌≢◌, ◌⊎◌, ◌<◌, ℕ, Err, IfErr, IfOk, length, slice_index};
+ghost use Rattle.chord_model.specs.Windows.{Divides, part_of};
+ghost use Rattle.chord_scenario.specs.World.{node_count};
+ghost use Rattle.chord_team.specs.Layouts.{IsLayout, nodes_before};
+
+use chord_event::{Memory, RunError};
+use chord_scenario::Scenario;
 use chord_window::Division;
+use std::alloc::Global;
 
 /// A division of the nodes, and the place of each node's state among those of its part.
 #[derive(Drop)]
 pub struct Layout {
     pub division: Division,
     pub slots: Vec<u32>,
+}
+
+/// The slots of the nodes: each part counts its own ones, in the order of their numbers.
+fn count_slots(alloc: Global, division: &Division, nodes: u32) -> Result<Vec<u32>, Memory>
+    requires { Divides division.now nodes }
+    ensures long { IfOk result (λ slots. length slots.items ≡ nodes) }
+    ensures counted { IfOk result (λ slots. (i : ℕ) → i < nodes → slice_index slots.items i ≡ nodes_before division.now (part_of division.now i) i) }
+{
+    let mut sizes: Vec<u32> = vec![in alloc; 0; division.parts() as usize]?;
+    let mut slots = Vec::new(alloc);
+    for node in 0..nodes {
+        let part = division.part_of(node) as usize;
+        slots.push(sizes[part])?;
+        sizes[part] += 1;
+    }
+    Ok(slots)
+}
+
+impl Layout {
+    /// The layout of a scenario's nodes by a division.
+    ///
+    /// # Errors
+    ///
+    /// `BadDivision`, if the division has another number of nodes than the scenario; `Memory`.
+    pub fn new(alloc: Global, scenario: &Scenario, division: &Division) -> Result<Layout, RunError>
+        ensures layout { IfOk result (IsLayout scenario.now) }
+        ensures division { IfOk result (λ layout. layout.division ≡ division.now) }
+        ensures bad { result ≡ Err RunError.BadDivision → length division.now.of_node ≢ node_count scenario.now }
+        ensures only { IfErr result (λ e. (e ≡ RunError.Memory) ⊎ (e ≡ RunError.BadDivision)) }
+    {
+        scenario.recall_range();
+        division.recall_division();
+        if division.nodes() != scenario.nodes() as usize {
+            return Err(RunError::BadDivision);
+        }
+        let slots = count_slots(alloc, division, scenario.nodes())?;
+        Ok(Layout {
+            division: division.try_clone()?,
+            slots,
+        })
+    }
 }

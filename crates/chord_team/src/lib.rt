@@ -1,35 +1,41 @@
-//! What a team of standing workers stands on: parts that own their states and pending events, how they
-//! are sent to their workers and come back, how what they made for each other is handed over, and how
-//! their texts are written in the order of the keys. No run goes by it yet.
+//! The team: workers that stand for the whole run, each with parts of its own.
 #![tactic(auto)]
 
+mod audits;
 mod course;
+mod finish;
 mod layout;
 mod link;
 mod named;
 mod order;
 mod output;
 mod part;
+mod run;
+mod start;
 mod team;
 mod waiting;
+mod window_end;
 mod window_run;
+mod worker;
 
-// Public for the run by a team that is to come, and because contracts name them.
+pub use run::{MOST_WORKERS, run_team};
+// Contracts name these.
 #[doc(hidden)]
 pub use course::Course;
+// `run_team` runs a scenario by it. It is public so that a test can have all workers woken.
+#[doc(hidden)]
+pub use course::Hands;
 #[doc(hidden)]
 pub use layout::Layout;
-#[doc(hidden)]
-pub use link::{Desk, Link, next_item};
 #[doc(hidden)]
 pub use named::Named;
 #[doc(hidden)]
 pub use order::{Order, Reply};
 #[doc(hidden)]
-pub use output::{Mark, Output, write_outputs};
+pub use output::{Mark, Output};
 #[doc(hidden)]
 pub use part::{Finished, OwnedPart, Parcel};
 #[doc(hidden)]
-pub use team::Team;
+pub use run::run_team_by;
 #[doc(hidden)]
-pub use window_run::{gravest_fault, receive, send_others};
+pub use team::Team;

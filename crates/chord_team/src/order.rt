@@ -6,6 +6,7 @@ use crate::layout::Layout;
 use crate::named::Named;
 use crate::part::{Finished, Parcel};
 use chord_scenario::Scenario;
+use std::alloc::Global;
 use std::marker::{Model, PhantomData};
 
 /// A part that is to run a window of the named run.
@@ -64,6 +65,17 @@ impl<J: Named> Order<J> {
     {
         Order {
             parcel,
+            of: PhantomData,
+        }
+    }
+
+    /// Runs it.
+    pub fn run(self, alloc: Global, scenario: &Scenario, layout: &Layout) -> Reply<J>
+        requires { J.run ≡ Some (scenario.now, layout.now) }
+    {
+        let Order { parcel, of: _ } = self;
+        Reply {
+            left: parcel.run(alloc, scenario, layout),
             of: PhantomData,
         }
     }

@@ -1,9 +1,25 @@
-//! A part of the nodes, and what goes to a window and comes back.
+//! A part of the nodes, and its run in a window.
+ghost use Rattle.std.specs.Prelude.{◌≡◌, ◌↔◌, ◌++◌, ◌≤◌, ◌<◌, [], None, length, IfOk, IfErr, OnOk};
+ghost use Rattle.std.specs.List.{All, Contains};
+ghost use Rattle.chord_event.specs.declared.body.Body.{Body as ABody};
+ghost use Rattle.chord_event.specs.declared.event.Event.{Event as AnEvent};
+ghost use Rattle.chord_event.specs.KeyOrder.{InKeyOrder};
+ghost use Rattle.chord_model.specs.Windows.{part_of};
+ghost use Rattle.chord_queue.specs.EventKey.{event_key};
+ghost use Rattle.chord_team.specs.Orders.{HasRun, IsFault, IsFinished, IsOrder};
+ghost use Rattle.chord_team.specs.Running.{AreApart, HasHandled, HasSent, HasTakenIn, IsReady, is_due};
+ghost use Rattle.chord_team.specs.Owned.{all_of};
+
+use crate::layout::Layout;
 use crate::output::Output;
-use chord_event::{Event, RunError};
+use chord_event::{Event, Memory, RunError};
 use chord_node::NodeState;
+use chord_ops::{Effect, act};
 use chord_queue::Pending;
+use chord_scenario::Scenario;
 use chord_trace::Tally;
+use chord_window::sooner;
+use std::alloc::Global;
 
 /// A part of the nodes, which has their states and their pending events for the whole run.
 #[derive(Drop)]
@@ -37,4 +53,167 @@ pub struct Finished {
     /// The time of the first event of all that it has or has made.
     pub next: Option<u64>,
     pub fault: Option<RunError>,
+}
+
+/// Moves the events of a list among the pending ones.
+fn take_list(pending: &mut Pending, list: &mut Vec<Event>) -> Result<(), Memory>
+    requires { AreApart (pending.old ++ list.old.items) }
+    ensures same { OnOk result ((x : AnEvent ABody) → Contains pending.new x ↔ Contains (pending.old ++ list.old.items) x) }
+    ensures none_left { OnOk result (list.new.items ≡ []) }
+    ensures ordered { InKeyOrder event_key pending.new }
+{
+    while let Some(event) = list.pop() {
+        pending.recall_order();
+        if let Err(_refused) = pending.insert(event) {
+            pending.recall_order();
+            return Err(Memory);
+        }
+    }
+    pending.recall_order();
+    Ok(())
+}
+
+/// Whether the first event, if there is one, is before the horizon.
+fn is_due(first: Option<u64>, horizon: u64) -> bool
+    ensures { result ≡ is_due first horizon }
+{
+    match first {
+        None => false,
+        Some(time) => time < horizon,
+    }
+}
+
+impl OwnedPart {
+    /// Puts what the other parts made among the pending events.
+    fn take_in(&mut self) -> Result<(), Memory>
+        requires { AreApart (self.old.pending ++ all_of self.old.inbox.items) }
+        ensures taken { OnOk result (HasTakenIn self.old self.new) }
+        ensures part { self.new.part ≡ self.old.part }
+    {
+        for from in 0..self.inbox.len() {
+            take_list(&mut self.pending, &mut self.inbox[from])?;
+        }
+        self.pending.recall_order();
+        Ok(())
+    }
+
+    /// Puts the events that it made for its own nodes among the pending ones, and the others into
+    /// the lists of their parts. Returns the least time of the others.
+    fn send(&mut self, layout: &Layout, made: Vec<Event>) -> Result<Option<u64>, Memory>
+        requires apart { AreApart (self.old.pending ++ made.items) }
+        requires parts { All (λ x. part_of layout.now.division x.target < length self.old.outbox.items) made.items }
+        requires nodes { All (λ x. x.target < length layout.now.division.of_node) made.items }
+        ensures sent { IfOk result (λ soonest. HasSent layout.now.division made.items self.old self.new soonest) }
+        ensures part { self.new.part ≡ self.old.part }
+        ensures states { self.new.states ≡ self.old.states }
+        ensures inbox { self.new.inbox ≡ self.old.inbox }
+        ensures tally { self.new.tally ≡ self.old.tally }
+    {
+        self.pending.recall_order();
+        let mut soonest = None;
+        for event in made {
+            let to = layout.division.part_of(event.target);
+            if to == self.part {
+                if let Err(_refused) = self.pending.insert(event) {
+                    return Err(Memory);
+                }
+                self.pending.recall_order();
+            } else {
+                soonest = sooner(soonest, Some(event.key.time));
+                self.outbox[to as usize].push(event)?;
+            }
+        }
+        Ok(soonest)
+    }
+
+    /// Lets the target of an event act on it. Returns the least time of the events that it made for
+    /// other parts.
+    fn handle(
+        &mut self,
+        alloc: Global,
+        scenario: &Scenario,
+        layout: &Layout,
+        event: &Event,
+        output: &mut Output,
+    ) -> Result<Option<u64>, Memory>
+        requires { IsReady scenario.now layout.now self.old event.now }
+        ensures handled { IfOk result (λ soonest. HasHandled scenario.now layout.now event.now self.old self.new output.old output.new soonest) }
+        ensures part { self.new.part ≡ self.old.part }
+    {
+        scenario.recall_range();
+        let slot = layout.slots[event.target as usize] as usize;
+        let Effect { events, block } = act(alloc, scenario, &mut self.states[slot], event)?;
+        let soonest = self.send(layout, events.into_vec())?;
+        output.put(alloc, scenario, &block)?;
+        self.tally.add(&block)?;
+        Ok(soonest)
+    }
+}
+
+impl Parcel {
+    /// Runs the events before the horizon, the least first. Returns how many there were, and the
+    /// time of the first event of all that the part has or has made.
+    fn run_events(
+        &mut self,
+        alloc: Global,
+        scenario: &Scenario,
+        layout: &Layout,
+    ) -> Result<(u64, Option<u64>), RunError>
+        requires { IsOrder scenario.now layout.now self.old }
+        ensures ran { IfOk result (λ ran. HasRun scenario.now layout.now (record { parcel = self.new; events = ran.0; next = ran.1; fault = None })) }
+        ensures failed { IfErr result (IsFault scenario.now) }
+        ensures part { self.new.part.part ≡ self.old.part.part }
+        ensures count { self.new.count ≡ self.old.count }
+        ensures horizon { self.new.horizon ≡ self.old.horizon }
+    {
+        scenario.recall_range();
+        self.part.take_in()?;
+        let room = scenario.max_events() - self.count;
+        let mut soonest = None;
+        let mut events = 0u64;
+        while is_due(self.part.pending.first_time(), self.horizon) {
+            self.part.pending.recall_order();
+            if events >= room {
+                return Err(RunError::TooManyEvents);
+            }
+            let Some(event) = self.part.pending.pop_first() else {
+                return Err(RunError::Memory);
+            };
+            let made = self
+                .part
+                .handle(alloc, scenario, layout, &event, &mut self.output)?;
+            // Dropped by a call, so that the proof has one case and not one for each kind of body.
+            drop(event);
+            soonest = sooner(soonest, made);
+            events += 1;
+        }
+        self.part.pending.recall_order();
+        Ok((events, sooner(soonest, self.part.pending.first_time())))
+    }
+
+    /// Runs the part's window.
+    pub fn run(self, alloc: Global, scenario: &Scenario, layout: &Layout) -> Finished
+        requires { IsOrder scenario.now layout.now self }
+        ensures finished { IsFinished scenario.now layout.now result }
+        ensures part { result.parcel.part.part ≡ self.part.part }
+        ensures count { result.parcel.count ≡ self.count }
+        ensures horizon { result.parcel.horizon ≡ self.horizon }
+    {
+        let mut parcel = self;
+        let ran = parcel.run_events(alloc, scenario, layout);
+        match ran {
+            Ok((events, next)) => Finished {
+                parcel,
+                events,
+                next,
+                fault: None,
+            },
+            Err(error) => Finished {
+                parcel,
+                events: 0,
+                next: None,
+                fault: Some(error),
+            },
+        }
+    }
 }

@@ -1,9 +1,10 @@
-//! How parts are sent to their workers for a window, and what comes back.
+//! The run of one window by the team.
 ghost use Rattle.std.specs.Prelude.{◌≡◌, ◌⊎◌, ◌<◌, ◌≤◌, ℕ, List, Option, None, Some, length, OnOk, IfOk, IfErr, IfSome, Err};
 ghost use Rattle.std.specs.List.{All};
+ghost use Rattle.chord_machine.specs.Run.{HasTooManyEvents};
 ghost use Rattle.chord_output.specs.Faults.{rank_of};
 ghost use Rattle.chord_scenario.specs.declared.scenario.Scenario.{Scenario as AScenario};
-ghost use Rattle.chord_team.specs.Orders.{HaveNoFault, IsFault, IsResultOf};
+ghost use Rattle.chord_team.specs.Orders.{AreResults, HaveNoFault, IsFault, IsResultOf};
 ghost use Rattle.chord_team.specs.Teams.{CanSend};
 
 use crate::course::Course;
@@ -47,10 +48,10 @@ fn send_part<J: Named>(
 }
 
 /// Sends the parts of the other workers to them, and wakes each.
-pub fn send_others<J: Named>(
+fn send_others<J: Named>(
     course: &Course<'_>,
     team: &mut Team,
-    links: &mut Vec<Link<J>>,
+    links: &mut [Link<J>],
 ) -> Result<(), RunError>
     requires named { J.run ≡ Some (course.now.scenario.now, course.now.layout.now) }
     requires can_send { CanSend course.now.scenario.now course.now.layout.now team.old }
@@ -73,7 +74,7 @@ pub fn send_others<J: Named>(
 }
 
 /// Receives what a worker leaves of a part.
-pub fn receive<J: Named, R: Wait>(
+fn receive<J: Named, R: Wait>(
     rt: &R,
     course: &Course<'_>,
     team: &Team,
@@ -103,6 +104,54 @@ pub fn receive<J: Named, R: Wait>(
     }
 }
 
+/// What the window leaves of a part: it is run here if it is here, else its worker runs it.
+fn finish_part<J: Named, R: Wait>(
+    rt: &R,
+    course: &Course<'_>,
+    team: &mut Team,
+    links: &mut [Link<J>],
+    part: u32,
+) -> Result<Finished, RunError>
+    requires named { J.run ≡ Some (course.now.scenario.now, course.now.layout.now) }
+    requires part { part < length team.old.parcels.items }
+    requires can_send { CanSend course.now.scenario.now course.now.layout.now team.old }
+    ensures can_send { CanSend course.now.scenario.now course.now.layout.now team.new }
+    ensures others { team.new ≡ record team.old { parcels = team.new.parcels } }
+    ensures of { IfOk result (IsResultOf course.now.scenario.now course.now.layout.now part team.old.count team.old.window.horizon) }
+    ensures only { IfErr result (λ e. e ≡ RunError.Worker) }
+{
+    if let Some(parcel) = team.take_out(part) {
+        return Ok(parcel.run(course.alloc, course.scenario, course.layout));
+    }
+    let worker = worker_of(part, course.layout.division.parts(), links.len() + 1);
+    if worker == 0 || worker > links.len() {
+        return Err(RunError::Worker);
+    }
+    receive(rt, course, team, &mut links[worker - 1], part)
+}
+
+/// What the window leaves of all parts, in their order.
+fn finish_parts<J: Named, R: Wait>(
+    rt: &R,
+    course: &Course<'_>,
+    team: &mut Team,
+    links: &mut [Link<J>],
+) -> Result<Vec<Finished>, RunError>
+    requires named { J.run ≡ Some (course.now.scenario.now, course.now.layout.now) }
+    requires can_send { CanSend course.now.scenario.now course.now.layout.now team.old }
+    ensures can_send { CanSend course.now.scenario.now course.now.layout.now team.new }
+    ensures others { team.new ≡ record team.old { parcels = team.new.parcels } }
+    ensures results { IfOk result (λ list. AreResults course.now.scenario.now course.now.layout.now team.old.count team.old.window.horizon list.items) }
+    ensures only { IfErr result (λ e. (e ≡ RunError.Worker) ⊎ (e ≡ RunError.Memory)) }
+{
+    let mut results = Vec::new(course.alloc);
+    for part in 0..course.layout.division.parts() {
+        let left = finish_part(rt, course, team, links, part)?;
+        results.push(left)?;
+    }
+    Ok(results)
+}
+
 /// The graver of two faults, of which either may be missing.
 fn graver_of(one: Option<RunError>, other: Option<RunError>) -> Option<RunError>
     ensures none { result ≡ None → (one ≡ None) × (other ≡ None) }
@@ -118,7 +167,7 @@ fn graver_of(one: Option<RunError>, other: Option<RunError>) -> Option<RunError>
 }
 
 /// The gravest fault of the results, if there is one.
-pub fn gravest_fault(results: &[Finished]) -> Option<RunError>
+fn gravest_fault(results: &[Finished]) -> Option<RunError>
     ensures none { result ≡ None → HaveNoFault results.now }
     ensures fault { (sc : AScenario) → All (λ f. IfSome f.fault (IsFault sc)) results.now → IfSome result (IsFault sc) }
     ensures gravest { IfSome result (λ e. All (λ f. IfSome f.fault (λ g. rank_of e ≤ rank_of g)) results.now) }
@@ -128,4 +177,30 @@ pub fn gravest_fault(results: &[Finished]) -> Option<RunError>
         gravest = graver_of(gravest, left.fault);
     }
     gravest
+}
+
+/// Runs the window that is open, by as many workers as there are links and the calling thread: its
+/// parts here, those of the others by them. Returns what is left of all parts, in their order, or
+/// the gravest of their faults.
+pub fn run_window<J: Named, R: Wait>(
+    rt: &R,
+    course: &Course<'_>,
+    team: &mut Team,
+    links: &mut [Link<J>],
+) -> Result<Vec<Finished>, RunError>
+    requires named { J.run ≡ Some (course.now.scenario.now, course.now.layout.now) }
+    requires can_send { CanSend course.now.scenario.now course.now.layout.now team.old }
+    ensures can_send { CanSend course.now.scenario.now course.now.layout.now team.new }
+    ensures others { team.new ≡ record team.old { parcels = team.new.parcels } }
+    ensures results { IfOk result (λ list. AreResults course.now.scenario.now course.now.layout.now team.old.count team.old.window.horizon list.items) }
+    ensures no_fault { IfOk result (λ list. HaveNoFault list.items) }
+    ensures over { result ≡ Err RunError.TooManyEvents → HasTooManyEvents course.now.scenario.now }
+    ensures only { IfErr result (λ e. (e ≡ RunError.Worker) ⊎ (e ≡ RunError.Memory) ⊎ (e ≡ RunError.TooManyEvents)) }
+{
+    send_others(course, team, links)?;
+    let results = finish_parts(rt, course, team, links)?;
+    match gravest_fault(results.as_slice()) {
+        Some(fault) => Err(fault),
+        None => Ok(results),
+    }
 }

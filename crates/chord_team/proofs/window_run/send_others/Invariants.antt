@@ -6,5 +6,5 @@ abbrev pub invariant-loop-part : goal.invariant-loop-part
 invariant-loop-part g l = record {
   can_send : CanSend l.course.scenario.now l.course.layout.now l.team;
   others : l.team ≡ record l.initial.team { parcels = l.team.parcels };
-  links : length l.links.items ≡ length l.initial.links.items;
+  links : length l.links ≡ length l.initial.links;
 }

@@ -1,5 +1,5 @@
 use Rattle.chord_team.specs.Orders.{IsOrder}
-use Rattle.chord_team.proofs.Names.{to_name}
+use Rattle.chord_team.proofs.Results.{to_name}
 use Rattle.chord_team.proofs.window_run.send_part.Goals as goal
 
 pub new-requires : goal.new-requires

@@ -1,0 +1,386 @@
+-- The first pending event of a part, and what is left when its target has acted on it.
+use Rattle.std.proofs.Common.{◌≡◌, ◌≢◌, ◌∙◌, ◌↔◌, ◌⊎◌, ⊎_elim, inl, inr, ℕ, zero, suc, ◌+◌, ◌<◌, ◌≤◌, Bool, true, false, cond, nat_lt, List, [], ◌∷◌, ◌++◌, Option, Some, Vec, length, map, reverse, get_or, set, refl, ap, sym, subst, arith, append-nil, eq-eqb, lt-ltb, length-append, get_or-set_same, get_or-set_other}
+use Rattle.std.proofs.lemmas.Bool.{and_from, and_parts, cases_eq, eqb-true, not-true, not_from_false, ne_eqb}
+use Rattle.std.proofs.lemmas.List.{length-set, map-append}
+use mathlib.Core.List.{reverse-cons}
+use Rattle.std.specs.Global.{Global}
+use Rattle.std.specs.List.{Contains, filter}
+use Rattle.std.specs.Prelude.{◌==◌, ◌&&◌}
+use Rattle.chord_event.specs.declared.block.Block.{Block}
+use Rattle.chord_event.specs.declared.body.Body.{Body}
+use Rattle.chord_event.specs.declared.event.Event.{Event}
+use Rattle.chord_event.specs.Keys.{IsAtMost}
+use Rattle.chord_event.specs.KeyOrder.{InKeyOrder}
+use Rattle.chord_event.proofs.Members.{AllPairs_append, AllPairs_at, AllPairs_rest, contains_append, contains_cons, contains_filter, contains_here, contains_left, contains_right, contains_there, filter_contains}
+use Rattle.chord_machine.specs.Chord.{chord}
+use Rattle.chord_machine.specs.Room.{HasRoom}
+use Rattle.chord_machine.specs.Run.{HasTooManyEvents}
+use Rattle.chord_machine.specs.Sound.{IsStateOf}
+use Rattle.chord_machine.proofs.Room.{room_is_left}
+use Rattle.chord_machine.proofs.WellFormed.{well_formed}
+use Rattle.chord_model.specs.Histories.{IsPossible, all_events, effect_after, least, pending, state}
+use Rattle.chord_model.specs.Laws.{MayOpen}
+use Rattle.chord_model.specs.WellFormed.{IsWellFormed}
+use Rattle.chord_model.specs.Windows.{Division, part_of, put, waiting, IsPartRun, events_run, made_since, pieces_since}
+use Rattle.chord_model.proofs.Commuting.{known_in_range, limit_found}
+use Rattle.chord_model.proofs.Distinct.{fit_event, made_apart, made_fresh, one_event, sound_state, state_here, state_other}
+use Rattle.chord_model.proofs.Least.{least_is}
+use Rattle.chord_model.proofs.Made.{known_from_since}
+use Rattle.chord_model.proofs.Parts.{possible_from_part_run, waiting_parts}
+use Rattle.chord_model.proofs.Pending.{Waits, pending_from, waits_from}
+use Rattle.chord_model.proofs.Rest.{pending_moves}
+use Rattle.chord_model.proofs.Runs.{possible_from_legal}
+use Rattle.chord_model.proofs.Steps.{put_other, put_same}
+use Rattle.chord_node.specs.declared.state.NodeState.{NodeState}
+use Rattle.chord_node.specs.Ring.{initial_state}
+use Rattle.chord_ops.specs.Rules.{block_of, effect}
+use Rattle.chord_ops.specs.Sound.{IsSoundEvent}
+use Rattle.chord_queue.specs.EventKey.{event_key}
+use Rattle.chord_queue.proofs.Inserting.{ordered_apart}
+use Rattle.chord_scenario.specs.declared.scenario.Scenario.{Scenario}
+use Rattle.chord_scenario.specs.Range.{IsInRange}
+use Rattle.chord_scenario.specs.World.{node_count}
+use Rattle.chord_trace.specs.declared.piece.Piece.TheVariants as piece
+use Rattle.chord_trace.specs.Tally.{IsTallyOf}
+use Rattle.chord_window.specs.Delivery.{sooner}
+use Rattle.chord_window.proofs.Ahead.{head_first}
+use Rattle.chord_team.specs.declared.layout.Layout.{Layout}
+use Rattle.chord_team.specs.declared.output.Output.{Output}
+use Rattle.chord_team.specs.declared.part.OwnedPart.{OwnedPart}
+use Rattle.chord_team.specs.Layouts.{IsLayout, slot_of}
+use Rattle.chord_team.specs.Owned.{HasTakenAll, IsOwned, LeastTimeIs, all_of, share_of}
+use Rattle.chord_team.specs.Running.{AreApart, HasHandled, IsReady, is_for_others, sent_to, state_at}
+use Rattle.chord_team.proofs.LeastTimes.{least_of_both}
+use Rattle.chord_team.proofs.PartLists.{apart_filter, first_list, listed_from, listed_in, none_contained}
+
+-- what an event makes at a part that has its target
+abbrev pub made_by : Scenario → Layout → OwnedPart → Event Body → List (Event Body)
+made_by sc l p e = (effect sc (state_at sc l p e.target) e).events
+
+-- a part's events add no more pieces than there are events
+pub share_is_short : (sc : Scenario) (d : Division) (part : ℕ) (h : List (Event Body)) → length (share_of sc d part h) ≤ length h
+share_is_short sc d part [] = omega arith
+share_is_short sc d part (e ∷ h) = go (part_of d e.target == part) (share_is_short sc d part h)
+  where
+    go : (b : Bool) → length (share_of sc d part h) ≤ length h
+        → length (cond b (share_of sc d part h ++ (effect_after (chord sc) h e).piece ∷ []) (share_of sc d part h)) ≤ suc (length h)
+    go true short = omega (arith, length-append (share_of sc d part h) ((effect_after (chord sc) h e).piece ∷ []), short)
+    go false short = omega (arith, short)
+
+goes_away : (d : Division) (part : ℕ) (x : Event Body) → part_of d x.target ≢ part → is_for_others d part x ≡ true
+goes_away d part x ne = not_from_false (part_of d x.target == part) (ne_eqb (part_of d x.target) part ne)
+
+gone_away : (d : Division) (part : ℕ) (x : Event Body) → is_for_others d part x ≡ true → part_of d x.target ≢ part
+gone_away d part x goes at = let f = not-true (part_of d x.target == part) goes in let t = eq-eqb (part_of d x.target) part at in absurd (cc (f, t))
+
+events_run_at : (ran : ℕ → List (Event Body)) (n p : ℕ) → p < n → length (ran p) ≤ events_run ran n
+events_run_at ran zero p l = absurd (omega (arith, l))
+events_run_at ran (suc n) p l = ⊎_elim (λ e. omega (arith, ap (λ z. length (ran z)) e))
+    (λ ne. let differ : p ≢ n = ne in omega (arith, events_run_at ran n p (omega (arith, l, differ)))) (cases_eq p n)
+
+module _ (sc : Scenario) (ranges : IsInRange sc) (l : Layout) (lay : IsLayout sc l) (h : List (Event Body)) (time horizon : ℕ)
+    (o : MayOpen (chord sc) h time horizon) (p : OwnedPart) (ran : List (Event Body)) (runs : IsPartRun (chord sc) l.division h horizon p.part ran)
+    (owned : IsOwned sc l (ran ++ h) p) (none : HasTakenAll p) (ordered : InKeyOrder event_key p.pending) where
+  w : IsWellFormed (chord sc) (IsStateOf sc) (IsSoundEvent sc)
+  w = well_formed sc ranges
+
+  here : IsPossible (chord sc) (ran ++ h)
+  here = possible_from_part_run (chord sc) l.division h horizon (possible_from_legal (chord sc) h o.legal) p.part ran runs
+
+  -- its pending events are those of its nodes
+  pub are_pending : (x : Event Body) → Contains p.pending x ↔ (Contains (pending (chord sc) (ran ++ h)) x × (part_of l.division x.target ≡ p.part))
+  are_pending x = subst (λ es. Contains es x ↔ (Contains (pending (chord sc) (ran ++ h)) x × (part_of l.division x.target ≡ p.part)))
+      (ap (λ es. p.pending ++ es) none ∙ append-nil p.pending) (owned.same x)
+
+  waits_there : (x : Event Body) → Contains p.pending x → Waits (chord sc) (ran ++ h) x
+  waits_there x c = waits_from (chord sc) (ran ++ h) x ((are_pending x).0 c).0
+
+  pub none_is_due : ((x : Event Body) → Contains p.pending x → horizon ≤ x.key.time) → waiting (chord sc) l.division h horizon p.part ran ≡ []
+  none_is_due late = none_contained (waiting (chord sc) l.division h horizon p.part ran) (λ x c.
+      let q = waiting_parts (chord sc) l.division h horizon p.part ran x c in
+      omega (arith, q.2, late x ((are_pending x).1 (pending_from (chord sc) (ran ++ h) x q.0, q.1))))
+
+  module _ (e : Event Body) (rest : List (Event Body)) (is : p.pending ≡ e ∷ rest) (early : e.key.time < horizon) where
+    e_there : Contains p.pending e
+    e_there = subst (λ es. Contains es e) (sym is) (contains_here e rest)
+
+    rest_there : (x : Event Body) → Contains rest x → Contains p.pending x
+    rest_there x c = subst (λ es. Contains es x) (sym is) (contains_there x e rest c)
+
+    pub in_part : part_of l.division e.target ≡ p.part
+    in_part = ((are_pending e).0 e_there).1
+
+    e_waits : Waits (chord sc) (ran ++ h) e
+    e_waits = waits_there e e_there
+
+    e_first : (x : Event Body) → Contains p.pending x → IsAtMost e.key x.key
+    e_first x c = head_first e rest (subst (λ es. InKeyOrder event_key es) is ordered) x (subst (λ es. Contains es x) is c)
+
+    pub is_least : least (waiting (chord sc) l.division h horizon p.part ran) ≡ Some e
+    is_least = least_is (waiting (chord sc) l.division h horizon p.part ran) e
+        (λ x y c k. one_event (chord sc) w (ran ++ h) here x y
+        (waiting_parts (chord sc) l.division h horizon p.part ran x c).0.known (waiting_parts (chord sc) l.division h horizon p.part ran y k).0.known)
+        (record {
+          among = contains_filter (λ (x : Event Body). part_of l.division x.target == p.part && nat_lt x.key.time horizon)
+              (pending (chord sc) (ran ++ h)) e ((are_pending e).0 e_there).0
+              (and_from (part_of l.division e.target == p.part) (nat_lt e.key.time horizon) (eq-eqb (part_of l.division e.target) p.part in_part)
+              (lt-ltb e.key.time horizon early));
+          first = λ x c. let q = waiting_parts (chord sc) l.division h horizon p.part ran x c in
+              e_first x ((are_pending x).1 (pending_from (chord sc) (ran ++ h) x q.0, q.1));
+        })
+
+    pub longer : IsPartRun (chord sc) l.division h horizon p.part (e ∷ ran)
+    longer = (runs, is_least)
+
+    e_fits : IsSoundEvent sc e
+    e_fits = fit_event (chord sc) w (ran ++ h) here e e_waits.known
+
+    pub state_is : state_at sc l p e.target ≡ state (chord sc) (ran ++ h) e.target
+    state_is = owned.states_are e.target (initial_state sc 0) e_fits.target in_part
+
+    made_there : (x : Event Body) → Contains (made_by sc l p e) x → Contains (effect_after (chord sc) (ran ++ h) e).events x
+    made_there x c = subst (λ s. Contains (effect sc s e).events x) state_is c
+
+    made_back : (x : Event Body) → Contains (effect_after (chord sc) (ran ++ h) e).events x → Contains (made_by sc l p e) x
+    made_back x c = subst (λ s. Contains (effect sc s e).events x) (sym state_is) c
+
+    made_is_apart : AreApart (made_by sc l p e)
+    made_is_apart = subst (λ s. AreApart (effect sc s e).events) (sym state_is) (made_apart (chord sc) w (ran ++ h) here e e_waits.known)
+
+    -- no event that was known has the key of one that is made
+    made_is_new : (x y : Event Body) → Contains (all_events (chord sc) (ran ++ h)) x → Contains (made_by sc l p e) y → x.key ≢ y.key
+    made_is_new x y c k s = made_fresh (chord sc) w (ran ++ h) here e e_waits.known y x (made_there y k) c (sym s)
+
+    made_apart_from_rest : AreApart (rest ++ (made_by sc l p e))
+    made_apart_from_rest = AllPairs_append (λ (a b : Event Body). a.key ≢ b.key) rest (made_by sc l p e)
+        (AllPairs_rest (λ (a b : Event Body). a.key ≢ b.key) e rest (subst (λ es. AreApart es) is (ordered_apart p.pending ordered)))
+        made_is_apart (λ x y c k. made_is_new x y (waits_there x (rest_there x c)).known k)
+
+    pub is_ready : length (ran ++ h) ≤ sc.max_events → (mid : OwnedPart) → mid ≡ record p { pending = rest } → IsReady sc l mid e
+    is_ready short mid mid_is = subst (λ z. IsReady sc l z e) (sym mid_is) (record {
+      layout = lay;
+      target = e_fits.target;
+      in_part = in_part;
+      place = owned.places e.target e_fits.target in_part;
+      state_is_sound = subst (λ s. IsStateOf sc e.target s) (sym state_is) (sound_state (chord sc) w (ran ++ h) here e e_waits.known);
+      room = subst HasRoom (sym state_is) (room_is_left sc ranges (ran ++ h) here short e.target e_fits.target);
+      event_is_sound = e_fits;
+      in_time = omega (arith, early, o.in_time);
+      apart = made_apart_from_rest;
+      out_long = owned.out_long;
+      tally_room = omega (arith, owned.tallied.size, share_is_short sc l.division p.part (ran ++ h), short, ranges.numbers.max_events_greatest);
+    })
+
+    pub is_over : sc.max_events ≤ length h + length ran → HasTooManyEvents sc
+    is_over full = limit_found (chord sc) w l.division lay.divides h time horizon o lists each
+        (omega (
+          arith,
+          full,
+          events_run_at lists l.division.parts p.part owned.inside,
+          ap length (put_same (λ q. []) p.part (e ∷ ran) p.part refl),
+        ))
+      where
+        lists : ℕ → List (Event Body)
+        lists = put (λ q. []) p.part (e ∷ ran)
+
+        each : (q : ℕ) → q < l.division.parts → IsPartRun (chord sc) l.division h horizon q (lists q)
+        each q k = ⊎_elim
+            (λ s. subst (λ z. IsPartRun (chord sc) l.division h horizon q z) (sym (put_same (λ q. []) p.part (e ∷ ran) q s))
+            (subst (λ z. IsPartRun (chord sc) l.division h horizon z (e ∷ ran)) (sym s) longer))
+            (λ s. subst (λ z. IsPartRun (chord sc) l.division h horizon q z) (sym (put_other (λ q. []) p.part (e ∷ ran) q s)) tt) (cases_eq q p.part)
+
+    -- what is left when the target has acted
+    module _ (mid new : OwnedPart) (mid_is : mid ≡ record p { pending = rest }) (before after : Output) (away : Option ℕ)
+        (same_part : new.part ≡ p.part) (handled : HasHandled sc l e mid new before after away) where
+      pub did : HasHandled sc l e (record p { pending = rest }) new before after away
+      did = subst (λ z. HasHandled sc l e z new before after away) mid_is handled
+
+      pub none_came : HasTakenAll new
+      none_came = ap (λ z. all_of z.items) did.same_inbox ∙ none
+
+      only_pending : new.pending ++ all_of new.inbox.items ≡ new.pending
+      only_pending = ap (λ es. new.pending ++ es) none_came ∙ append-nil new.pending
+
+      out_is_long : length new.outbox.items ≡ l.division.parts
+      out_is_long = did.sent.out_long ∙ owned.out_long
+
+      pending_there : (x : Event Body) → Contains new.pending x
+          → Contains (pending (chord sc) (e ∷ (ran ++ h))) x × (part_of l.division x.target ≡ new.part)
+      pending_there x c = ⊎_elim
+          (λ k.
+          let f = (are_pending x).0 (rest_there x k) in (
+            (pending_moves (chord sc) w (ran ++ h) e (here, ((are_pending e).0 e_there).0) x).1 (inl (
+              f.0,
+              λ s.
+                  AllPairs_at (λ (a b : Event Body). a.key ≢ b.key) e rest (subst (λ es. AreApart es) is (ordered_apart p.pending ordered)) x k
+                  (ap (λ (z : Event Body). z.key) (sym s)),
+            )),
+            f.1 ∙ sym same_part,
+          ))
+          (λ k. (
+            (pending_moves (chord sc) w (ran ++ h) e (here, ((are_pending e).0 e_there).0) x).1 (inr (made_there x k.0)),
+            k.1 ∙ sym same_part,
+          ))
+          ((did.sent.kept x).0 c)
+
+      pending_back : (x : Event Body) → Contains (pending (chord sc) (e ∷ (ran ++ h))) x × (part_of l.division x.target ≡ new.part)
+          → Contains new.pending x
+      pending_back x c = (did.sent.kept x).1 (⊎_elim
+          (λ k. inl (⊎_elim (λ s. absurd (k.1 (sym s))) (λ m. m)
+          (contains_cons x e rest (subst (λ es. Contains es x) is ((are_pending x).1 (k.0, c.1 ∙ same_part))))))
+          (λ k. inr (made_back x k, c.1 ∙ same_part))
+          ((pending_moves (chord sc) w (ran ++ h) e (here, ((are_pending e).0 e_there).0) x).0 c.0))
+
+      state_after : (i : ℕ) (s : NodeState) → i < node_count sc → part_of l.division i ≡ new.part
+          → get_or new.states.items (slot_of l i) s ≡ state (chord sc) (e ∷ (ran ++ h)) i
+      state_after i s k part = ap (λ states. get_or states (slot_of l i) s) did.states_are ∙ ⊎_elim same other (cases_eq e.target i)
+        where
+          same : e.target ≡ i → get_or (set p.states.items (slot_of l e.target) (effect sc (state_at sc l p e.target) e).state) (slot_of l i) s
+              ≡ state (chord sc) (e ∷ (ran ++ h)) i
+          same t = ap (λ j. get_or (set p.states.items (slot_of l e.target) (effect sc (state_at sc l p e.target) e).state) (slot_of l j) s) (sym t)
+              ∙ get_or-set_same p.states.items (slot_of l e.target) (effect sc (state_at sc l p e.target) e).state s
+              (owned.places e.target e_fits.target in_part)
+              ∙ ap (λ z. (effect sc z e).state) state_is ∙ sym (state_here (chord sc) e (ran ++ h) e.target refl)
+              ∙ ap (λ j. state (chord sc) (e ∷ (ran ++ h)) j) t
+
+          other : (e.target ≡ i → ⊥) → get_or (set p.states.items (slot_of l e.target) (effect sc (state_at sc l p e.target) e).state) (slot_of l i) s
+              ≡ state (chord sc) (e ∷ (ran ++ h)) i
+          other ne = get_or-set_other p.states.items (slot_of l e.target) (slot_of l i) (effect sc (state_at sc l p e.target) e).state s
+              (λ t. ne (sym (lay.apart i e.target k e_fits.target (part ∙ same_part ∙ sym in_part) t)))
+              ∙ owned.states_are i s k (part ∙ same_part) ∙ sym (state_other (chord sc) e (ran ++ h) i ne)
+
+      share_is : share_of sc l.division new.part (e ∷ (ran ++ h))
+          ≡ share_of sc l.division p.part (ran ++ h) ++ piece.OfEvent (block_of sc (state_at sc l p e.target) e) ∷ []
+      share_is = ap (λ q. share_of sc l.division q (e ∷ (ran ++ h))) same_part
+          ∙ ap (λ b. cond b (share_of sc l.division p.part (ran ++ h) ++ (effect_after (chord sc) (ran ++ h) e).piece ∷ [])
+          (share_of sc l.division p.part (ran ++ h))) (eq-eqb (part_of l.division e.target) p.part in_part)
+          ∙ ap (λ z. share_of sc l.division p.part (ran ++ h) ++ piece.OfEvent (block_of sc z e) ∷ []) (sym state_is)
+
+      pub still_owned : IsOwned sc l (e ∷ (ran ++ h)) new
+      still_owned = record {
+        inside = omega (arith, same_part, owned.inside);
+        places = λ i k part. omega (
+          arith,
+          owned.places i k (part ∙ same_part),
+          ap length did.states_are,
+          length-set p.states.items (slot_of l e.target) (effect sc (state_at sc l p e.target) e).state,
+        );
+        states_are = state_after;
+        same = λ x. (
+          λ c. pending_there x (subst (λ es. Contains es x) only_pending c),
+          λ c. subst (λ es. Contains es x) (sym only_pending) (pending_back x c),
+        );
+        apart = subst (λ es. AreApart es) (sym only_pending) (ordered_apart new.pending did.sent.ordered);
+        in_long = ap (λ z. length z.items) did.same_inbox ∙ owned.in_long;
+        out_long = out_is_long;
+        tallied = subst (λ z. IsTallyOf sc.profile z new.tally) (sym share_is)
+            (did.tallied sc.profile (share_of sc l.division p.part (ran ++ h)) owned.tallied);
+      }
+
+      mail_is : (q : ℕ) (v : Vec (Event Body) Global) → q < l.division.parts
+          → (get_or new.outbox.items q v).items ≡ (get_or p.outbox.items q v).items
+          ++ sent_to l.division p.part q (made_by sc l p e)
+      mail_is q v k = did.sent.sent q v (omega (arith, k, owned.out_long))
+
+      made_is_known : (x : Event Body) → Contains (made_by sc l p e) x → part_of l.division x.target < l.division.parts
+      made_is_known x c = known_in_range (chord sc) w l.division lay.divides (e ∷ (ran ++ h)) (here, ((are_pending e).0 e_there).0) x
+          (contains_left (effect_after (chord sc) (ran ++ h) e).events (all_events (chord sc) (ran ++ h)) x (made_there x c))
+
+      pub still_sent : ((q : ℕ) (v : Vec (Event Body) Global) (x : Event Body) → q < l.division.parts → Contains (get_or p.outbox.items q v).items x
+          ↔ (Contains (made_since (chord sc) h ran) x × (part_of l.division x.target ≡ q) × (q ≢ p.part)))
+          → (q : ℕ) (v : Vec (Event Body) Global) (x : Event Body) → q < l.division.parts → Contains (get_or new.outbox.items q v).items x
+          ↔ (Contains (made_since (chord sc) h (e ∷ ran)) x × (part_of l.division x.target ≡ q) × (q ≢ new.part))
+      still_sent sent q v x k = (there, back)
+        where
+          there : Contains (get_or new.outbox.items q v).items x
+              → Contains (made_since (chord sc) h (e ∷ ran)) x × (part_of l.division x.target ≡ q) × (q ≢ new.part)
+          there c = ⊎_elim
+              (λ m.
+              let f = (sent q v x k).0 m in
+              (contains_right (effect_after (chord sc) (ran ++ h) e).events (made_since (chord sc) h ran) x f.0, f.1, λ s. f.2 (s ∙ same_part)))
+              (λ m.
+              let f = filter_contains (λ x. part_of l.division x.target == q && is_for_others l.division p.part x)
+              (made_by sc l p e) x m in
+              let b = and_parts (part_of l.division x.target == q) (is_for_others l.division p.part x) f.1 in
+              let at : part_of l.division x.target ≡ q = eqb-true (part_of l.division x.target) q b.0 in (
+                contains_left (effect_after (chord sc) (ran ++ h) e).events (made_since (chord sc) h ran) x (made_there x f.0),
+                at,
+                λ s. gone_away l.division p.part x b.1 (at ∙ s ∙ same_part),
+              ))
+              (contains_append (get_or p.outbox.items q v).items (sent_to l.division p.part q (made_by sc l p e)) x
+              (subst (λ es. Contains es x) (mail_is q v k) c))
+
+          back : Contains (made_since (chord sc) h (e ∷ ran)) x × (part_of l.division x.target ≡ q) × (q ≢ new.part)
+              → Contains (get_or new.outbox.items q v).items x
+          back c = subst (λ es. Contains es x) (sym (mail_is q v k)) (⊎_elim
+              (λ m. contains_right (get_or p.outbox.items q v).items (sent_to l.division p.part q (made_by sc l p e)) x
+              (contains_filter (λ x. part_of l.division x.target == q && is_for_others l.division p.part x)
+              (made_by sc l p e) x (made_back x m)
+              (and_from (part_of l.division x.target == q) (is_for_others l.division p.part x) (eq-eqb (part_of l.division x.target) q c.1)
+              (goes_away l.division p.part x (λ s. c.2 (sym c.1 ∙ s ∙ sym same_part))))))
+              (λ m. contains_left (get_or p.outbox.items q v).items (sent_to l.division p.part q (made_by sc l p e)) x
+              ((sent q v x k).1 (m, c.1, λ s. c.2 (s ∙ sym same_part))))
+              (contains_append (effect_after (chord sc) (ran ++ h) e).events (made_since (chord sc) h ran) x c.0))
+
+      pub still_sent_apart : ((q : ℕ) (v : Vec (Event Body) Global) (x : Event Body) → q < l.division.parts → Contains (get_or p.outbox.items q v).items x
+          ↔ (Contains (made_since (chord sc) h ran) x × (part_of l.division x.target ≡ q) × (q ≢ p.part)))
+          → ((q : ℕ) (v : Vec (Event Body) Global) → q < l.division.parts → AreApart (get_or p.outbox.items q v).items)
+          → (q : ℕ) (v : Vec (Event Body) Global) → q < l.division.parts → AreApart (get_or new.outbox.items q v).items
+      still_sent_apart sent apart q v k = subst (λ es. AreApart es) (sym (mail_is q v k))
+          (AllPairs_append (λ (a b : Event Body). a.key ≢ b.key) (get_or p.outbox.items q v).items
+          (sent_to l.division p.part q (made_by sc l p e)) (apart q v k)
+          (apart_filter (λ x. part_of l.division x.target == q && is_for_others l.division p.part x)
+          (made_by sc l p e) made_is_apart)
+          (λ x y c m. made_is_new x y (known_from_since (chord sc) h ran x ((sent q v x k).0 c).0)
+          (filter_contains (λ x. part_of l.division x.target == q && is_for_others l.division p.part x)
+          (made_by sc l p e) y m).0))
+
+      pub still_soonest : (soonest : Option ℕ) → LeastTimeIs (all_of p.outbox.items) soonest → LeastTimeIs (all_of new.outbox.items) (sooner soonest away)
+      still_soonest soonest is_soonest = least_of_both (all_of p.outbox.items)
+          (filter (is_for_others l.division p.part) (made_by sc l p e)) (all_of new.outbox.items) soonest away
+          is_soonest did.sent.soonest_is (λ x. (there x, back x))
+        where
+          there : (x : Event Body) → Contains (all_of new.outbox.items) x → Contains (all_of p.outbox.items) x
+              ⊎ Contains (filter (is_for_others l.division p.part) (made_by sc l p e)) x
+          there x c =
+              let r = listed_from new.outbox.items x c in
+              let k : r.place < l.division.parts = omega (arith, r.inside, out_is_long) in
+              ⊎_elim (λ m. inl (listed_in p.outbox.items r.place r.list x (omega (arith, k, owned.out_long)) m))
+              (λ m.
+              let f = filter_contains (λ x. part_of l.division x.target == r.place && is_for_others l.division p.part x)
+              (made_by sc l p e) x m in
+              inr (contains_filter (is_for_others l.division p.part) (made_by sc l p e) x f.0
+              (and_parts (part_of l.division x.target == r.place) (is_for_others l.division p.part x) f.1).1))
+              (contains_append (get_or p.outbox.items r.place r.list).items
+              (sent_to l.division p.part r.place (made_by sc l p e)) x
+              (subst (λ es. Contains es x) (ap (λ (z : Vec (Event Body) Global). z.items) (sym (r.at r.list)) ∙ mail_is r.place r.list k) r.among))
+
+          back : (x : Event Body) → Contains (all_of p.outbox.items) x
+              ⊎ Contains (filter (is_for_others l.division p.part) (made_by sc l p e)) x
+              → Contains (all_of new.outbox.items) x
+          back x (inl c) =
+              let r = listed_from p.outbox.items x c in
+              let k : r.place < l.division.parts = omega (arith, r.inside, owned.out_long) in
+              listed_in new.outbox.items r.place r.list x (omega (arith, k, out_is_long)) (subst (λ es. Contains es x) (sym (mail_is r.place r.list k))
+              (contains_left (get_or p.outbox.items r.place r.list).items
+              (sent_to l.division p.part r.place (made_by sc l p e)) x
+              (subst (λ (z : Vec (Event Body) Global). Contains z.items x) (sym (r.at r.list)) r.among)))
+          back x (inr c) =
+              let f = filter_contains (is_for_others l.division p.part) (made_by sc l p e) x c in
+              let k : part_of l.division x.target < l.division.parts = made_is_known x f.0 in
+              let v : Vec (Event Body) Global = first_list new.outbox.items (omega (arith, k, out_is_long)) in
+              listed_in new.outbox.items (part_of l.division x.target) v x (omega (arith, k, out_is_long))
+              (subst (λ es. Contains es x) (sym (mail_is (part_of l.division x.target) v k))
+              (contains_right (get_or p.outbox.items (part_of l.division x.target) v).items
+              (sent_to l.division p.part (part_of l.division x.target) (made_by sc l p e)) x
+              (contains_filter (λ y. part_of l.division y.target == part_of l.division x.target && is_for_others l.division p.part y)
+              (made_by sc l p e) x f.0
+              (and_from (part_of l.division x.target == part_of l.division x.target) (is_for_others l.division p.part x)
+              (eq-eqb (part_of l.division x.target) (part_of l.division x.target) refl) f.1))))
+
+      pub still_pieces : (blocks : List Block) → map piece.OfEvent blocks ≡ reverse (map (λ b. b.1) (pieces_since (chord sc) h ran))
+          → map piece.OfEvent (blocks ++ block_of sc (state_at sc l p e.target) e ∷ []) ≡ reverse (map (λ b. b.1) (pieces_since (chord sc) h (e ∷ ran)))
+      still_pieces blocks are = map-append piece.OfEvent blocks (block_of sc (state_at sc l p e.target) e ∷ [])
+          ∙ ap (λ z. z ++ piece.OfEvent (block_of sc (state_at sc l p e.target) e) ∷ []) are
+          ∙ ap (λ s. reverse (map (λ b. b.1) (pieces_since (chord sc) h ran)) ++ piece.OfEvent (block_of sc s e) ∷ []) state_is
+          ∙ sym (reverse-cons (piece.OfEvent (block_of sc (state (chord sc) (ran ++ h) e.target) e)) (map (λ b. b.1) (pieces_since (chord sc) h ran)))

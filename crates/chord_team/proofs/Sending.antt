@@ -1,0 +1,133 @@
+-- The events that a part made are sent, one after another.
+use Rattle.std.proofs.Common.{◌≡◌, ◌≢◌, ◌∙◌, ◌⊎◌, ⊎_elim, inl, inr, ℕ, ◌<◌, Bool, true, false, not, List, [], ◌∷◌, ◌++◌, Option, None, Some, Vec, length, get_or, set, refl, ap, sym, subst, append_assoc, append-nil, eq-eqb, get_or-set_same, get_or-set_other}
+use Rattle.std.proofs.lemmas.Bool.{and_from, cases_eq, ne_eqb, not_from_false}
+use Rattle.std.proofs.lemmas.List.{length-set}
+use Rattle.std.specs.Global.{Global}
+use Rattle.std.specs.List.{All, Contains, filter}
+use Rattle.std.specs.Prelude.{◌==◌, ◌&&◌}
+use Rattle.chord_event.specs.declared.body.Body.{Body}
+use Rattle.chord_event.specs.declared.event.Event.{Event}
+use Rattle.chord_event.specs.KeyOrder.{InKeyOrder, IsNewKey, put_in_order}
+use Rattle.chord_event.proofs.KeyLists.{all_from, in_put, put_in, Contains-from_IsIn, IsIn-from_Contains}
+use Rattle.chord_event.proofs.Members.{All_at, contains_append, contains_cons, contains_here, contains_left, contains_none, contains_right}
+use Rattle.chord_model.specs.Windows.{Division, part_of}
+use Rattle.chord_queue.specs.EventKey.{event_key}
+use Rattle.chord_queue.proofs.Inserting.{apart_across}
+use Rattle.chord_window.specs.Delivery.{sooner}
+use Rattle.chord_window.proofs.Sorting.{apart_end}
+use Rattle.chord_team.specs.declared.part.OwnedPart.{OwnedPart}
+use Rattle.chord_team.specs.Owned.{LeastTimeIs}
+use Rattle.chord_team.specs.Running.{AreApart, HasSent, is_for_others, sent_to}
+use Rattle.chord_team.proofs.LeastTimes.{least_of_more}
+use Rattle.chord_team.proofs.PartLists.{filter_no_more, filter_one_more}
+
+neither_left : (x y : Bool) → x ≡ false → (x && y) ≡ false
+neither_left true y e = absurd cc
+neither_left false y e = refl
+
+neither_right : (x y : Bool) → y ≡ false → (x && y) ≡ false
+neither_right true y e = e
+neither_right false y e = refl
+
+pub sent_none : (d : Division) (p : OwnedPart) → InKeyOrder event_key p.pending → HasSent d [] p p None
+sent_none d p ordered = record {
+  kept = λ x. (λ c. inl c, ⊎_elim (λ c. c) (λ k. absurd (contains_none x k.0)));
+  ordered = ordered;
+  out_long = refl;
+  sent = λ q v l. sym (append-nil (get_or p.outbox.items q v).items);
+  soonest_is = refl;
+}
+
+-- the key of the next event is new to those that are pending
+pub next_is_new : (d : Division) (made sent rest : List (Event Body)) (old now : OwnedPart) (soonest : Option ℕ) (e : Event Body) (next : List (Event Body))
+    → AreApart (old.pending ++ made) → HasSent d sent old now soonest → sent ++ rest ≡ made → rest ≡ e ∷ next → IsNewKey event_key e.key now.pending
+next_is_new d made sent rest old now soonest e next apart s whole is = all_from (λ (y : Event Body). y.key ≢ e.key) now.pending (λ y c. ⊎_elim
+    (λ k. apart_across old.pending (sent ++ e ∷ next) all y e k (contains_right sent (e ∷ next) e (contains_here e next)))
+    (λ k. apart_across sent (e ∷ next) (apart_end old.pending (sent ++ e ∷ next) all) y e k.0 (contains_here e next))
+    ((s.kept y).0 (Contains-from_IsIn now.pending y c)))
+  where
+    all : AreApart (old.pending ++ (sent ++ e ∷ next))
+    all = subst (λ es. AreApart (old.pending ++ es)) (sym whole ∙ ap (λ es. sent ++ es) is) apart
+
+-- its part is one of these
+pub next_is_inside : (d : Division) (parts : ℕ) (made sent rest : List (Event Body)) (e : Event Body) (next : List (Event Body))
+    → All (λ (x : Event Body). part_of d x.target < parts) made → sent ++ rest ≡ made → rest ≡ e ∷ next → part_of d e.target < parts
+next_is_inside d parts made sent rest e next inside whole is = All_at (λ (x : Event Body). part_of d x.target < parts) made e inside
+    (subst (λ es. Contains es e) whole (contains_right sent rest e (subst (λ es. Contains es e) (sym is) (contains_here e next))))
+
+module _ (d : Division) (sent : List (Event Body)) (old now : OwnedPart) (soonest : Option ℕ) (s : HasSent d sent old now soonest) (e : Event Body) where
+  pushed : (x : Event Body) → Contains (sent ++ e ∷ []) x → Contains sent x ⊎ (e ≡ x)
+  pushed x c = ⊎_elim (λ k. inl k) (λ k. ⊎_elim (λ t. inr t) (λ r. absurd (contains_none x r)) (contains_cons x e [] k)) (contains_append sent (e ∷ []) x c)
+
+  -- the event is for the part itself
+  module _ (own : part_of d e.target ≡ old.part) where
+    own_stays : is_for_others d old.part e ≡ false
+    own_stays = ap not (eq-eqb (part_of d e.target) old.part own)
+
+    pub sent_here : (new : OwnedPart) → new ≡ record now { pending = put_in_order event_key e now.pending } → InKeyOrder event_key new.pending
+        → HasSent d (sent ++ e ∷ []) old new soonest
+    sent_here new is ordered = record {
+      kept = λ x. (there x, back x);
+      ordered = ordered;
+      out_long = ap (λ (p : OwnedPart). length p.outbox.items) is ∙ s.out_long;
+      sent = λ q v l. ap (λ (p : OwnedPart). (get_or p.outbox.items q v).items) is ∙ s.sent q v l
+          ∙ ap (λ es. (get_or old.outbox.items q v).items ++ es) (sym (filter_no_more (λ x. part_of d x.target == q && is_for_others d old.part x) sent e
+          (neither_right (part_of d e.target == q) (is_for_others d old.part e) own_stays)));
+      soonest_is = subst (λ es. LeastTimeIs es soonest) (sym (filter_no_more (is_for_others d old.part) sent e own_stays)) s.soonest_is;
+    }
+      where
+        there : (x : Event Body) → Contains new.pending x → Contains old.pending x ⊎ (Contains (sent ++ e ∷ []) x × (part_of d x.target ≡ old.part))
+        there x c = ⊎_elim
+            (λ (t : x ≡ e). inr (
+              subst (λ z. Contains (sent ++ e ∷ []) z) (sym t) (contains_right sent (e ∷ []) e (contains_here e [])),
+              subst (λ (z : Event Body). part_of d z.target ≡ old.part) (sym t) own,
+            ))
+            (λ k. ⊎_elim (λ m. inl m) (λ m. inr (contains_left sent (e ∷ []) x m.0, m.1)) ((s.kept x).0 (Contains-from_IsIn now.pending x k)))
+            (in_put event_key e now.pending x (IsIn-from_Contains (put_in_order event_key e now.pending) x
+            (subst (λ (p : OwnedPart). Contains p.pending x) is c)))
+
+        back : (x : Event Body) → Contains old.pending x ⊎ (Contains (sent ++ e ∷ []) x × (part_of d x.target ≡ old.part)) → Contains new.pending x
+        back x c = subst (λ (p : OwnedPart). Contains p.pending x) (sym is) (Contains-from_IsIn (put_in_order event_key e now.pending) x
+            (put_in event_key e now.pending x (⊎_elim
+            (λ k. inr (IsIn-from_Contains now.pending x ((s.kept x).1 (inl k))))
+            (λ k. ⊎_elim (λ m. inr (IsIn-from_Contains now.pending x ((s.kept x).1 (inr (m, k.1))))) (λ t. inl (sym t)) (pushed x k.0)) c)))
+
+  -- the event is for another part
+  module _ (other : part_of d e.target ≢ old.part) where
+    other_goes : is_for_others d old.part e ≡ true
+    other_goes = not_from_false (part_of d e.target == old.part) (ne_eqb (part_of d e.target) old.part other)
+
+    pub sent_away : (to : ℕ) (list : Vec (Event Body) Global) (new : OwnedPart) → to ≡ part_of d e.target → to < length now.outbox.items
+        → new ≡ record now { outbox = new.outbox } → new.outbox.items ≡ set now.outbox.items to list
+        → ((v : Vec (Event Body) Global) → list.items ≡ (get_or now.outbox.items to v).items ++ e ∷ [])
+        → HasSent d (sent ++ e ∷ []) old new (sooner soonest (Some e.key.time))
+    sent_away to list new to_is inside is put list_is = record {
+      kept = λ x. (
+        λ c. ⊎_elim (λ k. inl k) (λ k. inr (contains_left sent (e ∷ []) x k.0, k.1))
+            ((s.kept x).0 (subst (λ (p : OwnedPart). Contains p.pending x) is c)),
+        λ c. subst (λ (p : OwnedPart). Contains p.pending x) (sym is) ((s.kept x).1 (⊎_elim (λ k. inl k)
+            (λ k. ⊎_elim (λ m. inr (m, k.1))
+            (λ t. absurd (other (ap (λ (z : Event Body). part_of d z.target) t ∙ k.1))) (pushed x k.0)) c)),
+      );
+      ordered = subst (λ (p : OwnedPart). InKeyOrder event_key p.pending) (sym is) s.ordered;
+      out_long = ap length put ∙ length-set now.outbox.items to list ∙ s.out_long;
+      sent = λ q v l. ap (λ lists. (get_or lists q v).items) put ∙ ⊎_elim (here q v l) (elsewhere q v l) (cases_eq q to);
+      soonest_is = subst (λ es. LeastTimeIs es (sooner soonest (Some e.key.time))) (sym (filter_one_more (is_for_others d old.part) sent e other_goes))
+          (least_of_more (filter (is_for_others d old.part) sent) e soonest s.soonest_is);
+    }
+      where
+        here : (q : ℕ) (v : Vec (Event Body) Global) → q < length old.outbox.items → q ≡ to
+            → (get_or (set now.outbox.items to list) q v).items ≡ (get_or old.outbox.items q v).items ++ sent_to d old.part q (sent ++ e ∷ [])
+        here q v l t = ap (λ i. (get_or (set now.outbox.items to list) i v).items) t
+            ∙ ap (λ (z : Vec (Event Body) Global). z.items) (get_or-set_same now.outbox.items to list v inside)
+            ∙ list_is v ∙ ap (λ i. (get_or now.outbox.items i v).items ++ e ∷ []) (sym t) ∙ ap (λ es. es ++ e ∷ []) (s.sent q v l)
+            ∙ append_assoc (get_or old.outbox.items q v).items (sent_to d old.part q sent) (e ∷ [])
+            ∙ ap (λ es. (get_or old.outbox.items q v).items ++ es) (sym (filter_one_more (λ x. part_of d x.target == q && is_for_others d old.part x) sent e
+            (and_from (part_of d e.target == q) (is_for_others d old.part e) (eq-eqb (part_of d e.target) q (sym (t ∙ to_is))) other_goes)))
+
+        elsewhere : (q : ℕ) (v : Vec (Event Body) Global) → q < length old.outbox.items → q ≢ to
+            → (get_or (set now.outbox.items to list) q v).items ≡ (get_or old.outbox.items q v).items ++ sent_to d old.part q (sent ++ e ∷ [])
+        elsewhere q v l ne = ap (λ (z : Vec (Event Body) Global). z.items) (get_or-set_other now.outbox.items to q list v ne)
+            ∙ s.sent q v l
+            ∙ ap (λ es. (get_or old.outbox.items q v).items ++ es) (sym (filter_no_more (λ x. part_of d x.target == q && is_for_others d old.part x) sent e
+            (neither_left (part_of d e.target == q) (is_for_others d old.part e) (ne_eqb (part_of d e.target) q (λ t. ne (sym (to_is ∙ t)))))))

@@ -1,0 +1,199 @@
+-- What the parts have after a window, once they have their mail.
+use Rattle.std.proofs.Common.{◌≡◌, ◌≢◌, ◌∙◌, ◌⊎◌, ⊎_elim, inl, inr, ℕ, suc, ◌<◌, List, [], ◌∷◌, ◌++◌, Vec, length, get_or, ap, sym, subst, arith}
+use Rattle.std.specs.Global.{Global}
+use Rattle.std.specs.List.{Contains}
+use Rattle.chord_event.specs.declared.body.Body.{Body}
+use Rattle.chord_event.specs.declared.event.Event.{Event}
+use Rattle.chord_event.proofs.Members.{All_at, AllPairs_append, AllPairs_front, AllPairs_none, contains_append, contains_left, contains_none, contains_right}
+use Rattle.chord_machine.specs.Chord.{chord}
+use Rattle.chord_model.specs.Histories.{IsPossible, all_events, effect_after, pending, state}
+use Rattle.chord_model.specs.Laws.{Commutes}
+use Rattle.chord_model.specs.Windows.{part_of, made_since}
+use Rattle.chord_model.proofs.Commuting.{node_in_range}
+use Rattle.chord_model.proofs.Distinct.{meets}
+use Rattle.chord_model.proofs.Made.{known_from_since}
+use Rattle.chord_model.proofs.Pending.{waits_from}
+use Rattle.chord_model.proofs.Runs.{possible_from_legal}
+use Rattle.chord_model.proofs.WindowCourse.{possible_run, since_apart, since_fresh}
+use Rattle.chord_ops.specs.Sound.{IsSoundEvent}
+use Rattle.chord_scenario.specs.declared.scenario.Scenario.{Scenario}
+use Rattle.chord_scenario.specs.Range.{IsInRange}
+use Rattle.chord_scenario.specs.World.{node_count}
+use Rattle.chord_trace.specs.Tally.{IsTallyOf}
+use Rattle.chord_team.specs.declared.layout.Layout.{Layout}
+use Rattle.chord_team.specs.declared.part.Finished.{Finished}
+use Rattle.chord_team.specs.declared.part.OwnedPart.{OwnedPart}
+use Rattle.chord_team.specs.declared.team.Team.{Team}
+use Rattle.chord_team.specs.Orders.{AreResults, HaveNoFault}
+use Rattle.chord_team.specs.Owned.{IsOwned, all_of, share_of}
+use Rattle.chord_team.specs.Running.{AreApart}
+use Rattle.chord_team.specs.Teams.{CanSend}
+use Rattle.chord_team.proofs.PartLists.{listed_at, listed_from, listed_in}
+use Rattle.chord_team.proofs.TeamMail.{first}
+use Rattle.chord_team.proofs.WindowRuns.{IsRunOf, commuted, events_at, may, past, ran, run_at, sealed, w}
+use Rattle.chord_team.proofs.WindowShares.{share_same}
+
+-- no two events have one key, if that is so in each list and for each two lists
+pub apart_in_all : (lists : List (Vec (Event Body) Global))
+    → ((q : ℕ) (v : Vec (Event Body) Global) → q < length lists → AreApart (get_or lists q v).items)
+    → ((q r : ℕ) (v : Vec (Event Body) Global) (x y : Event Body) → q < r → r < length lists → Contains (get_or lists q v).items x
+    → Contains (get_or lists r v).items y → x.key ≢ y.key) → AreApart (all_of lists)
+apart_in_all [] each cross = AllPairs_none (λ (a b : Event Body). a.key ≢ b.key)
+apart_in_all (l ∷ lists) each cross = AllPairs_append (λ (a b : Event Body). a.key ≢ b.key) l.items (all_of lists) (each 0 l (omega arith))
+    (apart_in_all lists (λ q v k. each (suc q) v (omega (arith, k)))
+    (λ q r v x y a b c d. cross (suc q) (suc r) v x y (omega (arith, a)) (omega (arith, b)) c d))
+    (λ x y c d. let k = listed_from lists y d in cross 0 (suc k.place) l x y (omega arith) (omega (arith, k.inside)) c (listed_at lists y k l))
+
+-- an event that is known was made since, or known before
+known_either : (sc : Scenario) (h g : List (Event Body)) (x : Event Body) → Contains (all_events (chord sc) (g ++ h)) x
+    → Contains (made_since (chord sc) h g) x ⊎ Contains (all_events (chord sc) h) x
+known_either sc h [] x c = inr c
+known_either sc h (e ∷ g) x c = ⊎_elim
+    (λ k. inl (contains_left (effect_after (chord sc) (g ++ h) e).events (made_since (chord sc) h g) x k))
+    (λ k. ⊎_elim (λ m. inl (contains_right (effect_after (chord sc) (g ++ h) e).events (made_since (chord sc) h g) x m)) (λ b. inr b) (known_either sc h g x k))
+    (contains_append (effect_after (chord sc) (g ++ h) e).events (all_events (chord sc) (g ++ h)) x c)
+
+module _ (sc : Scenario) (ranges : IsInRange sc) (l : Layout) (t : Team) (can : CanSend sc l t) (fs : List Finished)
+    (results : AreResults sc l t.count t.window.horizon fs) (none : HaveNoFault fs) where
+  abbrev pub lists : ℕ → List (Event Body)
+  lists q = ran sc ranges l t can fs results none q
+
+  abbrev before : List (Event Body)
+  before = past sc ranges l t can fs results none
+
+  abbrev pub course : Commutes (chord sc) l.division before t.window.horizon lists
+  course = commuted sc ranges l t can fs results none
+
+  -- the history after the window
+  abbrev pub after_window : List (Event Body)
+  after_window = course.taken ++ before
+
+  abbrev pub result_of : (q : ℕ) (f : Finished) → q < l.division.parts → IsRunOf sc l t.count t.window.horizon q (events_at fs q) (get_or fs q f)
+  result_of q f lt = run_at sc ranges l t can fs results none q f lt
+
+  possible : (q : ℕ) → q < l.division.parts → IsPossible (chord sc) (lists q ++ before)
+  possible q lt = possible_run (chord sc) (w sc ranges l t can fs results none) l.division can.layout.divides t.count t.window.time t.window.horizon
+      (may sc ranges l t can fs results none) q (lists q) (sealed sc ranges l t can fs results none q lt).runs
+
+  known_target : (q : ℕ) → q < l.division.parts → (x : Event Body) → Contains (all_events (chord sc) (lists q ++ before)) x → x.target < node_count sc
+  known_target q lt x c =
+      (All_at (IsSoundEvent sc) (all_events (chord sc) (lists q ++ before)) x
+      (meets (chord sc) (w sc ranges l t can fs results none) (lists q ++ before) (possible q lt)).fit c).target
+
+  waiting_target : (q : ℕ) → q < l.division.parts → (x : Event Body) → Contains (pending (chord sc) (lists q ++ before)) x → x.target < node_count sc
+  waiting_target q lt x c = known_target q lt x (waits_from (chord sc) (lists q ++ before) x c).known
+
+  made_target : (q : ℕ) → q < l.division.parts → (x : Event Body) → Contains (made_since (chord sc) before (lists q)) x → x.target < node_count sc
+  made_target q lt x c = known_target q lt x (known_from_since (chord sc) before (lists q) x c)
+
+  -- what waits at a part after its run is pending
+  pub waits_here : (q : ℕ) → q < l.division.parts → (x : Event Body) → Contains (pending (chord sc) (lists q ++ before)) x
+      → part_of l.division x.target ≡ q → Contains (pending (chord sc) after_window) x
+  waits_here q lt x c is = (course.waits x (waiting_target q lt x c)).1
+      (inl (subst (λ p. Contains (pending (chord sc) (lists p ++ before)) x) (sym is) c))
+
+  -- and what another part made for it
+  pub made_there : (q p : ℕ) → q < l.division.parts → (x : Event Body) → Contains (made_since (chord sc) before (lists q)) x
+      → part_of l.division x.target ≡ p → p ≢ q → Contains (pending (chord sc) after_window) x
+  made_there q p lt x c is ne = (course.waits x (made_target q lt x c)).1 (inr (q, lt, (λ e. ne (sym is ∙ sym e)), c))
+
+  -- and nothing else
+  pub where_pending : (x : Event Body) → x.target < node_count sc → Contains (pending (chord sc) after_window) x
+      → Contains (pending (chord sc) (lists (part_of l.division x.target) ++ before)) x
+      ⊎ ((q : ℕ) × (q < l.division.parts) × (q ≢ part_of l.division x.target) × Contains (made_since (chord sc) before (lists q)) x)
+  where_pending x lt c = (course.waits x lt).0 c
+
+  fresh : (p q : ℕ) → p < l.division.parts → q < l.division.parts → p ≢ q → (x y : Event Body) → Contains (all_events (chord sc) (lists p ++ before)) x
+      → Contains (made_since (chord sc) before (lists q)) y → x.key ≢ y.key
+  fresh p q a b ne x y c k e = ⊎_elim
+      (λ m. since_apart (chord sc) (w sc ranges l t can fs results none) l.division can.layout.divides t.count t.window.time t.window.horizon
+      (may sc ranges l t can fs results none) p q (lists p) (lists q) (sealed sc ranges l t can fs results none p a).runs
+      (sealed sc ranges l t can fs results none q b).runs ne x y m k e)
+      (λ o. since_fresh (chord sc) (w sc ranges l t can fs results none) l.division can.layout.divides t.count t.window.time t.window.horizon
+      (may sc ranges l t can fs results none) (lists q) (possible q b) x y o k e)
+      (known_either sc before (lists p) x c)
+
+  pub pending_target : (x : Event Body) → Contains (pending (chord sc) after_window) x → x.target < node_count sc
+  pending_target x c = (All_at (IsSoundEvent sc) (all_events (chord sc) after_window) x
+      (meets (chord sc) (w sc ranges l t can fs results none) after_window (possible_from_legal (chord sc) after_window course.legal)).fit
+      (waits_from (chord sc) after_window x c).known).target
+
+  pub pending_part : (x : Event Body) → Contains (pending (chord sc) after_window) x → part_of l.division x.target < l.division.parts
+  pending_part x c = node_in_range (chord sc) (w sc ranges l t can fs results none) l.division can.layout.divides x.target (pending_target x c)
+
+  -- a part with its mail
+  module _ (p : ℕ) (inside : p < l.division.parts) (f : Finished) (inbox outbox : Vec (Vec (Event Body) Global) Global)
+      (in_long : length inbox.items ≡ l.division.parts) (out_long : length outbox.items ≡ l.division.parts)
+      (received : (q : ℕ) (v : Vec (Event Body) Global) → q < l.division.parts
+      → (get_or inbox.items q v).items ≡ (get_or (get_or fs q f).parcel.part.outbox.items p v).items) where
+    abbrev part : OwnedPart
+    part = (get_or fs p f).parcel.part
+
+    abbrev run : IsRunOf sc l t.count t.window.horizon p (events_at fs p) (get_or fs p f)
+    run = result_of p f inside
+
+    any : Vec (Event Body) Global
+    any = first inbox.items (omega (arith, in_long, inside))
+
+    -- an event of a list that has come
+    has_come : (q : ℕ) (v : Vec (Event Body) Global) → q < l.division.parts → (x : Event Body) → Contains (get_or inbox.items q v).items x
+        → Contains (made_since (chord sc) before (lists q)) x × (part_of l.division x.target ≡ p) × (p ≢ q)
+    has_come q v lt x c = ((result_of q f lt).sent p v x inside).0 (subst (λ es. Contains es x) (received q v lt) c)
+
+    there : (x : Event Body) → Contains (part.pending ++ all_of inbox.items) x
+        → Contains (pending (chord sc) after_window) x × (part_of l.division x.target ≡ part.part)
+    there x c = ⊎_elim
+        (λ k.
+        let f = (run.owned.same x).0 (contains_left part.pending (all_of part.inbox.items) x k) in
+        (waits_here p inside x f.0 (f.1 ∙ run.part_is), f.1))
+        (λ k.
+        let at = listed_from inbox.items x k in
+        let lt : at.place < l.division.parts = omega (arith, at.inside, in_long) in
+        let f = has_come at.place any lt x (listed_at inbox.items x at any) in
+        (made_there at.place p lt x f.0 f.1 f.2, f.1 ∙ sym run.part_is))
+        (contains_append part.pending (all_of inbox.items) x c)
+
+    back : (x : Event Body) → x.target < node_count sc → Contains (pending (chord sc) after_window) x → part_of l.division x.target ≡ part.part
+        → Contains (part.pending ++ all_of inbox.items) x
+    back x lt c is =
+        let here : part_of l.division x.target ≡ p = is ∙ run.part_is in
+        ⊎_elim
+        (λ k. ⊎_elim
+        (λ m. contains_left part.pending (all_of inbox.items) x m)
+        (λ m. absurd (contains_none x (subst (λ es. Contains es x) run.taken_in m)))
+        (contains_append part.pending (all_of part.inbox.items) x
+        ((run.owned.same x).1 (subst (λ q. Contains (pending (chord sc) (lists q ++ before)) x) here k, is))))
+        (λ k. contains_right part.pending (all_of inbox.items) x (listed_in inbox.items k.0 any x (omega (arith, k.1, in_long))
+        (subst (λ es. Contains es x) (sym (received k.0 any k.1)) (((result_of k.0 f k.1).sent p any x inside).1 (k.3, here, (λ e. k.2 (sym e ∙ sym here)))))))
+        (where_pending x lt c)
+
+    apart : AreApart (part.pending ++ all_of inbox.items)
+    apart = AllPairs_append (λ (a b : Event Body). a.key ≢ b.key) part.pending (all_of inbox.items)
+        (AllPairs_front (λ (a b : Event Body). a.key ≢ b.key) part.pending (all_of part.inbox.items) run.owned.apart)
+        (apart_in_all inbox.items
+        (λ q v lt. let k : q < l.division.parts = omega (arith, lt, in_long) in subst AreApart (sym (received q v k)) ((result_of q f k).sent_apart p v inside))
+        (λ q r v x y a b c d.
+        let lt : r < l.division.parts = omega (arith, b, in_long) in
+        let less : q < l.division.parts = omega (arith, a, lt) in
+        fresh q r less lt (λ e. omega (arith, e, a)) x y (known_from_since (chord sc) before (lists q) x (has_come q v less x c).0) (has_come r v lt y d).0))
+        (λ x y c d.
+        let at = listed_from inbox.items y d in
+        let lt : at.place < l.division.parts = omega (arith, at.inside, in_long) in
+        let g = has_come at.place any lt y (listed_at inbox.items y at any) in
+        fresh p at.place inside lt g.2 x y
+        (waits_from (chord sc) (lists p ++ before) x ((run.owned.same x).0 (contains_left part.pending (all_of part.inbox.items) x c)).0).known g.0)
+
+    pub owned_with_mail : IsOwned sc l after_window (record (get_or fs p f).parcel.part { inbox = inbox; outbox = outbox })
+    owned_with_mail = record {
+      inside = run.owned.inside;
+      places = run.owned.places;
+      states_are = λ i s lt is. run.owned.states_are i s lt is
+          ∙ ap (λ q. state (chord sc) (lists q ++ before) i) (sym (is ∙ run.part_is)) ∙ course.states i lt;
+      same = λ x. (there x, λ c. back x (pending_target x c.0) c.0 c.1);
+      apart = apart;
+      in_long = in_long;
+      out_long = out_long;
+      tallied = subst (λ ps. IsTallyOf sc.profile ps part.tally)
+          (subst (λ q. share_of sc l.division q (lists p ++ before) ≡ share_of sc l.division q after_window) (sym run.part_is)
+          (share_same sc l.division p before (lists p) course.taken (course.pieces p inside))) run.owned.tallied;
+    }

@@ -1,0 +1,213 @@
+-- The team after a window.
+use Rattle.std.proofs.Common.{◌≡◌, ◌∙◌, ℕ, suc, ◌+◌, ◌<◌, ◌≤◌, List, [], ◌∷◌, ◌++◌, Option, None, Vec, length, map, get_or, refl, ap, sym, subst, arith, append-nil, length-append, option_map}
+use Rattle.std.proofs.lemmas.List.{length-map}
+use Rattle.std.proofs.lemmas.List.Elements.{filter-append}
+use Rattle.std.proofs.KnownBytes.{Appends-trans}
+use Rattle.std.specs.Global.{Global}
+use Rattle.std.specs.Io.KnownBytes.{Appends}
+use Rattle.std.specs.List.{filter, flat_map}
+use Rattle.std.specs.Prelude.{nat_le}
+use Rattle.chord_event.specs.declared.block.Block.{Block}
+use Rattle.chord_event.specs.declared.body.Body.{Body}
+use Rattle.chord_event.specs.declared.event.Event.{Event}
+use Rattle.chord_machine.specs.Chord.{chord}
+use Rattle.chord_model.specs.Histories.{audit_at, history, next, open_audits, output}
+use Rattle.chord_output.specs.Runs.{IsBeginning}
+use Rattle.chord_output.proofs.Outputs.{fronts_longer, fronts_then, texts-append}
+use Rattle.chord_scenario.specs.declared.scenario.Scenario.{Scenario}
+use Rattle.chord_scenario.specs.Range.{IsInRange}
+use Rattle.chord_trace.specs.declared.piece.Piece.{Piece}
+use Rattle.chord_trace.specs.declared.piece.Piece.TheVariants as piece
+use Rattle.chord_trace.specs.Tally.{IsTallyOf}
+use Rattle.chord_trace.specs.Texts.{block_text, pieces_text}
+use Rattle.chord_trace.specs.Writing.{AppendsFront}
+use Rattle.chord_team.specs.declared.layout.Layout.{Layout}
+use Rattle.chord_team.specs.declared.part.Finished.{Finished}
+use Rattle.chord_team.specs.declared.part.OwnedPart.{OwnedPart}
+use Rattle.chord_team.specs.declared.part.Parcel.{Parcel}
+use Rattle.chord_team.specs.declared.team.Team.{Team}
+use Rattle.chord_team.specs.Exchanges.{AreBack, AreReady, HasExchanged, HaveExchanged, IsReady, part_in, soonest}
+use Rattle.chord_team.specs.Orders.{AreResults, HaveNoFault}
+use Rattle.chord_team.specs.Outputs.{IsText}
+use Rattle.chord_team.specs.Owned.{IsOwned, all_of}
+use Rattle.chord_team.specs.Teams.{AreHere, CanSend, IsHere, IsOpened, IsTeam, audits_due, audits_in, before_end, events_in, is_audit}
+use Rattle.chord_team.proofs.PartLists.{none_contained, none_listed}
+use Rattle.chord_team.proofs.TeamMail.{first}
+use Rattle.chord_team.proofs.WindowNext.{next_after}
+use Rattle.chord_team.proofs.WindowParts.{after_window, owned_with_mail, result_of}
+use Rattle.chord_team.proofs.WindowRuns.{after_is, after_long}
+use Rattle.chord_team.proofs.WindowTexts.{blocks_long, text_of_pieces, window_blocks, window_leaves, window_puts_out}
+
+all_empty : (lists : List (Vec (Event Body) Global)) → ((q : ℕ) (v : Vec (Event Body) Global) → q < length lists → (get_or lists q v).items ≡ [])
+    → all_of lists ≡ []
+all_empty [] each = refl
+all_empty (l ∷ lists) each = ap (λ es. es ++ all_of lists) (each 0 l (omega arith)) ∙ all_empty lists (λ q v lt. each (suc q) v (omega (arith, lt)))
+
+module _ (sc : Scenario) (ranges : IsInRange sc) (l : Layout) (t : Team) (can : CanSend sc l t) (fs : List Finished)
+    (results : AreResults sc l t.count t.window.horizon fs) (none : HaveNoFault fs) (mid : List (Option Parcel)) (back : AreBack fs mid)
+    (mid_long : length mid ≡ length t.parcels.items) where
+  pub parts_back : length fs ≡ length mid
+  parts_back = omega (arith, results.long, can.parcels_long, mid_long)
+
+  -- the parts may exchange what they made for each other
+  pub parts_ready : AreReady mid
+  parts_ready p lt =
+      let inside : p < length fs = omega (arith, lt, parts_back) in
+      let part : p < l.division.parts = omega (arith, inside, results.long) in
+      let f = first fs (omega (arith, inside)) in
+      let b = back p f inside in
+      let run = result_of sc ranges l t can fs results none p f part in
+      let parts : length mid ≡ l.division.parts = omega (arith, results.long, parts_back) in (
+        b.0,
+        b.1,
+        subst (λ (z : OwnedPart). IsReady (length mid) p z) (sym b.2) (record {
+          in_long = run.owned.in_long ∙ sym parts;
+          out_long = run.owned.out_long ∙ sym parts;
+          none_in = λ q v k. none_listed (get_or fs p f).parcel.part.inbox.items run.taken_in q v (omega (arith, k, parts, run.owned.in_long));
+          none_own = λ v. none_contained (get_or (get_or fs p f).parcel.part.outbox.items p v).items
+              (λ x c. let g = (run.sent p v x part).0 c in g.2 refl);
+        }),
+      )
+
+  module _ (new : List (Option Parcel)) (exchanged : HaveExchanged mid new) where
+    -- a part with its mail
+    parcel_here : (p : ℕ) (f : Finished) (before after : Parcel) → p < l.division.parts → before.part ≡ (get_or fs p f).parcel.part
+        → IsText sc [] before.output → HasExchanged (length mid) p mid before after
+        → IsHere sc l (history (chord sc) (t.count + events_in fs)) p after
+    parcel_here p f before after inside part_is text x =
+        let run = result_of sc ranges l t can fs results none p f inside in
+        let parts : length mid ≡ l.division.parts = omega (arith, results.long, parts_back) in
+        let same : after.part ≡ record (get_or fs p f).parcel.part { inbox = after.part.inbox; outbox = after.part.outbox } =
+        ap (λ (z : Parcel). z.part) x.same ∙ ap (λ (z : OwnedPart). record z { inbox = after.part.inbox; outbox = after.part.outbox }) part_is in
+        record {
+          part_is = ap (λ (z : OwnedPart). z.part) same ∙ run.part_is;
+          owned = subst (λ h. IsOwned sc l h after.part) (after_is sc ranges l t can fs results none)
+              (subst (λ (z : OwnedPart). IsOwned sc l (after_window sc ranges l t can fs results none) z) (sym same)
+              (owned_with_mail sc ranges l t can fs results none p inside f after.part.inbox after.part.outbox (x.in_long ∙ parts) (x.out_long ∙ parts)
+              (λ q v k.
+              let there : q < length mid = omega (arith, k, parts) in
+              let b = back q f (omega (arith, there, parts_back)) in
+              x.received q v there (omega (arith, inside, parts))
+              ∙ ap (λ z. (get_or (part_in z before.part).outbox.items p v).items) b.1
+              ∙ ap (λ (z : OwnedPart). (get_or z.outbox.items p v).items) b.2)));
+          none_sent = all_empty after.part.outbox.items (λ q v k. x.sent q v (omega (arith, k, x.out_long)));
+          no_text = subst (λ (z : Parcel). IsText sc [] z.output) (sym x.same) text;
+        }
+
+    pub parts_here : AreHere sc l (history (chord sc) (t.count + events_in fs)) new
+    parts_here p inside =
+        let there : p < length fs = omega (arith, inside, results.long) in
+        let f = first fs (omega (arith, there)) in
+        let b = back p f there in
+        let e = exchanged.each p b.0 (omega (arith, there, parts_back)) b.1 in
+        (e.0, e.1, parcel_here p f b.0 e.0 inside b.2 (b.3 sc) e.2)
+
+-- the audits among what a window puts out
+audits_only : (sc : Scenario) (h : List (Event Body)) (times : List ℕ) → audits_in (map (audit_at (chord sc) h) times) ≡ map (audit_at (chord sc) h) times
+audits_only sc h [] = refl
+audits_only sc h (a ∷ times) = ap (λ l. audit_at (chord sc) h a ∷ l) (audits_only sc h times)
+
+no_audits : (bs : List Block) → audits_in (map piece.OfEvent bs) ≡ []
+no_audits [] = refl
+no_audits (b ∷ bs) = no_audits bs
+
+-- how many events were run when the parts are back and the new ones are counted
+pub count_then : (t b u : Team) (events new : ℕ) → b ≡ record t { parcels = b.parcels; next = b.next }
+    → u ≡ record b { count = b.count + events; parcels = u.parcels } → events ≡ new → u.count ≡ t.count + new
+count_then t b u events new same then are = omega (arith, ap (λ (z : Team). z.count) then, ap (λ (z : Team). z.count) same, are)
+
+module _ (sc : Scenario) (ranges : IsInRange sc) (l : Layout) (t : Team) (fs : List Finished) (results : AreResults sc l t.count t.window.horizon fs)
+    (none : HaveNoFault fs) (old now : Option (List ℕ)) (opened : IsOpened sc l old now t) where
+  abbrev before : List (Event Body)
+  before = history (chord sc) t.count
+
+  abbrev new_audits : List Piece
+  new_audits = audits_due sc before t.window.time
+
+  abbrev blocks : List Block
+  blocks = window_blocks sc ranges l t opened.can_send fs results none
+
+  puts_out : output (chord sc) (history (chord sc) (t.count + events_in fs)) ≡ output (chord sc) before ++ (new_audits ++ map piece.OfEvent blocks)
+  puts_out = window_puts_out sc ranges l t opened.can_send fs results none
+
+  audits_are : (count : ℕ) → count ≡ t.count + events_in fs → audits_in (output (chord sc) (history (chord sc) count))
+      ≡ audits_in (output (chord sc) before) ++ new_audits
+  audits_are count is = ap (λ k. audits_in (output (chord sc) (history (chord sc) k))) is ∙ ap audits_in puts_out
+      ∙ filter-append is_audit (output (chord sc) before) (new_audits ++ map piece.OfEvent blocks)
+      ∙ ap (λ ps. audits_in (output (chord sc) before) ++ ps) (filter-append is_audit new_audits (map piece.OfEvent blocks)
+      ∙ ap (λ ps. audits_in new_audits ++ ps) (no_audits blocks) ∙ append-nil (audits_in new_audits)
+      ∙ audits_only sc before (filter (λ a. nat_le a t.window.time) (open_audits (chord sc) before)))
+
+  -- the text of the audits is as it was when the parts are back
+  due_of_back : (b : Team) → b ≡ record t { parcels = b.parcels; next = b.next } → b.due.items ≡ t.due.items
+  due_of_back b same = ap (λ (z : Team). z.due.items) same
+
+  -- what was written of the audits that are due
+  pub begin_due : (b : Team) (x : Option (List ℕ)) (text : List ℕ) → b ≡ record t { parcels = b.parcels; next = b.next } → text ≡ b.due.items
+      → AppendsFront now x text → IsBeginning sc old x
+  begin_due b x text same is front = (
+    t.count + events_in fs,
+    fronts_longer sc old x (output (chord sc) (history (chord sc) (t.count + events_in fs))) _
+        (subst (λ ps. AppendsFront old x (pieces_text sc ps)) (sym puts_out)
+        (fronts_then sc old now x (output (chord sc) before) (new_audits ++ map piece.OfEvent blocks) opened.written
+        (fronts_longer sc now x new_audits (map piece.OfEvent blocks) (subst (λ z. AppendsFront now x z) (is ∙ due_of_back b same ∙ opened.due_is) front)))),
+  )
+
+  -- and then of the blocks
+  pub begin_blocks : (b : Team) (middle x : Option (List ℕ)) (text : List ℕ) → b ≡ record t { parcels = b.parcels; next = b.next }
+      → text ≡ b.due.items → Appends now middle text → AppendsFront middle x (flat_map (block_text sc) blocks) → IsBeginning sc old x
+  begin_blocks b middle x text same is due front = (
+    t.count + events_in fs,
+    fronts_longer sc old x (output (chord sc) (history (chord sc) (t.count + events_in fs))) _
+        (subst (λ ps. AppendsFront old x (pieces_text sc ps)) (sym puts_out)
+        (fronts_then sc old now x (output (chord sc) before) (new_audits ++ map piece.OfEvent blocks) opened.written
+        (fronts_then sc now middle x new_audits (map piece.OfEvent blocks) (subst (λ z. Appends now middle z) (is ∙ due_of_back b same ∙ opened.due_is) due)
+        (subst (λ z. AppendsFront middle x z) (sym (text_of_pieces sc blocks)) front)))),
+  )
+
+  -- the team after the window, once its parts are back: the events are counted, the parts have their mail, and what the
+  -- window puts out is written
+  pub next_team : (b u : Team) (events : ℕ) (middle new : Option (List ℕ)) (text : List ℕ) → b ≡ record t { parcels = b.parcels; next = b.next }
+      → b.next ≡ soonest None fs → u ≡ record b { count = b.count + events; parcels = u.parcels } → events ≡ events_in fs
+      → t.count + events_in fs ≤ sc.max_events → length u.parcels.items ≡ length t.parcels.items
+      → AreHere sc l (history (chord sc) (t.count + events_in fs)) u.parcels.items → text ≡ b.due.items → Appends now middle text
+      → Appends middle new (flat_map (block_text sc) blocks) → IsTeam sc l old new u
+  next_team b u events middle new text same next_time then events_are within long here is due written =
+      let can = opened.can_send in
+      let count : u.count ≡ t.count + events_in fs = count_then t b u events (events_in fs) same then events_are in
+      let clock : u.clock ≡ t.clock = ap (λ (z : Team). z.clock) then ∙ ap (λ (z : Team). z.clock) same in
+      let audits : u.audits ≡ t.audits = ap (λ (z : Team). z.audits) then ∙ ap (λ (z : Team). z.audits) same in
+      record {
+        layout = can.layout;
+        within = omega (arith, count, within);
+        long = ap (λ k. length (history (chord sc) k)) count ∙ after_long sc ranges l t can fs results none ∙ sym count;
+        parcels_long = long ∙ can.parcels_long;
+        here = subst (λ k. AreHere sc l (history (chord sc) k) u.parcels.items) (sym count) here;
+        whole_long = ap (λ (z : Team). length z.whole.items) then ∙ ap (λ (z : Team). length z.whole.items) same ∙ opened.whole_long;
+        next_is = ap (λ k. option_map (λ (e : Event Body). e.key.time) (next (chord sc) (history (chord sc) k))) count
+            ∙ ap (λ h. option_map (λ (e : Event Body). e.key.time) (next (chord sc) h)) (sym (after_is sc ranges l t can fs results none))
+            ∙ next_after sc ranges l t can fs results none ∙ ap (before_end sc.duration) (sym (ap (λ (z : Team). z.next) then ∙ next_time));
+        audits = clock ∙ opened.audits ∙ sym (window_leaves sc ranges l t can fs results none) ∙ ap (λ k. open_audits (chord sc) (history (chord sc) k)) (sym count);
+        written = subst (λ k. Appends old new (pieces_text sc (output (chord sc) (history (chord sc) k)))) (sym count)
+            (subst (λ ps. Appends old new (pieces_text sc ps)) (sym puts_out)
+            (subst (λ z. Appends old new z) (sym (texts-append sc (output (chord sc) before) (new_audits ++ map piece.OfEvent blocks)))
+            (Appends-trans old now new (pieces_text sc (output (chord sc) before)) (pieces_text sc (new_audits ++ map piece.OfEvent blocks)) opened.written
+            (subst (λ z. Appends now new z) (sym (texts-append sc new_audits (map piece.OfEvent blocks)))
+            (Appends-trans now middle new (pieces_text sc new_audits) (pieces_text sc (map piece.OfEvent blocks))
+            (subst (λ z. Appends now middle z) (is ∙ due_of_back b same ∙ opened.due_is) due)
+            (subst (λ z. Appends middle new z) (sym (text_of_pieces sc blocks)) written))))));
+        audited = subst (λ ps. IsTallyOf sc.profile ps u.audits) (sym (audits_are u.count count))
+            (subst (IsTallyOf sc.profile (audits_in (output (chord sc) before) ++ new_audits)) (sym audits) opened.audited);
+        room = omega (
+          arith,
+          opened.room,
+          ap (λ k. length (output (chord sc) (history (chord sc) k))) count,
+          ap length puts_out,
+          length-append (output (chord sc) before) (new_audits ++ map piece.OfEvent blocks),
+          length-append new_audits (map piece.OfEvent blocks),
+          length-map blocks piece.OfEvent,
+          blocks_long sc ranges l t can fs results none,
+          ap length clock,
+          count,
+        );
+      }

@@ -1,0 +1,35 @@
+use Rattle.std.proofs.Common.{◌≡◌, ◌↔◌, ◌++◌, ◌∷◌, [], List, ap, subst, ◌∙◌, refl, length, arith, append-nil}
+use Rattle.std.specs.List.{Contains}
+use Rattle.chord_event.specs.declared.body.Body.{Body}
+use Rattle.chord_event.specs.declared.event.Event.{Event}
+use Rattle.chord_queue.proofs.Inserting.{last_apart, last_new, last_put}
+use Rattle.chord_team.specs.Running.{AreApart}
+use Rattle.chord_team.proofs.part.take_list.Goals as goal
+
+empty : (es : List (Event Body)) → length es ≡ 0 → es ≡ []
+empty [] e = refl
+empty (x ∷ es) e = absurd (omega (arith, e))
+
+pub insert-requires : goal.insert-requires
+insert-requires c =
+    last_new c.in-Some.event c.loop-event.pending c.pop.new.self.items (subst (λ es. AreApart (c.loop-event.pending ++ es)) c.in-Some.ensures.items
+    c.loop-event.invariant.apart)
+
+pub loop-event-preserved : goal.loop-event-preserved
+loop-event-preserved c =
+    let all = subst (λ es. AreApart (c.loop-event.pending ++ es)) c.in-Some.ensures.items c.loop-event.invariant.apart in
+    let whole : List (Event Body) → Type 0 = λ es. (x : Event Body) → Contains es x ↔ Contains (c.args.pending.now ++ c.args.list.now.items) x in
+    let before : whole (c.loop-event.pending ++ (c.pop.new.self.items ++ c.in-Some.event ∷ [])) = subst (λ es. whole (c.loop-event.pending ++ es))
+    c.in-Some.ensures.items c.loop-event.invariant.same in
+    rw c.in_default-insert.ensures.ok (record {
+      apart = last_apart c.in-Some.event c.loop-event.pending c.pop.new.self.items all c.recall_order.ensures;
+      same = λ x.
+          let moved = last_put c.in-Some.event c.loop-event.pending c.pop.new.self.items all x in
+          (λ d. (before x).0 (moved.0 d), λ d. moved.1 ((before x).1 d));
+    })
+
+pub returns-clause-same : goal.returns-clause-same
+returns-clause-same c =
+    let none : c.loop-event.list.items ≡ [] = empty c.loop-event.list.items (omega (arith, c.in_default.ensures.cases.0, c.loop-event.list.ok.0)) in
+    subst (λ es. (x : Event Body) → Contains es x ↔ Contains (c.args.pending.now ++ c.args.list.now.items) x)
+    (ap (λ es. c.loop-event.pending ++ es) none ∙ append-nil c.loop-event.pending) c.loop-event.invariant.same

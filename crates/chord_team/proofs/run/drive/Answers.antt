@@ -1,0 +1,36 @@
+use Rattle.std.proofs.Common.{Err, ap, rules, inl}
+use Rattle.chord_output.proofs.Runs.{run_failed, run_stopped}
+use Rattle.chord_team.proofs.RunCourse.{begin_team, opened_still}
+use Rattle.chord_team.proofs.run.drive.Goals as goal
+
+pub returns-in_err-open_window-clause-run : goal.returns-in_err-open_window-clause-run
+returns-in_err-open_window-clause-run g c = run_failed c.args.course.now.scenario.now _ _ _ c.in_err-open_window.field-0.0
+    (search (rules, c.from_residual.ensures)) (inl c.in_err-open_window.ensures.only)
+    (begin_team c.args.course.now.scenario.now c.args.course.now.layout.now _ _ c.loop-opening.team c.loop-opening.invariant.at)
+
+pub returns-in_err-results-clause-run : goal.returns-in_err-results-clause-run
+returns-in_err-results-clause-run g c = run_stopped c.args.course.now.scenario.now _ _ _ c.in_err-results.field-0.0
+    (search (rules, c.from_residual-in_err-results.ensures)) (λ is. c.in_err-results.ensures.over (ap Err is))
+    (begin_team c.args.course.now.scenario.now c.args.course.now.layout.now _ _ c.loop-opening.team c.loop-opening.invariant.at)
+
+pub put_window-requires-clause-at : goal.put_window-requires-clause-at
+put_window-requires-clause-at g c = (
+  _,
+  opened_still c.args.course.now.scenario.now c.args.course.now.layout.now _ _ _ _ c.in_ok-results.ensures.others c.in_ok-results.ensures.can_send
+      (c.in_ok-open_window.ensures.at _ _ c.loop-opening.invariant.at),
+)
+
+pub loop-opening-preserved : goal.loop-opening-preserved
+loop-opening-preserved g c = record {
+  at = c.in_ok-put_window.ensures.at _
+      (opened_still c.args.course.now.scenario.now c.args.course.now.layout.now _ _ _ _ c.in_ok-results.ensures.others c.in_ok-results.ensures.can_send
+      (c.in_ok-open_window.ensures.at _ _ c.loop-opening.invariant.at));
+  sound = search (rules, c.in_ok-put_window.ensures.writer);
+}
+
+pub returns-in_err-put_window-clause-run : goal.returns-in_err-put_window-clause-run
+returns-in_err-put_window-clause-run g c = run_stopped c.args.course.now.scenario.now _ _ _ c.in_err-put_window.field-0.0
+    (search (rules, c.from_residual-in_err-put_window.ensures)) (λ is. c.in_err-put_window.ensures.over (ap Err is))
+    (c.put_window.ensures.front _
+    (opened_still c.args.course.now.scenario.now c.args.course.now.layout.now _ _ _ _ c.in_ok-results.ensures.others c.in_ok-results.ensures.can_send
+    (c.in_ok-open_window.ensures.at _ _ c.loop-opening.invariant.at)))

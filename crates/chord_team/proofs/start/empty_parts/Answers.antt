@@ -1,0 +1,19 @@
+use Rattle.std.proofs.Common.{refl}
+use Rattle.chord_team.proofs.Starts.{parts_more, parts_none}
+use Rattle.chord_team.proofs.start.empty_parts.Goals as goal
+
+pub loop-part-init : goal.loop-part-init
+loop-part-init c = parts_none c.args.profile c.args.parts c.new-list.result.items c.new-list.ensures.items
+
+pub loop-part-preserved : goal.loop-part-preserved
+loop-part-preserved c = parts_more c.args.profile c.args.parts c.loop-part.part c.loop-part.list.items c.push.new.self.items _ c.loop-part.invariant
+    (record {
+      part_is = refl;
+      no_states = c.new.ensures.items;
+      none_pending = c.new-in-loop-part.ensures;
+      in_long = c.in_ok-empty_lists.ensures.long;
+      out_long = c.in_ok-empty_lists-2.ensures.long;
+      none_in = c.in_ok-empty_lists.ensures.none;
+      none_out = c.in_ok-empty_lists-2.ensures.none;
+      tallied = c.new-in-loop-part-2.ensures;
+    }) c.in_ok-push.ensures.items

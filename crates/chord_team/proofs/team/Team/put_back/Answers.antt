@@ -1,0 +1,46 @@
+use Rattle.std.proofs.Common.{◌<◌, ◌∙◌, ◌++◌, ◌∷◌, [], List, Some, ap, append_assoc, arith, length, sym}
+use Rattle.std.proofs.lemmas.List.{length-drop, length-set}
+use Rattle.std.specs.Vec.{with_item}
+use Rattle.std.specs.Vec.Iter.{into_iter_items}
+use Rattle.chord_team.specs.declared.part.Finished.{Finished}
+use Rattle.chord_team.specs.declared.team.Team.{Team}
+use Rattle.chord_team.specs.Exchanges.{outputs_of, soonest}
+use Rattle.chord_team.proofs.PutBack.{all_back, one_back, rest_then}
+use Rattle.chord_team.proofs.team.Team.put_back.Goals as goal
+
+pub loop-result-preserved : goal.loop-result-preserved
+loop-result-preserved c =
+    let fs = c.args.results.items in
+    let t = c.loop-result.self in
+    let at = c.loop-result.at in
+    let f = c.in-Some.result in
+    let parcel = c.take_output-parcel.result.0 in
+    let steps = c.in-Some.ensures.steps.0 in
+    let before : List Finished = into_iter_items c.loop-result.result-iterator in
+    let rest : List Finished = into_iter_items c.next.new.self in
+    let inside : at < length t.parcels.items = omega (
+      arith,
+      ap length c.loop-result.invariant.rest,
+      ap length steps,
+      length-drop at fs,
+      c.loop-result.invariant.long,
+      c.requires,
+    ) in
+    record {
+      can_next = tt;
+      is_finite = tt;
+      rest = rest_then fs at f before rest c.loop-result.invariant.rest steps;
+      outputs = ap (λ l. l ++ outputs_of rest) c.in_ok-push.ensures.items
+          ∙ append_assoc c.loop-result.outputs.items (c.take_output-parcel.result.1 ∷ []) (outputs_of rest)
+          ∙ ap (λ o. c.loop-result.outputs.items ++ (o ∷ outputs_of rest)) c.take_output-parcel.ensures.output
+          ∙ ap (λ l. c.loop-result.outputs.items ++ l) (sym (ap outputs_of steps)) ∙ c.loop-result.invariant.outputs;
+      back = one_back fs t.parcels.items at f before rest parcel c.loop-result.invariant.rest steps inside c.take_output-parcel.ensures.part
+          c.take_output-parcel.ensures.empty c.loop-result.invariant.back;
+      long = length-set t.parcels.items at (Some parcel) ∙ c.loop-result.invariant.long;
+      next = ap (λ o. soonest o rest) c.sooner-self.ensures ∙ sym (ap (soonest t.next) steps) ∙ c.loop-result.invariant.next;
+      others = ap (λ (u : Team). record u { parcels = with_item t.parcels at (Some parcel); next = c.sooner-self.result }) c.loop-result.invariant.others;
+    }
+
+pub returns-clause-back : goal.returns-clause-back
+returns-clause-back c = all_back c.args.results.items c.loop-result.self.parcels.items c.loop-result.at (into_iter_items c.loop-result.result-iterator)
+    c.loop-result.invariant.rest (omega (arith, c.in-None.ensures.steps.0, c.loop-result.result-iterator.rest.ok.0)) c.loop-result.invariant.back

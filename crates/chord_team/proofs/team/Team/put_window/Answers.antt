@@ -1,0 +1,96 @@
+-- A window's parts come back, get their mail, and what they put out is written.
+use Rattle.std.proofs.Common.{◌≡◌, ◌∙◌, ◌+◌, ap, arith, refl}
+use Rattle.chord_machine.specs.Chord.{chord}
+use Rattle.chord_model.specs.Histories.{history}
+use Rattle.chord_team.specs.Teams.{events_in}
+use Rattle.chord_team.proofs.RunCourse.{begin_opened}
+use Rattle.chord_team.proofs.WindowRuns.{window_has_some, window_has_too_many}
+use Rattle.chord_team.proofs.WindowTexts.{can_write, merged_blocks, window_blocks}
+use Rattle.chord_team.proofs.WindowTeam.{begin_blocks, begin_due, count_then, next_team, parts_here, parts_ready}
+use Rattle.chord_team.proofs.team.Team.put_window.Goals as goal
+
+pub exchange_mail-requires : goal.exchange_mail-requires
+exchange_mail-requires g c = parts_ready c.args.course.now.scenario.now c.recall_range.ensures c.args.course.now.layout.now c.args.self.now
+    c.requires.at.1.can_send c.args.results.items c.requires.results c.requires.no_fault c.put_back.new.self.parcels.items
+    c.in_ok-outputs.ensures.back c.in_ok-outputs.ensures.long
+
+pub returns-in_default-clause-front : goal.returns-in_default-clause-front
+returns-in_default-clause-front g c = λ old o. begin_opened c.args.course.now.scenario.now c.args.course.now.layout.now old _ c.args.self.now o
+
+pub returns-in_default-clause-over : goal.returns-in_default-clause-over
+returns-in_default-clause-over g c = λ _.
+    window_has_too_many c.args.course.now.scenario.now c.recall_range.ensures c.args.course.now.layout.now c.args.self.now c.requires.at.1.can_send
+    c.args.results.items c.requires.results c.requires.no_fault
+    (omega (arith, c.in_default.ensures.none refl, ap events_in c.as_slice.ensures.value, c.max_events.ensures, c.requires.at.1.can_send.within))
+
+pub returns-in_err-outputs-clause-front : goal.returns-in_err-outputs-clause-front
+returns-in_err-outputs-clause-front g c = λ old o. begin_opened c.args.course.now.scenario.now c.args.course.now.layout.now old _ c.args.self.now o
+
+pub returns-in_err-write_text-clause-front : goal.returns-in_err-write_text-clause-front
+returns-in_err-write_text-clause-front g c = λ old o.
+    begin_due c.args.course.now.scenario.now c.recall_range.ensures c.args.course.now.layout.now c.args.self.now c.args.results.items
+    c.requires.results c.requires.no_fault old _ o c.put_back.new.self _ c.as_slice-2.result.now c.in_ok-outputs.ensures.others
+    c.as_slice-2.ensures.value c.in_err-write_text.ensures.front
+
+pub write_outputs-requires-clause-texts : goal.write_outputs-requires-clause-texts
+write_outputs-requires-clause-texts g c = can_write c.args.course.now.scenario.now c.recall_range.ensures c.args.course.now.layout.now c.args.self.now
+    c.requires.at.1.can_send c.args.results.items c.requires.results c.requires.no_fault c.as_slice-3.result.now
+    (c.as_slice-3.ensures.value ∙ c.in_ok-outputs.ensures.outputs)
+
+pub returns-in_err-write_outputs-clause-front : goal.returns-in_err-write_outputs-clause-front
+returns-in_err-write_outputs-clause-front g c = λ old o.
+    let sc = c.args.course.now.scenario.now in
+    let l = c.args.course.now.layout.now in
+    let t = c.args.self.now in
+    let fs = c.args.results.items in
+    let can = o.can_send in
+    begin_blocks sc c.recall_range.ensures l t fs c.requires.results c.requires.no_fault old _ o c.put_back.new.self _ _ c.as_slice-2.result.now
+    c.in_ok-outputs.ensures.others c.as_slice-2.ensures.value c.in_ok-write_text.ensures.whole
+    (c.in_err-write_outputs.ensures.front sc (window_blocks sc c.recall_range.ensures l t can fs c.requires.results c.requires.no_fault)
+    (merged_blocks sc c.recall_range.ensures l t can fs c.requires.results c.requires.no_fault c.as_slice-3.result.now
+    (c.as_slice-3.ensures.value ∙ c.in_ok-outputs.ensures.outputs)))
+
+pub returns-clause-front : goal.returns-clause-front
+returns-clause-front g c = λ old o.
+    let sc = c.args.course.now.scenario.now in
+    let l = c.args.course.now.layout.now in
+    let t = c.args.self.now in
+    let fs = c.args.results.items in
+    let can = o.can_send in
+    begin_blocks sc c.recall_range.ensures l t fs c.requires.results c.requires.no_fault old _ o c.put_back.new.self _ _ c.as_slice-2.result.now
+    c.in_ok-outputs.ensures.others c.as_slice-2.ensures.value c.in_ok-write_text.ensures.whole
+    (c.in_ok-write_outputs.ensures.front sc (window_blocks sc c.recall_range.ensures l t can fs c.requires.results c.requires.no_fault)
+    (merged_blocks sc c.recall_range.ensures l t can fs c.requires.results c.requires.no_fault c.as_slice-3.result.now
+    (c.as_slice-3.ensures.value ∙ c.in_ok-outputs.ensures.outputs)))
+
+pub returns-clause-more : goal.returns-clause-more
+returns-clause-more g c =
+    let fs = c.args.results.items in
+    omega (
+      arith,
+      window_has_some c.args.course.now.scenario.now c.recall_range.ensures c.args.course.now.layout.now c.args.self.now c.requires.at.1.can_send fs
+          c.requires.results c.requires.no_fault,
+      count_then c.args.self.now c.put_back.new.self c.give_outputs.new.self c.in-Some.events (events_in fs) c.in_ok-outputs.ensures.others
+          c.give_outputs.ensures.others (c.in-Some.ensures.some.0 ∙ ap events_in c.as_slice.ensures.value),
+    )
+
+pub returns-clause-at : goal.returns-clause-at
+returns-clause-at g c = λ old o.
+    let sc = c.args.course.now.scenario.now in
+    let ranges = c.recall_range.ensures in
+    let l = c.args.course.now.layout.now in
+    let t = c.args.self.now in
+    let fs = c.args.results.items in
+    let can = o.can_send in
+    let back = c.in_ok-outputs.ensures in
+    let given = c.give_outputs.ensures in
+    let events : c.in-Some.events ≡ events_in fs = c.in-Some.ensures.some.0 ∙ ap events_in c.as_slice.ensures.value in
+    next_team sc ranges l t fs c.requires.results c.requires.no_fault old _ o c.put_back.new.self c.give_outputs.new.self c.in-Some.events _ _
+    c.as_slice-2.result.now back.others back.next given.others events
+    (omega (arith, events, c.in-Some.ensures.some.1, c.max_events.ensures, can.within))
+    (given.long ∙ c.exchange_mail.ensures.long ∙ back.long)
+    (given.here sc l (history (chord sc) (t.count + events_in fs)) (parts_here sc ranges l t can fs c.requires.results c.requires.no_fault
+    c.put_back.new.self.parcels.items back.back back.long c.exchange_mail.new.parcels.items c.exchange_mail.ensures))
+    c.as_slice-2.ensures.value c.in_ok-write_text.ensures.whole
+    (c.in_ok-write_outputs.ensures.whole sc (window_blocks sc ranges l t can fs c.requires.results c.requires.no_fault)
+    (merged_blocks sc ranges l t can fs c.requires.results c.requires.no_fault c.as_slice-3.result.now (c.as_slice-3.ensures.value ∙ back.outputs)))

@@ -1,5 +1,0 @@
-use Rattle.chord_team.specs.Exchanges.{HaveExchangedTo}
-use Rattle.chord_team.proofs.team.exchange_mail.Given as goal
-
-abbrev pub invariant-loop-to : goal.invariant-loop-to
-invariant-loop-to l = HaveExchangedTo l.to l.initial.parcels.items l.parcels.items

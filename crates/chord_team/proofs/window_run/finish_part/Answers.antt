@@ -1,0 +1,15 @@
+use Rattle.chord_team.proofs.window_run.finish_part.Goals as goal
+use Rattle.std.proofs.Common.{◌∙◌}
+
+pub run-requires : goal.run-requires
+run-requires g c = (c.in-Some.ensures.order c.args.course.now.scenario.now c.args.course.now.layout.now c.requires.can_send).order
+
+pub returns-in-Some-clause-of : goal.returns-in-Some-clause-of
+returns-in-Some-clause-of g c =
+    let order = c.in-Some.ensures.order c.args.course.now.scenario.now c.args.course.now.layout.now c.requires.can_send in
+    record {
+      part_is = c.run.ensures.part ∙ order.part_is;
+      count_is = c.run.ensures.count ∙ order.count_is;
+      horizon_is = c.run.ensures.horizon ∙ order.horizon_is;
+      finished = c.run.ensures.finished;
+    }

@@ -1,0 +1,12 @@
+use Rattle.std.proofs.Common.{◌≡◌, length}
+use Rattle.chord_team.specs.Orders.{AreResultsFrom}
+use Rattle.chord_team.specs.Teams.{CanSend}
+use Rattle.chord_team.proofs.window_run.finish_parts.Given as goal
+
+abbrev pub invariant-loop-part : goal.invariant-loop-part
+invariant-loop-part g l = record {
+  long : length l.results.items ≡ l.part;
+  each : AreResultsFrom l.course.scenario.now l.course.layout.now l.initial.team.count l.initial.team.window.horizon 0 l.results.items;
+  can_send : CanSend l.course.scenario.now l.course.layout.now l.team;
+  others : l.team ≡ record l.initial.team { parcels = l.team.parcels };
+}

@@ -1,0 +1,21 @@
+use Rattle.std.proofs.Common.{inr, rules}
+use Rattle.std.specs.Prelude.{IfSome}
+use Rattle.std.proofs.lemmas.List.Elements.{All-same}
+use Rattle.chord_team.specs.declared.part.Finished.{Finished}
+use Rattle.chord_team.specs.Orders.{IsFault}
+use Rattle.chord_team.proofs.WindowFaults.{faults_are, memory_or_many, too_many_from}
+use Rattle.chord_team.proofs.window_run.run_window.Goals as goal
+
+pub returns-in-Some-clause-over : goal.returns-in-Some-clause-over
+returns-in-Some-clause-over g c is =
+    let sc = c.args.course.now.scenario.now in
+    too_many_from sc c.in-Some.fault (c.in-Some.ensures.fault sc
+    (All-same (λ (f : Finished). IfSome f.fault (IsFault sc)) c.as_slice.result.now c.in_ok-results.results.items (search (rules, c.as_slice.ensures))
+    (faults_are sc c.args.course.now.layout.now _ _ 0 c.in_ok-results.results.items c.in_ok-results.ensures.results.each))) cc
+
+pub returns-in-Some-clause-only : goal.returns-in-Some-clause-only
+returns-in-Some-clause-only g c =
+    let sc = c.args.course.now.scenario.now in
+    inr (memory_or_many sc c.in-Some.fault (c.in-Some.ensures.fault sc
+    (All-same (λ (f : Finished). IfSome f.fault (IsFault sc)) c.as_slice.result.now c.in_ok-results.results.items (search (rules, c.as_slice.ensures))
+    (faults_are sc c.args.course.now.layout.now _ _ 0 c.in_ok-results.results.items c.in_ok-results.ensures.results.each))))

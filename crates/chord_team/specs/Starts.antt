@@ -1,0 +1,67 @@
+-- How the parts get what a run starts with.
+use Rattle.std.specs.Prelude.{◌≡◌, ◌↔◌, ◌<◌, ◌++◌, ◌==◌, ℕ, suc, if◌then◌else◌, List, [], ◌∷◌, Option, None, Some, length, slice_index_or}
+use Rattle.std.specs.List.{Contains}
+use Rattle.chord_event.specs.declared.body.Body.{Body}
+use Rattle.chord_event.specs.declared.event.Event.{Event}
+use Rattle.chord_event.specs.KeyOrder.{InKeyOrder}
+use Rattle.chord_model.specs.Windows.{Division, part_of}
+use Rattle.chord_node.specs.declared.state.NodeState.{NodeState}
+use Rattle.chord_queue.specs.EventKey.{event_key}
+use Rattle.chord_scenario.specs.declared.scenario.Scenario.{Scenario}
+use Rattle.chord_trace.specs.Tally.{IsTallyOf}
+use Rattle.chord_team.specs.declared.part.OwnedPart.{OwnedPart}
+use Rattle.chord_team.specs.declared.part.Parcel.{Parcel}
+use Rattle.chord_team.specs.Outputs.{IsText}
+use Rattle.chord_team.specs.Owned.{all_of}
+use Rattle.chord_team.specs.Running.{AreApart}
+
+-- the part has no states and no events, and a list for each part
+pub record IsEmptyPart (profile parts part : ℕ) (p : OwnedPart) : Type 0 where
+  pub part_is : p.part ≡ part
+  pub no_states : p.states.items ≡ []
+  pub none_pending : p.pending ≡ []
+  pub in_long : length p.inbox.items ≡ parts
+  pub out_long : length p.outbox.items ≡ parts
+  pub none_in : all_of p.inbox.items ≡ []
+  pub none_out : all_of p.outbox.items ≡ []
+  pub tallied : IsTallyOf profile [] p.tally
+
+-- these are the first n parts
+pub record AreEmptyParts (profile parts n : ℕ) (ps : List OwnedPart) : Type 0 where
+  pub long : length ps ≡ n
+  pub each : (p : ℕ) (o : OwnedPart) → p < n → IsEmptyPart profile parts p (slice_index_or ps p o)
+
+-- of the states of the nodes from one on, those of a part
+abbrev pub states_for : Division → (part node : ℕ) → List NodeState → List NodeState
+states_for d part node [] = []
+states_for d part node (s ∷ ss) = let rest = states_for d part (suc node) ss in if part_of d node == part then s ∷ rest else rest
+
+-- the part has its states of these besides
+pub record HasStates (d : Division) (part : ℕ) (states : List NodeState) (old new : OwnedPart) : Type 0 where
+  pub states_are : new.states.items ≡ old.states.items ++ states_for d part 0 states
+  pub others : new ≡ record old { states = new.states }
+
+pub record HaveStates (d : Division) (states : List NodeState) (old new : List OwnedPart) : Type 0 where
+  pub long : length new ≡ length old
+  pub each : (p : ℕ) (o : OwnedPart) → p < length old → HasStates d p states (slice_index_or old p o) (slice_index_or new p o)
+
+-- of these events the part has its own ones pending; the rest is still to come
+pub record HasEvents (d : Division) (part : ℕ) (sent rest : List (Event Body)) (old new : OwnedPart) : Type 0 where
+  pub same : (x : Event Body) → Contains new.pending x ↔ (Contains sent x × (part_of d x.target ≡ part))
+  pub ordered : InKeyOrder event_key new.pending
+  pub apart : AreApart (new.pending ++ rest)
+  pub others : new ≡ record old { pending = new.pending }
+
+pub record HaveEvents (d : Division) (sent rest : List (Event Body)) (old new : List OwnedPart) : Type 0 where
+  pub long : length new ≡ length old
+  pub each : (p : ℕ) (o : OwnedPart) → p < length old → HasEvents d p sent rest (slice_index_or old p o) (slice_index_or new p o)
+
+-- the parcel of a part, without a text
+pub record IsParcelOf (part : OwnedPart) (parcel : Parcel) : Type 0 where
+  pub part_is : parcel.part ≡ part
+  pub no_text : (sc : Scenario) → IsText sc [] parcel.output
+
+pub record AreParcelsOf (parts : List OwnedPart) (parcels : List (Option Parcel)) : Type 0 where
+  pub long : length parcels ≡ length parts
+  pub each : (p : ℕ) (o : OwnedPart) → p < length parts
+      → (parcel : Parcel) × (slice_index_or parcels p None ≡ Some parcel) × IsParcelOf (slice_index_or parts p o) parcel

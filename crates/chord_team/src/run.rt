@@ -1,0 +1,329 @@
+//! A run by a team.
+ghost use Rattle.std.specs.Prelude.{◌≡◌, ◌≢◌, ◌⊎◌, ℕ, ◌+◌, ◌<◌, ◌≤◌, List, Option, None, Some, false, length, OnOk, IfOk, IfErr, IfSome, Err};
+ghost use Rattle.std.specs.Thread.{IsSync};
+ghost use Rattle.chord_machine.specs.Run.{HasTooManyEvents};
+ghost use Rattle.chord_output.specs.Runs.{IsRun};
+ghost use Rattle.chord_scenario.specs.World.{node_count};
+ghost use Rattle.chord_team.specs.Layouts.{IsLayout};
+ghost use Rattle.chord_team.specs.Teams.{IsTeam};
+ghost use Rattle.chord_trace.specs.Watched.{wrapped, has_failed};
+ghost use Rattle.chord_trace.specs.Writing.{is_write};
+
+use crate::course::{Course, Hands};
+use crate::layout::Layout;
+use crate::link::{Desk, Link};
+use crate::named::Named;
+use crate::team::Team;
+use crate::window_run::run_window;
+use crate::worker::serve;
+use chord_event::{Memory, RunError};
+use chord_scenario::Scenario;
+use chord_trace::{Report, Watched};
+use chord_window::Division;
+use rtrb::RingBuffer;
+use std::alloc::Global;
+use std::io::Write;
+use std::marker::{Brand, Send, Sync};
+use std::sync::Wait;
+use std::thread;
+use std::thread::{Parker, Scope, Threads};
+
+/// The most workers of a team.
+pub const MOST_WORKERS: u32 = 64;
+
+/// So many events are worth the wake-up of a worker: fewer are run sooner than it is awake.
+const EVENTS_OF_A_WORKER: u64 = 250;
+
+/// The links of the workers that are woken for a window of so many events: all of them, or those of
+/// the first ones.
+fn links_worth<J: Named>(links: &mut Vec<Link<J>>, events: u64, worth: u64) -> &mut [Link<J>] {
+    let most = links.len();
+    let others = match events.checked_div(worth) {
+        Some(workers) => usize::try_from(workers.saturating_sub(1)).unwrap_or(most),
+        None => most,
+    };
+    &mut links[..others.min(most)]
+}
+
+/// Runs the windows, while the workers stand.
+fn drive<J: Named, R: Wait, W: Write>(
+    rt: &R,
+    course: &Course<'_>,
+    team: Team,
+    links: &mut Vec<Link<J>>,
+    writer: &mut Watched<W>,
+) -> Result<Report, RunError>
+    requires named { J.run ≡ Some (course.now.scenario.now, course.now.layout.now) }
+    requires at { IsTeam course.now.scenario.now course.now.layout.now (W.contents (wrapped writer.old)) (W.contents (wrapped writer.old)) team }
+    requires sound { has_failed writer.old ≡ false }
+    ensures run { IsRun course.now.scenario.now (W.contents (wrapped writer.old)) (W.contents (wrapped writer.new)) result }
+    ensures writer { has_failed writer.new ≡ is_write result }
+    ensures only { IfErr result (λ e. e ≢ RunError.BadDivision) }
+{
+    let mut team = team;
+    let mut events = 0u64;
+    while let Some(opening) = team.opening(course) {
+        team.open_window(course, opening)?;
+        let before = team.count;
+        // A window is likely to have as many events as the one before it.
+        let results = run_window(
+            rt,
+            course,
+            &mut team,
+            links_worth(links, events, course.worth),
+        )?;
+        team.put_window(course, results, writer)?;
+        events = team.count - before;
+    }
+    team.finish(course, writer)
+}
+
+/// The ends of the rings of a worker, which has at most `parts` parts.
+fn make_ends<J: Named>(alloc: Global, parts: usize) -> Result<(Link<J>, Desk<J>), RunError>
+    ensures only { IfErr result (λ e. e ≡ RunError.Memory) }
+{
+    let Ok((to_worker, from_caller)) = RingBuffer::new(alloc, parts) else {
+        return Err(RunError::Memory);
+    };
+    let Ok((to_caller, from_worker)) = RingBuffer::new(alloc, parts) else {
+        return Err(RunError::Memory);
+    };
+    Ok((
+        Link {
+            orders: to_worker,
+            replies: from_worker,
+        },
+        Desk {
+            orders: from_caller,
+            replies: to_caller,
+        },
+    ))
+}
+
+/// Starts a worker's thread.
+fn start_worker<'s, E, J: Named + Send + Sync + 's, R: Wait + Sync + 's>(
+    scope: &Scope<'s, E>,
+    rt: &'s R,
+    course: &Course<'s>,
+    desk: Desk<J>,
+    worker: usize,
+) -> Result<(), RunError>
+    requires named { J.run ≡ Some (course.now.scenario.now, course.now.layout.now) }
+    ensures only { IfErr result (λ e. e ≡ RunError.Worker) }
+{
+    // Taken apart, since a closure that captures a struct of references loses its contract.
+    let &Course {
+        alloc,
+        scenario,
+        layout,
+        parkers,
+        worth,
+    } = course;
+    let child = scope.spawn(
+        move ||
+            requires { J.run ≡ Some (scenario.now, layout.now) }
+        {
+            let course = Course {
+                alloc,
+                scenario,
+                layout,
+                parkers,
+                worth,
+            };
+            serve(rt, &course, desk, worker)
+        },
+    );
+    match child {
+        Ok(_child) => Ok(()),
+        Err(_refused) => Err(RunError::Worker),
+    }
+}
+
+/// Starts the threads of all workers but worker 0, which is the calling thread.
+fn start_workers<'s, E, J: Named + Send + Sync + 's, R: Wait + Sync + 's>(
+    scope: &Scope<'s, E>,
+    rt: &'s R,
+    course: &Course<'s>,
+    links: &mut Vec<Link<J>>,
+) -> Result<(), RunError>
+    requires named { J.run ≡ Some (course.now.scenario.now, course.now.layout.now) }
+    ensures only { IfErr result (λ e. (e ≡ RunError.Worker) ⊎ (e ≡ RunError.Memory)) }
+{
+    let workers = course.parkers.len();
+    let most = course.layout.division.parts() as usize;
+    for worker in 1..workers {
+        let (link, desk) = make_ends::<J>(course.alloc, most)?;
+        links.push(link)?;
+        start_worker(scope, rt, course, desk, worker)?;
+    }
+    Ok(())
+}
+
+fn make_parkers(alloc: Global, workers: u32) -> Result<Vec<Parker>, Memory> {
+    let mut parkers = Vec::new(alloc);
+    for _worker in 0..workers {
+        parkers.push(Parker::new())?;
+    }
+    Ok(parkers)
+}
+
+fn wake_all(parkers: &[Parker]) {
+    for parker in parkers {
+        parker.unpark();
+    }
+}
+
+/// Starts the workers, and runs the windows.
+fn start_and_drive<'s, E, J: Named + Send + Sync + 's, R: Wait + Sync + 's, W: Write>(
+    scope: &Scope<'s, E>,
+    rt: &'s R,
+    course: &Course<'s>,
+    team: Team,
+    links: &mut Vec<Link<J>>,
+    writer: &mut Watched<W>,
+) -> Result<Report, RunError>
+    requires named { J.run ≡ Some (course.now.scenario.now, course.now.layout.now) }
+    requires at { IsTeam course.now.scenario.now course.now.layout.now (W.contents (wrapped writer.old)) (W.contents (wrapped writer.old)) team }
+    requires sound { has_failed writer.old ≡ false }
+    ensures run { IsRun course.now.scenario.now (W.contents (wrapped writer.old)) (W.contents (wrapped writer.new)) result }
+    ensures writer { has_failed writer.new ≡ is_write result }
+    ensures only { IfErr result (λ e. e ≢ RunError.BadDivision) }
+{
+    match start_workers(scope, rt, course, links) {
+        Ok(()) => drive(rt, course, team, links, writer),
+        Err(error) => Err(error),
+    }
+}
+
+/// The run of a name, from the start of its threads to their end.
+fn run_standing<J: Named + Send + Sync, R: Threads + Wait + Sync, W: Write>(
+    rt: &R,
+    course: &Course<'_>,
+    team: Team,
+    writer: &mut Watched<W>,
+) -> Result<Report, RunError>
+    requires named { J.run ≡ Some (course.now.scenario.now, course.now.layout.now) }
+    requires at { IsTeam course.now.scenario.now course.now.layout.now (W.contents (wrapped writer.old)) (W.contents (wrapped writer.old)) team }
+    requires sound { has_failed writer.old ≡ false }
+    ensures run { IsRun course.now.scenario.now (W.contents (wrapped writer.old)) (W.contents (wrapped writer.new)) result }
+    ensures writer { has_failed writer.new ≡ is_write result }
+    ensures only { IfErr result (λ e. e ≢ RunError.BadDivision) }
+{
+    // Taken apart, since a closure that captures a struct of references loses its contract.
+    let &Course {
+        alloc,
+        scenario,
+        layout,
+        parkers,
+        worth,
+    } = course;
+    let (outcome, _writer) = thread::scope(
+        thread::scope_env(),
+        rt,
+        // The writer is moved in and handed back, since the contract has to say what it took.
+        move |scope| -> (Result<Report, RunError>, &mut Watched<W>)
+            requires sync { IsSync R.row × IsSync J.row }
+            requires named { J.run ≡ Some (scenario.now, layout.now) }
+            requires at { IsTeam scenario.now layout.now (W.contents (wrapped writer.now)) (W.contents (wrapped writer.now)) team }
+            requires sound { has_failed writer.now ≡ false }
+            ensures same { result.1.ghost_name ≡ writer.entry.ghost_name }
+            ensures run { IsRun scenario.entry.now (W.contents (wrapped writer.entry.now)) (W.contents (wrapped result.1.now)) result.0 }
+            ensures writer { has_failed result.1.now ≡ is_write result.0 }
+            ensures only { IfErr result.0 (λ e. e ≢ RunError.BadDivision) }
+        {
+            let course = Course {
+                alloc,
+                scenario,
+                layout,
+                parkers,
+                worth,
+            };
+            let mut links: Vec<Link<J>> = Vec::new(alloc);
+            let outcome = start_and_drive(scope, rt, &course, team, &mut links, &mut *writer);
+            // No more can come: the workers end, and the scope joins them.
+            drop(links);
+            wake_all(parkers);
+            (outcome, writer)
+        },
+    );
+    outcome
+}
+
+/// The run of a name.
+fn run_named<J: Named + Send + Sync, R: Threads + Wait + Sync, W: Write>(
+    rt: &R,
+    alloc: Global,
+    scenario: &Scenario,
+    layout: &Layout,
+    hands: Hands,
+    writer: &mut Watched<W>,
+) -> Result<Report, RunError>
+    requires named { J.run ≡ Some (scenario.now, layout.now) }
+    requires layout { IsLayout scenario.now layout.now }
+    requires sound { has_failed writer.old ≡ false }
+    ensures run { IsRun scenario.now (W.contents (wrapped writer.old)) (W.contents (wrapped writer.new)) result }
+    ensures writer { has_failed writer.new ≡ is_write result }
+    ensures only { IfErr result (λ e. e ≢ RunError.BadDivision) }
+{
+    let team = Team::start(alloc, scenario, layout)?;
+    let parkers = make_parkers(alloc, hands.workers)?;
+    let course = Course {
+        alloc,
+        scenario,
+        layout,
+        parkers: parkers.as_slice(),
+        worth: hands.worth,
+    };
+    run_standing::<J, R, W>(rt, &course, team, writer)
+}
+
+/// Runs a scenario by windows, by 1 to 64 workers whose threads stand for the whole run. The calling
+/// thread is one of them. A part of the division has the states of its nodes and their pending
+/// events for the whole run. After a window of few events only the first workers run the next one.
+/// Writes the trace and returns the report, which depend on neither the workers nor the division.
+/// What was written before an error is a beginning of the trace.
+///
+/// # Errors
+///
+/// `BadDivision`, if the division has another number of nodes than the scenario: nothing is written.
+/// `Worker`, if a thread cannot be started: nothing is written. Of several faults of a window
+/// `Memory`, else `TooManyEvents`, else `Write`.
+pub fn run_team<R: Threads + Wait + Sync, W: Write>(
+    rt: &R,
+    alloc: Global,
+    scenario: &Scenario,
+    division: &Division,
+    workers: u32,
+    writer: &mut Watched<W>,
+) -> Result<Report, RunError>
+    requires workers { (0 < workers) × (workers ≤ MOST_WORKERS) }
+    requires sound { has_failed writer.old ≡ false }
+    ensures run { IsRun scenario.now (W.contents (wrapped writer.old)) (W.contents (wrapped writer.new)) result }
+    ensures writer { has_failed writer.new ≡ is_write result }
+    ensures bad { result ≡ Err RunError.BadDivision → (length division.now.of_node ≢ node_count scenario.now) × (writer.new ≡ writer.old) }
+{
+    let hands = Hands {
+        workers,
+        worth: EVENTS_OF_A_WORKER,
+    };
+    run_team_by(rt, alloc, scenario, division, hands, writer)
+}
+
+/// `run_team`, with the events that are worth a wake-up, so that a test can have all workers woken.
+pub fn run_team_by<R: Threads + Wait + Sync, W: Write>(
+    rt: &R,
+    alloc: Global,
+    scenario: &Scenario,
+    division: &Division,
+    hands: Hands,
+    writer: &mut Watched<W>,
+) -> Result<Report, RunError>
+    requires workers { (0 < hands.workers) × (hands.workers ≤ MOST_WORKERS) }
+    requires sound { has_failed writer.old ≡ false }
+    ensures run { IsRun scenario.now (W.contents (wrapped writer.old)) (W.contents (wrapped writer.new)) result }
+    ensures writer { has_failed writer.new ≡ is_write result }
+    ensures bad { result ≡ Err RunError.BadDivision → (length division.now.of_node ≢ node_count scenario.now) × (writer.new ≡ writer.old) }
+{
+    let layout = Layout::new(alloc, scenario, division)?;
+    run_named::<Brand, R, W>(rt, alloc, scenario, &layout, hands, writer)
+}

@@ -1,0 +1,37 @@
+//! What a worker's thread does.
+ghost use Rattle.std.specs.Prelude.{◌≡◌, Some};
+
+use crate::course::Course;
+use crate::link::{Desk, next_item};
+use crate::named::Named;
+use std::sync::Wait;
+
+/// Runs the parts that come, until no more can come.
+pub fn serve<J: Named, R: Wait>(rt: &R, course: &Course<'_>, desk: Desk<J>, worker: usize)
+    requires { J.run ≡ Some (course.now.scenario.now, course.now.layout.now) }
+{
+    let &Course {
+        alloc,
+        scenario,
+        layout,
+        parkers,
+        ..
+    } = course;
+    let Desk {
+        mut orders,
+        mut replies,
+    } = desk;
+    let (Some(caller), Some(mine)) = (parkers.first(), parkers.get(worker)) else {
+        return;
+    };
+    for _ in rt.forever() {
+        let Some(order) = next_item(rt, &mut orders, mine) else {
+            return;
+        };
+        let reply = order.run(alloc, scenario, layout);
+        if replies.push(reply).is_err() {
+            return;
+        }
+        caller.unpark();
+    }
+}
