@@ -45,7 +45,7 @@ use Rattle.clap.proofs.OnLiterals.{clap_on_literals}
 use Rattle.clap.proofs.CallerLemmas.{required_has_value}
 use Rattle.chord_command.proofs.Options.{accepted_text, count_text, empty_list, from_rules, is_plain_rule, not_true, plain_from_rules}
 use Rattle.chord_command.specs.Commands.{
-  SplitNames,
+  OptionNames,
   check_app,
   ids_app,
   run_app,
@@ -54,6 +54,7 @@ use Rattle.chord_command.specs.Commands.{
   workers_rule,
   parts_rule,
   split_rule,
+  engine_rule,
   serial_rule,
   trace_rule,
 }
@@ -172,16 +173,16 @@ pub ids_rules : (c : Command) → app_of c ≡ ids_app → HasRules c (scenario_
 unfolding ids_app
 ids_rules c same = has_rules c ids_app same refl refl refl
 
-pub run_is_simple : (names : SplitNames) → is_simple (run_app names) ≡ true
+pub run_is_simple : (names : OptionNames) → is_simple (run_app names) ≡ true
 unfolding run_app clap_on_literals
 run_is_simple names = refl
 
-pub run_is_free : (names : SplitNames) → is_simple_and_free (run_app names) ≡ true
+pub run_is_free : (names : OptionNames) → is_simple_and_free (run_app names) ≡ true
 unfolding run_app clap_on_literals
 run_is_free names = refl
 
-pub run_rules : (c : Command) (names : SplitNames) → app_of c ≡ run_app names
-    → HasRules c (scenario_rule ∷ latency_rule ∷ workers_rule ∷ parts_rule ∷ split_rule names ∷ serial_rule ∷ trace_rule ∷ [])
+pub run_rules : (c : Command) (names : OptionNames) → app_of c ≡ run_app names
+    → HasRules c (scenario_rule ∷ latency_rule ∷ workers_rule ∷ parts_rule ∷ split_rule names.splits ∷ engine_rule names.engines ∷ serial_rule ∷ trace_rule ∷ [])
 unfolding run_app
 run_rules c names same = has_rules c (run_app names) same refl refl refl
 
@@ -206,22 +207,22 @@ other : {A : Type 0} → false ≡ true → A
 other h = absurd (false≢true h)
 
 -- the counts that a run was given
-pub workers_given : (c : Command) (m : ArgMatches) → IsParsedFrom c m → (names : SplitNames) → app_of c ≡ run_app names
+pub workers_given : (c : Command) (m : ArgMatches) → IsParsedFrom c m → (names : OptionNames) → app_of c ≡ run_app names
     → IfSome (one_text (found_of m) (codes "workers")) (IsCountUpTo 64)
 workers_given c m p names same =
     let has = run_rules c names same in
     count_text 64 _ (accepted_text c m p (codes "workers") (differ (codes "workers") (codes "help") refl)
     (differ (codes "workers") (codes "version") refl) (vp.Signed (pos 1) (pos 64))
     (option_rules (codes "workers") (vp.Signed (pos 1) (pos 64)) (args_of c) _ has.rules_are
-    (other, (other, ((λ _. (refl, refl)), (other, (other, (other, (other, tt))))))))
+    (other, (other, ((λ _. (refl, refl)), (other, (other, (other, (other, (other, tt)))))))))
     has.plain has.local (differ (codes "workers") [] refl))
 
-pub parts_given : (c : Command) (m : ArgMatches) → IsParsedFrom c m → (names : SplitNames) → app_of c ≡ run_app names
+pub parts_given : (c : Command) (m : ArgMatches) → IsParsedFrom c m → (names : OptionNames) → app_of c ≡ run_app names
     → IfSome (one_text (found_of m) (codes "parts")) (IsCountUpTo 512)
 parts_given c m p names same =
     let has = run_rules c names same in
     count_text 512 _ (accepted_text c m p (codes "parts") (differ (codes "parts") (codes "help") refl) (differ (codes "parts") (codes "version") refl)
     (vp.Signed (pos 1) (pos 512))
     (option_rules (codes "parts") (vp.Signed (pos 1) (pos 512)) (args_of c) _ has.rules_are
-    (other, (other, (other, ((λ _. (refl, refl)), (other, (other, (other, tt))))))))
+    (other, (other, (other, ((λ _. (refl, refl)), (other, (other, (other, (other, tt)))))))))
     has.plain has.local (differ (codes "parts") [] refl))

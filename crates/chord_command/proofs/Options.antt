@@ -31,7 +31,7 @@ use Rattle.std.specs.Prelude.{IfSome, Result, Ok, Err, cond, option_map, pos, sl
 use Rattle.std.specs.Str.Parse.{ParsesUnsigned, starts_with_minus}
 use Rattle.std.proofs.lemmas.Int.{ints}
 use Rattle.clap.specs.Lexer.{without_minus}
-use Rattle.chord_command.specs.Orders.{IsCountUpTo, count_or_one, number_of}
+use Rattle.chord_command.specs.Orders.{IsCountUpTo, count_or, number_of}
 use Rattle.std.specs.Borrow.{Bor}
 use Rattle.std.specs.List.{All, list_all, slice_index_or}
 use Rattle.std.specs.Str.{bytes_eq}
@@ -166,13 +166,13 @@ module _ (old : Command) (m : ArgMatches) (p : IsParsedFrom old m) (id : Text) (
 -- ---- counts
 
 -- what a getter reads of a number at an option that was given
-pub read_count : {E : Type 0} (G : Text → Result ℕ E → Type 0) (o : Option Text) (r : Option ℕ)
+pub read_count : {E : Type 0} (G : Text → Result ℕ E → Type 0) (default : ℕ) (o : Option Text) (r : Option ℕ)
     → ((t : Text) (x : Result ℕ E) → G t x → ParsesUnsigned 32 10 t x)
-    → (o ≡ None → r ≡ None) → ((t : Text) → o ≡ Some t → ReadsOne G t r) → IfSome o (IsCountUpTo 512) → unwrap_or r 1 ≡ count_or_one o
-read_count G None r parses none some fits = rw (none refl) refl
-read_count G (Some t) r parses none some fits = go r (some t refl)
+    → (o ≡ None → r ≡ None) → ((t : Text) → o ≡ Some t → ReadsOne G t r) → IfSome o (IsCountUpTo 512) → unwrap_or r default ≡ count_or default o
+read_count G default None r parses none some fits = rw (none refl) refl
+read_count G default (Some t) r parses none some fits = go r (some t refl)
   where
-    go : (r : Option ℕ) → ReadsOne G t r → unwrap_or r 1 ≡ number_of t
+    go : (r : Option ℕ) → ReadsOne G t r → unwrap_or r default ≡ number_of t
     go (Some n) read = (parses t (Ok n) read).1
     go None read = absurd (parses t (Err read.0) read.1 (fits.0, omega (arith, fits.2)))
 

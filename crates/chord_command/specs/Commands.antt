@@ -36,16 +36,37 @@ parts_rule = record (new_rule (codes "parts")) {
   parser = Some (parser.Signed (pos 1) (pos 512));
 }
 
--- the names of the splits, wherever they lie in memory
-abbrev pub SplitNames : Type 0
-SplitNames = Bor (List (Bor Text))
+-- a list of names, wherever they lie in memory
+abbrev pub Names : Type 0
+Names = Bor (List (Bor Text))
 
-abbrev pub IsSplitNames : SplitNames → Type 0
-IsSplitNames names = map (λ name. name.now) names.now ≡ codes "rr" ∷ codes "block" ∷ []
+abbrev pub texts_of : Names → List Text
+texts_of names = map (λ name. name.now) names.now
 
-abbrev pub split_rule : SplitNames → Rule
+abbrev pub IsSplitNames : Names → Type 0
+IsSplitNames names = texts_of names ≡ codes "rr" ∷ codes "block" ∷ []
+
+abbrev pub IsEngineNames : Names → Type 0
+IsEngineNames names = texts_of names ≡ codes "serial" ∷ codes "crew" ∷ codes "team" ∷ []
+
+-- the names that the options take
+pub record OptionNames : Type 0 where
+  pub splits : Names
+  pub engines : Names
+  pub are_splits : IsSplitNames splits
+  pub are_engines : IsEngineNames engines
+
+abbrev pub split_rule : Names → Rule
 split_rule names = record (new_rule (codes "split")) {
   long = Some (codes "split");
+  value_names = 1;
+  action = Some Set;
+  parser = Some (parser.Names names);
+}
+
+abbrev pub engine_rule : Names → Rule
+engine_rule names = record (new_rule (codes "engine")) {
+  long = Some (codes "engine");
   value_names = 1;
   action = Some Set;
   parser = Some (parser.Names names);
@@ -70,8 +91,8 @@ check_app = with_rule (with_rule (new_app (codes "check")) scenario_rule) latenc
 unfoldable pub ids_app : App
 ids_app = with_rule (with_rule (new_app (codes "ids")) scenario_rule) latency_rule
 
-unfoldable pub run_app : SplitNames → App
+unfoldable pub run_app : OptionNames → App
 run_app names =
-    with_rule (with_rule (with_rule (with_rule (with_rule (with_rule (with_rule
+    with_rule (with_rule (with_rule (with_rule (with_rule (with_rule (with_rule (with_rule
     (new_app (codes "run")) scenario_rule) latency_rule) workers_rule) parts_rule)
-    (split_rule names)) serial_rule) trace_rule
+    (split_rule names.splits)) (engine_rule names.engines)) serial_rule) trace_rule

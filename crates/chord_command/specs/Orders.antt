@@ -1,11 +1,14 @@
 -- The order that the arguments of the program give.
-use Rattle.std.specs.Prelude.{◌≡◌, ◌⊎◌, ◌↔◌, ◌≤◌, ℕ, true, List, [], drop, slice_get, codes, Option, Some, option_map, string_bytes, IsTrue, String}
+use Rattle.std.specs.Prelude.{◌≡◌, ◌⊎◌, ◌↔◌, ◌≤◌, ◌==◌, ◌&&◌, if◌then◌else◌, ℕ, Bool, true, false, List, [], drop, slice_get, codes, Option, Some, option_map, string_bytes, String}
 use Rattle.std.specs.Global.{Global}
 use Rattle.std.specs.Option.{option_map_or}
+use Rattle.std.specs.Str.{bytes_eq}
 use Rattle.std.specs.Str.Parse.{IsNumeral, digits_value, without_leading_plus}
 use Rattle.clap.specs.Words.{Row, Text, fault_of, first_of, matches_of, one_of, takes}
-use Rattle.chord_command.specs.Commands.{SplitNames, IsSplitNames, check_app, ids_app, run_app}
+use Rattle.chord_command.specs.Commands.{OptionNames, check_app, ids_app, run_app}
 use Rattle.chord_command.specs.declared.order.Files.{Files}
+use Rattle.chord_plan.specs.declared.plan.Engine.{Engine}
+use Rattle.chord_plan.specs.declared.plan.Engine.TheVariants as engine
 use Rattle.chord_plan.specs.declared.plan.Plan.{Plan}
 use Rattle.chord_plan.specs.declared.plan.Split.TheVariants.{Blocks}
 use Rattle.chord_command.specs.declared.order.Order.{Order}
@@ -19,9 +22,30 @@ number_of text = digits_value 10 (without_leading_plus text)
 abbrev pub IsCountUpTo : ℕ → Text → Type 0
 IsCountUpTo most text = IsNumeral 10 (without_leading_plus text) × (1 ≤ number_of text) × (number_of text ≤ most)
 
--- the number that the option was given, and 1 without the option
-abbrev pub count_or_one : Option Text → ℕ
-count_or_one text = option_map_or number_of text 1
+-- the number that the option was given, and the default without the option
+abbrev pub count_or : ℕ → Option Text → ℕ
+count_or default text = option_map_or number_of text default
+
+-- whether the option was given this value
+abbrev pub is_value : Text → Option Text → Bool
+is_value text given = option_map_or (λ value. bytes_eq value text) given false
+
+-- the engine of a name; `clap` takes no name but `serial`, `crew` and `team`
+abbrev pub engine_named : Text → Engine
+engine_named name =
+    if bytes_eq name (codes "serial") then engine.Serial
+    else if bytes_eq name (codes "crew") then engine.Crew
+    else engine.Team
+
+-- the engine where none is named
+abbrev pub engine_for : ℕ → ℕ → Engine
+engine_for workers parts = if (workers == 1) && (parts == 1) then engine.Serial else engine.Team
+
+-- the serial engine with `--serial`, else the one that is named, else the one for these workers and parts
+abbrev pub engine_of : List Row → ℕ → ℕ → Engine
+engine_of rows workers parts =
+    if is_value (codes "true") (first_of (codes "serial") rows) then engine.Serial
+    else option_map_or engine_named (first_of (codes "engine") rows) (engine_for workers parts)
 
 -- the file names are those of the options
 pub record HasFiles (rows : List Row) (f : Files) : Type 0 where
@@ -30,9 +54,9 @@ pub record HasFiles (rows : List Row) (f : Files) : Type 0 where
 
 -- the plan is the one of the options, with the defaults of those left out
 pub record HasPlan (rows : List Row) (p : Plan) : Type 0 where
-  pub serial : IsTrue p.serial ↔ (first_of (codes "serial") rows ≡ Some (codes "true"))
-  pub workers : p.workers ≡ count_or_one (one_of (codes "workers") rows)
-  pub parts : p.parts ≡ count_or_one (one_of (codes "parts") rows)
+  pub engine : p.engine ≡ engine_of rows p.workers p.parts
+  pub workers : p.workers ≡ count_or 1 (one_of (codes "workers") rows)
+  pub parts : p.parts ≡ count_or p.workers (one_of (codes "parts") rows)
   pub split : (p.split ≡ Blocks) ↔ (first_of (codes "split") rows ≡ Some (codes "block"))
 
 -- the argument after the program's name
@@ -41,8 +65,7 @@ command_word words = slice_get words 1
 
 -- the arguments from `run` on give these files, this plan and this trace
 abbrev pub IsRunOf : List Text → Files → Plan → Option (String Global) → Type 0
-IsRunOf words files plan trace = (names : SplitNames) × IsSplitNames names
-    × (fault_of (run_app names) words ≡ [])
+IsRunOf words files plan trace = (names : OptionNames) × (fault_of (run_app names) words ≡ [])
     × HasFiles (matches_of (run_app names) words) files
     × HasPlan (matches_of (run_app names) words) plan
     × (first_of (codes "trace") (matches_of (run_app names) words) ≡ option_map string_bytes trace)
@@ -64,4 +87,4 @@ TakesWords words =
     ((command_word words ≡ Some (codes "check")) × (takes check_app (drop 1 words) ≡ true))
     ⊎ ((command_word words ≡ Some (codes "ids")) × (takes ids_app (drop 1 words) ≡ true))
     ⊎ ((command_word words ≡ Some (codes "run"))
-    × ((names : SplitNames) → IsSplitNames names → takes (run_app names) (drop 1 words) ≡ true))
+    × ((names : OptionNames) → takes (run_app names) (drop 1 words) ≡ true))

@@ -1,7 +1,7 @@
 //! The command line of the program, for clap to read.
 ghost use Rattle.std.specs.Prelude.{◌≡◌, false, IfOk};
 ghost use Rattle.clap.specs.Words.{app_of, rule_of};
-ghost use Rattle.chord_command.specs.Commands.{IsSplitNames, SplitNames, check_app, ids_app, latency_rule, parts_rule, run_app, scenario_rule, serial_rule, split_rule, trace_rule, workers_rule};
+ghost use Rattle.chord_command.specs.Commands.{IsEngineNames, IsSplitNames, Names, OptionNames, check_app, engine_rule, ids_app, latency_rule, parts_rule, run_app, scenario_rule, serial_rule, split_rule, trace_rule, workers_rule};
 
 use clap::{Arg, ArgAction, Command, value_parser};
 use std::alloc::{AllocError, Global};
@@ -52,7 +52,7 @@ pub fn ids_command<'a>(alloc: Global) -> Result<Command<'a>, AllocError>
 
 /// The command `run`.
 pub fn run_command<'a>(alloc: Global) -> Result<Command<'a>, AllocError>
-    ensures { IfOk result (λ c. (names : SplitNames) × IsSplitNames names × (app_of c ≡ run_app names)) }
+    ensures { IfOk result (λ c. (names : OptionNames) × (app_of c ≡ run_app names)) }
 {
     Command::new(alloc, "run")
         .bin_name("chordsim run")?
@@ -62,6 +62,7 @@ pub fn run_command<'a>(alloc: Global) -> Result<Command<'a>, AllocError>
         .arg(workers_argument(alloc))?
         .arg(parts_argument(alloc))?
         .arg(split_argument(alloc))?
+        .arg(engine_argument(alloc))?
         .arg(serial_argument(alloc))?
         .arg(trace_argument(alloc))
 }
@@ -110,7 +111,9 @@ fn parts_argument<'a>(alloc: Global) -> Arg<'a>
     Arg::new(alloc, "parts")
         .long("parts")
         .value_name("COUNT")
-        .help("Number of parts that the nodes are divided into, 1 to 512 [default: 1]")
+        .help(
+            "Number of parts that the nodes are divided into, 1 to 512 [default: as many as workers]",
+        )
         .action(ArgAction::Set)
         .value_parser(value_parser!(u32).range(1..=512))
 }
@@ -118,7 +121,7 @@ fn parts_argument<'a>(alloc: Global) -> Arg<'a>
 static SPLITS: [&str; 2] = ["rr", "block"];
 
 fn split_argument<'a>(alloc: Global) -> Arg<'a>
-    ensures rule { (names : SplitNames) × IsSplitNames names × (rule_of result ≡ split_rule names) }
+    ensures rule { (names : Names) × IsSplitNames names × (rule_of result ≡ split_rule names) }
     ensures local { result.global ≡ false }
 {
     Arg::new(alloc, "split")
@@ -131,13 +134,31 @@ fn split_argument<'a>(alloc: Global) -> Arg<'a>
         .value_parser(SPLITS.as_slice())
 }
 
+static ENGINES: [&str; 3] = ["serial", "crew", "team"];
+
+fn engine_argument<'a>(alloc: Global) -> Arg<'a>
+    ensures rule { (names : Names) × IsEngineNames names × (rule_of result ≡ engine_rule names) }
+    ensures local { result.global ≡ false }
+{
+    Arg::new(alloc, "engine")
+        .long("engine")
+        .value_name("NAME")
+        .help(
+            "What runs the scenario: serial is one event at a time on one thread, team has threads for the whole run, crew starts threads in each window [default: serial with one worker and one part, else team]",
+        )
+        .action(ArgAction::Set)
+        .value_parser(ENGINES.as_slice())
+}
+
 fn serial_argument<'a>(alloc: Global) -> Arg<'a>
     ensures rule { rule_of result ≡ serial_rule }
     ensures local { result.global ≡ false }
 {
     Arg::new(alloc, "serial")
         .long("serial")
-        .help("Runs one event at a time on one thread, and ignores --workers, --parts and --split")
+        .help(
+            "Same as --engine serial, and wins over --engine; --workers, --parts and --split are then ignored",
+        )
         .action(ArgAction::SetTrue)
 }
 

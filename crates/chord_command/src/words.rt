@@ -2,13 +2,13 @@
 ghost use Rattle.std.specs.Prelude.{◌≡◌, ◌↔◌, Some, IsTrue, true, map, codes, is_some, option_map, string_bytes, [], OnOk, IfOk, IfErr, IfSome};
 ghost use Rattle.clap.specs.Words.{fault_of, first_of, first_value, found_of, kind_of, matches_of, one_of, one_text, rows_of, takes};
 ghost use Rattle.clap.specs.declared.error.kind.ErrorKind.TheVariants.{OutOfMemory};
-ghost use Rattle.chord_command.specs.Commands.{IsSplitNames, SplitNames, check_app, ids_app, run_app};
-ghost use Rattle.chord_command.specs.Orders.{HasFiles, HasPlan, IsCountUpTo, IsOrderOf, IsRunOf, TakesWords, count_or_one};
+ghost use Rattle.chord_command.specs.Commands.{OptionNames, check_app, ids_app, run_app};
+ghost use Rattle.chord_command.specs.Orders.{HasFiles, HasPlan, IsCountUpTo, IsOrderOf, IsRunOf, TakesWords, count_or, engine_for, engine_named, engine_of};
 ghost use Rattle.chord_command.specs.declared.words.WordFault.TheVariants.{Memory};
 
 use crate::commands::{check_command, ids_command, run_command, whole_command};
 use crate::order::{Files, Order};
-use chord_plan::{Plan, Split};
+use chord_plan::{Engine, Plan, Split};
 use clap::error::ErrorKind;
 use clap::{ArgMatches, Error};
 use std::alloc::{AllocError, Global};
@@ -99,7 +99,7 @@ fn files_of_ids(alloc: Global, words: &[String]) -> Result<Files, WordFault>
 
 fn run_options(alloc: Global, words: &[String]) -> Result<(Files, Plan, Option<String>), WordFault>
     ensures order { IfOk result (λ r. IsRunOf (map string_bytes words.now) r.0 r.1 r.2) }
-    ensures taken { ((names : SplitNames) → IsSplitNames names → takes (run_app names) (map string_bytes words.now) ≡ true) → IfErr result (λ e. e ≡ WordFault.Memory) }
+    ensures taken { ((names : OptionNames) → takes (run_app names) (map string_bytes words.now) ≡ true) → IfErr result (λ e. e ≡ WordFault.Memory) }
 {
     let command = run_command(alloc)?;
     let matches = command.try_get_matches_from(words)?;
@@ -114,11 +114,50 @@ fn plan_in(matches: &ArgMatches<'_>) -> Plan
     requires parts { IfSome (one_text (found_of matches.now) (codes "parts")) (IsCountUpTo 512) }
     ensures { HasPlan (rows_of (found_of matches.now)) result }
 {
+    let workers = count_in(matches, "workers", 1);
+    let parts = count_in(matches, "parts", workers);
+    let engine = engine_in(matches, workers, parts);
+    let split = split_in(matches);
     Plan {
-        serial: has_text(matches, "serial", "true"),
-        workers: count_in(matches, "workers"),
-        parts: count_in(matches, "parts"),
-        split: split_in(matches),
+        engine,
+        workers,
+        parts,
+        split,
+    }
+}
+
+/// The serial engine with `--serial`, else the one that is named, else the one for these workers and parts.
+fn engine_in(matches: &ArgMatches<'_>, workers: u32, parts: u32) -> Engine
+    ensures { result ≡ engine_of (rows_of (found_of matches.now)) workers parts }
+{
+    if has_text(matches, "serial", "true") {
+        return Engine::Serial;
+    }
+    match matches.get_str("engine") {
+        Some(name) => engine_named(name),
+        None => engine_for(workers, parts),
+    }
+}
+
+/// The engine of a name: clap takes no name but these three.
+fn engine_named(name: &str) -> Engine
+    ensures { result ≡ engine_named name.now }
+{
+    match name {
+        "serial" => Engine::Serial,
+        "crew" => Engine::Crew,
+        _ => Engine::Team,
+    }
+}
+
+/// The engine where none is named.
+fn engine_for(workers: u32, parts: u32) -> Engine
+    ensures { result ≡ engine_for workers parts }
+{
+    if workers == 1 && parts == 1 {
+        Engine::Serial
+    } else {
+        Engine::Team
     }
 }
 
@@ -142,12 +181,12 @@ fn has_text(matches: &ArgMatches<'_>, id: &str, text: &str) -> bool
     }
 }
 
-/// The number that the option was given, and 1 without the option.
-fn count_in(matches: &ArgMatches<'_>, id: &str) -> u32
+/// The number that the option was given, and the default without the option.
+fn count_in(matches: &ArgMatches<'_>, id: &str, default: u32) -> u32
     requires { IfSome (one_text (found_of matches.now) id.now) (IsCountUpTo 512) }
-    ensures { result ≡ count_or_one (one_of id.now (rows_of (found_of matches.now))) }
+    ensures { result ≡ count_or default (one_of id.now (rows_of (found_of matches.now))) }
 {
-    matches.get_one::<u32>(id).unwrap_or(1)
+    matches.get_one::<u32>(id).unwrap_or(default)
 }
 
 fn files_in(alloc: Global, matches: &ArgMatches<'_>) -> Result<Files, AllocError>

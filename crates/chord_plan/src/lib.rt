@@ -4,5 +4,5 @@
 mod plan;
 mod text;
 
-pub use plan::{Plan, Split};
+pub use plan::{Engine, Plan, Split};
 pub use text::Text;

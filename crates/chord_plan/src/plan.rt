@@ -10,11 +10,22 @@ pub enum Split {
     Blocks,
 }
 
-/// How a run is carried out: one event at a time on one thread, or by 1 to 64 workers with the
-/// nodes in 1 to 512 parts.
+/// What carries out a run.
+#[derive(Clone, Copy, Debug, PartialEq, Eq, Drop)]
+pub enum Engine {
+    /// One event at a time, on one thread.
+    Serial,
+    /// Workers that start anew in each window and draw its parts.
+    Crew,
+    /// Workers that stand for the whole run, each with parts of its own.
+    Team,
+}
+
+/// How a run is carried out: by which engine, and by workers, 1 to 64 of them, with the nodes in 1
+/// to 512 parts. The serial engine has neither workers nor parts.
 #[derive(Clone, Copy, Debug, PartialEq, Eq, Drop)]
 pub struct Plan {
-    pub serial: bool,
+    pub engine: Engine,
     pub workers: u32,
     pub parts: u32,
     pub split: Split,

@@ -6,7 +6,7 @@ mod playing;
 mod running;
 mod text_reader;
 
-pub use chord_plan::{Plan, Split, Text};
+pub use chord_plan::{Engine, Plan, Split, Text};
 pub use fault::PlayFault;
 pub use playing::{load, play};
 // `play` runs a scenario by it. It is public so that a test can count the threads and see the parts.

@@ -1,5 +1,5 @@
 //! From bytes to bytes: `load` and `play`.
-ghost use Rattle.std.specs.Prelude.{◌≡◌, ◌⊎◌, false, IfErr, IfOk, OnOk, Ok, Err};
+ghost use Rattle.std.specs.Prelude.{◌≡◌, ◌≢◌, ◌⊎◌, false, IfErr, IfOk, OnOk, Ok, Err};
 ghost use Rattle.chord_event.specs.declared.error.RunError.{RunError};
 ghost use Rattle.chord_play.specs.Faults.{is_of_run, is_write_fault};
 ghost use Rattle.chord_play.specs.Played.{IsPlayed};
@@ -12,7 +12,7 @@ use crate::running::run_planned;
 use crate::text_reader::read_text;
 use chord_crew::{AllStart, OpenGate};
 use chord_event::RunError;
-use chord_plan::{Plan, Text};
+use chord_plan::{Engine, Plan, Text};
 use chord_scenario::{Scenario, read_scenario};
 use chord_trace::{Report, Watched};
 use std::alloc::Global;
@@ -47,8 +47,8 @@ pub fn load<R: Read, Q: Read>(
 }
 
 /// Loads a scenario and runs it: writes its trace and returns its report. Neither depends on the
-/// plan, which says whether the events run one at a time or by workers and parts. What was written
-/// before an error is a beginning of the trace.
+/// plan, which says by which engine, workers and parts. What was written before an error is a
+/// beginning of the trace.
 pub fn play<T: Threads + Wait + Sync, R: Read, Q: Read, W: Write>(
     rt: &T,
     alloc: Global,
@@ -66,7 +66,7 @@ pub fn play<T: Threads + Wait + Sync, R: Read, Q: Read, W: Write>(
     ensures faults { IfErr result (IsFaultOf (reading R.remaining scenario.old scenario.new) (reading Q.remaining latency.old latency.new)) }
     ensures untouched { IfErr result (λ fault. is_of_run fault ≡ false → writer.new ≡ writer.old) }
     ensures writer { has_failed writer.new ≡ is_write_fault result }
-    ensures worker { result ≡ Err (PlayFault.Run RunError.Worker) → plan.now.serial ≡ false }
+    ensures worker { result ≡ Err (PlayFault.Run RunError.Worker) → plan.now.engine ≢ Engine.Serial }
     ensures only { (e : RunError) → result ≡ Err (PlayFault.Run e) → (e ≡ RunError.Memory) ⊎ (e ≡ RunError.Worker) ⊎ (e ≡ RunError.TooManyEvents) ⊎ (e ≡ RunError.Write) }
 {
     let loaded = load(alloc, scenario, latency)?;

@@ -1,5 +1,5 @@
 //! How a plan is carried out.
-ghost use Rattle.std.specs.Prelude.{◌≡◌, ◌⊎◌, ◌<◌, false, IfErr, IfOk, Err};
+ghost use Rattle.std.specs.Prelude.{◌≡◌, ◌≢◌, ◌⊎◌, ◌<◌, false, IfErr, IfOk, Err};
 ghost use Rattle.chord_output.specs.Runs.{IsRun};
 ghost use Rattle.chord_play.specs.Plans.{planned};
 ghost use Rattle.chord_trace.specs.Watched.{wrapped, has_failed};
@@ -7,9 +7,10 @@ ghost use Rattle.chord_trace.specs.Writing.{is_write};
 
 use chord_crew::{Gate, Starter, run_crew_started};
 use chord_event::{Memory, RunError};
-use chord_plan::{Plan, Split};
+use chord_plan::{Engine, Plan, Split};
 use chord_scenario::Scenario;
 use chord_serial::run_serial;
+use chord_team::run_team;
 use chord_trace::{Report, Watched};
 use chord_window::Division;
 use std::alloc::Global;
@@ -28,8 +29,8 @@ fn divide(alloc: Global, plan: &Plan, nodes: u32) -> Result<Division, Memory>
     }
 }
 
-/// Runs a scenario as the plan says. The threads of its workers start if the starter allows it, and
-/// each passes the gate before it runs a part: `play` allows all and holds none.
+/// Runs a scenario as the plan says. The threads of a crew start if the starter allows it, and each
+/// passes the gate before it runs a part: `play` allows all and holds none.
 pub fn run_planned<T: Threads + Wait + Sync, S: Starter, G: Gate + Sync, W: Write>(
     rt: &T,
     alloc: Global,
@@ -42,22 +43,28 @@ pub fn run_planned<T: Threads + Wait + Sync, S: Starter, G: Gate + Sync, W: Writ
     requires sound { has_failed writer.old ≡ false }
     ensures run { IsRun scenario.now (W.contents (wrapped writer.old)) (W.contents (wrapped writer.new)) result }
     ensures writer { has_failed writer.new ≡ is_write result }
-    ensures worker { result ≡ Err RunError.Worker → plan.now.serial ≡ false }
+    ensures worker { result ≡ Err RunError.Worker → plan.now.engine ≢ Engine.Serial }
     ensures only { IfErr result (λ e. (e ≡ RunError.Memory) ⊎ (e ≡ RunError.Worker) ⊎ (e ≡ RunError.TooManyEvents) ⊎ (e ≡ RunError.Write)) }
 {
-    if plan.serial {
-        return run_serial(alloc, scenario, writer);
-    }
     scenario.recall_range();
-    let division = divide(alloc, plan, scenario.nodes())?;
-    run_crew_started(
-        rt,
-        alloc,
-        scenario,
-        &division,
-        plan.workers,
-        starter,
-        gate,
-        writer,
-    )
+    match plan.engine {
+        Engine::Serial => run_serial(alloc, scenario, writer),
+        Engine::Crew => {
+            let division = divide(alloc, plan, scenario.nodes())?;
+            run_crew_started(
+                rt,
+                alloc,
+                scenario,
+                &division,
+                plan.workers,
+                starter,
+                gate,
+                writer,
+            )
+        }
+        Engine::Team => {
+            let division = divide(alloc, plan, scenario.nodes())?;
+            run_team(rt, alloc, scenario, &division, plan.workers, writer)
+        }
+    }
 }

@@ -9,7 +9,7 @@ ghost use Rattle.chordsim.specs.Answers.{HasAnswered, HasBegun, HasReported, IsA
 
 use crate::questions::{Question, answer};
 use chord_event::RunError;
-use chord_play::{Plan, PlayFault, load, play};
+use chord_play::{Engine, Plan, PlayFault, load, play};
 use chord_trace::{Watched, write_text};
 use std::alloc::Global;
 use std::io::{self, Read, Write};
@@ -62,7 +62,7 @@ pub fn run<T: AllocGlobal + Threads + Wait + Sync, R: Read, Q: Read, V: Write, W
     ensures untouched { IfErr result (λ fault. is_of_run fault ≡ false → (trace.new ≡ trace.old) × (output.new ≡ output.old)) }
     ensures writers { (has_failed trace.new || has_failed output.new) ≡ is_write_fault result }
     ensures over { result ≡ Err (PlayFault.Run RunError.TooManyEvents) → IsOver (R.remaining (wrapped scenario.old)) (Q.remaining (wrapped latency.old)) }
-    ensures worker { result ≡ Err (PlayFault.Run RunError.Worker) → plan.now.serial ≡ false }
+    ensures worker { result ≡ Err (PlayFault.Run RunError.Worker) → plan.now.engine ≢ Engine.Serial }
     ensures only { (e : RunError) → result ≡ Err (PlayFault.Run e) → (e ≡ RunError.Memory) ⊎ (e ≡ RunError.Worker) ⊎ (e ≡ RunError.TooManyEvents) ⊎ (e ≡ RunError.Write) }
 {
     let report = play(rt, rt.alloc(), scenario, latency, plan, trace)?;

@@ -2,7 +2,7 @@ use Rattle.std.proofs.Common.{◌∙◌, ◌∷◌, [], ap, codes, map, refl, st
 use Rattle.std.specs.Prelude.{◌≡◌, option_map}
 use Rattle.clap.specs.Words.{fault_of, first_of, is_simple, is_simple_and_free, matches_of}
 use Rattle.chord_command.specs.Orders.{HasFiles, HasPlan}
-use Rattle.chord_command.specs.Commands.{latency_rule, workers_rule, parts_rule, split_rule, serial_rule, trace_rule}
+use Rattle.chord_command.specs.Commands.{latency_rule, workers_rule, parts_rule, split_rule, engine_rule, serial_rule, trace_rule}
 use Rattle.chord_command.proofs.CommandFacts.{run_is_free, run_is_simple, run_rules, parts_given, scenario_given, workers_given}
 use Rattle.chord_command.proofs.words.run_options.Goals as goal
 
@@ -10,27 +10,26 @@ pub files_in-requires : goal.files_in-requires
 files_in-requires c =
     let app = c.in_ok-command.ensures in
     scenario_given c.in_ok-command.command c.in_ok-matches.matches c.in_ok-matches.ensures.parsed
-    (latency_rule ∷ workers_rule ∷ parts_rule ∷ split_rule app.0 ∷ serial_rule ∷ trace_rule ∷ [])
-    (run_rules c.in_ok-command.command app.0 app.2) refl
+    (latency_rule ∷ workers_rule ∷ parts_rule ∷ split_rule app.0.splits ∷ engine_rule app.0.engines ∷ serial_rule ∷ trace_rule ∷ [])
+    (run_rules c.in_ok-command.command app.0 app.1) refl
 
 pub plan_in-plan-requires-clause-workers : goal.plan_in-plan-requires-clause-workers
 plan_in-plan-requires-clause-workers c =
     let app = c.in_ok-command.ensures in
-    workers_given c.in_ok-command.command c.in_ok-matches.matches c.in_ok-matches.ensures.parsed app.0 app.2
+    workers_given c.in_ok-command.command c.in_ok-matches.matches c.in_ok-matches.ensures.parsed app.0 app.1
 
 pub plan_in-plan-requires-clause-parts : goal.plan_in-plan-requires-clause-parts
 plan_in-plan-requires-clause-parts c =
     let app = c.in_ok-command.ensures in
-    parts_given c.in_ok-command.command c.in_ok-matches.matches c.in_ok-matches.ensures.parsed app.0 app.2
+    parts_given c.in_ok-command.command c.in_ok-matches.matches c.in_ok-matches.ensures.parsed app.0 app.1
 
 pub returns-clause-order : goal.returns-clause-order
 returns-clause-order c =
     let app = c.in_ok-command.ensures in
-    let rows = (c.in_ok-matches.ensures.matches (ap is_simple app.2 ∙ run_is_simple app.0)).0
-    ∙ ap (λ a. matches_of a (map string_bytes c.args.words.now)) app.2 in (
+    let rows = (c.in_ok-matches.ensures.matches (ap is_simple app.1 ∙ run_is_simple app.0)).0
+    ∙ ap (λ a. matches_of a (map string_bytes c.args.words.now)) app.1 in (
       app.0,
-      app.1,
-      ap (λ a. fault_of a (map string_bytes c.args.words.now)) (sym app.2) ∙ c.in_ok-matches.ensures.kinds (ap is_simple_and_free app.2 ∙ run_is_free app.0),
+      ap (λ a. fault_of a (map string_bytes c.args.words.now)) (sym app.1) ∙ c.in_ok-matches.ensures.kinds (ap is_simple_and_free app.1 ∙ run_is_free app.0),
       subst (λ rs. HasFiles rs c.in_ok-files.files) rows c.in_ok-files.ensures,
       subst (λ rs. HasPlan rs c.plan_in-plan.result) rows c.plan_in-plan.ensures,
       subst (λ rs. first_of (codes "trace") rs ≡ option_map string_bytes c.in_ok-trace.trace) rows c.in_ok-trace.ensures,
