@@ -9,7 +9,7 @@ use std::sync::Wait;
 use std::thread::Threads;
 
 /// The names of all tasks.
-pub const TASKS: [&str; 13] = [
+pub const TASKS: [&str; 14] = [
     "arena",
     "pending",
     "queue",
@@ -23,6 +23,7 @@ pub const TASKS: [&str; 13] = [
     "crew",
     "started",
     "dealt",
+    "team",
 ];
 
 /// Does the task of this name.
@@ -42,6 +43,7 @@ pub fn do_task<T: AllocGlobal + Threads + Wait + Sync>(rt: &T, name: &str) -> Re
         "crew" => run_examples(rt, Engine::Crew),
         "started" => run_started(rt, &TWO_LOOKUPS),
         "dealt" => run_examples(rt, Engine::Dealt),
+        "team" => run_examples(rt, Engine::Team),
         _ => Err(Stop::Wrong("there is no such task")),
     }
 }

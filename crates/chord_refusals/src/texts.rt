@@ -2,7 +2,7 @@
 use crate::stop::{Stop, holds, holds_written};
 use chord_examples::{Example, text_of};
 use chord_node::initial_ring;
-use chord_play::{Plan, Split, load, play};
+use chord_play::{Engine, Plan, Split, load, play};
 use chord_scenario::Scenario;
 use chord_trace::Watched;
 use std::alloc::Global;
@@ -28,7 +28,7 @@ pub fn play_example<T: AllocGlobal + Threads + Wait + Sync>(
 ) -> Result<(), Stop> {
     let alloc = rt.alloc();
     let plan = Plan {
-        serial: false,
+        engine: Engine::Crew,
         workers: 2,
         parts: 2,
         split: Split::Blocks,

@@ -6,6 +6,7 @@ use chord_crew::{Dealer, MOST_SEATS, OpenGate, run_crew, run_crew_dealt};
 use chord_event::{Memory, RunError};
 use chord_scenario::Scenario;
 use chord_serial::run_serial;
+use chord_team::{Hands, run_team_by};
 use chord_trace::{Report, Watched};
 use chord_window::{Division, MOST_PARTS, run_picked};
 use std::alloc::Global;
@@ -24,10 +25,18 @@ pub enum Engine {
     Crew,
     /// The same, with the nodes dealt again before each window.
     Dealt,
+    /// By windows, by workers that stand for the whole run and are all woken in each window.
+    Team,
 }
 
 /// All engines.
-pub const ENGINES: [Engine; 4] = [Engine::Serial, Engine::Picked, Engine::Crew, Engine::Dealt];
+pub const ENGINES: [Engine; 5] = [
+    Engine::Serial,
+    Engine::Picked,
+    Engine::Crew,
+    Engine::Dealt,
+    Engine::Team,
+];
 
 /// How many parts and workers a run by windows has.
 #[derive(Clone, Copy, Debug, Drop)]
@@ -100,6 +109,10 @@ pub fn run_by<T: Threads + Wait + Sync, W: Write>(
                 first: 0,
             };
             run_crew_dealt(rt, alloc, scenario, workers, &mut dealer, &OpenGate, writer)
+        }
+        Engine::Team => {
+            let hands = Hands { workers, worth: 0 };
+            run_team_by(rt, alloc, scenario, &division, hands, writer)
         }
     }
 }

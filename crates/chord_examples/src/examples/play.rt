@@ -1,6 +1,6 @@
 //! Texts of examples, and what a play of them leaves.
 use chord_event::RunError;
-use chord_play::{Plan, PlayFault, Split, play};
+use chord_play::{Engine, Plan, PlayFault, Split, play};
 use chord_trace::{Report, Watched};
 use std::alloc::{AllocError, Global};
 use std::sync::Wait;
@@ -8,7 +8,7 @@ use std::thread::Threads;
 
 /// One event at a time.
 pub const SERIAL: Plan = Plan {
-    serial: true,
+    engine: Engine::Serial,
     workers: 1,
     parts: 1,
     split: Split::RoundRobin,

@@ -3,9 +3,10 @@ use crate::examples::engines::{ENGINES, Engine, Shape, run_by};
 use crate::examples::play::shown;
 use crate::examples::table::{EXAMPLES, TWO_LOOKUPS};
 use crate::tests::ring_of_three::two_lookups;
+use crate::tests::second_profile::ring_of;
 use chord_crew::MOST_SEATS;
 use chord_event::RunError;
-use chord_scenario::{Scenario, read_scenario};
+use chord_scenario::read_scenario;
 use chord_trace::Watched;
 use chord_window::{Division, MOST_PARTS, run_picked};
 use std::alloc::Global;
@@ -113,30 +114,14 @@ fn two_workers_without_picks(rt: HostRuntime) -> Result<(), Fail> {
     Ok(())
 }
 
-/// A ring of 512 nodes, each with its number for an identifier, in which the first node looks one up.
-fn great_ring(alloc: Global) -> Result<Scenario, Fail> {
-    let mut text = format!(in alloc;
-        "profile = 1\nbits = 9\nseed = 1\nlatency_us = 10\nlist = 16\nduration_us = 200\n\
-         window_us = 10\ntimeout_us = 40\naudit_us = 200\nstabilize_us = 1000\nfinger_us = 1000\n"
-    )?;
-    for node in 0..512u32 {
-        let table = format!(in alloc;
-            "[[node]]\nname = \"n{node}\"\nid = {node}\ninitial = true\n"
-        )?;
-        text.push_str(table.as_str())?;
-    }
-    text.push_str("[[command]]\nat_us = 100\ndo = \"lookup\"\nnode = \"n0\"\nkey = 300\n")?;
-    let scenario = read_scenario(alloc, text.as_str().as_bytes(), b"")
-        .ok()
-        .ok_or("the ring is refused")?;
-    Ok(scenario)
-}
-
 /// As many parts as nodes, and as many workers as there can be, write what one event at a time writes.
 #[test]
 fn a_part_for_each_of_512_nodes(rt: HostRuntime) -> Result<(), Fail> {
     let alloc = rt.alloc();
-    let scenario = great_ring(alloc)?;
+    let ring = ring_of(alloc, 9, 512, 300)?;
+    let scenario = read_scenario(alloc, ring.as_str().as_bytes(), b"")
+        .ok()
+        .ok_or("the ring is refused")?;
     let shape = Shape {
         parts: MOST_PARTS,
         workers: MOST_SEATS,
@@ -145,7 +130,7 @@ fn a_part_for_each_of_512_nodes(rt: HostRuntime) -> Result<(), Fail> {
     let expected = run_by(&rt, alloc, Engine::Serial, shape, &scenario, &mut serial)?;
     let serial = serial.into_inner();
     assert!(rt; serial.as_slice().starts_with(b"100 n0 lookup 300\n"));
-    for engine in [Engine::Picked, Engine::Crew, Engine::Dealt] {
+    for engine in [Engine::Picked, Engine::Crew, Engine::Dealt, Engine::Team] {
         let mut writer = Watched::new(Vec::new(alloc));
         let report = run_by(&rt, alloc, engine, shape, &scenario, &mut writer)?;
         assert!(rt; report == expected, "{engine:?}");

@@ -1,30 +1,46 @@
 //! Plays of examples.
-use crate::examples::play::{SERIAL, play_text, play_texts, shown, text_of};
-use crate::examples::table::EXAMPLES;
+use crate::examples::play::{Played, SERIAL, play_text, play_texts, shown, text_of};
+use crate::examples::table::{EXAMPLES, Example};
 use crate::tests::ring_of_three::{ONE_HOP, text_of_three};
 use crate::tests::second_profile::lines_of;
+use chord_play::Plan;
 use std::alloc::Global;
+use std::process::Abort;
+use std::sync::Wait;
 use std::test::Fail;
+use std::thread::Threads;
+
+/// Asserts that an example has by a plan the trace and the report that it has by the rules.
+pub fn leaves_example<T: Abort + AllocGlobal + Threads + Wait + Sync>(
+    rt: &T,
+    example: &Example,
+    plan: &Plan,
+) -> Result<(), Fail> {
+    let alloc = rt.alloc();
+    let name = example.name;
+    let text = text_of(alloc, example.settings, example.nodes, example.commands)?;
+    let Played { trace, outcome } = play_texts(rt, text.as_str().as_bytes(), b"", plan);
+    let trace = String::from_utf8_lossy(alloc, trace.as_slice())?;
+    assert!(rt;
+        trace.as_str() == example.trace,
+        "{name}, {plan:?}: {trace}"
+    );
+    let Ok(report) = outcome else {
+        assert!(rt; false, "{name}, {plan:?}: no end");
+        return Ok(());
+    };
+    let report = shown(alloc, &report)?;
+    assert!(rt;
+        report.as_str() == example.report,
+        "{name}, {plan:?}: {report}"
+    );
+    Ok(())
+}
 
 #[test]
 fn examples(rt: HostRuntime) -> Result<(), Fail> {
     for example in &EXAMPLES {
-        let name = example.name;
-        let text = text_of(
-            rt.alloc(),
-            example.settings,
-            example.nodes,
-            example.commands,
-        )?;
-        let played = play_text(&rt, text.as_str().as_bytes());
-        let trace = String::from_utf8_lossy(rt.alloc(), played.trace.as_slice())?;
-        assert!(rt; trace.as_str() == example.trace, "{name}: {trace}");
-        let Ok(report) = played.outcome else {
-            assert!(rt; false, "{name} does not end");
-            return Ok(());
-        };
-        let report = shown(rt.alloc(), &report)?;
-        assert!(rt; report.as_str() == example.report, "{name}: {report}");
+        leaves_example(&rt, example, &SERIAL)?;
     }
     Ok(())
 }

@@ -2,15 +2,14 @@
 //! starter and a gate note them.
 ghost use Rattle.std.specs.Prelude.{◌≡◌, ◌≤◌};
 
-use crate::examples::play::{
-    Played, SERIAL, SETTINGS, THREE, play_text, play_texts, shown, text_of,
-};
+use crate::examples::play::{SERIAL, SETTINGS, THREE, play_text, play_texts, text_of};
 use crate::examples::table::{EXAMPLES, TWO_LOOKUPS};
+use crate::tests::by_example::leaves_example;
 use crate::tests::gates::{NotesStarts, SizeGate};
 use crate::tests::random_texts::{Dice, RandomTexts, random_texts};
 use crate::tests::ring_of_three::two_lookups;
 use chord_event::RunError;
-use chord_play::{Plan, PlayFault, Split, run_planned};
+use chord_play::{Engine, Plan, PlayFault, Split, run_planned};
 use chord_trace::Watched;
 use std::process::Abort;
 use std::sync::Wait;
@@ -24,8 +23,11 @@ const PLANS: u64 = 40;
 /// The number of seeds from which a random scenario is made.
 const SEEDS: u64 = 44;
 
+/// The engines that have workers.
+const CREW_AND_TEAM: [Engine; 2] = [Engine::Crew, Engine::Team];
+
 /// The plan of this number: 1, 2, 3, 8 or 64 workers, 1, 2, 7 or 512 parts, and one split or the other.
-fn plan_of(number: u64) -> Plan {
+fn plan_of(engine: Engine, number: u64) -> Plan {
     let workers = match number % 5 {
         0 => 1,
         1 => 2,
@@ -40,7 +42,7 @@ fn plan_of(number: u64) -> Plan {
         _ => 512,
     };
     Plan {
-        serial: false,
+        engine,
         workers,
         parts,
         split: if number / 20 % 2 == 0 {
@@ -51,33 +53,16 @@ fn plan_of(number: u64) -> Plan {
     }
 }
 
-/// With three plans for each, and all plans among these, the examples have the traces and the reports that they have
-/// one event at a time.
+/// Three plans for each example by a crew and by a team, and all plans among these.
 #[test]
 fn examples_by_plans(rt: HostRuntime) -> Result<(), Fail> {
-    let alloc = rt.alloc();
     let mut number = 0;
     for example in &EXAMPLES {
-        let name = example.name;
-        let text = text_of(alloc, example.settings, example.nodes, example.commands)?;
         for _time in 0..3 {
-            let plan = plan_of(number);
+            for engine in CREW_AND_TEAM {
+                leaves_example(&rt, example, &plan_of(engine, number))?;
+            }
             number = number.wrapping_add(1);
-            let Played { trace, outcome } = play_texts(&rt, text.as_str().as_bytes(), b"", &plan);
-            let trace = String::from_utf8_lossy(alloc, trace.as_slice())?;
-            assert!(rt;
-                trace.as_str() == example.trace,
-                "{name}, {plan:?}: {trace}"
-            );
-            let Ok(report) = outcome else {
-                assert!(rt; false, "{name}, {plan:?}: no end");
-                return Ok(());
-            };
-            let report = shown(alloc, &report)?;
-            assert!(rt;
-                report.as_str() == example.report,
-                "{name}, {plan:?}: {report}"
-            );
         }
     }
     Ok(())
@@ -94,18 +79,22 @@ fn plans_differ_in_what_fails(rt: HostRuntime) -> Result<(), Fail> {
     assert!(rt; serial.outcome.is_err());
     assert!(rt; serial.trace.as_slice() == b"100 n0 lookup 4\n".as_slice());
     for number in 0..PLANS {
-        let crew = play_texts(&rt, text.as_str().as_bytes(), b"", &plan_of(number));
-        let is_over = matches!(crew.outcome, Err(PlayFault::Run(RunError::TooManyEvents)));
-        assert!(rt; is_over && crew.trace.is_empty(), "{number}");
+        for engine in CREW_AND_TEAM {
+            let plan = plan_of(engine, number);
+            let other = play_texts(&rt, text.as_str().as_bytes(), b"", &plan);
+            let is_over = matches!(other.outcome, Err(PlayFault::Run(RunError::TooManyEvents)));
+            assert!(rt; is_over && other.trace.is_empty(), "{plan:?}");
+        }
     }
     Ok(())
 }
 
-/// Whether a random scenario, if it is accepted, leaves the same by a plan as one event at a time.
+/// Whether a random scenario, if it is accepted, leaves the same by a crew and by a team of the plan of this number as
+/// one event at a time.
 fn is_same<T: AllocGlobal + Threads + Wait + Sync>(
     rt: &T,
     texts: &RandomTexts,
-    plan: &Plan,
+    number: u64,
 ) -> Option<bool> {
     let toml = texts.toml.as_str().as_bytes();
     let csv = texts.csv.as_str().as_bytes();
@@ -113,11 +102,13 @@ fn is_same<T: AllocGlobal + Threads + Wait + Sync>(
     if matches!(one.outcome, Err(PlayFault::Scenario(_))) {
         return None;
     }
-    let other = play_texts(rt, toml, csv, plan);
-    let (Ok(first), Ok(second)) = (one.outcome, other.outcome) else {
+    let crew = play_texts(rt, toml, csv, &plan_of(Engine::Crew, number));
+    let team = play_texts(rt, toml, csv, &plan_of(Engine::Team, number));
+    let (Ok(report), Ok(by_crew), Ok(by_team)) = (one.outcome, crew.outcome, team.outcome) else {
         return Some(false);
     };
-    Some(one.trace == other.trace && first == second)
+    let has_same_trace = one.trace == crew.trace && one.trace == team.trace;
+    Some(has_same_trace && report == by_crew && report == by_team)
 }
 
 #[test]
@@ -127,9 +118,8 @@ fn random_scenarios_by_plans(rt: HostRuntime) -> Result<(), Fail> {
     for seed in 0..SEEDS {
         let mut dice = Dice { state: 1000 + seed };
         let texts = random_texts(alloc, &mut dice, 400)?;
-        let plan = plan_of(seed);
-        if let Some(same) = is_same(&rt, &texts, &plan) {
-            assert!(rt; same, "seed {seed}, {plan:?}");
+        if let Some(same) = is_same(&rt, &texts, seed) {
+            assert!(rt; same, "seed {seed}");
             accepted.push(seed)?;
         }
     }
@@ -152,25 +142,39 @@ fn starts_by<T: Abort + AllocGlobal + Threads + Wait + Sync>(
     Ok(starter.workers)
 }
 
+/// Whether so many workers are started in turn, worker 0 first, and so on for so many windows.
+fn are_in_turn(started: &[u32], workers: usize, windows: usize) -> bool {
+    started.len() == workers.saturating_mul(windows)
+        && started
+            .iter()
+            .enumerate()
+            .all(|(i, worker)| *worker as usize == i % workers.max(1))
+}
+
 /// Whether these are the parts 0 to 2, in any order.
 fn are_three(parts: &[AtomicU64]) -> bool {
     parts.len() == 3
         && (0..3u64).all(|part| parts.iter().any(|pass| pass.load(Ordering::SeqCst) == part))
 }
 
+/// Whether all of these are part 0.
+fn are_first(parts: &[AtomicU64]) -> bool {
+    parts.iter().all(|part| part.load(Ordering::SeqCst) == 0)
+}
+
 /// Each of the four windows has two threads and three parts.
 #[test]
 fn two_workers_and_three_parts(rt: HostRuntime) -> Result<(), Fail> {
     let plan = Plan {
-        serial: false,
+        engine: Engine::Crew,
         workers: 2,
         parts: 3,
         split: Split::Blocks,
     };
     let taken = AtomicU64::new(0);
     let gate = SizeGate::new(&taken);
-    let workers = starts_by(&rt, &plan, &gate)?;
-    assert!(rt; workers.as_slice() == [0, 1, 0, 1, 0, 1, 0, 1].as_slice());
+    let started = starts_by(&rt, &plan, &gate)?;
+    assert!(rt; are_in_turn(started.as_slice(), 2, 4));
     assert!(rt; gate.passes.load(Ordering::SeqCst) == 12);
     assert!(rt; are_three(&gate.parts[..3]) && are_three(&gate.parts[3..6]));
     Ok(())
@@ -180,20 +184,16 @@ fn two_workers_and_three_parts(rt: HostRuntime) -> Result<(), Fail> {
 #[test]
 fn three_workers_on_one_part(rt: HostRuntime) -> Result<(), Fail> {
     let plan = Plan {
-        serial: false,
+        engine: Engine::Crew,
         workers: 3,
         parts: 1,
         split: Split::RoundRobin,
     };
     let taken = AtomicU64::new(0);
     let gate = SizeGate::new(&taken);
-    let workers = starts_by(&rt, &plan, &gate)?;
-    assert!(rt; workers.as_slice() == [0, 1, 2, 0, 1, 2, 0, 1, 2, 0, 1, 2].as_slice());
+    let started = starts_by(&rt, &plan, &gate)?;
+    assert!(rt; are_in_turn(started.as_slice(), 3, 4));
     assert!(rt; gate.passes.load(Ordering::SeqCst) == 4);
-    assert!(rt;
-        gate.parts[..4]
-            .iter()
-            .all(|part| part.load(Ordering::SeqCst) == 0)
-    );
+    assert!(rt; are_first(&gate.parts[..4]));
     Ok(())
 }

@@ -13,7 +13,7 @@ use std::test::Fail;
 #[test]
 fn a_row_among_the_most_nodes(rt: HostRuntime) -> Result<(), Fail> {
     let alloc = rt.alloc();
-    let ring = ring_of(alloc, 12, 4096)?;
+    let ring = ring_of(alloc, 12, 4096, 3000)?;
     let scenario = read_scenario(alloc, ring.as_str().as_bytes(), b"n1,n4095,25\n")
         .ok()
         .ok_or("the ring is refused")?;

@@ -3,7 +3,7 @@
 use crate::examples::play::{Played, SERIAL, play_text, play_texts, shown};
 use chord_circle::{Circle, Ident};
 use chord_event::{Answer, Body, Listed, Memory};
-use chord_play::{Plan, Split};
+use chord_play::{Engine, Plan, Split};
 use chord_scenario::read_scenario;
 use std::alloc::{AllocError, Global};
 use std::fmt::Write as _;
@@ -11,10 +11,16 @@ use std::process::Abort;
 use std::test::Fail;
 
 /// The plans of these runs.
-const PLANS: [Plan; 2] = [
+const PLANS: [Plan; 3] = [
     SERIAL,
     Plan {
-        serial: false,
+        engine: Engine::Crew,
+        workers: 2,
+        parts: 3,
+        split: Split::RoundRobin,
+    },
+    Plan {
+        engine: Engine::Team,
         workers: 2,
         parts: 3,
         split: Split::RoundRobin,

@@ -295,8 +295,8 @@ fn the_widest_identifier(rt: HostRuntime) -> Result<(), Fail> {
     Ok(())
 }
 
-/// A ring of `nodes` nodes, each with its number as identifier, in which the first node looks one up.
-pub fn ring_of(alloc: Global, bits: u32, nodes: u32) -> Result<String, Fail> {
+/// A ring of `nodes` nodes, each with its number as identifier, in which the first node looks a key up.
+pub fn ring_of(alloc: Global, bits: u32, nodes: u32, key: u32) -> Result<String, Fail> {
     let mut text = format!(in alloc;
         "profile = 2\nbits = {bits}\nseed = 1\nlatency_us = 10\nlist = 16\nduration_us = 300\n\
          window_us = 10\ntimeout_us = 40\naudit_us = 300\nstabilize_us = 1000\nfinger_us = 1000\n"
@@ -307,7 +307,10 @@ pub fn ring_of(alloc: Global, bits: u32, nodes: u32) -> Result<String, Fail> {
         )?;
         text.push_str(table.as_str())?;
     }
-    text.push_str("[[command]]\nat_us = 100\ndo = \"lookup\"\nnode = \"n0\"\nkey = 3000\n")?;
+    let command = format!(in alloc;
+        "[[command]]\nat_us = 100\ndo = \"lookup\"\nnode = \"n0\"\nkey = {key}\n"
+    )?;
+    text.push_str(command.as_str())?;
     Ok(text)
 }
 
@@ -316,10 +319,10 @@ pub fn ring_of(alloc: Global, bits: u32, nodes: u32) -> Result<String, Fail> {
 #[test]
 fn as_many_nodes_as_there_may_be(rt: HostRuntime) -> Result<(), Fail> {
     let alloc = rt.alloc();
-    let more = ring_of(alloc, 13, 4097)?;
+    let more = ring_of(alloc, 13, 4097, 3000)?;
     let refused = answer(&rt, more.as_str().as_bytes(), b"")?;
     assert!(rt; refused.as_str() == "S5 OutOfRange top node", "{refused}");
-    let most = ring_of(alloc, 12, 4096)?;
+    let most = ring_of(alloc, 12, 4096, 3000)?;
     let scenario = read_scenario(alloc, most.as_str().as_bytes(), b"")
         .ok()
         .ok_or("the ring is refused")?;
@@ -330,7 +333,7 @@ fn as_many_nodes_as_there_may_be(rt: HostRuntime) -> Result<(), Fail> {
     let expected = "100 n0 lookup 3000\n\
         280 n0 found 3000 n3000 hops=9 timeouts=0 us=180\n\
         300 audit members=4096 dead=0 ring=4096 ordered=yes principals=4096 sufficient=yes\n";
-    for engine in [Engine::Serial, Engine::Crew] {
+    for engine in [Engine::Serial, Engine::Crew, Engine::Team] {
         let told = told_by(&rt, alloc, engine, shape, &scenario)?;
         assert!(rt;
             told.trace.as_str() == expected,
