@@ -17,11 +17,15 @@ _chordsim() {
         mapfile -t COMPREPLY < <(compgen -W "rr block" -- "$current")
         return
         ;;
+    --engine)
+        mapfile -t COMPREPLY < <(compgen -W "serial crew team" -- "$current")
+        return
+        ;;
     --workers | --parts) return ;;
     esac
     case $command in
     check | ids) options="--scenario --latency --help" ;;
-    run) options="--scenario --latency --workers --parts --split --serial --trace --help" ;;
+    run) options="--scenario --latency --workers --parts --split --engine --serial --trace --help" ;;
     help) [ "$COMP_CWORD" -eq 2 ] && options="check ids run help" ;;
     esac
     mapfile -t COMPREPLY < <(compgen -W "$options" -- "$current")

@@ -12,5 +12,6 @@ complete -c chordsim -n '__fish_seen_subcommand_from check ids run' -l latency -
 complete -c chordsim -n '__fish_seen_subcommand_from run' -l workers -x -d 'Number of worker threads, 1 to 64'
 complete -c chordsim -n '__fish_seen_subcommand_from run' -l parts -x -d 'Number of parts, 1 to 512'
 complete -c chordsim -n '__fish_seen_subcommand_from run' -l split -x -a 'rr block' -d 'How the nodes are divided'
-complete -c chordsim -n '__fish_seen_subcommand_from run' -l serial -d 'Runs one event at a time on one thread'
+complete -c chordsim -n '__fish_seen_subcommand_from run' -l engine -x -a 'serial crew team' -d 'What runs the scenario'
+complete -c chordsim -n '__fish_seen_subcommand_from run' -l serial -d 'Same as --engine serial'
 complete -c chordsim -n '__fish_seen_subcommand_from run' -l trace -r -F -d 'File for the trace'

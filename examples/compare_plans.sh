@@ -1,6 +1,6 @@
 #!/bin/sh
-# Runs scenarios one event at a time and by 40 plans (1, 2, 3, 8 and 64 workers; 1, 2, 7 and 512 parts; both splits),
-# and compares the bytes of their traces and reports.
+# Runs scenarios one event at a time and by 80 plans (crew and team; 1, 2, 3, 8 and 64 workers; 1, 2, 7 and 512 parts;
+# both splits), and compares the bytes of their traces and reports.
 #
 #   examples/compare_plans.sh FILE..     these scenario files
 #   examples/compare_plans.sh -r N       N random scenarios, the same each time
@@ -33,16 +33,18 @@ compare() {
         cat "$work/serial.report" >&2
         exit 1
     fi
-    for workers in 1 2 3 8 64; do
-        for parts in 1 2 7 512; do
-            for split in rr block; do
-                play "$work/crew" --workers $workers --parts $parts --split $split
-                cmp "$work/serial.report" "$work/crew.report"
-                [ "$status" != 0 ] || cmp "$work/serial" "$work/crew"
+    for engine in crew team; do
+        for workers in 1 2 3 8 64; do
+            for parts in 1 2 7 512; do
+                for split in rr block; do
+                    play "$work/workers" --engine $engine --workers $workers --parts $parts --split $split
+                    cmp "$work/serial.report" "$work/workers.report"
+                    [ "$status" != 0 ] || cmp "$work/serial" "$work/workers"
+                done
             done
         done
     done
-    echo "$scenario: the same by 40 plans, $(wc -c < "$work/serial") bytes of trace"
+    echo "$scenario: the same by 80 plans, $(wc -c < "$work/serial") bytes of trace"
 }
 
 if [ $# -eq 0 ] || { [ "$1" = -r ] && [ $# -ne 2 ]; }; then

@@ -1,6 +1,7 @@
 #!/bin/sh
-# Runs each scenario of this folder, one event at a time and by two workers with three parts, and compares its report with
-# the one in reports/. None of those was made by chordsim: tools/reference made them from the documents, or a hand did.
+# Runs each scenario of this folder, one event at a time, and by two workers with three parts as a crew and as a team, and
+# compares its report with the one in reports/. None of those was made by chordsim: tools/reference made them from the
+# documents, or a hand did.
 #
 #   examples/compare_reports.sh
 #
@@ -14,7 +15,7 @@ trap 'rm -rf "$work"' EXIT
 failed=0
 for file in "$top"/examples/*.toml; do
     name=$(basename "$file" .toml)
-    for plan in "--serial" "--workers 2 --parts 3"; do
+    for plan in "--serial" "--engine crew --workers 2 --parts 3" "--engine team --workers 2 --parts 3"; do
         # The plan is several words.
         # shellcheck disable=SC2086
         if "$program" run --scenario "$file" $plan --trace "$work/trace" > "$work/report" &&

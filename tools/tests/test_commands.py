@@ -9,6 +9,7 @@ from pathlib import Path
 from tests.support.programs import program
 
 REFUSED, ARGUMENTS, FAILED = 1, 2, 3
+ENGINES = ("serial", "crew", "team")
 
 NODES = """\
 [[node]]
@@ -107,6 +108,15 @@ class Commands(unittest.TestCase):
             ("run --scenario a.toml --split rr --trace c", REPORT),
             ("run --serial --workers 64 --parts 512 --split block --scenario a.toml", TRACE + REPORT),
             ("run --workers 64 --parts 512 --split block --scenario a.toml", TRACE + REPORT),
+            ("run --scenario a.toml --workers 4", TRACE + REPORT),
+            ("run --scenario a.toml --parts 3", TRACE + REPORT),
+            ("run --scenario a.toml --engine=serial --workers 64 --parts 512", TRACE + REPORT),
+            ("run --engine crew --scenario a.toml", TRACE + REPORT),
+            ("run --engine crew --scenario a.toml --workers 3", TRACE + REPORT),
+            ("run --scenario a.toml --engine team", TRACE + REPORT),
+            ("run --scenario a.toml --engine team --workers 5 --parts 2", TRACE + REPORT),
+            ("run --scenario a.toml --serial --engine team --workers 2", TRACE + REPORT),
+            ("run --scenario a.toml --engine crew --serial", TRACE + REPORT),
         ):
             with self.subTest(line):
                 self.assertEqual(self.ended(line), (0, output, ""))
@@ -133,7 +143,8 @@ class Commands(unittest.TestCase):
 
     def test_latency_file(self) -> None:
         """Its rows count, by workers too. The old content of the trace's file is gone."""
-        for plan in ("--serial", "--workers 1", "--workers 3 --parts 2 --split block"):
+        workers = "--workers 3 --parts 2 --split block"
+        for plan in ("--serial", "--workers 1", *(f"--engine {engine} {workers}" for engine in ENGINES)):
             with self.subTest(plan):
                 self.write("c", RING)
                 self.assertEqual(self.ended(f"run --scenario a.toml --latency=b.csv --trace c {plan}")[0], 0)
@@ -170,7 +181,8 @@ class Commands(unittest.TestCase):
 
     def test_outputs_that_are_closed(self) -> None:
         """Nothing goes to an output that takes nothing: the run has failed."""
-        for line in ("check", "ids", "run", "run --serial", "run --trace c"):
+        runs = [f"run --engine {engine} --workers 2" for engine in ENGINES]
+        for line in ("check", "ids", "run", "run --trace c", *runs):
             with self.subTest(line):
                 ended = self.ended(f"{line} --scenario a.toml", closed=True)
                 self.assertEqual(ended, (FAILED, "", "failed: 4 Write\n"))
@@ -179,9 +191,9 @@ class Commands(unittest.TestCase):
         """A full disk fails the run. If the run itself fails, that is what is told."""
         self.write("limited.toml", f"max_events = 1\n{RING}")
         for name, error in (("a.toml", "4 Write"), ("limited.toml", "3 TooManyEvents")):
-            for plan in ("--serial", "--workers 2"):
-                with self.subTest(name=name, plan=plan):
-                    line = f"run --scenario {name} --trace /dev/full {plan}"
+            for engine in ENGINES:
+                with self.subTest(name=name, engine=engine):
+                    line = f"run --scenario {name} --trace /dev/full --engine {engine} --workers 2"
                     self.assertEqual(self.ended(line), (FAILED, "", f"failed: {error}\n"))
 
     def test_traces_that_name_an_input(self) -> None:
@@ -225,6 +237,10 @@ class Commands(unittest.TestCase):
             ("run --scenario a.toml --parts 0", "invalid value '0' for '--parts <COUNT>': 0 is not in 1..=512"),
             ("run --scenario a.toml --parts 513", "invalid value '513' for '--parts <COUNT>': 513 is not in 1..=512"),
             ("run --scenario a.toml --split x", "invalid value 'x' for '--split <WAY>'"),
+            ("run --scenario a.toml --engine x", "invalid value 'x' for '--engine <NAME>'"),
+            ("run --scenario a.toml --serial --engine", "a value is required for '--engine <NAME>'"),
+            ("ids --scenario a.toml --engine team", "unexpected argument '--engine' found"),
+            ("run --scenario a.toml --serial --workers 0", "invalid value '0' for '--workers <COUNT>'"),
             ("run --scenario a.toml --trace", "a value is required for '--trace <FILE>' but none was supplied"),
         ):
             with self.subTest(line):
@@ -247,6 +263,7 @@ class Commands(unittest.TestCase):
             ("check --help", "Usage: chordsim check "),
             ("ids --help", "Usage: chordsim ids "),
             ("run --help", "its old content is lost"),
+            ("run --help", "[default: as many as workers]"),
             ("--version", "chordsim 0."),
         ):
             with self.subTest(line):

@@ -11,6 +11,8 @@ from tests.support.programs import program
 
 TOP = Path(__file__).resolve().parents[2]
 COMMANDS = ["check", "ids", "run"]
+# The options that have a list of values.
+CHOICES = ["--split", "--engine"]
 
 
 def text_of(*arguments: str) -> str:
@@ -30,9 +32,9 @@ def options_of(command: str) -> set[str]:
     return set(re.findall(r"^ +(?:-\w, |    )(--[a-z]+)", listed, re.MULTILINE))
 
 
-def ways() -> list[str]:
-    """The values of --split."""
-    found = re.search(r"--split .*\[possible values: ([^]]+)\]", text_of("run", "--help"))
+def values_of(option: str) -> list[str]:
+    """The values that an option of `run` may have."""
+    found = re.search(rf"{option} <.*\[possible values: ([^]]+)\]", text_of("run", "--help"))
     assert found is not None
     return found.group(1).split(", ")
 
@@ -63,8 +65,10 @@ class Help(unittest.TestCase):
         named = [options_in(entry.partition("\n")[0]) for entry in entries]
         self.assertEqual(set[str]().union(*named), every | {"--version"})
         self.assertEqual(len(named), len(every) + 1)
-        for way in ways():
-            self.assertRegex(page, rf"\.B {way}\n")
+        for option in CHOICES:
+            entry = next(entry for entry in entries if options_in(entry.partition("\n")[0]) == {option})
+            for value in values_of(option):
+                self.assertRegex(entry, rf"\.B {value}\n")
 
     def test_man_page_reads(self) -> None:
         """The page has no fault that `man` would tell."""
@@ -81,12 +85,13 @@ class Help(unittest.TestCase):
         return subprocess.run(command, capture_output=True, text=True, check=True).stdout.split()
 
     def test_bash(self) -> None:
-        """Bash completes commands, the options of each, and the values of --split."""
+        """Bash completes commands, the options of each, and the values of --split and --engine."""
         self.assertEqual(set(self.completed("")), {*COMMANDS, "help", "--help", "--version"})
         for command in COMMANDS:
             with self.subTest(command=command):
                 self.assertEqual(set(self.completed(command, "--")), options_of(command))
-        self.assertEqual(self.completed("run", "--split", ""), ways())
+        for option in CHOICES:
+            self.assertEqual(self.completed("run", option, ""), values_of(option))
         self.assertEqual(self.completed("run", "--sp"), ["--split"])
 
     def test_zsh(self) -> None:
@@ -99,7 +104,8 @@ class Help(unittest.TestCase):
             named = [lists[name] for name in re.findall(r"\$(\w+)", used.group(1))]
             with self.subTest(command=command):
                 self.assertEqual(set[str]().union(*named), options_of(command))
-        self.assertIn(f"({' '.join(ways())})", script)
+        for option in CHOICES:
+            self.assertRegex(script, rf"'{option}\[.*\({' '.join(values_of(option))}\)'")
 
     def test_fish(self) -> None:
         """The lines of the script for fish have the options of the commands."""
@@ -109,7 +115,8 @@ class Help(unittest.TestCase):
             named = {f"--{name}" for line in lines for name in re.findall(r" -l (\w+)", line)}
             with self.subTest(command=command):
                 self.assertEqual(named - {"--version"}, options_of(command))
-        self.assertIn(f"-a '{' '.join(ways())}'", script)
+        for option in CHOICES:
+            self.assertRegex(script, rf"-l {option[2:]} -x -a '{' '.join(values_of(option))}'")
 
     def test_version(self) -> None:
         """The program, the man page, CHANGELOG.md and pyproject.toml have one version."""

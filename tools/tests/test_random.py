@@ -16,7 +16,8 @@ from chordsim_tools.scenario.reading import read_scenario
 from tests.support.programs import program
 
 COUNT = int(os.environ.get("CHORDSIM_RANDOM", "30"))
-PLANS = (["--serial"], ["--workers", "2", "--parts", "3"])
+WORKERS = ["--workers", "2", "--parts", "3"]
+PLANS = (["--serial"], ["--engine", "crew", *WORKERS], ["--engine", "team", *WORKERS])
 
 
 def expected(toml: str, csv: str) -> tuple[str, str | None]:
@@ -34,7 +35,7 @@ def expected(toml: str, csv: str) -> tuple[str, str | None]:
 
 
 class RandomTest(TestCase):
-    """Traces and reports, by two plans."""
+    """Traces and reports, by a plan of each engine."""
 
     def test_random_scenarios(self) -> None:
         """Trace and report have the same bytes, serially and by workers; of too many events, the beginning."""
@@ -46,7 +47,7 @@ class RandomTest(TestCase):
                 scenario.write_text(toml, encoding="utf-8")
                 latency.write_text(csv, encoding="utf-8")
                 trace, report = expected(toml, csv)
-                command = [str(path), "run", "--scenario", str(scenario), "--latency", str(latency), *PLANS[seed % 2]]
+                command = [str(path), "run", "--scenario", str(scenario), "--latency", str(latency), *PLANS[seed % 3]]
                 with self.subTest(seed=seed):
                     ran = subprocess.run(command, capture_output=True, text=True, check=False)
                     if report is None:
