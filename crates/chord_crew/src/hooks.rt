@@ -1,4 +1,4 @@
-//! What a caller may hang in: dealers of divisions, gates before parts, starters of threads.
+//! What a caller may plug in: dealers of divisions, gates before parts, starters of threads.
 
 use chord_event::Memory;
 use chord_window::Division;

@@ -17,10 +17,10 @@ use Rattle.chord_team.specs.declared.output.Output.{Output}
 use Rattle.chord_team.specs.declared.part.OwnedPart.{OwnedPart}
 use Rattle.chord_team.specs.Layouts.{slot_of}
 use Rattle.chord_team.specs.Outputs.{IsText}
-use Rattle.chord_team.specs.Running.{HasHandled, HasSent, IsReady, state_at}
+use Rattle.chord_team.specs.Running.{HasHandled, HasSent, CanHandle, state_at}
 use Rattle.chord_team.proofs.TeamMail.{or_same}
 
-module _ (sc : Scenario) (l : Layout) (event : Event Body) (old : OwnedPart) (ready : IsReady sc l old event) (slot : ℕ) (at : slot ≡ slot_of l event.target)
+module _ (sc : Scenario) (l : Layout) (event : Event Body) (old : OwnedPart) (ready : CanHandle sc l old event) (slot : ℕ) (at : slot ≡ slot_of l event.target)
     (s : NodeState) (read : s ≡ get_or old.states.items slot s) where
   pub read_is : s ≡ state_at sc l old event.target
   read_is = read ∙ ap (λ k. get_or old.states.items k s) at ∙ or_same old.states.items (slot_of l event.target) s (initial_state sc 0) ready.place

@@ -33,8 +33,8 @@ use Rattle.chord_team.specs.declared.part.OwnedPart.{OwnedPart}
 use Rattle.chord_team.specs.declared.part.Parcel.{Parcel}
 use Rattle.chord_team.specs.Layouts.{IsLayout, slot_of}
 use Rattle.chord_team.specs.Orders.{HasRun, IsOrder, OpensTo}
-use Rattle.chord_team.specs.Owned.{IsOwned, all_of, share_of}
-use Rattle.chord_team.specs.Running.{AreApart, HasHandled, HasTakenIn, IsReady, IsRunning, ran_first, state_at}
+use Rattle.chord_team.specs.Owned.{AreApart, IsOwned, all_of, share_of}
+use Rattle.chord_team.specs.Running.{HasHandled, HasTakenIn, CanHandle, IsRunning, ran_first, state_at}
 use Rattle.chord_team.proofs.LeastTimes.{least_of_joined, least_of_ordered}
 use Rattle.chord_team.proofs.PartLists.{none_listed}
 use Rattle.chord_team.proofs.PartSteps.{did, is_least, is_over, is_ready, longer, none_came, none_is_due, still_owned, still_pieces, still_sent, still_sent_apart, still_soonest}
@@ -143,7 +143,7 @@ module _ (sc : Scenario) (ranges : IsInRange sc) (l : Layout) (lay : IsLayout sc
     run_is_over full = is_over sc ranges l lay (history (chord sc) count) time horizon o p (ran_first sc l count horizon p.part n) r.runs r.owned r.taken_in
         ordered e rest is early (omega (arith, full, whole, r.long))
 
-    pub run_is_ready : (mid : OwnedPart) → mid ≡ record p { pending = rest } → IsReady sc l mid e
+    pub run_is_ready : (mid : OwnedPart) → mid ≡ record p { pending = rest } → CanHandle sc l mid e
     run_is_ready mid mid_is = is_ready sc ranges l lay (history (chord sc) count) time horizon o p (ran_first sc l count horizon p.part n) r.runs r.owned
         r.taken_in ordered e rest is early
         (omega (arith, length-append (ran_first sc l count horizon p.part n) (history (chord sc) count), whole, r.long, r.within)) mid mid_is

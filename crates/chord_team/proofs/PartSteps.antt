@@ -48,8 +48,8 @@ use Rattle.chord_team.specs.declared.layout.Layout.{Layout}
 use Rattle.chord_team.specs.declared.output.Output.{Output}
 use Rattle.chord_team.specs.declared.part.OwnedPart.{OwnedPart}
 use Rattle.chord_team.specs.Layouts.{IsLayout, slot_of}
-use Rattle.chord_team.specs.Owned.{HasTakenAll, IsOwned, LeastTimeIs, all_of, share_of}
-use Rattle.chord_team.specs.Running.{AreApart, HasHandled, IsReady, is_for_others, sent_to, state_at}
+use Rattle.chord_team.specs.Owned.{AreApart, HasTakenAll, IsOwned, LeastTimeIs, all_of, share_of}
+use Rattle.chord_team.specs.Running.{HasHandled, CanHandle, is_for_others, sent_to, state_at}
 use Rattle.chord_team.proofs.LeastTimes.{least_of_both}
 use Rattle.chord_team.proofs.PartLists.{apart_filter, first_list, listed_from, listed_in, none_contained}
 
@@ -156,8 +156,8 @@ module _ (sc : Scenario) (ranges : IsInRange sc) (l : Layout) (lay : IsLayout sc
         (AllPairs_rest (λ (a b : Event Body). a.key ≢ b.key) e rest (subst (λ es. AreApart es) is (ordered_apart p.pending ordered)))
         made_is_apart (λ x y c k. made_is_new x y (waits_there x (rest_there x c)).known k)
 
-    pub is_ready : length (ran ++ h) ≤ sc.max_events → (mid : OwnedPart) → mid ≡ record p { pending = rest } → IsReady sc l mid e
-    is_ready short mid mid_is = subst (λ z. IsReady sc l z e) (sym mid_is) (record {
+    pub is_ready : length (ran ++ h) ≤ sc.max_events → (mid : OwnedPart) → mid ≡ record p { pending = rest } → CanHandle sc l mid e
+    is_ready short mid mid_is = subst (λ z. CanHandle sc l z e) (sym mid_is) (record {
       layout = lay;
       target = e_fits.target;
       in_part = in_part;

@@ -16,8 +16,8 @@ use Rattle.chord_queue.proofs.Inserting.{apart_across}
 use Rattle.chord_window.specs.Delivery.{sooner}
 use Rattle.chord_window.proofs.Sorting.{apart_end}
 use Rattle.chord_team.specs.declared.part.OwnedPart.{OwnedPart}
-use Rattle.chord_team.specs.Owned.{LeastTimeIs}
-use Rattle.chord_team.specs.Running.{AreApart, HasSent, is_for_others, sent_to}
+use Rattle.chord_team.specs.Owned.{AreApart, LeastTimeIs}
+use Rattle.chord_team.specs.Running.{HasSent, is_for_others, sent_to}
 use Rattle.chord_team.proofs.LeastTimes.{least_of_more}
 use Rattle.chord_team.proofs.PartLists.{filter_no_more, filter_one_more}
 

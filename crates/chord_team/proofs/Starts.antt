@@ -96,8 +96,7 @@ use Rattle.chord_team.specs.declared.layout.Layout.{Layout}
 use Rattle.chord_team.specs.declared.part.OwnedPart.{OwnedPart}
 use Rattle.chord_team.specs.declared.part.Parcel.{Parcel}
 use Rattle.chord_team.specs.Layouts.{IsLayout, nodes_before, slot_of}
-use Rattle.chord_team.specs.Owned.{HasSentAll, IsOwned, LeastTimeIs, all_of, events_of}
-use Rattle.chord_team.specs.Running.{AreApart}
+use Rattle.chord_team.specs.Owned.{AreApart, HasSentAll, IsOwned, LeastTimeIs, all_of, events_of}
 use Rattle.chord_team.specs.Starts.{AreEmptyParts, AreParcelsOf, HasEvents, HasStates, HaveEvents, HaveStates, IsEmptyPart, IsParcelOf, states_for}
 use Rattle.chord_team.specs.Teams.{AreHere, IsHere, IsTeam, before_end}
 use Rattle.chord_team.proofs.Slots.{count_elsewhere, count_grows, count_here}

@@ -9,8 +9,7 @@ use Rattle.chord_event.proofs.Members.{AllPairs_append, AllPairs_front, contains
 use Rattle.chord_queue.specs.EventKey.{event_key}
 use Rattle.chord_queue.proofs.Inserting.{apart_across, ordered_apart}
 use Rattle.chord_window.proofs.Sorting.{apart_end}
-use Rattle.chord_team.specs.Owned.{all_of}
-use Rattle.chord_team.specs.Running.{AreApart}
+use Rattle.chord_team.specs.Owned.{AreApart, all_of}
 use Rattle.chord_team.proofs.PartLists.{list_amid, list_put, list_put_front}
 
 module _ (waiting : List (Event Body)) (lists : List (Vec (Event Body) Global)) (i : ℕ) (list : Vec (Event Body) Global) (l : i < length lists)

@@ -25,8 +25,7 @@ use Rattle.chord_team.specs.declared.part.Finished.{Finished}
 use Rattle.chord_team.specs.declared.part.OwnedPart.{OwnedPart}
 use Rattle.chord_team.specs.declared.team.Team.{Team}
 use Rattle.chord_team.specs.Orders.{AreResults, HaveNoFault}
-use Rattle.chord_team.specs.Owned.{IsOwned, all_of, share_of}
-use Rattle.chord_team.specs.Running.{AreApart}
+use Rattle.chord_team.specs.Owned.{AreApart, IsOwned, all_of, share_of}
 use Rattle.chord_team.specs.Teams.{CanSend}
 use Rattle.chord_team.proofs.PartLists.{listed_at, listed_from, listed_in}
 use Rattle.chord_team.proofs.TeamMail.{first}

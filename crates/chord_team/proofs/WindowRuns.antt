@@ -28,8 +28,8 @@ use Rattle.chord_team.specs.declared.part.Finished.{Finished}
 use Rattle.chord_team.specs.declared.team.Team.{Team}
 use Rattle.chord_team.specs.Orders.{AreResults, AreResultsFrom, HasRun, HaveNoFault, IsResultOf}
 use Rattle.chord_team.specs.Outputs.{IsText}
-use Rattle.chord_team.specs.Owned.{HasTakenAll, IsOwned, LeastTimeIs, all_of}
-use Rattle.chord_team.specs.Running.{AreApart, ran_first}
+use Rattle.chord_team.specs.Owned.{AreApart, HasTakenAll, IsOwned, LeastTimeIs, all_of}
+use Rattle.chord_team.specs.Running.{ran_first}
 use Rattle.chord_team.specs.Teams.{CanSend, events_in}
 use Rattle.chord_team.proofs.TeamMail.{first}
 

@@ -1,7 +1,7 @@
 -- What goes to the workers and what comes back.
 use Rattle.std.specs.Prelude.{◌≡◌, ◌≢◌, ◌⊎◌, ◌+◌, ◌<◌, ◌≤◌, ◌++◌, ◌↔◌, ℕ, suc, List, [], ◌∷◌, None, Some, IfNone, IfSome, map, reverse, length, slice_index_or, Vec, ⊤}
 use Rattle.std.specs.Global.{Global}
-use Rattle.std.specs.List.{All, AllPairs, Contains}
+use Rattle.std.specs.List.{All, Contains}
 use Rattle.chord_event.specs.declared.block.Block.{Block}
 use Rattle.chord_event.specs.declared.body.Body.{Body}
 use Rattle.chord_event.specs.declared.event.Event.{Event}
@@ -21,7 +21,7 @@ use Rattle.chord_team.specs.declared.part.Parcel.{Parcel}
 use Rattle.chord_team.specs.declared.part.Finished.{Finished}
 use Rattle.chord_team.specs.Layouts.{IsLayout}
 use Rattle.chord_team.specs.Outputs.{IsText}
-use Rattle.chord_team.specs.Owned.{HasSentAll, HasTakenAll, IsOwned, LeastTimeIs, all_of}
+use Rattle.chord_team.specs.Owned.{AreApart, HasSentAll, HasTakenAll, IsOwned, LeastTimeIs, all_of}
 
 -- the next window after so many events ends at the horizon
 abbrev pub OpensTo : Scenario → (count horizon : ℕ) → Type 0
@@ -59,7 +59,7 @@ pub record HasRun (sc : Scenario) (l : Layout) (f : Finished) : Type 0 where
       → Contains (slice_index_or f.parcel.part.outbox.items q v).items x
       ↔ (Contains (made_since (chord sc) (history (chord sc) f.parcel.count) (ran_by sc l f)) x × (part_of l.division x.target ≡ q) × (q ≢ f.parcel.part.part))
   pub sent_apart : (q : ℕ) (v : Vec (Event Body) Global) → q < l.division.parts
-      → AllPairs (λ (a b : Event Body). a.key ≢ b.key) (slice_index_or f.parcel.part.outbox.items q v).items
+      → AreApart (slice_index_or f.parcel.part.outbox.items q v).items
   pub next_is : LeastTimeIs (f.parcel.part.pending ++ all_of f.parcel.part.outbox.items) f.next
   pub blocks : List Block
   pub blocks_are : All (IsShortBlock sc) blocks

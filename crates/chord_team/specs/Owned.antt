@@ -20,6 +20,10 @@ use Rattle.chord_team.specs.Layouts.{slot_of}
 abbrev pub all_of : List (Vec (Event Body) Global) → List (Event Body)
 all_of lists = flat_map (λ l. l.items) lists
 
+-- no two events have one key
+abbrev pub AreApart : List (Event Body) → Type 0
+AreApart es = AllPairs (λ (a b : Event Body). a.key ≢ b.key) es
+
 -- all events that a part has
 abbrev pub events_of : OwnedPart → List (Event Body)
 events_of p = p.pending ++ all_of p.inbox.items
@@ -38,7 +42,7 @@ pub record IsOwned (sc : Scenario) (l : Layout) (h : List (Event Body)) (p : Own
   pub states_are : (i : ℕ) (s : NodeState) → i < node_count sc → part_of l.division i ≡ p.part
       → slice_index_or p.states.items (slot_of l i) s ≡ state (chord sc) h i
   pub same : (x : Event Body) → Contains (events_of p) x ↔ (Contains (pending (chord sc) h) x × (part_of l.division x.target ≡ p.part))
-  pub apart : AllPairs (λ (a b : Event Body). a.key ≢ b.key) (events_of p)
+  pub apart : AreApart (events_of p)
   pub in_long : length p.inbox.items ≡ l.division.parts
   pub out_long : length p.outbox.items ≡ l.division.parts
   pub tallied : IsTallyOf sc.profile (share_of sc l.division p.part h) p.tally

@@ -1,7 +1,7 @@
 -- The run of a part in a window, event by event.
 use Rattle.std.specs.Prelude.{◌≡◌, ◌≢◌, ◌⊎◌, ◌+◌, ◌<◌, ◌≤◌, ◌^◌, ◌++◌, ◌∷◌, ◌↔◌, ◌==◌, ◌&&◌, not, nat_lt, ℕ, Bool, false, List, [], Option, None, Some, map, reverse, set, length, slice_index_or, Vec}
 use Rattle.std.specs.Global.{Global}
-use Rattle.std.specs.List.{All, AllPairs, Contains, filter}
+use Rattle.std.specs.List.{All, Contains, filter}
 use Rattle.chord_event.specs.declared.block.Block.{Block}
 use Rattle.chord_event.specs.declared.body.Body.{Body}
 use Rattle.chord_event.specs.declared.event.Event.{Event}
@@ -28,11 +28,7 @@ use Rattle.chord_team.specs.declared.output.Output.{Output}
 use Rattle.chord_team.specs.declared.part.OwnedPart.{OwnedPart}
 use Rattle.chord_team.specs.Layouts.{IsLayout, slot_of}
 use Rattle.chord_team.specs.Outputs.{IsText}
-use Rattle.chord_team.specs.Owned.{HasTakenAll, IsOwned, LeastTimeIs, all_of}
-
--- no two events have one key
-abbrev pub AreApart : List (Event Body) → Type 0
-AreApart es = AllPairs (λ (a b : Event Body). a.key ≢ b.key) es
+use Rattle.chord_team.specs.Owned.{AreApart, HasTakenAll, IsOwned, LeastTimeIs, all_of}
 
 -- the state of a node, as the part has it
 abbrev pub state_at : Scenario → Layout → OwnedPart → ℕ → NodeState
@@ -56,7 +52,7 @@ pub record HasSent (d : Division) (made : List (Event Body)) (old new : OwnedPar
   pub soonest_is : LeastTimeIs (filter (is_for_others d old.part) made) soonest
 
 -- the event may be handled: its target is a node of the part, and the rule table may be asked about its state
-pub record IsReady (sc : Scenario) (l : Layout) (p : OwnedPart) (event : Event Body) : Type 0 where
+pub record CanHandle (sc : Scenario) (l : Layout) (p : OwnedPart) (event : Event Body) : Type 0 where
   pub layout : IsLayout sc l
   pub target : event.target < node_count sc
   pub in_part : part_of l.division event.target ≡ p.part

@@ -12,8 +12,7 @@ use Rattle.chord_trace.specs.Tally.{IsTallyOf}
 use Rattle.chord_team.specs.declared.part.OwnedPart.{OwnedPart}
 use Rattle.chord_team.specs.declared.part.Parcel.{Parcel}
 use Rattle.chord_team.specs.Outputs.{IsText}
-use Rattle.chord_team.specs.Owned.{all_of}
-use Rattle.chord_team.specs.Running.{AreApart}
+use Rattle.chord_team.specs.Owned.{AreApart, all_of}
 
 -- the part has no states and no events, and a list for each part
 pub record IsEmptyPart (profile parts part : ℕ) (p : OwnedPart) : Type 0 where

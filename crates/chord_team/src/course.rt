@@ -12,8 +12,7 @@ pub struct Course<'a> {
     pub layout: &'a Layout,
     /// One for each worker, to be woken by. That of worker 0 is the caller's.
     pub parkers: &'a [Parker],
-    /// So many events of a window are worth the wake-up of a worker. If it is 0, all are woken in
-    /// each window.
+    /// As in `Hands`.
     pub worth: u64,
 }
 
@@ -22,7 +21,7 @@ pub struct Course<'a> {
 pub struct Hands {
     /// The number of workers, of which the calling thread is one.
     pub workers: u32,
-    /// So many events of a window are worth the wake-up of a worker. If it is 0, all are woken in
-    /// each window.
+    /// How many events of a window are worth waking a worker. If it is 0, all are woken in each
+    /// window.
     pub worth: u64,
 }

@@ -7,8 +7,8 @@ ghost use Rattle.chord_event.specs.KeyOrder.{InKeyOrder};
 ghost use Rattle.chord_model.specs.Windows.{part_of};
 ghost use Rattle.chord_queue.specs.EventKey.{event_key};
 ghost use Rattle.chord_team.specs.Orders.{HasRun, IsFault, IsFinished, IsOrder};
-ghost use Rattle.chord_team.specs.Running.{AreApart, HasHandled, HasSent, HasTakenIn, IsReady, is_due};
-ghost use Rattle.chord_team.specs.Owned.{all_of};
+ghost use Rattle.chord_team.specs.Running.{HasHandled, HasSent, HasTakenIn, CanHandle, is_due};
+ghost use Rattle.chord_team.specs.Owned.{AreApart, all_of};
 
 use crate::layout::Layout;
 use crate::output::Output;
@@ -136,7 +136,7 @@ impl OwnedPart {
         event: &Event,
         output: &mut Output,
     ) -> Result<Option<u64>, Memory>
-        requires { IsReady scenario.now layout.now self.old event.now }
+        requires { CanHandle scenario.now layout.now self.old event.now }
         ensures handled { IfOk result (λ soonest. HasHandled scenario.now layout.now event.now self.old self.new output.old output.new soonest) }
         ensures part { self.new.part ≡ self.old.part }
     {

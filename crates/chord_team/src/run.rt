@@ -31,10 +31,10 @@ use std::thread::{Parker, Scope, Threads};
 /// The most workers of a team.
 pub const MOST_WORKERS: u32 = 64;
 
-/// So many events are worth the wake-up of a worker: fewer are run sooner than it is awake.
+/// How many events are worth waking a worker: fewer are run before it is awake.
 const EVENTS_OF_A_WORKER: u64 = 250;
 
-/// The links of the workers that are woken for a window of so many events: all of them, or those of
+/// The links of the workers that are woken for a window of this many events: all of them, or those of
 /// the first ones.
 fn links_worth<J: Named>(links: &mut Vec<Link<J>>, events: u64, worth: u64) -> &mut [Link<J>] {
     let most = links.len();
@@ -159,6 +159,7 @@ fn start_workers<'s, E, J: Named + Send + Sync + 's, R: Wait + Sync + 's>(
     Ok(())
 }
 
+/// A parker for each worker.
 fn make_parkers(alloc: Global, workers: u32) -> Result<Vec<Parker>, Memory> {
     let mut parkers = Vec::new(alloc);
     for _worker in 0..workers {
@@ -167,6 +168,7 @@ fn make_parkers(alloc: Global, workers: u32) -> Result<Vec<Parker>, Memory> {
     Ok(parkers)
 }
 
+/// Wakes all workers, so that they see that no order can come.
 fn wake_all(parkers: &[Parker]) {
     for parker in parkers {
         parker.unpark();
@@ -309,7 +311,8 @@ pub fn run_team<R: Threads + Wait + Sync, W: Write>(
     run_team_by(rt, alloc, scenario, division, hands, writer)
 }
 
-/// `run_team`, with the events that are worth a wake-up, so that a test can have all workers woken.
+/// `run_team`, with another number of events that are worth waking a worker: a test can have all of
+/// them woken in each window.
 pub fn run_team_by<R: Threads + Wait + Sync, W: Write>(
     rt: &R,
     alloc: Global,

@@ -4,8 +4,7 @@ ghost use Rattle.std.specs.List.{All};
 ghost use Rattle.chord_model.specs.Windows.{Divides};
 ghost use Rattle.chord_team.specs.declared.part.OwnedPart.{OwnedPart as AnOwnedPart};
 ghost use Rattle.chord_team.specs.Layouts.{IsLayout};
-ghost use Rattle.chord_team.specs.Owned.{LeastTimeIs, all_of};
-ghost use Rattle.chord_team.specs.Running.{AreApart};
+ghost use Rattle.chord_team.specs.Owned.{AreApart, LeastTimeIs, all_of};
 ghost use Rattle.chord_team.specs.Starts.{AreEmptyParts, AreParcelsOf, HaveEvents, HaveStates};
 ghost use Rattle.chord_team.specs.Teams.{IsTeam};
 

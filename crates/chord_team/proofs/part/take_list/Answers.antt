@@ -3,7 +3,7 @@ use Rattle.std.specs.List.{Contains}
 use Rattle.chord_event.specs.declared.body.Body.{Body}
 use Rattle.chord_event.specs.declared.event.Event.{Event}
 use Rattle.chord_queue.proofs.Inserting.{last_apart, last_new, last_put}
-use Rattle.chord_team.specs.Running.{AreApart}
+use Rattle.chord_team.specs.Owned.{AreApart}
 use Rattle.chord_team.proofs.part.take_list.Goals as goal
 
 empty : (es : List (Event Body)) → length es ≡ 0 → es ≡ []

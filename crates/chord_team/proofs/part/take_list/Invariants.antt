@@ -2,7 +2,7 @@ use Rattle.std.proofs.Common.{◌↔◌, ◌++◌, vec_len}
 use Rattle.std.specs.List.{Contains}
 use Rattle.chord_event.specs.declared.body.Body.{Body}
 use Rattle.chord_event.specs.declared.event.Event.{Event}
-use Rattle.chord_team.specs.Running.{AreApart}
+use Rattle.chord_team.specs.Owned.{AreApart}
 use Rattle.chord_team.proofs.part.take_list.Given as goal
 
 abbrev pub invariant-loop-event : goal.invariant-loop-event

@@ -2,8 +2,7 @@ use Rattle.std.proofs.Common.{◌≡◌, ◌↔◌, ◌++◌, [], length, take}
 use Rattle.std.specs.List.{Contains}
 use Rattle.chord_event.specs.declared.body.Body.{Body}
 use Rattle.chord_event.specs.declared.event.Event.{Event}
-use Rattle.chord_team.specs.Owned.{all_of}
-use Rattle.chord_team.specs.Running.{AreApart}
+use Rattle.chord_team.specs.Owned.{AreApart, all_of}
 use Rattle.chord_team.proofs.part.OwnedPart.take_in.Given as goal
 
 abbrev pub invariant-loop-from : goal.invariant-loop-from

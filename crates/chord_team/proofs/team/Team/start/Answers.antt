@@ -7,8 +7,7 @@ use Rattle.chord_machine.proofs.StartEvents.{starts_apart}
 use Rattle.chord_model.specs.Windows.{Divides}
 use Rattle.chord_node.specs.declared.state.NodeState.{NodeState}
 use Rattle.chord_trace.specs.Tally.{IsTallyOf}
-use Rattle.chord_team.specs.Owned.{LeastTimeIs}
-use Rattle.chord_team.specs.Running.{AreApart}
+use Rattle.chord_team.specs.Owned.{AreApart, LeastTimeIs}
 use Rattle.chord_team.specs.Starts.{AreEmptyParts, HaveEvents, HaveStates}
 use Rattle.chord_team.proofs.Starts.{ring_long, starts_inside, team_at_start}
 use Rattle.chord_team.proofs.team.Team.start.Goals as goal
