@@ -1,14 +1,14 @@
 //! The engines, behind one function.
-ghost use Rattle.std.specs.Prelude.{◌≡◌, ◌<◌, ◌≤◌, false};
+ghost use Rattle.std.specs.Prelude.{◌≡◌, ◌≤◌, false};
 ghost use Rattle.chord_trace.specs.Watched.{has_failed};
 
-use chord_crew::{Dealer, MOST_SEATS, OpenGate, run_crew, run_crew_dealt};
+use chord_crew::{Dealer, OpenGate, run_crew, run_crew_dealt};
 use chord_event::{Memory, RunError};
 use chord_scenario::Scenario;
 use chord_serial::run_serial;
 use chord_team::{Hands, run_team_by};
 use chord_trace::{Report, Watched};
-use chord_window::{Division, MOST_PARTS, run_picked};
+use chord_window::{Division, run_picked};
 use std::alloc::Global;
 use std::io::Write;
 use std::sync::Wait;
@@ -43,6 +43,10 @@ pub const ENGINES: [Engine; 5] = [
 pub struct Shape {
     pub parts: u32,
     pub workers: u32,
+    ghost some_parts: { 1 ≤ parts },
+    ghost few_parts: { parts ≤ 512 },
+    ghost some_workers: { 1 ≤ workers },
+    ghost few_workers: { workers ≤ 64 },
 }
 
 /// A dealer that rotates the parts: the nodes are dealt in turn, and before each window each of them moves one part on.
@@ -87,8 +91,6 @@ pub fn run_by<T: Threads + Wait + Sync, W: Write>(
     scenario: &Scenario,
     writer: &mut Watched<W>,
 ) -> Result<Report, RunError>
-    requires parts { (0 < shape.parts) × (shape.parts ≤ MOST_PARTS) }
-    requires workers { (0 < shape.workers) × (shape.workers ≤ MOST_SEATS) }
     requires sound { has_failed writer.old ≡ false }
 {
     scenario.recall_range();

@@ -1,10 +1,8 @@
-//! Texts of examples, and what a play of them leaves.
+//! Texts of examples, and the plan and the lines of a report with which they are told.
 use chord_event::RunError;
-use chord_play::{Engine, Plan, PlayFault, Split, play};
+use chord_play::{Engine, Plan, Split};
 use chord_trace::{Report, Watched};
 use std::alloc::{AllocError, Global};
-use std::sync::Wait;
-use std::thread::Threads;
 
 /// One event at a time.
 pub const SERIAL: Plan = Plan {
@@ -36,33 +34,16 @@ pub fn text_of(
     format!(in alloc; "{TOP}{settings}{nodes}{commands}")
 }
 
-/// What a play left: the text of its trace and of its report, or why it did not end.
-#[derive(Drop)]
-pub struct Played {
-    pub trace: Vec<u8>,
-    pub outcome: Result<Report, PlayFault>,
-}
-
-/// Plays a scenario without a latency text, one event at a time.
-pub fn play_text<T: AllocGlobal + Threads + Wait + Sync>(rt: &T, scenario: &[u8]) -> Played {
-    play_texts(rt, scenario, b"", &SERIAL)
-}
-
-/// Plays a scenario with a latency text, as planned.
-pub fn play_texts<T: AllocGlobal + Threads + Wait + Sync>(
-    rt: &T,
-    scenario: &[u8],
-    latency: &[u8],
-    plan: &Plan,
-) -> Played {
-    let mut toml = Watched::new(scenario);
-    let mut csv = Watched::new(latency);
-    let mut writer = Watched::new(Vec::new(rt.alloc()));
-    let outcome = play(rt, rt.alloc(), &mut toml, &mut csv, plan, &mut writer);
-    Played {
-        trace: writer.into_inner(),
-        outcome,
+/// The lines of a text that do not end with the number 0.
+pub fn nonzero(alloc: Global, text: &str) -> Result<String, AllocError> {
+    let mut lines = String::new(alloc);
+    for line in text.lines() {
+        if !line.ends_with(" 0") {
+            lines.push_str(line)?;
+            lines.push_str("\n")?;
+        }
     }
+    Ok(lines)
 }
 
 /// The lines of a report whose number is not 0.
@@ -70,12 +51,5 @@ pub fn shown(alloc: Global, report: &Report) -> Result<String, RunError> {
     let mut writer = Watched::new(Vec::with_capacity(alloc, 1024)?);
     report.write(alloc, &mut writer)?;
     let text = String::from_utf8_lossy(alloc, writer.into_inner().as_slice())?;
-    let mut lines = String::new(alloc);
-    for line in text.as_str().lines() {
-        if !line.ends_with(" 0") {
-            lines.push_str(line)?;
-            lines.push_str("\n")?;
-        }
-    }
-    Ok(lines)
+    Ok(nonzero(alloc, text.as_str())?)
 }

@@ -1,22 +1,67 @@
 //! What holds of a run by any engine.
-use crate::examples::engines::{ENGINES, Engine, Shape, run_by};
-use crate::examples::play::shown;
+use crate::examples::engines::{ENGINES, Engine, Shape};
 use crate::examples::table::{EXAMPLES, TWO_LOOKUPS};
+use crate::tests::left::{Picked, run_left, run_picks};
 use crate::tests::ring_of_three::two_lookups;
 use crate::tests::second_profile::ring_of;
 use chord_crew::MOST_SEATS;
-use chord_event::RunError;
 use chord_scenario::read_scenario;
-use chord_trace::Watched;
-use chord_window::{Division, MOST_PARTS, run_picked};
-use std::alloc::Global;
+use chord_window::{Division, MOST_PARTS};
+use std::process::Abort;
+use std::sync::Wait;
 use std::test::Fail;
+use std::thread::Threads;
 
 /// Two parts, and a worker for each.
 pub const PAIR: Shape = Shape {
     parts: 2,
     workers: 2,
 };
+
+/// One worker, and more, up to as many as there can be.
+pub const TEAMS: [Shape; 4] = [
+    Shape {
+        parts: 3,
+        workers: 1,
+    },
+    Shape {
+        parts: 3,
+        workers: 3,
+    },
+    Shape {
+        parts: 2,
+        workers: 8,
+    },
+    Shape {
+        parts: 3,
+        workers: 64,
+    },
+];
+
+/// Parts and workers of a run by windows.
+const SHAPES: [Shape; 6] = [
+    Shape {
+        parts: 1,
+        workers: 2,
+    },
+    Shape {
+        parts: 2,
+        workers: 1,
+    },
+    PAIR,
+    Shape {
+        parts: 3,
+        workers: 2,
+    },
+    Shape {
+        parts: 3,
+        workers: 64,
+    },
+    Shape {
+        parts: 5,
+        workers: 3,
+    },
+];
 
 /// Each example has the trace and the report that it has by the rules, with any engine, parts and workers.
 #[test]
@@ -26,64 +71,69 @@ fn examples_by_engines(rt: HostRuntime) -> Result<(), Fail> {
         let name = example.name;
         let scenario = example.scenario(alloc).ok().ok_or(name)?;
         for engine in ENGINES {
-            for (parts, workers) in [(1, 2), (2, 1), (2, 2), (3, 2), (3, 64), (5, 3)] {
-                assert!(rt; 0 < parts && parts <= MOST_PARTS);
-                assert!(rt; 0 < workers && workers <= MOST_SEATS);
-                let shape = Shape { parts, workers };
-                let mut writer = Watched::new(Vec::new(alloc));
-                let report = run_by(&rt, alloc, engine, shape, &scenario, &mut writer)?;
-                let trace = String::from_utf8_lossy(alloc, writer.into_inner().as_slice())?;
-                assert!(rt;
-                    trace.as_str() == example.trace,
-                    "{name}, {engine:?}, {shape:?}: {trace}"
-                );
-                let report = shown(alloc, &report)?;
-                assert!(rt;
-                    report.as_str() == example.report,
-                    "{name}, {engine:?}, {shape:?}: {report}"
-                );
+            for shape in SHAPES {
+                let left = run_left(&rt, engine, shape, &scenario)?;
+                let how = (name, engine, shape);
+                left.shows(&rt, &how, example.trace, example.report)?;
             }
         }
     }
     Ok(())
 }
 
-/// How many lines a run of two lookups has written when it meets the limit. The run has eight events: the lookups begin
-/// in the first window, their requests come in the second, the replies in the third, and the two timeouts, which end
-/// nothing, are the fourth. By windows nothing of the window is written that meets it.
+/// How many lines a run of two lookups has written when it meets the limit: the limit, and the lines one event at a
+/// time and by windows. The run has eight events: the lookups begin in the first window, their requests come in the
+/// second, the replies in the third, and the two timeouts, which end nothing, are the fourth. By windows nothing of the
+/// window is written that meets it.
+const LIMITS: [(u32, usize, usize); 8] = [
+    (1, 1, 0),
+    (2, 2, 2),
+    (3, 2, 2),
+    (4, 2, 2),
+    (5, 3, 2),
+    (6, 4, 4),
+    (7, 4, 4),
+    (8, 5, 5),
+];
+
+/// Asserts that a run of the two lookups with this limit has written so many lines, and that it fails below eight
+/// events.
+fn meets_the_limit<T: Abort + AllocGlobal + Threads + Wait + Sync>(
+    rt: &T,
+    engine: Engine,
+    shape: Shape,
+    allowed: u32,
+    lines: usize,
+) -> Result<(), Fail> {
+    let scenario = two_lookups(rt.alloc(), allowed)?;
+    let left = run_left(rt, engine, shape, &scenario)?;
+    let is_over = left.end.as_str() == "TooManyEvents";
+    assert!(rt;
+        is_over == (allowed < 8) && left.has_ended() == (allowed == 8),
+        "{engine:?}, {allowed}: {}",
+        left.end
+    );
+    let trace = left.trace.as_str();
+    assert!(rt;
+        TWO_LOOKUPS.trace.starts_with(trace) && trace.lines().count() == lines,
+        "{engine:?}, {allowed}: {trace}"
+    );
+    Ok(())
+}
+
 #[test]
 fn too_many_events_by_engines(rt: HostRuntime) -> Result<(), Fail> {
-    let alloc = rt.alloc();
-    for (allowed, one_at_a_time, by_windows) in [
-        (1, 1, 0),
-        (2, 2, 2),
-        (3, 2, 2),
-        (4, 2, 2),
-        (5, 3, 2),
-        (6, 4, 4),
-        (7, 4, 4),
-        (8, 5, 5),
-    ] {
-        let scenario = two_lookups(alloc, allowed)?;
+    for (allowed, one_at_a_time, by_windows) in LIMITS {
         for engine in ENGINES {
-            let mut writer = Watched::new(Vec::new(alloc));
-            let outcome = run_by(&rt, alloc, engine, PAIR, &scenario, &mut writer);
-            let is_over = matches!(outcome, Err(RunError::TooManyEvents));
-            assert!(rt;
-                is_over == (allowed < 8) && outcome.is_ok() == (allowed == 8),
-                "{engine:?}, {allowed}"
-            );
-            let trace = String::from_utf8_lossy(alloc, writer.into_inner().as_slice())?;
             let lines = if engine == Engine::Serial {
                 one_at_a_time
             } else {
                 by_windows
             };
-            assert!(rt;
-                TWO_LOOKUPS.trace.starts_with(trace.as_str())
-                    && trace.as_str().lines().count() == lines,
-                "{engine:?}, {allowed}: {trace}"
-            );
+            meets_the_limit(&rt, engine, PAIR, allowed, lines)?;
+        }
+        for shape in TEAMS {
+            meets_the_limit(&rt, Engine::Team, shape, allowed, by_windows)?;
         }
     }
     Ok(())
@@ -96,20 +146,10 @@ fn two_workers_without_picks(rt: HostRuntime) -> Result<(), Fail> {
     let scenario = two_lookups(alloc, 8)?;
     for parts in [1, 2, 3, 5] {
         let division = Division::dealt(alloc, scenario.nodes(), parts)?;
-        let mut writer = Watched::new(Vec::new(alloc));
-        let (report, steps) = run_picked(alloc, &scenario, &division, 2, &[], &mut writer)?;
-        let trace = String::from_utf8_lossy(alloc, writer.into_inner().as_slice())?;
-        assert!(rt;
-            trace.as_str() == TWO_LOOKUPS.trace,
-            "{parts} parts: {trace}"
-        );
-        let lines = shown(alloc, &report)?;
-        assert!(rt;
-            lines.as_str() == TWO_LOOKUPS.report,
-            "{parts} parts: {lines}"
-        );
-        let first = steps.as_slice().iter().all(|taken| taken.worker == 0);
-        assert!(rt; first, "{parts} parts: {steps:?}");
+        let Picked { left, steps } = run_picks(alloc, &scenario, &division, 2, &[])?;
+        left.shows(&rt, &parts, TWO_LOOKUPS.trace, TWO_LOOKUPS.report)?;
+        let first = steps.as_str().lines().all(|step| step.starts_with("0 "));
+        assert!(rt; first, "{parts} parts: {steps}");
     }
     Ok(())
 }
@@ -126,15 +166,11 @@ fn a_part_for_each_of_512_nodes(rt: HostRuntime) -> Result<(), Fail> {
         parts: MOST_PARTS,
         workers: MOST_SEATS,
     };
-    let mut serial = Watched::new(Vec::new(alloc));
-    let expected = run_by(&rt, alloc, Engine::Serial, shape, &scenario, &mut serial)?;
-    let serial = serial.into_inner();
-    assert!(rt; serial.as_slice().starts_with(b"100 n0 lookup 300\n"));
+    let serial = run_left(&rt, Engine::Serial, shape, &scenario)?;
+    assert!(rt; serial.has_ended() && serial.trace.starts_with("100 n0 lookup 300\n"));
     for engine in [Engine::Picked, Engine::Crew, Engine::Dealt, Engine::Team] {
-        let mut writer = Watched::new(Vec::new(alloc));
-        let report = run_by(&rt, alloc, engine, shape, &scenario, &mut writer)?;
-        assert!(rt; report == expected, "{engine:?}");
-        assert!(rt; writer.into_inner() == serial, "{engine:?}");
+        let left = run_left(&rt, engine, shape, &scenario)?;
+        left.is(&rt, &engine, serial.trace.as_str(), serial.end.as_str())?;
     }
     Ok(())
 }

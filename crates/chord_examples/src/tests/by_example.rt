@@ -1,8 +1,8 @@
 //! Plays of examples.
-use crate::examples::play::{Played, SERIAL, play_text, play_texts, shown, text_of};
+use crate::examples::play::{SERIAL, text_of};
 use crate::examples::table::{EXAMPLES, Example};
+use crate::tests::left::{play_text, play_texts};
 use crate::tests::ring_of_three::{ONE_HOP, text_of_three};
-use crate::tests::second_profile::lines_of;
 use chord_play::Plan;
 use std::alloc::Global;
 use std::process::Abort;
@@ -16,25 +16,14 @@ pub fn leaves_example<T: Abort + AllocGlobal + Threads + Wait + Sync>(
     example: &Example,
     plan: &Plan,
 ) -> Result<(), Fail> {
-    let alloc = rt.alloc();
-    let name = example.name;
-    let text = text_of(alloc, example.settings, example.nodes, example.commands)?;
-    let Played { trace, outcome } = play_texts(rt, text.as_str().as_bytes(), b"", plan);
-    let trace = String::from_utf8_lossy(alloc, trace.as_slice())?;
-    assert!(rt;
-        trace.as_str() == example.trace,
-        "{name}, {plan:?}: {trace}"
-    );
-    let Ok(report) = outcome else {
-        assert!(rt; false, "{name}, {plan:?}: no end");
-        return Ok(());
-    };
-    let report = shown(alloc, &report)?;
-    assert!(rt;
-        report.as_str() == example.report,
-        "{name}, {plan:?}: {report}"
-    );
-    Ok(())
+    let text = text_of(
+        rt.alloc(),
+        example.settings,
+        example.nodes,
+        example.commands,
+    )?;
+    let left = play_texts(rt, text.as_str().as_bytes(), b"", plan)?;
+    left.shows(rt, &(example.name, plan), example.trace, example.report)
 }
 
 #[test]
@@ -75,12 +64,9 @@ fn sixty_lookups_and_one_more(rt: HostRuntime) -> Result<(), Fail> {
     let text = text_of_three(alloc, commands.as_str())?;
     for (profile, last) in [("profile = 1", ""), ("profile = 2", "losses 0\n")] {
         let text = text.as_str().replacen(alloc, "profile = 1", profile, 1)?;
-        let played = play_text(&rt, text.as_str().as_bytes());
-        let trace = String::from_utf8_lossy(alloc, played.trace.as_slice())?;
-        assert!(rt; trace == expected, "{profile}: {trace}");
-        let report = lines_of(alloc, &played.outcome.ok().ok_or(profile)?)?;
-        let lines = format!(in alloc; "{SIXTY_REPORT}{last}")?;
-        assert!(rt; report == lines, "{profile}: {report}");
+        let report = format!(in alloc; "{SIXTY_REPORT}{last}")?;
+        let left = play_text(&rt, text.as_str())?;
+        left.is(&rt, &profile, expected.as_str(), report.as_str())?;
     }
     Ok(())
 }
@@ -90,14 +76,14 @@ fn sixty_lookups_and_one_more(rt: HostRuntime) -> Result<(), Fail> {
 fn a_latency_of_its_own(rt: HostRuntime) -> Result<(), Fail> {
     let alloc = rt.alloc();
     let text = text_of_three(alloc, ONE_HOP)?;
-    let played = play_texts(&rt, text.as_str().as_bytes(), b"n0,n3,15", &SERIAL);
-    assert!(rt; played.outcome.is_ok());
-    let trace = String::from_utf8_lossy(alloc, played.trace.as_slice())?;
+    let left = play_texts(&rt, text.as_str().as_bytes(), b"n0,n3,15", &SERIAL)?;
+    let trace = "100 n3 lookup 1\n\
+        130 n3 found 1 n1 hops=1 timeouts=0 us=30\n\
+        200 audit members=3 dead=0 ring=3 ordered=yes principals=3 sufficient=yes\n";
     assert!(rt;
-        trace.as_str()
-            == "100 n3 lookup 1\n130 n3 found 1 n1 hops=1 timeouts=0 us=30\n\
-                200 audit members=3 dead=0 ring=3 ordered=yes principals=3 sufficient=yes\n",
-        "{trace}"
+        left.has_ended() && left.trace.as_str() == trace,
+        "{}",
+        left.trace
     );
     Ok(())
 }

@@ -2,14 +2,14 @@
 //! starter and a gate note them.
 ghost use Rattle.std.specs.Prelude.{◌≡◌, ◌≤◌};
 
-use crate::examples::play::{SERIAL, SETTINGS, THREE, play_text, play_texts, text_of};
+use crate::examples::play::{SERIAL, SETTINGS, THREE, text_of};
 use crate::examples::table::{EXAMPLES, TWO_LOOKUPS};
 use crate::tests::by_example::leaves_example;
 use crate::tests::gates::{NotesStarts, SizeGate};
+use crate::tests::left::{play_text, play_texts};
 use crate::tests::random_texts::{Dice, RandomTexts, random_texts};
 use crate::tests::ring_of_three::two_lookups;
-use chord_event::RunError;
-use chord_play::{Engine, Plan, PlayFault, Split, run_planned};
+use chord_play::{Engine, Plan, Split, run_planned};
 use chord_trace::Watched;
 use std::process::Abort;
 use std::sync::Wait;
@@ -75,40 +75,38 @@ fn plans_differ_in_what_fails(rt: HostRuntime) -> Result<(), Fail> {
     let alloc = rt.alloc();
     let settings = format!(in alloc; "{SETTINGS}max_events = 1\n")?;
     let text = text_of(alloc, settings.as_str(), THREE, TWO_LOOKUPS.commands)?;
-    let serial = play_text(&rt, text.as_str().as_bytes());
-    assert!(rt; serial.outcome.is_err());
-    assert!(rt; serial.trace.as_slice() == b"100 n0 lookup 4\n".as_slice());
+    let serial = play_text(&rt, text.as_str())?;
+    serial.is(&rt, &SERIAL, "100 n0 lookup 4\n", "TooManyEvents")?;
     for number in 0..PLANS {
         for engine in CREW_AND_TEAM {
             let plan = plan_of(engine, number);
-            let other = play_texts(&rt, text.as_str().as_bytes(), b"", &plan);
-            let is_over = matches!(other.outcome, Err(PlayFault::Run(RunError::TooManyEvents)));
-            assert!(rt; is_over && other.trace.is_empty(), "{plan:?}");
+            let other = play_texts(&rt, text.as_str().as_bytes(), b"", &plan)?;
+            other.is(&rt, &plan, "", "TooManyEvents")?;
         }
     }
     Ok(())
 }
 
-/// Whether a random scenario, if it is accepted, leaves the same by a crew and by a team of the plan of this number as
-/// one event at a time.
-fn is_same<T: AllocGlobal + Threads + Wait + Sync>(
+/// Asserts that a random scenario, if it is accepted, leaves the same by a crew and by a team of the plan of this number
+/// as one event at a time. Returns whether it is accepted.
+fn leaves_the_same<T: Abort + AllocGlobal + Threads + Wait + Sync>(
     rt: &T,
     texts: &RandomTexts,
     number: u64,
-) -> Option<bool> {
+) -> Result<bool, Fail> {
     let toml = texts.toml.as_str().as_bytes();
     let csv = texts.csv.as_str().as_bytes();
-    let one = play_texts(rt, toml, csv, &SERIAL);
-    if matches!(one.outcome, Err(PlayFault::Scenario(_))) {
-        return None;
+    let one = play_texts(rt, toml, csv, &SERIAL)?;
+    if one.end.as_str() == "refused" {
+        return Ok(false);
     }
-    let crew = play_texts(rt, toml, csv, &plan_of(Engine::Crew, number));
-    let team = play_texts(rt, toml, csv, &plan_of(Engine::Team, number));
-    let (Ok(report), Ok(by_crew), Ok(by_team)) = (one.outcome, crew.outcome, team.outcome) else {
-        return Some(false);
-    };
-    let has_same_trace = one.trace == crew.trace && one.trace == team.trace;
-    Some(has_same_trace && report == by_crew && report == by_team)
+    assert!(rt; one.has_ended(), "seed {number}: {}", one.end);
+    for engine in CREW_AND_TEAM {
+        let plan = plan_of(engine, number);
+        let other = play_texts(rt, toml, csv, &plan)?;
+        other.is(rt, &(number, plan), one.trace.as_str(), one.end.as_str())?;
+    }
+    Ok(true)
 }
 
 #[test]
@@ -118,8 +116,7 @@ fn random_scenarios_by_plans(rt: HostRuntime) -> Result<(), Fail> {
     for seed in 0..SEEDS {
         let mut dice = Dice { state: 1000 + seed };
         let texts = random_texts(alloc, &mut dice, 400)?;
-        if let Some(same) = is_same(&rt, &texts, seed) {
-            assert!(rt; same, "seed {seed}");
+        if leaves_the_same(&rt, &texts, seed)? {
             accepted.push(seed)?;
         }
     }

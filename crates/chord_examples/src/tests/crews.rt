@@ -7,13 +7,14 @@ use crate::examples::table::TWO_LOOKUPS;
 use crate::tests::gates::{
     Broken, CountGate, Counting, Log, LogGate, LogRunner, PairGate, SizeGate,
 };
+use crate::tests::left::Left;
 use crate::tests::ring_of_three::{ring_with, two_lookups};
 use crate::tests::windows::divide;
 use chord_crew::{Draws, Gate, MOST_SEATS, OpenGate, Seat, run_crew, work_by};
 use chord_event::{Memory, RunError};
 use chord_play::Split;
 use chord_scenario::Scenario;
-use chord_trace::{Report, Watched};
+use chord_trace::Watched;
 use chord_window::{Division, Window, World, exchange, run_picked};
 use std::alloc::Global;
 use std::snapshot::Snapshot;
@@ -22,13 +23,6 @@ use std::sync::{Mutex, Wait};
 use std::test::Fail;
 use std::thread::Threads;
 
-/// The result of a crew: the text of its trace, and its report, or why it did not end.
-#[derive(Drop)]
-pub struct Ran {
-    pub trace: Vec<u8>,
-    pub outcome: Result<Report, RunError>,
-}
-
 /// Runs a scenario by `workers` workers.
 fn run_by<T: AllocGlobal + Threads + Wait + Sync, G: Gate + Sync>(
     rt: &T,
@@ -36,16 +30,13 @@ fn run_by<T: AllocGlobal + Threads + Wait + Sync, G: Gate + Sync>(
     division: &Division,
     workers: u32,
     gate: &G,
-) -> Ran
+) -> Result<Left, Fail>
     requires { (0 < workers) × (workers ≤ MOST_SEATS) }
 {
     let alloc = rt.alloc();
     let mut writer = Watched::new(Vec::new(alloc));
     let outcome = run_crew(rt, alloc, scenario, division, workers, gate, &mut writer);
-    Ran {
-        trace: writer.into_inner(),
-        outcome,
-    }
+    Left::of_run(alloc, writer.into_inner(), &outcome)
 }
 
 /// A division of four nodes does not fit a ring of three, and nothing is written.
@@ -54,10 +45,8 @@ fn a_crew_with_a_division_of_other_nodes(rt: HostRuntime) -> Result<(), Fail> {
     let alloc = rt.alloc();
     let scenario = two_lookups(alloc, 50)?;
     let division = Division::dealt(alloc, 4, 2)?;
-    let ran = run_by(&rt, &scenario, &division, 2, &OpenGate);
-    assert!(rt; matches!(ran.outcome, Err(RunError::BadDivision)));
-    assert!(rt; ran.trace.is_empty());
-    Ok(())
+    let left = run_by(&rt, &scenario, &division, 2, &OpenGate)?;
+    left.is(&rt, &"four nodes", "", "BadDivision")
 }
 
 #[test]
@@ -66,8 +55,8 @@ fn two_workers_pass_in_pairs(rt: HostRuntime) -> Result<(), Fail> {
     let scenario = two_lookups(alloc, 50)?;
     let division = divide(alloc, &scenario, Split::Blocks, 2)?;
     let gate = PairGate::new();
-    let ran = run_by(&rt, &scenario, &division, 2, &gate);
-    assert!(rt; ran.trace.as_slice() == TWO_LOOKUPS.trace.as_bytes());
+    let left = run_by(&rt, &scenario, &division, 2, &gate)?;
+    assert!(rt; left.trace.as_str() == TWO_LOOKUPS.trace);
     assert!(rt; gate.passes.load(Ordering::SeqCst) == 8);
     assert!(rt; gate.alone.load(Ordering::SeqCst) == 0);
     for pair in gate.workers.chunks(2) {
@@ -95,8 +84,7 @@ fn each_window_is_put_out_at_its_end(rt: HostRuntime) -> Result<(), Fail> {
     let taken = AtomicU64::new(0);
     let gate = SizeGate::new(&taken);
     let mut writer = Watched::new(Counting { taken: &taken });
-    let outcome = run_crew(&rt, alloc, &scenario, &division, 1, &gate, &mut writer);
-    assert!(rt; outcome.is_ok());
+    run_crew(&rt, alloc, &scenario, &division, 1, &gate, &mut writer)?;
     assert!(rt; gate.passes.load(Ordering::SeqCst) == 8);
     for (part, expected) in gate.parts.iter().zip([0, 1, 0, 1, 0, 1, 0, 1]) {
         assert!(rt; part.load(Ordering::SeqCst) == expected, "part {expected}");
@@ -150,11 +138,11 @@ fn too_many_events_come_before_a_failed_write(rt: HostRuntime) -> Result<(), Fai
     let two = divide(alloc, &scenario, Split::Blocks, 2)?;
     for division in [&one, &two] {
         let mut writer = Watched::new(Broken);
-        let outcome = run_crew(&rt, alloc, &scenario, division, 2, &OpenGate, &mut writer);
-        assert!(rt; matches!(outcome, Err(RunError::TooManyEvents)));
+        let by_crew = run_crew(&rt, alloc, &scenario, division, 2, &OpenGate, &mut writer).err();
+        assert!(rt; by_crew == Some(RunError::TooManyEvents));
         let mut writer = Watched::new(Broken);
-        let outcome = run_picked(alloc, &scenario, division, 2, &[], &mut writer);
-        assert!(rt; matches!(outcome, Err(RunError::TooManyEvents)));
+        let picked = run_picked(alloc, &scenario, division, 2, &[], &mut writer).err();
+        assert!(rt; picked == Some(RunError::TooManyEvents));
     }
     Ok(())
 }
@@ -169,8 +157,8 @@ fn a_gate_is_passed_for_a_part_that_fails(rt: HostRuntime) -> Result<(), Fail> {
         rt: &rt,
         passes: Mutex::new(0),
     };
-    let ran = run_by(&rt, &scenario, &division, 1, &gate);
-    assert!(rt; matches!(ran.outcome, Err(RunError::TooManyEvents)));
+    let left = run_by(&rt, &scenario, &division, 1, &gate)?;
+    assert!(rt; left.end.as_str() == "TooManyEvents", "{}", left.end);
     assert!(rt; *gate.passes.lock(&rt) == 1);
     Ok(())
 }
@@ -183,8 +171,8 @@ fn a_gate_may_wait(rt: HostRuntime) -> Result<(), Fail> {
         rt: &rt,
         passes: Mutex::new(0),
     };
-    let ran = run_by(&rt, &scenario, &division, 3, &gate);
-    assert!(rt; ran.trace.as_slice() == TWO_LOOKUPS.trace.as_bytes());
+    let left = run_by(&rt, &scenario, &division, 3, &gate)?;
+    assert!(rt; left.trace.as_str() == TWO_LOOKUPS.trace);
     assert!(rt; *gate.passes.lock(&rt) == 12);
     Ok(())
 }

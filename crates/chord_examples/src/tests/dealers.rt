@@ -3,8 +3,8 @@ ghost use Rattle.std.specs.Prelude.{◌≡◌, ◌<◌, ◌≤◌, length};
 
 use crate::examples::play::{SETTINGS, text_of};
 use crate::examples::table::TWO_LOOKUPS;
-use crate::tests::crews::Ran;
 use crate::tests::gates::{NotesStarts, SizeGate};
+use crate::tests::left::Left;
 use crate::tests::ring_of_three::{is_beginning, two_lookups};
 use chord_crew::{
     Balanced, Dealer, Gate, MOST_SEATS, OpenGate, Starter, run_crew_dealt, run_crew_started,
@@ -86,16 +86,13 @@ fn run_dealt<T: AllocGlobal + Threads + Wait + Sync, D: Dealer, G: Gate + Sync>(
     workers: u32,
     dealer: &mut D,
     gate: &G,
-) -> Ran
+) -> Result<Left, Fail>
     requires { (0 < workers) × (workers ≤ MOST_SEATS) }
 {
     let alloc = rt.alloc();
     let mut writer = Watched::new(Vec::new(alloc));
     let outcome = run_crew_dealt(rt, alloc, scenario, workers, dealer, gate, &mut writer);
-    Ran {
-        trace: writer.into_inner(),
-        outcome,
-    }
+    Left::of_run(alloc, writer.into_inner(), &outcome)
 }
 
 /// The dealer is asked before each of the four windows, and passed what each node has handled so far.
@@ -103,9 +100,8 @@ fn run_dealt<T: AllocGlobal + Threads + Wait + Sync, D: Dealer, G: Gate + Sync>(
 fn a_dealer_is_told_the_loads(rt: HostRuntime) -> Result<(), Fail> {
     let scenario = two_lookups(rt.alloc(), 50)?;
     let mut dealer = InTurn::new(rt.alloc(), Answer::ByTurns, Answer::ByBlocks);
-    let ran = run_dealt(&rt, &scenario, 2, &mut dealer, &OpenGate);
-    assert!(rt; ran.outcome.is_ok());
-    assert!(rt; ran.trace.as_slice() == TWO_LOOKUPS.trace.as_bytes());
+    let left = run_dealt(&rt, &scenario, 2, &mut dealer, &OpenGate)?;
+    assert!(rt; left.has_ended() && left.trace.as_str() == TWO_LOOKUPS.trace);
     assert!(rt; dealer.calls == 4);
     assert!(rt; dealer.loads.as_slice() == [0, 0, 0, 1, 0, 1, 2, 0, 2, 3, 0, 3].as_slice());
     Ok(())
@@ -117,25 +113,14 @@ fn a_dealer_is_told_the_loads(rt: HostRuntime) -> Result<(), Fail> {
 fn a_dealer_without_a_division_ends_the_run(rt: HostRuntime) -> Result<(), Fail> {
     let scenario = two_lookups(rt.alloc(), 50)?;
     for (first, second, error, taken) in [
-        (
-            Answer::OfFourNodes,
-            Answer::ByTurns,
-            RunError::BadDivision,
-            0,
-        ),
-        (
-            Answer::ByTurns,
-            Answer::OfFourNodes,
-            RunError::BadDivision,
-            32,
-        ),
-        (Answer::Refused, Answer::ByTurns, RunError::Memory, 0),
-        (Answer::ByTurns, Answer::Refused, RunError::Memory, 32),
+        (Answer::OfFourNodes, Answer::ByTurns, "BadDivision", 0),
+        (Answer::ByTurns, Answer::OfFourNodes, "BadDivision", 32),
+        (Answer::Refused, Answer::ByTurns, "Memory", 0),
+        (Answer::ByTurns, Answer::Refused, "Memory", 32),
     ] {
         let mut dealer = InTurn::new(rt.alloc(), first, second);
-        let ran = run_dealt(&rt, &scenario, 2, &mut dealer, &OpenGate);
-        assert!(rt; ran.outcome.err() == Some(error), "after {taken}");
-        assert!(rt; is_beginning(ran.trace.as_slice(), taken), "after {taken}");
+        let left = run_dealt(&rt, &scenario, 2, &mut dealer, &OpenGate)?;
+        left.is(&rt, &taken, &TWO_LOOKUPS.trace[..taken], error)?;
     }
     Ok(())
 }
@@ -156,8 +141,8 @@ fn each_window_has_its_own_parts(rt: HostRuntime) -> Result<(), Fail> {
     let mut dealer = InTurn::new(rt.alloc(), Answer::InOnePart, Answer::EachAlone);
     let taken = AtomicU64::new(0);
     let gate = SizeGate::new(&taken);
-    let ran = run_dealt(&rt, &scenario, 2, &mut dealer, &gate);
-    assert!(rt; ran.trace.as_slice() == TWO_LOOKUPS.trace.as_bytes());
+    let left = run_dealt(&rt, &scenario, 2, &mut dealer, &gate)?;
+    assert!(rt; left.trace.as_str() == TWO_LOOKUPS.trace);
     assert!(rt; gate.passes.load(Ordering::SeqCst) == 8);
     assert!(rt; is_one_then_three(&gate.parts[..4]) && is_one_then_three(&gate.parts[4..]));
     Ok(())
@@ -197,7 +182,7 @@ fn a_refused_start_ends_the_run(rt: HostRuntime) -> Result<(), Fail> {
     ] {
         let mut starter = RefusesStart { refused, asked: 0 };
         let mut writer = Watched::new(Vec::new(alloc));
-        let outcome = run_crew_started(
+        let fault = run_crew_started(
             &rt,
             alloc,
             &scenario,
@@ -206,12 +191,14 @@ fn a_refused_start_ends_the_run(rt: HostRuntime) -> Result<(), Fail> {
             &mut starter,
             &OpenGate,
             &mut writer,
-        );
-        let is_refused = matches!(outcome, Err(RunError::Worker));
-        assert!(rt;
-            is_refused == (refused < 9) && outcome.is_ok() == (refused == 9),
-            "{refused}"
-        );
+        )
+        .err();
+        let expected = if refused < 9 {
+            Some(RunError::Worker)
+        } else {
+            None
+        };
+        assert!(rt; fault == expected, "{refused}");
         assert!(rt; starter.asked == refused.min(8), "{refused}");
         let trace = writer.into_inner();
         assert!(rt; is_beginning(trace.as_slice(), taken), "{refused}");
@@ -333,9 +320,10 @@ fn parts_of_a_skewed_ring_are_evened_out(rt: HostRuntime) -> Result<(), Fail> {
         balanced: Balanced::new(alloc, 2),
         last: Vec::new(alloc),
     };
-    let ran = run_dealt(&rt, &scenario, 2, &mut dealer, &OpenGate);
-    assert!(rt; ran.outcome.is_ok());
-    assert!(rt; ran.trace.as_slice() == serial.into_inner().as_slice());
+    let left = run_dealt(&rt, &scenario, 2, &mut dealer, &OpenGate)?;
+    assert!(rt;
+        left.has_ended() && left.trace.as_str().as_bytes() == serial.into_inner().as_slice()
+    );
     let loads = dealer.last.as_slice();
     assert!(rt; loads.len() == 8);
     let even = dealer.balanced.deal(loads)?;

@@ -4,8 +4,9 @@ use crate::examples::play::THREE;
 use crate::examples::table::TWO_NODES;
 use crate::tests::by_engine::PAIR;
 use crate::tests::by_example::repeated;
+use crate::tests::left::run_left;
 use crate::tests::ring_of_three::ONE_HOP;
-use crate::tests::second_profile::{ring_of, told_by};
+use crate::tests::second_profile::ring_of;
 use chord_scenario::read_scenario;
 use std::test::Fail;
 
@@ -44,8 +45,8 @@ fn a_spread_of_a_thousand_seconds(rt: HostRuntime) -> Result<(), Fail> {
         999990199 n0 drop step n3\n\
         1000000000 audit members=2 dead=0 ring=2 ordered=yes principals=2 sufficient=no\n";
     for engine in ENGINES {
-        let told = told_by(&rt, alloc, engine, PAIR, &scenario)?;
-        assert!(rt; told.trace.as_str() == trace, "{engine:?}: {}", told.trace);
+        let left = run_left(&rt, engine, PAIR, &scenario)?;
+        assert!(rt; left.trace.as_str() == trace, "{engine:?}: {}", left.trace);
     }
     Ok(())
 }
@@ -81,13 +82,8 @@ fn a_block_of_63_lines(rt: HostRuntime) -> Result<(), Fail> {
         .ok()
         .ok_or("the ring is refused")?;
     for engine in ENGINES {
-        let told = told_by(&rt, alloc, engine, PAIR, &scenario)?;
-        assert!(rt; told.trace == trace, "{engine:?}: {}", told.trace);
-        assert!(rt;
-            told.report.as_str() == STRANDED_REPORT,
-            "{engine:?}: {}",
-            told.report
-        );
+        let left = run_left(&rt, engine, PAIR, &scenario)?;
+        left.is(&rt, &engine, trace.as_str(), STRANDED_REPORT)?;
     }
     Ok(())
 }

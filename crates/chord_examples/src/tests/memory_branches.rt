@@ -1,13 +1,13 @@
 //! Runs that take the branches which the other examples do not. An allocation may fail in each of these branches, and
 //! no clause could say that a branch does not fail without need: so each is taken once.
-use crate::examples::play::{Played, SERIAL, play_text, play_texts, shown};
+use crate::examples::play::SERIAL;
+use crate::tests::left::{play_text, play_texts};
 use chord_circle::{Circle, Ident};
 use chord_event::{Answer, Body, Listed, Memory};
 use chord_play::{Engine, Plan, Split};
 use chord_scenario::read_scenario;
 use std::alloc::{AllocError, Global};
 use std::fmt::Write as _;
-use std::process::Abort;
 use std::test::Fail;
 
 /// The plans of these runs.
@@ -26,24 +26,6 @@ const PLANS: [Plan; 3] = [
         split: Split::RoundRobin,
     },
 ];
-
-/// Asserts what a run leaves.
-fn leaves(
-    rt: &(impl AllocGlobal + Abort),
-    played: Played,
-    trace: &str,
-    report: &str,
-) -> Result<(), Fail> {
-    let text = String::from_utf8_lossy(rt.alloc(), played.trace.as_slice())?;
-    assert!(rt; text.as_str() == trace, "{text}");
-    let Ok(numbers) = played.outcome else {
-        assert!(rt; false, "the run failed");
-        return Ok(());
-    };
-    let lines = shown(rt.alloc(), &numbers)?;
-    assert!(rt; lines.as_str() == report, "{lines}");
-    Ok(())
-}
 
 /// Eighteen nodes, eight places apart, of which fourteen crash before n0 looks up what n15 owns.
 fn fourteen_crashes(alloc: Global) -> Result<String, AllocError> {
@@ -107,8 +89,8 @@ fn a_lookup_of_nine_timeouts(rt: HostRuntime) -> Result<(), Fail> {
     let report =
         "events 33\ncrashes 14\ndrops 9\ntimeouts 9\nlookups 1\nlost 1\naudits 1\ninsufficient 1\n";
     for plan in &PLANS {
-        let played = play_texts(&rt, scenario.as_str().as_bytes(), b"", plan);
-        leaves(&rt, played, trace.as_str(), report)?;
+        let left = play_texts(&rt, scenario.as_str().as_bytes(), b"", plan)?;
+        left.shows(&rt, plan, trace.as_str(), report)?;
     }
     Ok(())
 }
@@ -144,11 +126,10 @@ fn chain(alloc: Global) -> Result<String, AllocError> {
 fn a_lookup_of_128_requests(rt: HostRuntime) -> Result<(), Fail> {
     let alloc = rt.alloc();
     let scenario = chain(alloc)?;
-    let played = play_text(&rt, scenario.as_str().as_bytes());
-    assert!(rt; played.outcome.is_ok());
-    let trace = String::from_utf8_lossy(alloc, played.trace.as_slice())?;
+    let left = play_text(&rt, scenario.as_str())?;
+    assert!(rt; left.has_ended());
     let lost = "\n55560 n1 lost 131 hops=128 timeouts=0 us=2560\n";
-    assert!(rt; trace.contains(lost), "{trace}");
+    assert!(rt; left.trace.contains(lost), "{}", left.trace);
     Ok(())
 }
 

@@ -1,4 +1,4 @@
-//! Tests, and what they share: `gates`, `random_texts` and `ring_of_three`.
+//! Tests, and what they share: `gates`, `left`, `random_texts` and `ring_of_three`.
 mod audits;
 mod by_engine;
 mod by_example;
@@ -10,6 +10,7 @@ mod divisions;
 mod first_ring;
 mod gates;
 mod greatest_sizes;
+mod left;
 mod memory_branches;
 mod random_texts;
 mod read_scenarios;

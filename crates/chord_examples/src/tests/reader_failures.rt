@@ -1,6 +1,7 @@
 //! Plays whose readers fail or whose texts are too long.
-use crate::examples::play::{Played, SERIAL, play_text, play_texts};
+use crate::examples::play::SERIAL;
 use crate::examples::table::TWO_LOOKUPS;
+use crate::tests::left::{Left, play_readers, play_text, play_texts};
 use crate::tests::ring_of_three::text_of_three;
 use chord_play::{PlayFault, Text, load, play};
 use chord_scenario::ScenarioFault;
@@ -36,22 +37,6 @@ impl Read for Halting<'_> {
     }
 }
 
-/// Plays the two lookups from readers that give single bytes, and only a beginning of each text.
-fn play_halting<T: AllocGlobal + Threads + Wait + Sync>(
-    rt: &T,
-    toml: Halting<'_>,
-    csv: Halting<'_>,
-) -> Played {
-    let mut toml = Watched::new(toml);
-    let mut csv = Watched::new(csv);
-    let mut writer = Watched::new(Vec::new(rt.alloc()));
-    let outcome = play(rt, rt.alloc(), &mut toml, &mut csv, &SERIAL, &mut writer);
-    Played {
-        trace: writer.into_inner(),
-        outcome,
-    }
-}
-
 fn single_bytes(text: &[u8], fails: bool) -> Halting<'_> {
     Halting { text, fails }
 }
@@ -64,24 +49,21 @@ fn readers_that_fail(rt: HostRuntime) -> Result<(), Fail> {
     let toml = text.as_str().as_bytes();
     let csv = b"n0,n3,10\n".as_slice();
     for count in 0..=toml.len() {
-        let played = play_halting(
-            &rt,
-            single_bytes(&toml[..count], true),
-            single_bytes(csv, true),
-        );
-        let is_read = matches!(played.outcome, Err(PlayFault::Read(Text::Scenario)));
-        assert!(rt; is_read && played.trace.is_empty(), "after {count}");
+        let scenario = single_bytes(&toml[..count], true);
+        let left = play_readers(&rt, scenario, single_bytes(csv, true), &SERIAL)?;
+        left.is(&rt, &count, "", "scenario not read")?;
     }
     for count in 0..=csv.len() {
-        let played = play_halting(
-            &rt,
-            single_bytes(toml, false),
-            single_bytes(&csv[..count], true),
-        );
-        let is_read = matches!(played.outcome, Err(PlayFault::Read(Text::Latency)));
-        assert!(rt; is_read && played.trace.is_empty(), "after {count}");
+        let latency = single_bytes(&csv[..count], true);
+        let left = play_readers(&rt, single_bytes(toml, false), latency, &SERIAL)?;
+        left.is(&rt, &count, "", "latencies not read")?;
     }
     Ok(())
+}
+
+/// Whether this is what the two lookups leave.
+fn is_whole(left: &Left) -> bool {
+    left.has_ended() && left.trace.as_str() == TWO_LOOKUPS.trace
 }
 
 /// Readers that give single bytes are read to their ends.
@@ -90,12 +72,9 @@ fn readers_of_single_bytes(rt: HostRuntime) -> Result<(), Fail> {
     let alloc = rt.alloc();
     let text = text_of_three(alloc, TWO_LOOKUPS.commands)?;
     let csv = b"n0,n3,10\n".as_slice();
-    let played = play_halting(
-        &rt,
-        single_bytes(text.as_str().as_bytes(), false),
-        single_bytes(csv, false),
-    );
-    assert!(rt; played.outcome.is_ok() && played.trace.as_slice() == TWO_LOOKUPS.trace.as_bytes());
+    let toml = single_bytes(text.as_str().as_bytes(), false);
+    let left = play_readers(&rt, toml, single_bytes(csv, false), &SERIAL)?;
+    assert!(rt; is_whole(&left));
     Ok(())
 }
 
@@ -107,10 +86,8 @@ fn latency_texts_that_are_too_long(rt: HostRuntime) -> Result<(), Fail> {
     let toml = text.as_str().as_bytes();
     let mut csv = Vec::new(alloc);
     csv.resize(16_777_216, b'\n')?;
-    let longest = play_texts(&rt, toml, csv.as_slice(), &SERIAL);
-    assert!(rt;
-        longest.outcome.is_ok() && longest.trace.as_slice() == TWO_LOOKUPS.trace.as_bytes()
-    );
+    let longest = play_texts(&rt, toml, csv.as_slice(), &SERIAL)?;
+    assert!(rt; is_whole(&longest));
     csv.resize(16_777_217 + 9000, b'\n')?;
     let mut scenario = Watched::new(toml);
     let mut latency = Watched::new(csv.as_slice());
@@ -164,13 +141,10 @@ fn texts_that_are_too_long(rt: HostRuntime) -> Result<(), Fail> {
     let alloc = rt.alloc();
     let mut text = text_of_three(alloc, TWO_LOOKUPS.commands)?.into_bytes();
     text.resize(16_777_216, b'\n')?;
-    let longest = play_text(&rt, text.as_slice());
-    assert!(rt;
-        longest.outcome.is_ok() && longest.trace.as_slice() == TWO_LOOKUPS.trace.as_bytes()
-    );
+    let none = b"".as_slice();
+    let longest = play_texts(&rt, text.as_slice(), none, &SERIAL)?;
+    assert!(rt; is_whole(&longest));
     text.push(b'\n')?;
-    let longer = play_text(&rt, text.as_slice());
-    assert!(rt; matches!(longer.outcome, Err(PlayFault::TooLong(Text::Scenario))));
-    assert!(rt; longer.trace.is_empty());
-    Ok(())
+    let longer = play_texts(&rt, text.as_slice(), none, &SERIAL)?;
+    longer.is(&rt, &"a byte more", "", "scenario too long")
 }

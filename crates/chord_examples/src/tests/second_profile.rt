@@ -1,29 +1,16 @@
 //! Worked examples of the second profile: messages that are lost or late, wide identifiers, many nodes.
-ghost use Rattle.std.specs.Prelude.{◌<◌, ◌≤◌};
-
-use crate::examples::engines::{ENGINES, Engine, Shape, run_by};
+use crate::examples::engines::{ENGINES, Engine, Shape};
 use crate::examples::play::{SETTINGS, THREE, text_of};
 use crate::examples::table::{EXAMPLES, Example};
 use crate::tests::by_engine::PAIR;
+use crate::tests::left::run_left;
 use crate::tests::refused_texts::answer;
 use crate::tests::ring_of_three::{NO_HOP, ONE_HOP, text_of_three};
 use chord_circle::Raw;
-use chord_crew::MOST_SEATS;
 use chord_scenario::{Scenario, read_scenario};
 use chord_stream::Stream;
-use chord_trace::{Report, Watched};
-use chord_window::MOST_PARTS;
 use std::alloc::Global;
-use std::sync::Wait;
 use std::test::Fail;
-use std::thread::Threads;
-
-/// What a run left: its trace, and all lines of its report.
-#[derive(Drop)]
-pub struct Told {
-    pub trace: String,
-    pub report: String,
-}
 
 /// The scenario of an example in the second profile, with these settings in addition to its own.
 fn in_second_profile(alloc: Global, own: &str, example: &Example) -> Result<Scenario, Fail> {
@@ -36,32 +23,6 @@ fn in_second_profile(alloc: Global, own: &str, example: &Example) -> Result<Scen
     Ok(scenario.ok_or(example.name)?)
 }
 
-/// All lines of a report.
-pub fn lines_of(alloc: Global, report: &Report) -> Result<String, Fail> {
-    let mut writer = Watched::new(Vec::with_capacity(alloc, 1024)?);
-    report.write(alloc, &mut writer)?;
-    Ok(String::from_utf8_lossy(alloc, writer.into_inner().as_slice())?)
-}
-
-/// What a run by an engine leaves.
-pub fn told_by<T: Threads + Wait + Sync>(
-    rt: &T,
-    alloc: Global,
-    engine: Engine,
-    shape: Shape,
-    scenario: &Scenario,
-) -> Result<Told, Fail>
-    requires parts { (0 < shape.parts) × (shape.parts ≤ MOST_PARTS) }
-    requires workers { (0 < shape.workers) × (shape.workers ≤ MOST_SEATS) }
-{
-    let mut writer = Watched::new(Vec::new(alloc));
-    let report = run_by(rt, alloc, engine, shape, scenario, &mut writer)?;
-    Ok(Told {
-        trace: String::from_utf8_lossy(alloc, writer.into_inner().as_slice())?,
-        report: lines_of(alloc, &report)?,
-    })
-}
-
 /// An example that draws nothing that makes a difference has its trace in the second profile too, and one line more in
 /// its report.
 #[test]
@@ -70,21 +31,12 @@ fn examples_without_loss(rt: HostRuntime) -> Result<(), Fail> {
     for example in &EXAMPLES {
         let name = example.name;
         let first = example.scenario(alloc).ok().ok_or(name)?;
-        let one_profile = told_by(&rt, alloc, Engine::Serial, PAIR, &first)?;
-        let report = format!(in alloc; "{}losses 0\n", one_profile.report)?;
+        let one_profile = run_left(&rt, Engine::Serial, PAIR, &first)?;
+        let report = format!(in alloc; "{}losses 0\n", one_profile.end)?;
         let scenario = in_second_profile(alloc, "", example)?;
         for engine in ENGINES {
-            let told = told_by(&rt, alloc, engine, PAIR, &scenario)?;
-            assert!(rt;
-                told.trace.as_str() == example.trace,
-                "{name}, {engine:?}: {}",
-                told.trace
-            );
-            assert!(rt;
-                told.report == report,
-                "{name}, {engine:?}: {}",
-                told.report
-            );
+            let left = run_left(&rt, engine, PAIR, &scenario)?;
+            left.is(&rt, &(name, engine), example.trace, report.as_str())?;
         }
     }
     Ok(())
@@ -134,20 +86,10 @@ fn messages_that_are_lost_or_late(rt: HostRuntime) -> Result<(), Fail> {
         ("loss_ppm = 1000000\n", &LOSE_ALL),
         ("spread_us = 5\n", &SILENT),
     ] {
-        let name = example.name;
         let scenario = in_second_profile(alloc, own, example)?;
         for engine in ENGINES {
-            let told = told_by(&rt, alloc, engine, PAIR, &scenario)?;
-            assert!(rt;
-                told.trace.as_str() == example.trace,
-                "{name}, {engine:?}: {}",
-                told.trace
-            );
-            assert!(rt;
-                told.report.as_str() == example.report,
-                "{name}, {engine:?}: {}",
-                told.report
-            );
+            let left = run_left(&rt, engine, PAIR, &scenario)?;
+            left.is(&rt, &(example.name, engine), example.trace, example.report)?;
         }
     }
     Ok(())
@@ -165,8 +107,8 @@ fn spreads_are_added(rt: HostRuntime) -> Result<(), Fail> {
         200 audit members=3 dead=0 ring=3 ordered=yes principals=3 sufficient=yes\n";
     let scenario = in_second_profile(alloc, "spread_us = 5\n", &LOSE_ALL)?;
     for engine in ENGINES {
-        let told = told_by(&rt, alloc, engine, PAIR, &scenario)?;
-        assert!(rt; told.trace.as_str() == trace, "{engine:?}: {}", told.trace);
+        let left = run_left(&rt, engine, PAIR, &scenario)?;
+        assert!(rt; left.trace.as_str() == trace, "{engine:?}: {}", left.trace);
     }
     Ok(())
 }
@@ -286,13 +228,11 @@ fn the_widest_identifier(rt: HostRuntime) -> Result<(), Fail> {
     assert!(rt; scenario.nodes() == 3);
     assert!(rt; scenario.ident(0).raw() == 0 && scenario.ident(1).raw() == 1);
     assert!(rt; scenario.ident(2).raw() == Raw::MAX);
-    let told = told_by(&rt, alloc, Engine::Serial, PAIR, &scenario)?;
+    let left = run_left(&rt, Engine::Serial, PAIR, &scenario)?;
     let trace = "100 n0 lookup 1\n\
         100 n0 found 1 n1 hops=0 timeouts=0 us=0\n\
         200 audit members=3 dead=0 ring=3 ordered=yes principals=3 sufficient=yes\n";
-    assert!(rt; told.trace.as_str() == trace, "{}", told.trace);
-    assert!(rt; told.report.as_str() == NO_HOP_REPORT, "{}", told.report);
-    Ok(())
+    left.is(&rt, &"serial", trace, NO_HOP_REPORT)
 }
 
 /// A ring of `nodes` nodes, each with its number as identifier, in which the first node looks a key up.
@@ -334,15 +274,12 @@ fn as_many_nodes_as_there_may_be(rt: HostRuntime) -> Result<(), Fail> {
         280 n0 found 3000 n3000 hops=9 timeouts=0 us=180\n\
         300 audit members=4096 dead=0 ring=4096 ordered=yes principals=4096 sufficient=yes\n";
     for engine in [Engine::Serial, Engine::Crew, Engine::Team] {
-        let told = told_by(&rt, alloc, engine, shape, &scenario)?;
+        let left = run_left(&rt, engine, shape, &scenario)?;
+        let events = left.end.as_str().starts_with("events 27\n");
         assert!(rt;
-            told.trace.as_str() == expected,
+            events && left.trace.as_str() == expected,
             "{engine:?}: {}",
-            told.trace
-        );
-        assert!(rt;
-            told.report.as_str().starts_with("events 27\n"),
-            "{engine:?}"
+            left.trace
         );
     }
     Ok(())

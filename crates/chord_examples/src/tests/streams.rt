@@ -1,5 +1,6 @@
 //! The random streams of the nodes in a run.
-use crate::examples::play::{SETTINGS, THREE, play_text, text_of};
+use crate::examples::play::{SETTINGS, THREE, text_of};
+use crate::tests::left::play_text;
 use chord_stream::Stream;
 use std::test::Fail;
 
@@ -17,13 +18,13 @@ fn each_node_has_its_own_stream(rt: HostRuntime) -> Result<(), Fail> {
         "{SETTINGS}lookups = {{ gap_min_us = 50, gap_max_us = 50 }}\n"
     )?;
     let text = text_of(alloc, settings.as_str(), THREE, "")?;
-    let played = play_text(&rt, text.as_str().as_bytes());
-    assert!(rt; played.outcome.is_ok());
-    let trace = String::from_utf8_lossy(alloc, played.trace.as_slice())?;
+    let left = play_text(&rt, text.as_str())?;
+    assert!(rt; left.has_ended());
+    let trace = left.trace.as_str();
     assert!(rt; Stream::of(1, 0).word_at(4) % 8 == 2);
-    assert!(rt; has_line(trace.as_str(), "50 n0 lookup 2"), "{trace}");
-    assert!(rt; has_line(trace.as_str(), "50 n1 lookup 5"), "{trace}");
-    assert!(rt; has_line(trace.as_str(), "50 n3 lookup 1"), "{trace}");
+    assert!(rt; has_line(trace, "50 n0 lookup 2"), "{trace}");
+    assert!(rt; has_line(trace, "50 n1 lookup 5"), "{trace}");
+    assert!(rt; has_line(trace, "50 n3 lookup 1"), "{trace}");
     Ok(())
 }
 
@@ -37,11 +38,11 @@ fn a_crash_keeps_the_place_in_the_stream(rt: HostRuntime) -> Result<(), Fail> {
     let commands = "[[command]]\nat_us = 45\ndo = \"crash\"\nnode = \"n1\"\n\
         [[command]]\nat_us = 150\ndo = \"join\"\nnode = \"n1\"\nvia = \"n0\"\n";
     let text = text_of(alloc, settings, THREE, commands)?;
-    let played = play_text(&rt, text.as_str().as_bytes());
-    assert!(rt; played.outcome.is_ok());
-    let trace = String::from_utf8_lossy(alloc, played.trace.as_slice())?;
-    assert!(rt; has_line(trace.as_str(), "190 n1 member n0"), "{trace}");
-    assert!(rt; has_line(trace.as_str(), "350 n1 lookup 0"), "{trace}");
+    let left = play_text(&rt, text.as_str())?;
+    assert!(rt; left.has_ended());
+    let trace = left.trace.as_str();
+    assert!(rt; has_line(trace, "190 n1 member n0"), "{trace}");
+    assert!(rt; has_line(trace, "350 n1 lookup 0"), "{trace}");
     Ok(())
 }
 

@@ -4,33 +4,15 @@ ghost use Rattle.chord_window.specs.PartRuns.{IsDone, IsHorizon};
 ghost use Rattle.chord_window.specs.Worlds.{IsWorldOf};
 
 use crate::examples::table::TWO_LOOKUPS;
+use crate::tests::left::run_picks;
 use crate::tests::ring_of_three::{NO_HOP, ring_of_three};
-use chord_event::{Block, Key, Memory, RunError};
+use chord_event::{Block, Memory, RunError};
 use chord_play::Split;
 use chord_queue::WindowQueue;
 use chord_scenario::Scenario;
-use chord_trace::{Report, Watched};
-use chord_window::{
-    Division, Done, MOST_PARTS, Step, Taken, Window, World, exchange, run_part, run_picked,
-};
+use chord_window::{Division, Done, MOST_PARTS, Window, World, exchange, run_part};
 use std::alloc::Global;
 use std::test::Fail;
-
-/// A run by windows: how the nodes are dealt to parts, the workers and the picks.
-#[derive(Drop)]
-struct Way {
-    split: Split,
-    parts: u32,
-    workers: u32,
-    picks: &'static [u32],
-}
-
-/// The result of a run by windows: the text of its trace, and its report and steps, or why it did not end.
-#[derive(Drop)]
-struct Ran {
-    trace: Vec<u8>,
-    outcome: Result<(Report, Vec<Taken>), RunError>,
-}
 
 /// The division of a scenario's nodes.
 pub fn divide(
@@ -48,59 +30,19 @@ pub fn divide(
     }
 }
 
-/// Runs a scenario by windows.
-fn run_way(alloc: Global, scenario: &Scenario, way: &Way) -> Result<Ran, Memory>
-    requires parts { (0 < way.now.parts) × (way.now.parts ≤ MOST_PARTS) }
-    requires workers { (0 < way.now.workers) × (way.now.workers ≤ 64) }
-{
-    let division = divide(alloc, scenario, way.split, way.parts)?;
-    let mut writer = Watched::new(Vec::new(alloc));
-    let outcome = run_picked(
-        alloc,
-        scenario,
-        &division,
-        way.workers,
-        way.picks,
-        &mut writer,
-    );
-    Ok(Ran {
-        trace: writer.into_inner(),
-        outcome,
-    })
-}
-
 /// A pick that names no worker is skipped, and after the picks the lowest worker that can take a step takes it.
 #[test]
 fn steps_as_they_are_picked(rt: HostRuntime) -> Result<(), Fail> {
     let alloc = rt.alloc();
     let scenario = ring_of_three(alloc, NO_HOP)?;
-    let way = Way {
-        split: Split::RoundRobin,
-        parts: 2,
-        workers: 2,
-        picks: &[1, 1, 0, 9, 0],
-    };
-    let Ran { trace: _, outcome } = run_way(alloc, &scenario, &way)?;
-    let Ok((_report, steps)) = outcome else {
-        assert!(rt; false, "the run does not end");
-        return Ok(());
-    };
-    let lookup = Key {
-        time: 100,
-        origin: 1,
-        number: 1,
-    };
-    let expected = [
-        (1, Step::Drew(0)),
-        (1, Step::Ran(lookup)),
-        (0, Step::Drew(1)),
-        (0, Step::Sealed(1)),
-        (1, Step::Sealed(0)),
-    ];
-    assert!(rt; steps.len() == expected.len());
-    for (taken, (worker, step)) in steps.as_slice().iter().zip(&expected) {
-        assert!(rt; taken.worker == *worker && taken.step == *step, "{taken:?}");
-    }
+    let division = divide(alloc, &scenario, Split::RoundRobin, 2)?;
+    let picked = run_picks(alloc, &scenario, &division, 2, &[1, 1, 0, 9, 0])?;
+    let expected = "1 Drew(0)\n\
+        1 Ran(Key { time: 100, origin: 1, number: 1 })\n\
+        0 Drew(1)\n\
+        0 Sealed(1)\n\
+        1 Sealed(0)\n";
+    assert!(rt; picked.steps.as_str() == expected, "{}", picked.steps);
     Ok(())
 }
 

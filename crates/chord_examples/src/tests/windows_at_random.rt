@@ -1,13 +1,14 @@
 //! Random scenarios, divisions and picks.
 ghost use Rattle.std.specs.Prelude.{◌<◌};
 
+use crate::tests::left::{Left, run_picks};
 use crate::tests::random_texts::{Dice, RandomTexts, random_texts};
-use chord_event::RunError;
 use chord_scenario::read_scenario;
 use chord_serial::run_serial;
-use chord_trace::{Report, Watched};
-use chord_window::{Division, run_picked};
+use chord_trace::Watched;
+use chord_window::Division;
 use std::alloc::Global;
+use std::process::Abort;
 use std::test::Fail;
 
 /// The number of triples of a scenario, a division and picks that are run.
@@ -24,17 +25,9 @@ fn random_list(alloc: Global, dice: &mut Dice, length: u32, bound: u32) -> Resul
     Ok(list)
 }
 
-/// What a triple left, one event at a time and by windows.
-#[derive(Drop)]
-struct Both {
-    serial_trace: Vec<u8>,
-    serial: Result<Report, RunError>,
-    picked_trace: Vec<u8>,
-    picked: Result<Report, RunError>,
-}
-
-/// Runs the triple of a seed, if its scenario and its division are accepted.
-fn run_triple(alloc: Global, seed: u64) -> Result<Option<Both>, Fail> {
+/// Asserts that the triple of a seed, if its scenario and its division are accepted, leaves the same by windows as one
+/// event at a time. Returns the number of events.
+fn leaves_the_same(rt: &impl Abort, alloc: Global, seed: u64) -> Result<Option<u64>, Fail> {
     let mut dice = Dice { state: seed };
     let RandomTexts { nodes, toml, csv } = random_texts(alloc, &mut dice, 3000)?;
     let parts = 1 + dice.below(7);
@@ -49,26 +42,14 @@ fn run_triple(alloc: Global, seed: u64) -> Result<Option<Both>, Fail> {
     let Ok(division) = Division::new(nodes, parts, of_node) else {
         return Ok(None);
     };
-    let mut one = Watched::new(Vec::new(alloc));
-    let serial = run_serial(alloc, &scenario, &mut one);
-    let mut other = Watched::new(Vec::new(alloc));
-    let picked = match run_picked(
-        alloc,
-        &scenario,
-        &division,
-        workers,
-        picks.as_slice(),
-        &mut other,
-    ) {
-        Ok((report, _steps)) => Ok(report),
-        Err(error) => Err(error),
-    };
-    Ok(Some(Both {
-        serial_trace: one.into_inner(),
-        serial,
-        picked_trace: other.into_inner(),
-        picked,
-    }))
+    let mut writer = Watched::new(Vec::new(alloc));
+    let report = run_serial(alloc, &scenario, &mut writer)?;
+    let events = report.events;
+    let serial = Left::of_run(alloc, writer.into_inner(), &Ok(report))?;
+    let picked = run_picks(alloc, &scenario, &division, workers, picks.as_slice())?;
+    let by_windows = picked.left;
+    by_windows.is(rt, &seed, serial.trace.as_str(), serial.end.as_str())?;
+    Ok(Some(events))
 }
 
 /// Random scenarios leave the same by windows as one event at a time, with any division, workers and picks.
@@ -78,20 +59,14 @@ fn random_triples(rt: HostRuntime) -> Result<(), Fail> {
     let mut accepted = Vec::new(alloc);
     let mut long = Vec::new(alloc);
     for seed in 0..TRIPLES {
-        if let Some(both) = run_triple(alloc, seed)? {
-            assert!(rt; both.serial_trace == both.picked_trace, "seed {seed}");
-            let (Ok(serial), Ok(picked)) = (both.serial, both.picked) else {
-                assert!(rt; false, "seed {seed} does not end");
-                return Ok(());
-            };
-            assert!(rt; serial == picked, "seed {seed}");
+        if let Some(events) = leaves_the_same(&rt, alloc, seed)? {
             accepted.push(seed)?;
-            if serial.events >= 200 {
+            if events >= 200 {
                 long.push(seed)?;
             }
         }
     }
-    assert!(rt; accepted.len() as u64 >= TRIPLES / 10 * 9);
+    assert!(rt; accepted.len() as u64 >= TRIPLES / 10 * 9, "{accepted:?}");
     assert!(rt; long.len() as u64 >= TRIPLES / 10 * 7, "{long:?}");
     Ok(())
 }

@@ -1,13 +1,17 @@
 //! Runs by any engine whose writers fail.
-use crate::examples::engines::{ENGINES, run_by};
+use crate::examples::engines::{ENGINES, Engine, Shape, run_by};
 use crate::examples::table::TWO_LOOKUPS;
-use crate::tests::by_engine::PAIR;
+use crate::tests::by_engine::{PAIR, TEAMS};
 use crate::tests::ring_of_three::{is_beginning, two_lookups};
 use chord_event::RunError;
+use chord_scenario::Scenario;
 use chord_trace::Watched;
 use std::io;
 use std::io::{ErrorKind, Write};
+use std::process::Abort;
+use std::sync::Wait;
 use std::test::Fail;
+use std::thread::Threads;
 
 /// A writer with room for some bytes, which takes a limited number of them in a call. After that it fails, or takes
 /// nothing.
@@ -39,35 +43,66 @@ impl Write for Bounded {
     }
 }
 
-/// A writer that takes some bytes, one by one or in whole pieces, and then fails or takes nothing, has taken just that
-/// beginning of the trace. A writer with room for the whole trace has all of it.
+/// Asserts that a run of the two lookups has written what its writer has room for, and that it fails unless that is
+/// all.
+fn fills<T: Abort + AllocGlobal + Threads + Wait + Sync>(
+    rt: &T,
+    engine: Engine,
+    shape: Shape,
+    scenario: &Scenario,
+    bounded: Bounded,
+) -> Result<(), Fail> {
+    let room = bounded.room;
+    let expected = if room < TWO_LOOKUPS.trace.len() {
+        Some(RunError::Write)
+    } else {
+        None
+    };
+    let mut writer = Watched::new(bounded);
+    let fault = run_by(rt, rt.alloc(), engine, shape, scenario, &mut writer).err();
+    assert!(rt; fault == expected, "{engine:?}, {shape:?}, room {room}");
+    let taken = writer.into_inner().taken;
+    assert!(rt;
+        is_beginning(taken.as_slice(), room),
+        "{engine:?}, {shape:?}, room {room}"
+    );
+    Ok(())
+}
+
+/// Runs the two lookups with each room for bytes up to the whole trace. The writers take them one by one or in whole
+/// pieces, and then fail or take nothing.
+fn fills_each_room<T: Abort + AllocGlobal + Threads + Wait + Sync>(
+    rt: &T,
+    engine: Engine,
+    shape: Shape,
+) -> Result<(), Fail> {
+    let scenario = two_lookups(rt.alloc(), 50)?;
+    for room in 0..=TWO_LOOKUPS.trace.len() {
+        for (most, takes_nothing) in [(1, false), (1, true), (190, false), (190, true)] {
+            let bounded = Bounded {
+                taken: Vec::new(rt.alloc()),
+                room,
+                most,
+                takes_nothing,
+            };
+            fills(rt, engine, shape, &scenario, bounded)?;
+        }
+    }
+    Ok(())
+}
+
 #[test]
 fn writers_that_fail_by_engines(rt: HostRuntime) -> Result<(), Fail> {
-    let alloc = rt.alloc();
-    let scenario = two_lookups(alloc, 50)?;
-    let whole = TWO_LOOKUPS.trace.len();
     for engine in ENGINES {
-        for room in 0..=whole {
-            for (most, takes_nothing) in [(1, false), (1, true), (190, false), (190, true)] {
-                let mut writer = Watched::new(Bounded {
-                    taken: Vec::new(alloc),
-                    room,
-                    most,
-                    takes_nothing,
-                });
-                let outcome = run_by(&rt, alloc, engine, PAIR, &scenario, &mut writer);
-                let fails = matches!(outcome, Err(RunError::Write));
-                assert!(rt;
-                    fails == (room < whole) && outcome.is_ok() == (room == whole),
-                    "{engine:?}, room {room}, {most}"
-                );
-                let taken = writer.into_inner().taken;
-                assert!(rt;
-                    is_beginning(taken.as_slice(), room),
-                    "{engine:?}, room {room}, {most}"
-                );
-            }
-        }
+        fills_each_room(&rt, engine, PAIR)?;
+    }
+    Ok(())
+}
+
+#[test]
+fn writers_that_fail_by_teams(rt: HostRuntime) -> Result<(), Fail> {
+    for shape in TEAMS {
+        fills_each_room(&rt, Engine::Team, shape)?;
     }
     Ok(())
 }
