@@ -4,7 +4,8 @@
  *   REFUSE_MEMORY=N        the Nth allocation fails
  *   REFUSE_MEMORY_FROM=N   so does each one after it
  *   REFUSE_THREAD=N        the Nth start of a thread fails
- *   REFUSE_NOTE=FILE       at its end the program's numbers of allocations and of threads are written to the file
+ *   REFUSE_NOTE=FILE       at its end the program's numbers of allocations, of threads that it started, and of threads
+ *                          that allocated are written to the file
  */
 #define _GNU_SOURCE
 #include <dlfcn.h>
@@ -17,7 +18,8 @@
 #include <sys/syscall.h>
 #include <unistd.h>
 
-static atomic_long allocations, threads;
+static atomic_long allocations, threads, allocating;
+static __thread int has_allocated;
 static long refused_allocation, refused_from, refused_thread;
 static const char *note;
 
@@ -34,6 +36,8 @@ __attribute__((constructor)) static void begin(void)
     refused_from = number("REFUSE_MEMORY_FROM");
     refused_allocation = number("REFUSE_MEMORY");
     allocations = 0;
+    allocating = 0;
+    has_allocated = 0;
 }
 
 /* The programs of Rattle end by this call. */
@@ -42,7 +46,8 @@ void _exit(int status)
     int file = note ? open(note, O_WRONLY | O_CREAT | O_TRUNC, 0600) : -1;
     if (file >= 0) {
         char text[64];
-        int length = snprintf(text, sizeof text, "%ld %ld\n", atomic_load(&allocations), atomic_load(&threads));
+        int length = snprintf(text, sizeof text, "%ld %ld %ld\n", atomic_load(&allocations), atomic_load(&threads),
+                              atomic_load(&allocating));
         if (write(file, text, length) < 0)
             status = 99;
         close(file);
@@ -55,6 +60,10 @@ void _exit(int status)
 static int refuses(void)
 {
     long count = atomic_fetch_add(&allocations, 1) + 1;
+    if (!has_allocated) {
+        has_allocated = 1;
+        atomic_fetch_add(&allocating, 1);
+    }
     if (count != refused_allocation && !(refused_from && count >= refused_from))
         return 0;
     errno = ENOMEM;

@@ -4,7 +4,8 @@
 //!     chord_refusals [TASK]
 //!     chord_refusals list
 //!
-//! Without an argument all tasks are done. `list` prints their names. The status is 0 if all is done; 3 if an
+//! Without an argument all tasks are done. `list` prints their names. `few-windows` and `many-windows` are not among
+//! them: they run 1,000 and 100,000 windows, and should take the same memory. The status is 0 if all is done; 3 if an
 //! allocation failed, or 4 if a thread could not be started, and all that is promised of this held; and 1, with a line
 //! that says what is wrong, if a promise did not hold.
 #![tactic(auto)]

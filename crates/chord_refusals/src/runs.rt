@@ -1,7 +1,10 @@
 //! Runs of examples by engines.
+ghost use Rattle.std.specs.Prelude.{◌<◌, ◌≤◌};
+
 use crate::stop::{Stop, holds, holds_written};
-use chord_crew::{OpenGate, Starter, run_crew_started};
-use chord_examples::{EXAMPLES, Engine, Example, Shape, run_by, shown};
+use chord_crew::{MOST_SEATS, OpenGate, Starter, run_crew_started};
+use chord_examples::{EXAMPLES, Engine, Example, Shape, TWO_LOOKUPS, run_by, shown, text_of};
+use chord_scenario::read_scenario;
 use chord_trace::Watched;
 use chord_window::Division;
 use std::sync::Wait;
@@ -14,31 +17,34 @@ const NAMES: [&str; 3] = [
     "a join that fails eight times",
 ];
 
-/// Runs the three examples by an engine.
+/// Two parts, and a worker for each.
+const PAIR: Shape = Shape {
+    parts: 2,
+    workers: 2,
+};
+
+/// Runs the three examples by an engine, in two parts by two workers.
 pub fn run_examples<T: AllocGlobal + Threads + Wait + Sync>(
     rt: &T,
     engine: Engine,
 ) -> Result<(), Stop> {
     for example in &EXAMPLES {
         if NAMES.contains(&example.name) {
-            run_example(rt, engine, example)?;
+            run_example(rt, engine, PAIR, example)?;
         }
     }
     Ok(())
 }
 
-/// Runs an example by an engine, in two parts by two workers, with a writer that has its room ahead. What it took is a
-/// beginning of the trace, whatever the run returns. A run that ends has written the trace, and has its report.
+/// Runs an example by an engine, with a writer that has its room ahead. What it took is a beginning of the trace,
+/// whatever the run returns. A run that ends has written the trace, and has its report.
 fn run_example<T: AllocGlobal + Threads + Wait + Sync>(
     rt: &T,
     engine: Engine,
+    shape: Shape,
     example: &Example,
 ) -> Result<(), Stop> {
     let alloc = rt.alloc();
-    let shape = Shape {
-        parts: 2,
-        workers: 2,
-    };
     let expected = example.trace.as_bytes();
     let scenario = example.scenario(alloc)?;
     let mut writer = Watched::new(Vec::with_capacity(alloc, expected.len())?);
@@ -47,6 +53,37 @@ fn run_example<T: AllocGlobal + Threads + Wait + Sync>(
     holds_written(expected, written.as_slice(), outcome.is_ok())?;
     let report = shown(alloc, &outcome?)?;
     holds(report.as_str() == example.report, "the report is another")
+}
+
+/// Runs the example of two lookups in three parts by a team of so many workers.
+pub fn run_team_of<T: AllocGlobal + Threads + Wait + Sync>(rt: &T, workers: u32) -> Result<(), Stop>
+    requires { (0 < workers) × (workers ≤ MOST_SEATS) }
+{
+    let shape = Shape { parts: 3, workers };
+    run_example(rt, Engine::Team, shape, &TWO_LOOKUPS)
+}
+
+/// Runs a ring of three nodes whose timers expire in so many windows, by a team of eight workers that are all woken in
+/// each of them.
+pub fn run_windows<T: AllocGlobal + Threads + Wait + Sync>(
+    rt: &T,
+    windows: u32,
+) -> Result<(), Stop> {
+    let alloc = rt.alloc();
+    let duration = u64::from(windows) * 10;
+    let settings = format!(in alloc;
+        "list = 2\nduration_us = {duration}\nwindow_us = 10\ntimeout_us = 40\naudit_us = {duration}\n\
+         stabilize_us = 10\nfinger_us = 10\n"
+    )?;
+    let text = text_of(alloc, settings.as_str(), TWO_LOOKUPS.nodes, "")?;
+    let scenario = read_scenario(alloc, text.as_str().as_bytes(), b"")?;
+    let shape = Shape {
+        parts: 3,
+        workers: 8,
+    };
+    let mut writer = Watched::new(Vec::new(alloc));
+    run_by(rt, alloc, Engine::Team, shape, &scenario, &mut writer)?;
+    Ok(())
 }
 
 /// A starter that allows every start, and counts them.
