@@ -4,8 +4,8 @@
  *   REFUSE_MEMORY=N        the Nth allocation fails
  *   REFUSE_MEMORY_FROM=N   so does each one after it
  *   REFUSE_THREAD=N        the Nth start of a thread fails
- *   REFUSE_NOTE=FILE       at its end the program's numbers of allocations, of threads that it started, and of threads
- *                          that allocated are written to the file
+ *   REFUSE_NOTE=FILE       at its end the program's numbers of allocations, of threads that it started, of threads that
+ *                          allocated, and of kilobytes of memory at most are written to the file
  */
 #define _GNU_SOURCE
 #include <dlfcn.h>
@@ -15,6 +15,7 @@
 #include <stdatomic.h>
 #include <stdio.h>
 #include <stdlib.h>
+#include <string.h>
 #include <sys/syscall.h>
 #include <unistd.h>
 
@@ -40,14 +41,27 @@ __attribute__((constructor)) static void begin(void)
     has_allocated = 0;
 }
 
+/* The most memory that the program had so far, in kilobytes, or 0 if the system does not tell. */
+static long greatest_memory(void)
+{
+    char text[4096];
+    int file = open("/proc/self/status", O_RDONLY);
+    ssize_t length = file < 0 ? 0 : read(file, text, sizeof text - 1);
+    if (file >= 0)
+        close(file);
+    text[length > 0 ? length : 0] = 0;
+    const char *line = strstr(text, "VmHWM:");
+    return line ? atol(line + strlen("VmHWM:")) : 0;
+}
+
 /* The programs of Rattle end by this call. */
 void _exit(int status)
 {
     int file = note ? open(note, O_WRONLY | O_CREAT | O_TRUNC, 0600) : -1;
     if (file >= 0) {
-        char text[64];
-        int length = snprintf(text, sizeof text, "%ld %ld %ld\n", atomic_load(&allocations), atomic_load(&threads),
-                              atomic_load(&allocating));
+        char text[96];
+        int length = snprintf(text, sizeof text, "%ld %ld %ld %ld\n", atomic_load(&allocations), atomic_load(&threads),
+                              atomic_load(&allocating), greatest_memory());
         if (write(file, text, length) < 0)
             status = 99;
         close(file);

@@ -63,8 +63,8 @@ pub fn run_team_of<T: AllocGlobal + Threads + Wait + Sync>(rt: &T, workers: u32)
     run_example(rt, Engine::Team, shape, &TWO_LOOKUPS)
 }
 
-/// Runs a ring of three nodes whose timers expire in so many windows, by a team of eight workers that are all woken in
-/// each of them.
+/// Runs a ring of three nodes whose timers expire in so many windows, by a team of eight workers. Each has a part, if
+/// only one without nodes, and is woken in each window.
 pub fn run_windows<T: AllocGlobal + Threads + Wait + Sync>(
     rt: &T,
     windows: u32,
@@ -78,7 +78,7 @@ pub fn run_windows<T: AllocGlobal + Threads + Wait + Sync>(
     let text = text_of(alloc, settings.as_str(), TWO_LOOKUPS.nodes, "")?;
     let scenario = read_scenario(alloc, text.as_str().as_bytes(), b"")?;
     let shape = Shape {
-        parts: 3,
+        parts: 8,
         workers: 8,
     };
     let mut writer = Watched::new(Vec::new(alloc));
