@@ -1,5 +1,4 @@
-//! What runs and plays leave, as texts, which tests compare with what they expect. A text has no variants: a test that
-//! keeps a result with variants over several assertions takes long to prove.
+//! What runs and plays leave, as texts, which tests compare with what they expect.
 ghost use Rattle.std.specs.Prelude.{◌<◌, ◌≤◌};
 
 use crate::examples::engines::{Engine, Shape, run_by};
