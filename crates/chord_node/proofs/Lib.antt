@@ -1,2 +1,5 @@
+pub mod FingerStarts
 pub mod Rings
+pub mod Rotations
+pub mod Rounds
 pub mod Sorting

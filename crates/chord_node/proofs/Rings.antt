@@ -27,7 +27,7 @@ use Rattle.std.proofs.Common.{
   arith,
   add-one,
 }
-use Rattle.std.specs.Prelude.{◌==◌, not, ◌-◌, ◌^◌, Option, Some, None, find, nat_le, option_map, unwrap_or}
+use Rattle.std.specs.Prelude.{◌==◌, ◌-◌, Option, Some, None}
 use Rattle.std.proofs.lemmas.List.{map-append}
 use Rattle.std.proofs.Common.{append-nil}
 use Rattle.std.specs.List.{AllByRecursion, Contains, IsDistinct, filter, filter_map, range_with_len}
@@ -43,9 +43,9 @@ use Rattle.chord_scenario.specs.declared.scenario.Scenario.{Scenario}
 use Rattle.chord_scenario.specs.Range.{IsInRange}
 use Rattle.chord_scenario.specs.Start.{initial_nodes, most_timers, timer_table, timers}
 use Rattle.chord_scenario.specs.World.{ident_of, is_initial, node_count}
-use Rattle.chord_node.specs.declared.ring.Met.{Met}
-use Rattle.chord_node.specs.Met.{first_tagged, tagged}
-use Rattle.chord_node.specs.Ring.{clockwise, finger, first_at, others, sorted_by, way}
+use Rattle.chord_node.specs.declared.ring.Place.{Place}
+use Rattle.chord_node.specs.Places.{placed, ring}
+use Rattle.chord_node.specs.Ring.{clockwise, finger, others, sorted_by, way}
 use Rattle.chord_node.proofs.Sorting.{AreApart, IsAscending, same_ascending, sorted_by-ascends, sorted_by-contains, sorted_by-has}
 
 -- ranges
@@ -79,6 +79,18 @@ range-contains a (suc n) x c =
     ⊎_elim (λ e. (omega (arith, e), omega (arith, e)))
     (λ r. let w = range-contains (a + 1) n x r in (omega (arith, w.0), omega (arith, w.1)))
     (contains_cons x a (range_with_len (a + 1) n) c)
+
+pub range-has : (a n x : ℕ) → a ≤ x → x < a + n → Contains (range_with_len a n) x
+range-has a zero x least most = absurd (omega arith)
+range-has a (suc n) x least most = go (a == x) refl (range-has (a + 1) n x)
+  where
+    go : (b : Bool) → (a == x) ≡ b → (a + 1 ≤ x → x < a + 1 + n → Contains (range_with_len (a + 1) n) x) → Contains (range_with_len a (suc n)) x
+    go true e rest =
+        let same : a ≡ x = grind (arith, nat_tests) in
+        subst (λ y. Contains (range_with_len a (suc n)) y) same (contains_here a (range_with_len (a + 1) n))
+    go false e rest =
+        let more : a + 1 ≤ x = grind (arith, nat_tests) in
+        contains_there x a (range_with_len (a + 1) n) (rest more (omega arith))
 
 pub range-apart : (a n : ℕ) → AreApart (λ x. x) (range_with_len a n)
 range-apart a zero = tt
@@ -128,6 +140,22 @@ pub clockwise-known : (sc : Scenario) (n x : ℕ) → Contains (clockwise sc n) 
 unfolding clockwise
 clockwise-known sc n x c = other-known sc n x (sorted_by-contains (way sc n) (others sc n) x c)
 
+pub initial-apart : (sc : Scenario) → AreApart (λ x. x) (initial_nodes sc)
+unfolding initial_nodes
+initial-apart sc = filter-apart (λ x. x) (is_initial sc) (range_with_len 0 (node_count sc)) (range-apart 0 (node_count sc))
+
+-- different nodes have different identifiers
+idents-apart : (sc : Scenario) (xs : List ℕ) → IsInRange sc → ((x : ℕ) → Contains xs x → x < node_count sc)
+    → AreApart (λ x. x) xs → AreApart (ident_of sc) xs
+idents-apart sc [] ranges all h = tt
+idents-apart sc (x ∷ xs) ranges all h = (
+  λ y c e. h.0 y c (ranges.nodes.apart x y (all x (contains_here x xs)) (all y (contains_there y x xs c)) e),
+  idents-apart sc xs ranges (λ y c. all y (contains_there y x xs c)) h.1,
+)
+
+pub initial-idents_apart : (sc : Scenario) → IsInRange sc → AreApart (ident_of sc) (initial_nodes sc)
+initial-idents_apart sc ranges = idents-apart sc (initial_nodes sc) ranges (initial-known sc) (initial-apart sc)
+
 abbrev same_measure : (ℕ → ℕ) → ℕ → ℕ → Bool
 same_measure measure x y = measure x == measure y
 
@@ -156,40 +184,27 @@ ascends measure (x ∷ xs) up apart = (
   ascends measure xs (λ i j d l k. up (suc i) (suc j) d (omega (arith, l)) (omega (arith, k))) (IsDistinct-tail (same_measure measure) x xs apart),
 )
 
--- the other nodes, put in the order of their distances, are met in that order
-pub sorted_others : (sc : Scenario) (n : ℕ) (ys : List ℕ) → IsInRange sc → n < node_count sc → IsPermutation (others sc n) ys
-    → IsNonDecreasingBy (way sc n) ys → ys ≡ clockwise sc n
-unfolding clockwise
-sorted_others sc n ys ranges known moved up =
-    let apart = others-ways_apart sc n ranges known in
-    let flips : (x y : ℕ) → same_measure (way sc n) x y ≡ same_measure (way sc n) y x = λ x y. eqb-flip (way sc n x) (way sc n y) in
-    same_ascending (way sc n) ys (sorted_by (way sc n) (others sc n))
-    (ascends (way sc n) ys up (IsDistinct-IsPermutation (same_measure (way sc n)) flips (others sc n) ys moved
-    (distinct_from_apart (way sc n) (others sc n) apart)))
-    (sorted_by-ascends (way sc n) (others sc n) apart)
-    (λ z c. sorted_by-has (way sc n) (others sc n) z (Contains-permutation ys (others sc n) z (IsPermutation-sym (others sc n) ys moved) c))
-    (λ z c. Contains-permutation (others sc n) ys z moved (sorted_by-contains (way sc n) (others sc n) z c))
-
--- the distances say what they are of
-pub first_tagged-is : (sc : Scenario) (n least : ℕ) (xs : List ℕ) → first_tagged n least (tagged sc n xs) ≡ first_at sc n least xs
-first_tagged-is sc n least [] = refl
-first_tagged-is sc n least (x ∷ xs) = go (nat_le least (way sc n x)) (first_tagged-is sc n least xs)
-  where
-    go : (b : Bool) → first_tagged n least (tagged sc n xs) ≡ first_at sc n least xs
-        → unwrap_or (option_map (λ (m : Met). m.node) (cond b (Some (record { way = way sc n x; node = x }))
-        (find (λ (m : Met). nat_le least m.way) (tagged sc n xs)))) n ≡ unwrap_or (cond b (Some x) (find (λ y. nat_le least (way sc n y)) xs)) n
-    go true rest = refl
-    go false rest = rest
+-- the members at the start, put in the order of their identifiers, are the ring
+pub sorted_members : (sc : Scenario) (ys : List ℕ) → IsInRange sc → IsPermutation (initial_nodes sc) ys
+    → IsNonDecreasingBy (ident_of sc) ys → ys ≡ ring sc
+unfolding ring
+sorted_members sc ys ranges moved up =
+    let apart = initial-idents_apart sc ranges in
+    let flips : (x y : ℕ) → same_measure (ident_of sc) x y ≡ same_measure (ident_of sc) y x = λ x y. eqb-flip (ident_of sc x) (ident_of sc y) in
+    same_ascending (ident_of sc) ys (sorted_by (ident_of sc) (initial_nodes sc))
+    (ascends (ident_of sc) ys up (IsDistinct-IsPermutation (same_measure (ident_of sc)) flips (initial_nodes sc) ys moved
+    (distinct_from_apart (ident_of sc) (initial_nodes sc) apart)))
+    (sorted_by-ascends (ident_of sc) (initial_nodes sc) apart)
+    (λ z c. sorted_by-has (ident_of sc) (initial_nodes sc) z (Contains-permutation ys (initial_nodes sc) z (IsPermutation-sym (initial_nodes sc) ys moved) c))
+    (λ z c. Contains-permutation (initial_nodes sc) ys z moved (sorted_by-contains (ident_of sc) (initial_nodes sc) z c))
 
 -- one finger more
-pub fingers-more : (sc : Scenario) (n i : ℕ) (done : List ℕ) (least : ℕ) (met : List Met) → 2 ≤ i → met ≡ tagged sc n (clockwise sc n) → least ≡ 2 ^ (i - 1)
-    → done ≡ map (finger sc n) (range_with_len 2 (i - 2)) → done ++ first_tagged n least met ∷ [] ≡ map (finger sc n) (range_with_len 2 (i + 1 - 2))
-fingers-more sc n i done least met first is far so_far =
-    let next : i + 1 - 2 ≡ i - 2 + 1 = omega arith in
+pub fingers-more : (sc : Scenario) (n i : ℕ) (done : List ℕ) (next : ℕ) → 2 ≤ i → next ≡ finger sc n i
+    → done ≡ map (finger sc n) (range_with_len 2 (i - 2)) → done ++ next ∷ [] ≡ map (finger sc n) (range_with_len 2 (i + 1 - 2))
+fingers-more sc n i done next first here so_far =
+    let more : i + 1 - 2 ≡ i - 2 + 1 = omega arith in
     let at : 2 + (i - 2) ≡ i = omega arith in
-    let here : first_tagged n least met ≡ finger sc n i = ap (first_tagged n least) is ∙ first_tagged-is sc n least (clockwise sc n)
-    ∙ ap (λ (k : ℕ). first_at sc n k (clockwise sc n)) far in
-    let range : range_with_len 2 (i + 1 - 2) ≡ range_with_len 2 (i - 2) ++ i ∷ [] = ap (range_with_len 2) next ∙ range-more 2 (i - 2)
+    let range : range_with_len 2 (i + 1 - 2) ≡ range_with_len 2 (i - 2) ++ i ∷ [] = ap (range_with_len 2) more ∙ range-more 2 (i - 2)
     ∙ ap (λ (k : ℕ). range_with_len 2 (i - 2) ++ k ∷ []) at in
     (λ j. so_far j ++ here j ∷ []) ∙ sym (ap (map (finger sc n)) range ∙ map-append (finger sc n) (range_with_len 2 (i - 2)) (i ∷ []))
 
@@ -201,48 +216,49 @@ rec_from : {A : Type 0} (P : A → Type 0) (xs : List A) → ((x : A) → Contai
 rec_from P [] h = tt
 rec_from P (x ∷ xs) h = (h x (contains_here x xs), rec_from P xs (λ y c. h y (contains_there y x xs c)))
 
-map_long : (met : List Met) → length (map (λ (m : Met). m.node) met) ≡ length met
+map_long : (places : List Place) → length (map (λ (p : Place). p.node) places) ≡ length places
 map_long [] = refl
-map_long (m ∷ met) = ap suc (map_long met)
+map_long (p ∷ places) = ap suc (map_long places)
 
--- nodes with their distances, moved into the order of these, are those met clockwise
-pub tagged-nodes : (sc : Scenario) (n : ℕ) (xs : List ℕ) → map (λ (m : Met). m.node) (tagged sc n xs) ≡ xs
-tagged-nodes sc n [] = refl
-tagged-nodes sc n (x ∷ xs) = ap (λ ys. x ∷ ys) (tagged-nodes sc n xs)
+-- nodes with their identifiers, moved into the order of these, are the ring
+pub placed-nodes : (sc : Scenario) (xs : List ℕ) → map (λ (p : Place). p.node) (placed sc xs) ≡ xs
+placed-nodes sc [] = refl
+placed-nodes sc (x ∷ xs) = ap (λ ys. x ∷ ys) (placed-nodes sc xs)
 
-retagged : (sc : Scenario) (n : ℕ) (met : List Met) → AllByRecursion (λ m. m.way ≡ way sc n m.node) met → met ≡ tagged sc n (map (λ (m : Met). m.node) met)
-retagged sc n [] h = refl
-retagged sc n (m ∷ met) h = λ i. record { way = h.0 i; node = m.node } ∷ retagged sc n met h.1 i
+replaced : (sc : Scenario) (places : List Place) → AllByRecursion (λ p. p.ident ≡ ident_of sc p.node) places
+    → places ≡ placed sc (map (λ (p : Place). p.node) places)
+replaced sc [] h = refl
+replaced sc (p ∷ places) h = λ i. record { ident = h.0 i; node = p.node } ∷ replaced sc places h.1 i
 
-all_tagged : (sc : Scenario) (n : ℕ) (xs : List ℕ) → AllByRecursion (λ (m : Met). m.way ≡ way sc n m.node) (tagged sc n xs)
-all_tagged sc n [] = tt
-all_tagged sc n (x ∷ xs) = (refl, all_tagged sc n xs)
+all_placed : (sc : Scenario) (xs : List ℕ) → AllByRecursion (λ (p : Place). p.ident ≡ ident_of sc p.node) (placed sc xs)
+all_placed sc [] = tt
+all_placed sc (x ∷ xs) = (refl, all_placed sc xs)
 
-ways_of : (sc : Scenario) (n : ℕ) (met : List Met) → AllByRecursion (λ m. m.way ≡ way sc n m.node) met → IsNonDecreasingBy (λ m. m.way) met
-    → IsNonDecreasingBy (way sc n) (map (λ (m : Met). m.node) met)
-ways_of sc n met own up = λ i j d l k.
-    let long : length (map (λ (m : Met). m.node) met) ≡ length met = map_long met in
-    let e : Met = record { way = way sc n d; node = d } in
-    let at : (i : ℕ) → way sc n (get_or (map (λ (m : Met). m.node) met) i d) ≡ (get_or met i e).way = λ i. ways_at met own d i in
-    let le : (get_or met i e).way ≤ (get_or met j e).way = up i j e l (omega (arith, k, long)) in
+idents_of : (sc : Scenario) (places : List Place) → AllByRecursion (λ p. p.ident ≡ ident_of sc p.node) places → IsNonDecreasingBy (λ p. p.ident) places
+    → IsNonDecreasingBy (ident_of sc) (map (λ (p : Place). p.node) places)
+idents_of sc places own up = λ i j d l k.
+    let long : length (map (λ (p : Place). p.node) places) ≡ length places = map_long places in
+    let e : Place = record { ident = ident_of sc d; node = d } in
+    let at : (i : ℕ) → ident_of sc (get_or (map (λ (p : Place). p.node) places) i d) ≡ (get_or places i e).ident = λ i. idents_at places own d i in
+    let le : (get_or places i e).ident ≤ (get_or places j e).ident = up i j e l (omega (arith, k, long)) in
     omega (arith, le, at i, at j)
   where
-    ways_at : (met : List Met) → AllByRecursion (λ m. m.way ≡ way sc n m.node) met → (d : ℕ) (i : ℕ)
-        → way sc n (get_or (map (λ (m : Met). m.node) met) i d) ≡ (get_or met i (record { way = way sc n d; node = d })).way
-    ways_at [] own d i = refl
-    ways_at (m ∷ met) own d zero = sym own.0
-    ways_at (m ∷ met) own d (suc i) = ways_at met own.1 d i
+    idents_at : (places : List Place) → AllByRecursion (λ p. p.ident ≡ ident_of sc p.node) places → (d : ℕ) (i : ℕ)
+        → ident_of sc (get_or (map (λ (p : Place). p.node) places) i d) ≡ (get_or places i (record { ident = ident_of sc d; node = d })).ident
+    idents_at [] own d i = refl
+    idents_at (p ∷ places) own d zero = sym own.0
+    idents_at (p ∷ places) own d (suc i) = idents_at places own.1 d i
 
-pub sorted_tagged : (sc : Scenario) (n : ℕ) (met : List Met) → IsInRange sc → n < node_count sc → IsPermutation (tagged sc n (others sc n)) met
-    → IsNonDecreasingBy (λ m. m.way) met → met ≡ tagged sc n (clockwise sc n)
-sorted_tagged sc n met ranges known moved up =
-    let Own : Met → Type 0 = λ m. m.way ≡ way sc n m.node in
-    let from : List Met = tagged sc n (others sc n) in
-    let own : AllByRecursion Own met = rec_from Own met (λ m c. rec_at Own from m (all_tagged sc n (others sc n))
-    (Contains-permutation met from m (IsPermutation-sym from met moved) c)) in
-    let nodes : IsPermutation (others sc n) (map (λ (m : Met). m.node) met) = subst (λ xs. IsPermutation xs (map (λ (m : Met). m.node) met))
-    (tagged-nodes sc n (others sc n)) (IsPermutation-map (λ (m : Met). m.node) (tagged sc n (others sc n)) met moved) in
-    retagged sc n met own ∙ ap (tagged sc n) (sorted_others sc n (map (λ (m : Met). m.node) met) ranges known nodes (ways_of sc n met own up))
+pub sorted_places : (sc : Scenario) (places : List Place) → IsInRange sc → IsPermutation (placed sc (initial_nodes sc)) places
+    → IsNonDecreasingBy (λ p. p.ident) places → places ≡ placed sc (ring sc)
+sorted_places sc places ranges moved up =
+    let Own : Place → Type 0 = λ p. p.ident ≡ ident_of sc p.node in
+    let from : List Place = placed sc (initial_nodes sc) in
+    let own : AllByRecursion Own places = rec_from Own places (λ p c. rec_at Own from p (all_placed sc (initial_nodes sc))
+    (Contains-permutation places from p (IsPermutation-sym from places moved) c)) in
+    let nodes : IsPermutation (initial_nodes sc) (map (λ (p : Place). p.node) places) = subst (λ xs. IsPermutation xs (map (λ (p : Place). p.node) places))
+    (placed-nodes sc (initial_nodes sc)) (IsPermutation-map (λ (p : Place). p.node) (placed sc (initial_nodes sc)) places moved) in
+    replaced sc places own ∙ ap (placed sc) (sorted_members sc (map (λ (p : Place). p.node) places) ranges nodes (idents_of sc places own up))
 
 -- one state more
 pub states-more : {A : Type 0} (f : ℕ → A) (n : ℕ) (done : List A) (x : A) → x ≡ f n → done ≡ map f (range_with_len 0 n)
@@ -261,7 +277,3 @@ timers-in (Some timer ∷ rows) = omega (arith, timers-in rows)
 pub timers-few : (sc : Scenario) (n : ℕ) → (1 ≤ length (timers sc n)) × (length (timers sc n) ≤ most_timers)
 unfolding timers
 timers-few sc n = (omega arith, omega (arith, timers-in (timer_table sc n 1)))
-
-pub others-from : (sc : Scenario) (n : ℕ) (nodes rest : List ℕ) → nodes ≡ initial_nodes sc → rest ≡ filter (λ x. not (x == n)) nodes → rest ≡ others sc n
-unfolding others
-others-from sc n nodes rest start kept = kept ∙ ap (filter (λ x. not (x == n))) start

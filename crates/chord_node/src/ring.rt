@@ -1,11 +1,11 @@
 //! The states of the nodes at the start of a run.
-ghost use Rattle.std.specs.Prelude.{◌≡◌, ℕ, ◌==◌, ◌+◌, ◌-◌, ◌^◌, ◌<◌, ◌≤◌, not, filter, length, map, slice_get, take, All, IfOk, OnOk};
-ghost use Rattle.std.specs.List.{range_with_len};
+ghost use Rattle.std.specs.Prelude.{◌≡◌, ℕ, true, ◌==◌, ◌+◌, ◌-◌, ◌^◌, ◌<◌, ◌≤◌, not, find, length, map, slice_get, take, All, IfOk, OnOk};
+ghost use Rattle.std.specs.List.{range_with_len, AllWithin};
 ghost use Rattle.std.specs.List.Sorted.{IsNonDecreasingBy, IsPermutation};
 ghost use Rattle.chord_scenario.specs.Start.{initial_nodes, timers};
-ghost use Rattle.chord_scenario.specs.World.{is_initial, node_count};
-ghost use Rattle.chord_node.specs.Met.{first_tagged, tagged};
-ghost use Rattle.chord_node.specs.Ring.{clockwise, finger, first_member, initial_ring, initial_state, others};
+ghost use Rattle.chord_scenario.specs.World.{ident_of, is_initial, node_count};
+ghost use Rattle.chord_node.specs.Places.{placed, ring, successor, two_rounds};
+ghost use Rattle.chord_node.specs.Ring.{clockwise, finger, first_member, initial_ring, initial_state};
 
 use crate::state::{NodeState, Status};
 use chord_circle::Raw;
@@ -13,10 +13,10 @@ use chord_event::{Listed, Memory};
 use chord_scenario::Scenario;
 use std::alloc::Global;
 
-/// A node that is met going clockwise, and its distance.
+/// A member at the start, with its identifier.
 #[derive(Clone, Copy, Drop)]
-struct Met {
-    way: Raw,
+struct Place {
+    ident: Raw,
     node: u32,
 }
 
@@ -33,96 +33,129 @@ fn members_at_start(alloc: Global, scenario: &Scenario) -> Result<Vec<u32>, Memo
     Ok(nodes)
 }
 
-/// These nodes without one of them.
-fn all_but(alloc: Global, nodes: &[u32], node: u32) -> Result<Vec<u32>, Memory>
-    ensures { IfOk result (λ rest. rest.items ≡ filter (λ x. not (x == node)) nodes.now) }
+/// The nodes with their identifiers.
+fn places_of(alloc: Global, scenario: &Scenario, nodes: &[u32]) -> Result<Vec<Place>, Memory>
+    requires { All (λ x. x < node_count scenario.now) nodes.now }
+    ensures { IfOk result (λ places. places.items ≡ placed scenario.now nodes.now) }
 {
-    let mut rest = Vec::new(alloc);
-    for other in nodes {
-        if *other != node {
-            rest.push(*other)?;
-        }
+    let mut places = Vec::new(alloc);
+    for node in nodes {
+        let ident = scenario.ident(*node).raw();
+        places.push(Place { ident, node: *node })?;
     }
-    Ok(rest)
+    Ok(places)
 }
 
-/// The clockwise distances of these nodes from a node.
-fn ways(alloc: Global, scenario: &Scenario, node: u32, nodes: &[u32]) -> Result<Vec<Met>, Memory>
-    requires node { node < node_count scenario.now }
-    requires known { All (λ x. x < node_count scenario.now) nodes.now }
-    ensures { IfOk result (λ met. met.items ≡ tagged scenario.now node nodes.now) }
+/// Puts nodes in the order of their identifiers.
+fn sort_by_ident(places: &mut Vec<Place>) -> Result<(), Memory>
+    ensures moved { OnOk result (IsPermutation places.old.items places.new.items) }
+    ensures sorted { OnOk result (IsNonDecreasingBy (λ p. p.ident) places.new.items) }
 {
-    let home = scenario.ident(node);
-    let mut met = Vec::new(alloc);
-    for other in nodes {
-        let way = scenario.circle().distance(home, scenario.ident(*other));
-        met.push(Met { way, node: *other })?;
-    }
-    Ok(met)
-}
-
-/// Puts nodes in the order of their distances.
-fn sort_by_way(met: &mut Vec<Met>) -> Result<(), Memory>
-    ensures moved { OnOk result (IsPermutation met.old.items met.new.items) }
-    ensures sorted { OnOk result (IsNonDecreasingBy (λ m. m.way) met.new.items) }
-{
-    met.sort_by_key(|met| met.way)?;
+    places.sort_by_key(|place| place.ident)?;
     Ok(())
 }
 
-/// The other members at the start, in the order in which they are met clockwise from a node.
-fn clockwise(
-    alloc: Global,
-    scenario: &Scenario,
-    node: u32,
-    nodes: &[u32],
-) -> Result<Vec<Met>, Memory>
-    requires node { node < node_count scenario.now }
-    requires nodes { nodes.now ≡ others scenario.now node }
-    ensures { IfOk result (λ met. met.items ≡ tagged scenario.now node (clockwise scenario.now node)) }
+/// The ring: the members at the start in the order of their identifiers.
+fn ring_of(alloc: Global, scenario: &Scenario, nodes: &[u32]) -> Result<Vec<Place>, Memory>
+    requires { nodes.now ≡ initial_nodes scenario.now }
+    ensures { IfOk result (λ places. places.items ≡ placed scenario.now (ring scenario.now)) }
 {
     scenario.recall_range();
-    let mut met = ways(alloc, scenario, node, nodes)?;
-    sort_by_way(&mut met)?;
-    Ok(met)
+    let mut places = places_of(alloc, scenario, nodes)?;
+    sort_by_ident(&mut places)?;
+    Ok(places)
 }
 
-/// The first of the nodes that is met at this distance or more, or the node itself if there is
-/// none.
-fn first_at(node: u32, least: Raw, met: &[Met]) -> u32
-    ensures { result ≡ first_tagged node least met.now }
+/// Two rounds of the ring. The way from any member round to itself is one part of these, so no
+/// member needs a list of its own.
+fn rounds_of(alloc: Global, scenario: &Scenario, nodes: &[u32]) -> Result<Vec<Place>, Memory>
+    requires { nodes.now ≡ initial_nodes scenario.now }
+    ensures { IfOk result (λ places. places.items ≡ two_rounds scenario.now) }
 {
-    match met.iter().find(|met| least <= met.way) {
-        Some(met) => met.node,
-        None => node,
-    }
+    let mut places = ring_of(alloc, scenario, nodes)?;
+    places.extend_from_within(..)?;
+    Ok(places)
 }
 
-/// The nodes, without their distances.
-fn nodes_of(alloc: Global, met: &[Met]) -> Result<Listed<u32>, Memory>
-    ensures { IfOk result (λ nodes. nodes ≡ map (λ m. m.node) met.now) }
+/// The number of members at the start that are before an identifier.
+fn count_before(scenario: &Scenario, rounds: &[Place], ident: Raw) -> usize
+    requires { rounds.now ≡ two_rounds scenario.now }
+    ensures bound { result ≤ length (ring scenario.now) }
+    ensures before { AllWithin (λ x. ident_of scenario.now x < ident) (ring scenario.now) 0 result }
+    ensures rest { AllWithin (λ x. ident ≤ ident_of scenario.now x) (ring scenario.now) result (length (ring scenario.now)) }
+{
+    scenario.recall_range();
+    let ring = &rounds[..rounds.len() / 2];
+    ring.partition_point(|place| place.ident < ident)
+}
+
+/// The other members at the start, in the order in which they are met clockwise from a member.
+fn clockwise<'a>(scenario: &Scenario, rounds: &'a [Place], node: u32) -> &'a [Place]
+    requires node { node < node_count scenario.now }
+    requires member { is_initial scenario.now node ≡ true }
+    requires rounds { rounds.now ≡ two_rounds scenario.now }
+    ensures { result.now ≡ placed scenario.now (clockwise scenario.now node) }
+{
+    scenario.recall_range();
+    let at = count_before(scenario, rounds, scenario.ident(node).raw());
+    &rounds[at + 1..at + rounds.len() / 2]
+}
+
+/// The first member at an identifier or after it, or the first one of the ring if there is none.
+fn successor(scenario: &Scenario, rounds: &[Place], start: Raw) -> u32
+    requires rounds { rounds.now ≡ two_rounds scenario.now }
+    requires some { 0 < length rounds.now }
+    ensures { result ≡ successor scenario.now start }
+{
+    rounds[count_before(scenario, rounds, start)].node
+}
+
+/// The first of the nodes that is not this one.
+fn other_node(nodes: &[u32], node: u32) -> Option<u32>
+    ensures { result ≡ find (λ x. not (x == node)) nodes.now }
+{
+    nodes.iter().copied().find(|other| *other != node)
+}
+
+/// The nodes, without their identifiers.
+fn nodes_of(alloc: Global, places: &[Place]) -> Result<Listed<u32>, Memory>
+    ensures { IfOk result (λ nodes. nodes ≡ map (λ p. p.node) places.now) }
 {
     let mut nodes = Listed::new(alloc);
-    for met in met {
-        nodes.push(met.node)?;
+    for place in places {
+        nodes.push(place.node)?;
     }
     Ok(nodes)
 }
 
-/// The fingers of a node from the second on.
+/// The node that is met last.
+fn last_node(met: &[Place]) -> Option<u32>
+    ensures { result ≡ slice_get (map (λ p. p.node) met.now) (length (map (λ p. p.node) met.now) - 1) }
+{
+    match met.last() {
+        Some(place) => Some(place.node),
+        None => None,
+    }
+}
+
+/// The fingers of a member from the second on.
 fn fingers(
     alloc: Global,
     scenario: &Scenario,
+    rounds: &[Place],
     node: u32,
-    met: &[Met],
 ) -> Result<Listed<u32>, Memory>
-    requires { met.now ≡ tagged scenario.now node (clockwise scenario.now node) }
+    requires node { node < node_count scenario.now }
+    requires member { is_initial scenario.now node ≡ true }
+    requires rounds { rounds.now ≡ two_rounds scenario.now }
     ensures { IfOk result (λ fingers. fingers ≡ map (finger scenario.now node) (range_with_len 2 (scenario.now.bits - 1))) }
 {
     scenario.recall_range();
+    let circle = scenario.circle();
     let mut fingers = Listed::new(alloc);
-    for i in 2..scenario.circle().bits() + 1 {
-        fingers.push(first_at(node, 1 << (i - 1), met))?;
+    for i in 2..circle.bits() + 1 {
+        let start = circle.add_power(scenario.ident(node), i);
+        fingers.push(successor(scenario, rounds, start.raw()))?;
     }
     Ok(fingers)
 }
@@ -149,25 +182,26 @@ fn first_member(
     alloc: Global,
     scenario: &Scenario,
     nodes: &[u32],
+    rounds: &[Place],
     node: u32,
 ) -> Result<NodeState, Memory>
     requires node { node < node_count scenario.now }
+    requires member { is_initial scenario.now node ≡ true }
     requires nodes { nodes.now ≡ initial_nodes scenario.now }
+    requires rounds { rounds.now ≡ two_rounds scenario.now }
     ensures { IfOk result (λ state. state ≡ first_member scenario.now node) }
 {
-    let others = all_but(alloc, nodes, node)?;
-    let met = clockwise(alloc, scenario, node, others.as_slice())?;
-    let mut succ = nodes_of(alloc, met.as_slice())?;
-    succ.truncate(scenario.list() as usize);
+    let met = clockwise(scenario, rounds, node);
+    let most = (scenario.list() as usize).min(met.len());
     let timers = timer_count(scenario, node);
     Ok(NodeState {
         me: node,
         status: Status::Member,
         epoch: 1,
-        via: others.first().copied(),
-        prdc: last_node(met.as_slice()),
-        succ,
-        fingers: fingers(alloc, scenario, node, met.as_slice())?,
+        via: other_node(nodes, node),
+        prdc: last_node(met),
+        succ: nodes_of(alloc, &met[..most])?,
+        fingers: fingers(alloc, scenario, rounds, node)?,
         next_finger: 2,
         calls: Listed::new(alloc),
         lookups: Listed::new(alloc),
@@ -177,30 +211,22 @@ fn first_member(
     })
 }
 
-/// The node that is met last.
-fn last_node(met: &[Met]) -> Option<u32>
-    ensures { result ≡ slice_get (map (λ m. m.node) met.now) (length (map (λ m. m.node) met.now) - 1) }
-{
-    match met.last() {
-        Some(met) => Some(met.node),
-        None => None,
-    }
-}
-
 /// The state of a node at the start.
 #[tactic(auto, unfolding(crate::specs::Ring::initial_state))]
 fn initial_state(
     alloc: Global,
     scenario: &Scenario,
     nodes: &[u32],
+    rounds: &[Place],
     node: u32,
 ) -> Result<NodeState, Memory>
     requires node { node < node_count scenario.now }
     requires nodes { nodes.now ≡ initial_nodes scenario.now }
+    requires rounds { rounds.now ≡ two_rounds scenario.now }
     ensures { IfOk result (λ state. state ≡ initial_state scenario.now node) }
 {
     if scenario.initial(node) {
-        first_member(alloc, scenario, nodes, node)
+        first_member(alloc, scenario, nodes, rounds, node)
     } else {
         Ok(NodeState::never_up(alloc, node))
     }
@@ -212,9 +238,10 @@ pub fn initial_ring(alloc: Global, scenario: &Scenario) -> Result<Vec<NodeState>
     ensures { IfOk result (λ states. states.items ≡ initial_ring scenario.now) }
 {
     let nodes = members_at_start(alloc, scenario)?;
+    let rounds = rounds_of(alloc, scenario, nodes.as_slice())?;
     let mut states = Vec::new(alloc);
     for node in 0..scenario.nodes() {
-        let state = initial_state(alloc, scenario, nodes.as_slice(), node)?;
+        let state = initial_state(alloc, scenario, nodes.as_slice(), rounds.as_slice(), node)?;
         states.push(state)?;
     }
     Ok(states)

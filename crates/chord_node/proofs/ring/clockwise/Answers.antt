@@ -1,22 +1,34 @@
-use Rattle.std.proofs.Common.{ℕ, ◌<◌, List, sym, subst}
-use Rattle.std.specs.List.{All}
-use Rattle.std.specs.List.Sorted.{IsPermutation}
-use Rattle.chord_event.proofs.Members.{All_from}
-use Rattle.chord_scenario.specs.World.{node_count}
-use Rattle.chord_node.specs.declared.ring.Met.{Met}
-use Rattle.chord_node.specs.Met.{tagged}
-use Rattle.chord_node.specs.Ring.{others}
-use Rattle.chord_node.proofs.Rings.{sorted_tagged, other-known}
+use Rattle.std.proofs.Common.{◌≡◌, ◌∙◌, ◌+◌, List, ap, drop, length, subst, take, arith}
+use Rattle.std.specs.Prelude.{◌/◌, ◌-◌}
+use Rattle.chord_scenario.specs.World.{ident_of}
+use Rattle.chord_node.specs.declared.ring.Place.{Place}
+use Rattle.chord_node.proofs.Rotations.{member-some}
+use Rattle.chord_node.proofs.Rounds.{IsCount, clockwise-is, rounds-long}
 use Rattle.chord_node.proofs.ring.clockwise.Goals as goal
 
-pub ways-requires-clause-known : goal.ways-requires-clause-known
-ways-requires-clause-known c =
-    subst (λ (xs : List ℕ). All (λ x. x < node_count c.args.scenario.now) xs) (sym c.requires.nodes)
-    (All_from (λ x. x < node_count c.args.scenario.now) (others c.args.scenario.now c.args.node) (other-known c.args.scenario.now c.args.node))
+pub slice_bounds-result-count : goal.slice_bounds-result-count
+slice_bounds-result-count c =
+    let sc = c.args.scenario.now in
+    let some = member-some sc c.args.node (record { ranges = c.recall_range.ensures; known = c.requires.node; member = c.requires.member }) in
+    omega (arith, some, rounds-long sc, ap (λ (xs : List Place). length xs) c.requires.rounds)
+
+pub slice_bounds-result-start : goal.slice_bounds-result-start
+slice_bounds-result-start c =
+    let sc = c.args.scenario.now in
+    let some = member-some sc c.args.node (record { ranges = c.recall_range.ensures; known = c.requires.node; member = c.requires.member }) in
+    omega (arith, some, rounds-long sc, ap (λ (xs : List Place). length xs) c.requires.rounds)
 
 pub returns : goal.returns
 returns c =
-    let from : List Met → Type 0 = λ met. IsPermutation met c.sort_by_way.new.met.items in
-    sorted_tagged c.args.scenario.now c.args.node c.sort_by_way.new.met.items c.recall_range.ensures c.requires.node
-    (subst (λ xs. from (tagged c.args.scenario.now c.args.node xs)) c.requires.nodes (subst from c.in_ok-met.ensures c.in_ok-sort_by_way.ensures.moved))
-    c.in_ok-sort_by_way.ensures.sorted
+    let sc = c.args.scenario.now in
+    let n = c.args.node in
+    let at = c.count_before-at.result in
+    let home : c.raw.result ≡ ident_of sc n = c.raw.ensures ∙ c.ident.ensures.value in
+    let found : IsCount sc c.raw.result at = record {
+      bound = c.count_before-at.ensures.bound;
+      before = c.count_before-at.ensures.before;
+      rest = c.count_before-at.ensures.rest;
+    } in
+    ap (λ (xs : List Place). take (at + length xs / 2 - (at + 1)) (drop (at + 1) xs)) c.requires.rounds
+    ∙ clockwise-is sc n at (record { ranges = c.recall_range.ensures; known = c.requires.node; member = c.requires.member })
+    (subst (λ k. IsCount sc k at) home found)

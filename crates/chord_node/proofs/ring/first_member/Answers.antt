@@ -1,29 +1,33 @@
-use Rattle.std.proofs.Common.{◌≡◌, ◌∙◌, ◌-◌, ℕ, List, None, ap, length, map, slice_get, take}
-use Rattle.chord_node.specs.declared.ring.Met.{Met}
+use Rattle.std.proofs.Common.{◌≡◌, ◌∙◌, ℕ, ◌==◌, ◌-◌, Bool, List, None, ap, filter, find, length, map, min, not, slice_get, take}
+use Rattle.std.proofs.lemmas.List.{take_min}
+use Rattle.chord_scenario.specs.Start.{initial_nodes}
+use Rattle.chord_node.specs.declared.ring.Place.{Place}
 use Rattle.chord_node.specs.declared.state.Status.TheVariants as status
+use Rattle.chord_node.specs.Places.{placed}
 use Rattle.chord_node.specs.Ring.{clockwise, first_member, others}
-use Rattle.chord_node.proofs.Rings.{others-from, tagged-nodes}
+use Rattle.chord_node.proofs.Rings.{placed-nodes}
+use Rattle.chord_node.proofs.FingerStarts.{find-filter}
+use Rattle.chord_node.proofs.Rounds.{placed-take}
 use Rattle.chord_node.proofs.ring.first_member.Goals as goal
 
-pub clockwise-requires-clause-nodes : goal.clockwise-requires-clause-nodes
-clockwise-requires-clause-nodes c =
-    c.as_slice.ensures.value ∙ others-from c.args.scenario.now c.args.node c.args.nodes.now c.in_ok-others.others.items c.requires.nodes c.in_ok-others.ensures
-
 pub returns : goal.returns
-unfolding first_member
+unfolding first_member others
 returns c =
     let sc = c.args.scenario.now in
     let n = c.args.node in
-    let nodes_of : List Met → List ℕ = map (λ (m : Met). m.node) in
-    let rest : c.in_ok-others.others.items ≡ others sc n = others-from sc n c.args.nodes.now c.in_ok-others.others.items c.requires.nodes
-    c.in_ok-others.ensures in
-    let met : nodes_of c.in_ok-met.met.items ≡ clockwise sc n = ap nodes_of c.in_ok-met.ensures ∙ tagged-nodes sc n (clockwise sc n) in
-    let via : c.copied.result ≡ slice_get (others sc n) 0 = c.copied.ensures ∙ c.first.ensures.value
-    ∙ ap (λ (xs : List ℕ). slice_get xs 0) (c.deref.ensures.value ∙ rest) in
-    let prdc : c.last_node.result ≡ slice_get (clockwise sc n) (length (clockwise sc n) - 1) = c.last_node.ensures
-    ∙ ap (λ xs. slice_get (nodes_of xs) (length (nodes_of xs) - 1)) c.as_slice-3.ensures.value ∙ ap (λ xs. slice_get xs (length xs - 1)) met in
-    let succ : c.truncate.new.self ≡ take sc.list (clockwise sc n) = c.truncate.ensures ∙ ap (λ k. take k c.in_ok-succ.succ) c.list.ensures
-    ∙ ap (take sc.list) (c.in_ok-succ.ensures ∙ ap nodes_of c.as_slice-2.ensures.value ∙ met) in
+    let xs = clockwise sc n in
+    let nodes_of : List Place → List ℕ = map (λ (p : Place). p.node) in
+    let met : c.clockwise-met.result.now ≡ placed sc xs = c.clockwise-met.ensures in
+    let most : c.min-most.result ≡ min sc.list (length c.clockwise-met.result.now) = c.min-most.ensures
+    ∙ ap (λ k. min k (length c.clockwise-met.result.now)) c.list.ensures in
+    let other : ℕ → Bool = λ x. not (x == n) in
+    let via : c.other_node.result ≡ slice_get (filter other (initial_nodes sc)) 0 = c.other_node.ensures ∙ ap (find other) c.requires.nodes
+    ∙ find-filter other (initial_nodes sc) in
+    let prdc : c.last_node.result ≡ slice_get xs (length xs - 1) = c.last_node.ensures
+    ∙ ap (λ ps. slice_get (nodes_of ps) (length (nodes_of ps) - 1)) met ∙ ap (λ ys. slice_get ys (length ys - 1)) (placed-nodes sc xs) in
+    let succ : c.in_ok-nodes_of.field-0 ≡ take sc.list xs = c.in_ok-nodes_of.ensures
+    ∙ ap (λ k. nodes_of (take k c.clockwise-met.result.now)) most ∙ ap nodes_of (take_min sc.list c.clockwise-met.result.now)
+    ∙ ap (λ ps. nodes_of (take sc.list ps)) met ∙ ap nodes_of (placed-take sc sc.list xs) ∙ placed-nodes sc (take sc.list xs) in
     λ i. record {
       me = n;
       status = status.Member;
