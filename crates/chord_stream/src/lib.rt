@@ -1,14 +1,15 @@
 //! The random words of the nodes: each node draws from its own stream, at places that it counts.
 #![tactic(auto)]
 
-ghost use Rattle.std.specs.Prelude.{◌≡◌, ◌+◌, ◌%◌, ◌<◌, ◌≤◌};
+ghost use Rattle.std.specs.Prelude.{◌≡◌, ℕ, ◌+◌, ◌%◌, ◌<◌, ◌≤◌, slice_index};
+ghost use Rattle.rand_chacha.specs.Block.{block_word};
 ghost use Rattle.rand_chacha.specs.ChaCha.{key_of};
 ghost use Rattle.chord_stream.specs.Word.{seed_bytes, word};
 ghost use Rattle.chord_stream.specs.Streams.{StreamOf};
 
-use rand_chacha::ChaCha8Rng;
-use rand_core::SeedableRng;
-use rand_core::utils::NextWord;
+mod block;
+
+use block::{block, high_half, low_half};
 use std::marker::Model;
 
 /// The numbered random stream of one node, which contracts see as its seed and its node.
@@ -41,33 +42,30 @@ impl Stream {
     pub fn word_at(&self, place: u64) -> u32
         ensures { result ≡ word self.now.seed self.now.node place }
     {
-        self.generator_at(place).next_word()
+        self.block_at(place / 16)[(place % 16) as usize]
     }
 
-    /// The words at a place and at the next one. Both together cost as much as one.
+    /// The words at a place and at the next one. Both together mostly cost as much as one.
     #[tactic(auto, unfolding(crate::specs::Word::word))]
     pub fn pair_at(&self, place: u64) -> (u32, u32)
         ensures first { result.0 ≡ word self.now.seed self.now.node place }
         ensures second { result.1 ≡ word self.now.seed self.now.node (place + 1) }
     {
-        let mut generator = self.generator_at(place);
-        let first = generator.next_word();
-        (first, generator.next_word())
+        let words = self.block_at(place / 16);
+        let at = (place % 16) as usize;
+        if at < 15 {
+            (words[at], words[at + 1])
+        } else {
+            (words[at], self.block_at(place / 16 + 1)[0])
+        }
     }
 
-    /// The generator whose next word is that at a place.
-    fn generator_at(&self, place: u64) -> ChaCha8Rng
-        ensures { result ≡ record { key = key_of (seed_bytes self.now.seed); stream = self.now.node; word_pos = place } }
+    /// The block of this number in the node's stream. The key is the seed and then zeros.
+    fn block_at(&self, number: u64) -> [u32; 16]
+        ensures { (k : ℕ) → k < 16 → slice_index result k ≡ block_word 4 (key_of (seed_bytes self.now.seed)) number self.now.node k }
     {
-        let [a, b, c, d, e, f, g, h] = self.seed.to_le_bytes();
-        let key = [
-            a, b, c, d, e, f, g, h, 0, 0, 0, 0, 0, 0, 0, 0, 0, 0, 0, 0, 0, 0, 0, 0, 0, 0, 0, 0, 0,
-            0, 0, 0,
-        ];
-        let mut generator = ChaCha8Rng::from_seed(key);
-        generator.set_stream(u64::from(self.node));
-        generator.set_word_pos(u128::from(place));
-        generator
+        let key = [low_half(self.seed), high_half(self.seed), 0, 0, 0, 0, 0, 0];
+        block(&key, number, u64::from(self.node))
     }
 
     /// A number below `n`: the word at a place modulo `n`.
