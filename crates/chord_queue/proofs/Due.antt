@@ -62,10 +62,10 @@ use Rattle.chord_queue.proofs.Places.{
 }
 
 -- what a filter keeps
-in_filter : {A : Type 0} (p : A → Bool) (xs : List A) (x : A) → IsIn x (filter p xs) → IsIn x xs × (p x ≡ true)
+pub in_filter : {A : Type 0} (p : A → Bool) (xs : List A) (x : A) → IsIn x (filter p xs) → IsIn x xs × (p x ≡ true)
 in_filter p xs x h = let c = filter_contains p xs x (Contains-from_IsIn (filter p xs) x h) in (IsIn-from_Contains xs x c.0, c.1)
 
-filter_in : {A : Type 0} (p : A → Bool) (xs : List A) (x : A) → IsIn x xs → p x ≡ true → IsIn x (filter p xs)
+pub filter_in : {A : Type 0} (p : A → Bool) (xs : List A) (x : A) → IsIn x xs → p x ≡ true → IsIn x (filter p xs)
 filter_in p xs x h t = IsIn-from_Contains (filter p xs) x (contains_filter p xs x (Contains-from_IsIn xs x h) t)
 
 distinct_filter : (p : Entry → Bool) (ws : List Entry) → AreDistinct ws → AreDistinct (filter p ws)
@@ -76,7 +76,7 @@ distinct_filter p (w ∷ ws) d = by_test (p w) (distinct_filter p ws (distinct_r
     by_test true on = distinct_more w (filter p ws) (λ v h. distinct_first w ws d v (in_filter p ws v h).0) on
     by_test false on = on
 
-ordered_filter : (p : Event Body → Bool) (es : List (Event Body)) → InKeyOrder event_key es → InKeyOrder event_key (filter p es)
+pub ordered_filter : (p : Event Body → Bool) (es : List (Event Body)) → InKeyOrder event_key es → InKeyOrder event_key (filter p es)
 ordered_filter p [] o = o
 ordered_filter p (e ∷ es) o = by_test (p e) (ordered_filter p es o.1)
   where

@@ -1,11 +1,11 @@
 -- Events that are added one after another.
-use Rattle.std.proofs.Common.{◌≢◌, ⊎_elim, inl, inr, ◌↔◌, List, [], ◌∷◌, ◌++◌, sym, subst}
+use Rattle.std.proofs.Common.{◌≡◌, ◌≢◌, ⊎_elim, inl, inr, ◌↔◌, List, [], ◌∷◌, ◌++◌, length, refl, sym, subst, arith}
 use Rattle.std.specs.List.{AllPairs, Contains}
 use Rattle.chord_event.specs.declared.body.Body.{Body}
 use Rattle.chord_event.specs.declared.event.Event.{Event}
 use Rattle.chord_event.specs.Keys.{IsBefore}
 use Rattle.chord_event.specs.KeyOrder.{InKeyOrder, IsNewKey, put_in_order}
-use Rattle.chord_event.proofs.KeyLists.{IsIn, all_from, all_in, in_put, ordered_put, put_in, Contains-from_IsIn, IsIn-from_Contains}
+use Rattle.chord_event.proofs.KeyLists.{all_from, all_in, in_put, ordered_put, put_in, Contains-from_IsIn, IsIn-from_Contains}
 use Rattle.chord_event.proofs.Members.{
   AllPairs_append,
   AllPairs_at,
@@ -21,6 +21,10 @@ use Rattle.chord_event.proofs.Members.{
 }
 use Rattle.chord_event.proofs.Order.{before_not_same}
 use Rattle.chord_queue.specs.EventKey.{event_key}
+
+pub empty : {A : Type 0} (xs : List A) → length xs ≡ 0 → xs ≡ []
+empty [] e = refl
+empty (x ∷ xs) e = absurd (omega (arith, e))
 
 -- no two events have one key
 abbrev pub AreApart : List (Event Body) → Type 0

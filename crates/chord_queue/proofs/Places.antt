@@ -49,8 +49,8 @@ use Rattle.chord_event.proofs.Compare.{compared}
 use Rattle.chord_event.proofs.KeyLists.{IsIn, all_in, all_from, in_put, put_in, ordered_put, put_first, same_list, Contains-from_IsIn, IsIn-from_Contains}
 use Rattle.chord_event.proofs.Order.{is_same_key-true, same_key-self}
 use Rattle.chord_queue.specs.EventKey.{event_key}
-use Rattle.chord_queue.specs.Places.{Events, Entry, waiting_key, waiting_cmp, events_at, in_key_order, pending_of, IsPlaced, IsPlacedHeap}
-use Rattle.chord_queue.specs.declared.pending.Pending.TheInside.{Inside}
+use Rattle.chord_queue.specs.Places.{Events, Entry, waiting_key, waiting_cmp, events_at, in_key_order, heap_events, IsPlaced, IsPlacedHeap}
+use Rattle.chord_queue.specs.declared.event_heap.EventHeap.TheInside.{Inside}
 
 abbrev pub AreDistinct : List Entry → Type 0
 AreDistinct ws = IsDistinct is_same_key (map waiting_key ws)
@@ -60,17 +60,17 @@ pub record Held (s : Events) (ws : List Entry) : Type 0 where
   pub placed : AllByRecursion (IsPlaced s) ws
   pub distinct : AreDistinct ws
 
-differs : (a b : Key) → is_same_key a b ≡ false → a ≢ b
+pub differs : (a b : Key) → is_same_key a b ≡ false → a ≢ b
 differs a b h e = let both : false ≡ true = sym h ∙ ap (λ k. is_same_key a k) (sym e) ∙ same_key-self a in cc
 
-apart : (a b : Key) → a ≢ b → is_same_key a b ≡ false
+pub apart : (a b : Key) → a ≢ b → is_same_key a b ≡ false
 apart a b ne = apart_by (is_same_key a b) refl
   where
     apart_by : (r : Bool) → is_same_key a b ≡ r → is_same_key a b ≡ false
     apart_by true h = absurd (ne (is_same_key-true a b h))
     apart_by false h = h
 
-same_key-flips : (a b : Key) → is_same_key a b ≡ is_same_key b a
+pub same_key-flips : (a b : Key) → is_same_key a b ≡ is_same_key b a
 same_key-flips a b = flips_by (is_same_key a b) refl
   where
     flips_by : (r : Bool) → is_same_key a b ≡ r → is_same_key a b ≡ is_same_key b a
@@ -97,7 +97,7 @@ distinct_more w ws f d = IsDistinct-cons is_same_key (waiting_key w) (map waitin
 pub distinct_rest : (w : Entry) (ws : List Entry) → AreDistinct (w ∷ ws) → AreDistinct ws
 distinct_rest w ws d = IsDistinct-tail is_same_key (waiting_key w) (map waiting_key ws) d
 
-permuted_in : {A : Type 0} (xs ys : List A) → IsPermutation xs ys → (z : A) → IsIn z xs → IsIn z ys
+pub permuted_in : {A : Type 0} (xs ys : List A) → IsPermutation xs ys → (z : A) → IsIn z xs → IsIn z ys
 permuted_in xs ys p z h = IsIn-from_Contains ys z (Contains-permutation xs ys z p (Contains-from_IsIn xs z h))
 
 pub held_permuted : (s : Events) (xs ys : List Entry) → IsPermutation xs ys → Held s xs → Held s ys
@@ -278,7 +278,7 @@ held_none s = record { placed = tt; distinct = tt }
 
 -- after room was made
 pub kept_by : (p : Inside) (s : Slab (Event Body)) (ws : List Entry) → IsPlacedHeap p → ws ≡ heap_items p.heap → s.slots ≡ p.events.slots
-    → Held (get s) ws × (in_key_order (events_at (get s) ws) ≡ pending_of p)
+    → Held (get s) ws × (in_key_order (events_at (get s) ws) ≡ heap_events p)
 kept_by p s ws is items slots =
     let same : (w : Entry) → IsIn w ws → get s w.place ≡ get p.events w.place = λ w h. ap (λ l. slice_index_or l w.place None) slots in
     let held : Held (get p.events) ws = subst (Held (get p.events)) (sym items) (held_by p is) in (

@@ -12,7 +12,7 @@ use Rattle.chord_event.specs.Keys.{is_same_key, key_cmp}
 use Rattle.chord_event.specs.KeyOrder.{put_in_order}
 use Rattle.chord_queue.specs.EventKey.{event_key}
 use Rattle.chord_queue.specs.declared.waiting.Waiting.{Waiting}
-use Rattle.chord_queue.specs.declared.pending.Pending.TheInside.{Inside}
+use Rattle.chord_queue.specs.declared.event_heap.EventHeap.TheInside.{Inside}
 
 -- what is at each place
 abbrev pub Events : Type 0
@@ -42,8 +42,8 @@ abbrev pub in_key_order : List (Event Body) → List (Event Body)
 in_key_order [] = []
 in_key_order (e ∷ es) = put_in_order event_key e (in_key_order es)
 
-abbrev pub pending_of : Inside → List (Event Body)
-pending_of p = in_key_order (events_at (get p.events) (heap_items p.heap))
+abbrev pub heap_events : Inside → List (Event Body)
+heap_events p = in_key_order (events_at (get p.events) (heap_items p.heap))
 
 -- the entry's place has an event of its key
 abbrev pub IsPlaced : Events → Entry → Type 0

@@ -1,42 +1,45 @@
 //! All events that are still to come.
 ghost use Rattle.std.specs.Prelude.{◌≡◌, ◌≢◌, ◌↔◌, [], ◌∷◌, ◌++◌, slice_get, option_map, IfOk, IfErr, MatchOption, OnOk};
-ghost use Rattle.std.specs.List.{AllPairs, Contains, filter};
-ghost use Rattle.std.specs.List.Sorted.{IsPermutation, IsSorted};
-ghost use Rattle.std.specs.BinaryHeap.{heap_items};
+ghost use Rattle.std.specs.List.{AllPairs, Contains};
 ghost use Rattle.chord_event.specs.declared.body.Body.{Body as ABody};
 ghost use Rattle.chord_event.specs.declared.event.Event.{Event as AnEvent};
 ghost use Rattle.chord_event.specs.KeyOrder.{InKeyOrder, IsNewKey, put_in_order, before, from_on};
 ghost use Rattle.chord_queue.specs.EventKey.{event_key};
-ghost use Rattle.chord_queue.specs.Places.{waiting_cmp, is_due};
 
-use crate::waiting::Waiting;
+use crate::calendar::{Calendar, sort_up};
+use crate::event_heap::EventHeap;
 use chord_event::{Event, Memory};
-use slab::Slab;
 use std::alloc::Global;
-use std::cmp::Reverse;
-use std::collections::BinaryHeap;
 use std::marker::Model;
 
 /// The events that are still to come, which contracts see as their list in the order of their keys.
+///
+/// Most events go into a calendar: a list for each of the next days, of which only the next one is
+/// sorted. So an insertion and a removal take about the same time however many events are pending,
+/// while those of a heap grow with the logarithm (R. Brown, "Calendar queues: a fast O(1) priority
+/// queue implementation for the simulation event set problem", Communications of the ACM 31, 1988).
+///
+/// An event that the calendar does not take goes into a heap, and the first event is the lesser of
+/// the two first ones. So the calendar may return any event: which ones it takes is a matter of
+/// speed alone, and no contract speaks of it.
 #[derive(Drop)]
 pub struct Pending {
-    // Keys in a heap and events in a slab, so that an insertion moves keys and not events.
-    heap: BinaryHeap<Waiting<usize>>,
-    events: Slab<Event>,
-    alloc: Global,
+    calendar: Calendar,
+    /// The events that the calendar did not take.
+    rest: EventHeap,
 }
 
 impl Model for Pending {
     ghost use Rattle.std.specs.Prelude.{List};
     ghost use Rattle.chord_event.specs.declared.body.Body.{Body};
     ghost use Rattle.chord_event.specs.declared.event.Event.{Event};
-    ghost use Rattle.chord_queue.specs.Places.{pending_of, IsPlacedHeap};
+    ghost use Rattle.chord_queue.specs.Pending.{all_pending, ArePending};
 
     ghost Value = { List (Event Body) };
 
-    ghost view = { λ p. pending_of p };
+    ghost view = { λ p. all_pending p };
 
-    ghost invariant = { λ p. IsPlacedHeap p };
+    ghost invariant = { λ p. ArePending p };
 }
 
 impl Pending {
@@ -44,9 +47,8 @@ impl Pending {
         ensures { result ≡ [] }
     {
         Pending {
-            heap: BinaryHeap::new(alloc),
-            events: Slab::new(alloc),
-            alloc,
+            calendar: Calendar::new(alloc),
+            rest: EventHeap::new(alloc),
         }
     }
 
@@ -55,7 +57,7 @@ impl Pending {
         ensures { InKeyOrder event_key self.now }
     {
         // A no-op for the machine: it hands the prover what the type keeps.
-        let _ = &self.alloc;
+        let _ = &self.rest;
     }
 
     /// Adds an event, or returns it if an allocation fails.
@@ -64,15 +66,11 @@ impl Pending {
         ensures ok { OnOk result (self.new ≡ put_in_order event_key event self.old) }
         ensures err { IfErr result (λ back. (back ≡ event) × (self.new ≡ self.old)) }
     {
-        if self.heap.reserve(1).is_err() || self.events.reserve(1).is_err() {
-            return Err(event);
-        }
-        let key = Reverse(event.key);
-        let place = self.events.insert_reserved(event);
-        match self.heap.push(Waiting { key, place }) {
-            Ok(()) => Ok(()),
-            Err(_) => unreachable!(),
-        }
+        let Err(back) = self.calendar.insert(event, self.rest.len()) else {
+            return Ok(());
+        };
+        self.rest.insert(back)?;
+        Ok(())
     }
 
     /// Adds events. After an error some of them may have been added: no caller goes on after that.
@@ -82,6 +80,17 @@ impl Pending {
         ensures ordered { InKeyOrder event_key self.new }
     {
         let mut events = events;
+        self.insert_from(&mut events)
+    }
+
+    /// Adds the events of a list, which is empty afterwards and keeps its memory. After an error
+    /// some of them may have been added: no caller goes on after that.
+    pub fn insert_from(&mut self, events: &mut Vec<Event>) -> Result<(), Memory>
+        requires { AllPairs (λ a b. a.key ≢ b.key) (self.old ++ events.old.items) }
+        ensures same { OnOk result ((x : AnEvent ABody) → Contains self.new x ↔ Contains (self.old ++ events.old.items) x) }
+        ensures ordered { InKeyOrder event_key self.new }
+        ensures emptied { OnOk result (events.new.items ≡ []) }
+    {
         while let Some(event) = events.pop() {
             self.recall_order();
             if let Err(_refused) = self.insert(event) {
@@ -97,28 +106,50 @@ impl Pending {
     pub fn first_time(&self) -> Option<u64>
         ensures { result ≡ option_map (λ e. e.key.time) (slice_get self.now 0) }
     {
-        let waiting = self.heap.peek()?;
-        Some(waiting.key.0.time)
+        self.calendar.recall_order();
+        self.rest.recall_order();
+        let Some(key) = self.calendar.first_key() else {
+            let Some(other) = self.rest.first_key() else {
+                return None;
+            };
+            return Some(other.time);
+        };
+        let Some(other) = self.rest.first_key() else {
+            return Some(key.time);
+        };
+        if key.is_before(&other) {
+            return Some(key.time);
+        }
+        Some(other.time)
     }
 
     /// Takes the first event.
     pub fn pop_first(&mut self) -> Option<Event>
         ensures { MatchOption result ((self.old ≡ []) × (self.new ≡ [])) (λ first. self.old ≡ first ∷ self.new) }
     {
-        let waiting = self.heap.pop()?;
-        Some(self.events.remove(waiting.place))
+        self.calendar.recall_order();
+        self.rest.recall_order();
+        let Some(key) = self.calendar.first_key() else {
+            return pop_rest(&mut self.calendar, &mut self.rest);
+        };
+        let Some(other) = self.rest.first_key() else {
+            return self.calendar.pop_first();
+        };
+        if key.is_before(&other) {
+            return self.calendar.pop_first();
+        }
+        self.rest.pop_first()
     }
 
     /// Copies of the events before a time in microseconds.
     pub fn up_to(&self, horizon: u64) -> Result<Vec<Event>, Memory>
         ensures { IfOk result (λ copies. copies.items ≡ before event_key horizon self.now) }
     {
-        // This looks at every pending event, since a heap is not in order. No engine calls it.
-        let mut due = due_before(&self.heap, self.alloc, horizon)?;
-        let mut copies = Vec::new(self.alloc);
-        while let Some(waiting) = due.pop() {
-            copies.push(self.events[waiting.place].try_clone()?)?;
-        }
+        // This looks at every pending event, since most are in no order. No engine calls it.
+        let mut copies = self.calendar.up_to(horizon)?;
+        let mut others = self.rest.up_to(horizon)?;
+        copies.append(&mut others)?;
+        sort_up(&mut copies);
         Ok(copies)
     }
 
@@ -136,21 +167,12 @@ impl Pending {
     }
 }
 
-/// The keys and places of the events before a time in microseconds, the first event last.
-fn due_before(
-    heap: &BinaryHeap<Waiting<usize>>,
-    alloc: Global,
-    horizon: u64,
-) -> Result<Vec<Waiting<usize>>, Memory>
-    ensures same { IfOk result (λ due. IsPermutation (filter (is_due horizon) (heap_items heap.now)) due.items) }
-    ensures sorted { IfOk result (λ due. IsSorted waiting_cmp due.items) }
+/// Takes the first event of the rest, and moves a calendar without events on to its day.
+fn pop_rest(calendar: &mut Calendar, rest: &mut EventHeap) -> Option<Event>
+    ensures popped { MatchOption result ((rest.old ≡ []) × (rest.new ≡ [])) (λ first. rest.old ≡ first ∷ rest.new) }
+    ensures same { calendar.new ≡ calendar.old }
 {
-    let mut due = Vec::new(alloc);
-    for waiting in heap {
-        if waiting.key.0.time < horizon {
-            due.push(*waiting)?;
-        }
-    }
-    due.sort_unstable();
-    Ok(due)
+    let event = rest.pop_first()?;
+    calendar.go_on(event.key.time);
+    Some(event)
 }

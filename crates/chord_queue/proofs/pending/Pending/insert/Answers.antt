@@ -1,28 +1,39 @@
-use Rattle.std.proofs.Common.{◌≡◌, ◌∙◌, refl, sym, ap, subst, arith}
-use Rattle.std.specs.BinaryHeap.{IsHeap, heap_items}
-use Rattle.slab.specs.Slab.{get, slab_len}
-use Rattle.chord_event.specs.KeyOrder.{put_in_order}
+use Rattle.std.proofs.Common.{◌++◌, sym, subst}
+use Rattle.chord_event.specs.declared.body.Body.{Body}
+use Rattle.chord_event.specs.declared.event.Event.{Event}
+use Rattle.chord_event.specs.KeyOrder.{IsNewKey}
 use Rattle.chord_queue.specs.EventKey.{event_key}
-use Rattle.chord_queue.specs.Places.{waiting_cmp, events_at, in_key_order}
-use Rattle.chord_queue.proofs.Places.{Held, changes_by, inserted, kept_by, placed_by}
+use Rattle.chord_queue.proofs.Pendings.{HasPut, new_to_both, put_left, put_right}
 use Rattle.chord_queue.proofs.pending.Pending.insert.Goals as goal
 
-after : (c : goal.In-Ok) → let t = get c.insert_reserved-place.new.self in let more = heap_items c.push.new.self in
-    Held t more × (in_key_order (events_at t more) ≡ put_in_order event_key c.args.event c.args.self.now)
-after c =
-    let s = c.reserve-else-is_err.new.self in let ws = heap_items c.reserve.new.self in let place = c.insert_reserved-place.ensures in
-    let kept = kept_by c.self.inside s ws c.self.invariant c.reserve.ensures.items (λ i. (c.reserve-else-is_err.ensures.rest_kept i).slots) in
-    inserted (get s) (get c.insert_reserved-place.new.self) ws (heap_items c.push.new.self) c.args.self.now _ c.args.event kept.0
-    (kept.1 ∙ c.self.view_is) c.requires refl
-    place.was_vacant (changes_by s c.insert_reserved-place.new.self _ _ place.updates) c.in-Ok.ensures.permutation
+pub insert-requires : goal.insert-requires
+insert-requires c = let p = c.self.inside in (new_to_both c.args.event.key p.calendar p.rest c.args.self.now c.self.view_is c.requires).0
+
+in_calendar : (c : goal.In_default) → HasPut (c.insert.new.self ++ c.self.inside.rest) c.args.event c.args.self.now
+in_calendar c =
+    let p = c.self.inside in
+    put_left p.calendar c.insert.new.self p.rest c.args.self.now c.args.event c.self.invariant c.self.view_is c.requires c.in_default.ensures.ok
+
+pub invariant_of-self : goal.invariant_of-self
+invariant_of-self c = (in_calendar c).0
+
+pub returns-in_default-clause-ok : goal.returns-in_default-clause-ok
+returns-in_default-clause-ok c = (in_calendar c).1
+
+pub insert-requires-2 : goal.insert-requires-2
+insert-requires-2 c =
+    let p = c.self.inside in
+    subst (λ (e : Event Body). IsNewKey event_key e.key p.rest) (sym c.in-Err.ensures.err.0)
+    (new_to_both c.args.event.key p.calendar p.rest c.args.self.now c.self.view_is c.requires).1
+
+in_rest : (c : goal.In_ok-insert) → HasPut (c.insert.new.self ++ c.insert-2.new.self) c.args.event c.args.self.now
+in_rest c =
+    let p = c.self.inside in
+    put_right p.calendar c.insert.new.self p.rest c.insert-2.new.self c.args.self.now c.args.event c.in-Err.back c.self.invariant c.self.view_is c.requires
+    c.in-Err.ensures.err.1 c.in-Err.ensures.err.0 c.in_ok-insert.ensures.ok
 
 pub invariant_of-self-2 : goal.invariant_of-self-2
-invariant_of-self-2 c =
-    let p = c.self.inside in let t = c.insert_reserved-place.new.self in
-    let heap : IsHeap waiting_cmp (heap_items c.reserve.new.self) = subst (IsHeap waiting_cmp) (sym c.reserve.ensures.items) c.self.invariant.ordered in
-    let same : slab_len c.reserve-else-is_err.new.self ≡ slab_len p.events = ap slab_len c.reserve-else-is_err.ensures.rest_kept in
-    placed_by (record { heap = c.push.new.self; events = t; alloc = p.alloc }) (c.in-Ok.ensures.heap_order heap) (after c).0
-    (omega (arith, c.insert_reserved-place.ensures.len, same, c.self.invariant.counted, c.reserve.ensures.len, c.in-Ok.ensures.len))
+invariant_of-self-2 c = (in_rest c).0
 
 pub returns-clause-ok : goal.returns-clause-ok
-returns-clause-ok c = (after c).1
+returns-clause-ok c = (in_rest c).1

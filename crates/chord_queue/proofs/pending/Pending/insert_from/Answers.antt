@@ -1,15 +1,11 @@
-use Rattle.std.proofs.Common.{◌≡◌, ◌↔◌, ◌++◌, ◌∷◌, [], List, ap, subst, ◌∙◌, refl, length, arith, append-nil}
+use Rattle.std.proofs.Common.{◌≡◌, ◌↔◌, ◌++◌, ◌∷◌, [], List, ap, subst, ◌∙◌, arith, append-nil}
 use Rattle.std.specs.List.{Contains}
 use Rattle.chord_event.specs.declared.body.Body.{Body}
 use Rattle.chord_event.specs.declared.event.Event.{Event}
 use Rattle.chord_event.specs.KeyOrder.{put_in_order}
 use Rattle.chord_queue.specs.EventKey.{event_key}
-use Rattle.chord_queue.proofs.Inserting.{AreApart, last_apart, last_new, last_put}
-use Rattle.chord_queue.proofs.pending.Pending.insert_all.Goals as goal
-
-empty : (es : List (Event Body)) → length es ≡ 0 → es ≡ []
-empty [] e = refl
-empty (x ∷ es) e = absurd (omega (arith, e))
+use Rattle.chord_queue.proofs.Inserting.{AreApart, empty, last_apart, last_new, last_put}
+use Rattle.chord_queue.proofs.pending.Pending.insert_from.Goals as goal
 
 pub insert-requires : goal.insert-requires
 insert-requires c =
@@ -20,7 +16,7 @@ pub loop-event-preserved : goal.loop-event-preserved
 loop-event-preserved c =
     let all = subst (λ es. AreApart (c.loop-event.self ++ es)) c.in-Some.ensures.items c.loop-event.invariant.apart in
     let put : List (Event Body) = put_in_order event_key c.in-Some.event c.loop-event.self in
-    let whole : List (Event Body) → Type 0 = λ es. (x : Event Body) → Contains es x ↔ Contains (c.args.self.now ++ c.args.events.items) x in
+    let whole : List (Event Body) → Type 0 = λ es. (x : Event Body) → Contains es x ↔ Contains (c.args.self.now ++ c.args.events.now.items) x in
     let before : whole (c.loop-event.self ++ (c.pop.new.self.items ++ c.in-Some.event ∷ [])) = subst (λ es. whole (c.loop-event.self ++ es))
     c.in-Some.ensures.items c.loop-event.invariant.same in
     rw c.in_default-insert.ensures.ok (record {
@@ -33,5 +29,5 @@ loop-event-preserved c =
 pub returns-clause-same : goal.returns-clause-same
 returns-clause-same c =
     let none : c.loop-event.events.items ≡ [] = empty c.loop-event.events.items (omega (arith, c.in_default.ensures.cases.0, c.loop-event.events.ok.0)) in
-    subst (λ es. (x : Event Body) → Contains es x ↔ Contains (c.args.self.now ++ c.args.events.items) x)
+    subst (λ es. (x : Event Body) → Contains es x ↔ Contains (c.args.self.now ++ c.args.events.now.items) x)
     (ap (λ es. c.loop-event.self ++ es) none ∙ append-nil c.loop-event.self) c.loop-event.invariant.same

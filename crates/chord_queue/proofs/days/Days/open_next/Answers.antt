@@ -1,0 +1,33 @@
+use Rattle.std.proofs.Common.{◌≡◌, ◌∙◌, ◌++◌, [], sym, arith, subst, vec_len, ◌==◌, true}
+use Rattle.std.proofs.lemmas.Bool.Decides.{nat_tests}
+use Rattle.std.specs.List.Sorted.{IsPermutation}
+use Rattle.std.proofs.lemmas.List.Sorted.{IsPermutation-refl, IsPermutation-trans}
+use Rattle.chord_queue.specs.Days.{IsInPlace, IsOpened, events_in}
+use Rattle.chord_queue.proofs.Inserting.{empty}
+use Rattle.chord_queue.proofs.Placed.{placed_none}
+use Rattle.chord_queue.proofs.days.Days.open_next.Goals as goal
+
+pub loop-self-init : goal.loop-self-init
+loop-self-init c = record {
+  days = c.requires.days;
+  moved = subst (λ es. IsPermutation (events_in c.args.self.now) (es ++ events_in c.args.self.now)) (sym c.requires.empty)
+      (IsPermutation-refl (events_in c.args.self.now));
+  opened = subst (IsOpened c.args.self.now) (sym c.requires.empty) tt;
+}
+
+pub loop-self-preserved : goal.loop-self-preserved
+loop-self-preserved c =
+    let test : (vec_len c.loop-self.due == 0) ≡ true = sym c.is_empty.ensures ∙ c.loop-self-test.true in
+    let zero : vec_len c.loop-self.due ≡ 0 = grind (arith, nat_tests) in
+    let none : c.loop-self.due.items ≡ [] = empty c.loop-self.due.items (omega (arith, zero, c.loop-self.due.ok.0)) in record {
+      days = c.open_day.ensures.days;
+      moved = IsPermutation-trans _ _ _
+          (subst (λ es. IsPermutation (events_in c.args.self.now) (es ++ events_in c.loop-self.self)) none c.loop-self.invariant.moved)
+          c.open_day.ensures.moved;
+      opened = c.open_day.ensures.opened;
+    }
+
+pub returns-else-self-clause-whole : goal.returns-else-self-clause-whole
+returns-else-self-clause-whole c none =
+    let d = c.loop-self.self in
+    placed_none (IsInPlace d.today d.latest) 0 d.lists.items (λ j e is. omega (arith, is.later, is.known, c.if-self.false)) c.loop-self.invariant.days

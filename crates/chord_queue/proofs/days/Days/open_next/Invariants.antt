@@ -1,0 +1,14 @@
+use Rattle.std.proofs.Common.{◌++◌, ◌-◌}
+use Rattle.std.specs.List.Sorted.{IsPermutation}
+use Rattle.chord_queue.specs.Days.{AreDays, IsOpened, events_in}
+use Rattle.chord_queue.proofs.days.Days.open_next.Given as goal
+
+abbrev pub invariant-loop-self : goal.invariant-loop-self
+invariant-loop-self l = record {
+  days : AreDays l.self;
+  moved : IsPermutation (events_in l.initial.self) (l.due.items ++ events_in l.self);
+  opened : IsOpened l.self l.due.items;
+}
+
+abbrev pub decreases-loop-self : goal.decreases-loop-self
+decreases-loop-self l = l.self.latest - l.self.today

@@ -1,0 +1,9 @@
+-- All events have numbers below the next one.
+use Rattle.std.proofs.Common.{◌<◌}
+use Rattle.std.specs.List.{AllByRecursion}
+use Rattle.chord_event.specs.declared.body.Body.{Body}
+use Rattle.chord_event.specs.declared.event.Event.{Event}
+use Rattle.chord_queue.proofs.tests.pop_and_insert.Given as goal
+
+abbrev pub invariant-loop-number : goal.invariant-loop-number
+invariant-loop-number g l = AllByRecursion (λ (e : Event Body). e.key.number < l.number) l.pending

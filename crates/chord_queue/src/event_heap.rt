@@ -1,0 +1,127 @@
+//! Events in a heap.
+ghost use Rattle.std.specs.Prelude.{◌≡◌, [], ◌∷◌, slice_get, option_map, IfOk, IfErr, MatchOption, OnOk};
+ghost use Rattle.std.specs.List.{filter};
+ghost use Rattle.std.specs.List.Sorted.{IsPermutation, IsSorted};
+ghost use Rattle.std.specs.BinaryHeap.{heap_items};
+ghost use Rattle.chord_event.specs.KeyOrder.{InKeyOrder, IsNewKey, put_in_order, before};
+ghost use Rattle.chord_queue.specs.EventKey.{event_key};
+ghost use Rattle.chord_queue.specs.Places.{waiting_cmp, is_due};
+
+use crate::waiting::Waiting;
+use chord_event::{Event, Key, Memory};
+use slab::Slab;
+use std::alloc::Global;
+use std::cmp::Reverse;
+use std::collections::BinaryHeap;
+use std::marker::Model;
+
+/// Events in a heap, which contracts see as their list in the order of their keys.
+#[derive(Drop)]
+pub struct EventHeap {
+    // Keys in a heap and events in a slab, so that an insertion moves keys and not events.
+    heap: BinaryHeap<Waiting<usize>>,
+    events: Slab<Event>,
+    alloc: Global,
+}
+
+impl Model for EventHeap {
+    ghost use Rattle.std.specs.Prelude.{List};
+    ghost use Rattle.chord_event.specs.declared.body.Body.{Body};
+    ghost use Rattle.chord_event.specs.declared.event.Event.{Event};
+    ghost use Rattle.chord_queue.specs.Places.{heap_events, IsPlacedHeap};
+
+    ghost Value = { List (Event Body) };
+
+    ghost view = { λ h. heap_events h };
+
+    ghost invariant = { λ h. IsPlacedHeap h };
+}
+
+impl EventHeap {
+    pub fn new(alloc: Global) -> EventHeap
+        ensures { result ≡ [] }
+    {
+        EventHeap {
+            heap: BinaryHeap::new(alloc),
+            events: Slab::new(alloc),
+            alloc,
+        }
+    }
+
+    /// All events are in the order of their keys.
+    pub fn recall_order(&self)
+        ensures { InKeyOrder event_key self.now }
+    {
+        // A no-op for the machine: it hands the prover what the type keeps.
+        let _ = &self.alloc;
+    }
+
+    /// The number of events. It decides where an event goes, so nothing is proved of it.
+    pub fn len(&self) -> usize {
+        self.heap.len()
+    }
+
+    /// Adds an event, or returns it if an allocation fails.
+    pub fn insert(&mut self, event: Event) -> Result<(), Event>
+        requires { IsNewKey event_key event.key self.old }
+        ensures ok { OnOk result (self.new ≡ put_in_order event_key event self.old) }
+        ensures err { IfErr result (λ back. (back ≡ event) × (self.new ≡ self.old)) }
+    {
+        if self.heap.reserve(1).is_err() || self.events.reserve(1).is_err() {
+            return Err(event);
+        }
+        let key = Reverse(event.key);
+        let place = self.events.insert_reserved(event);
+        match self.heap.push(Waiting { key, place }) {
+            Ok(()) => Ok(()),
+            Err(_) => unreachable!(),
+        }
+    }
+
+    /// The key of the first event.
+    pub fn first_key(&self) -> Option<Key>
+        ensures { result ≡ option_map (λ e. e.key) (slice_get self.now 0) }
+    {
+        let waiting = self.heap.peek()?;
+        Some(waiting.key.0)
+    }
+
+    /// Takes the first event.
+    pub fn pop_first(&mut self) -> Option<Event>
+        ensures { MatchOption result ((self.old ≡ []) × (self.new ≡ [])) (λ first. self.old ≡ first ∷ self.new) }
+    {
+        let waiting = self.heap.pop()?;
+        Some(self.events.remove(waiting.place))
+    }
+
+    /// Copies of the events before a time in microseconds.
+    pub fn up_to(&self, horizon: u64) -> Result<Vec<Event>, Memory>
+        ensures { IfOk result (λ copies. copies.items ≡ before event_key horizon self.now) }
+    {
+        let mut due = due_before(&self.heap, self.alloc, horizon)?;
+        let mut copies = Vec::new(self.alloc);
+        while let Some(waiting) = due.pop() {
+            copies.push(self.events[waiting.place].try_clone()?)?;
+        }
+        Ok(copies)
+    }
+}
+
+/// The keys and places of the events before a time in microseconds, the first event last.
+fn due_before(
+    heap: &BinaryHeap<Waiting<usize>>,
+    alloc: Global,
+    horizon: u64,
+) -> Result<Vec<Waiting<usize>>, Memory>
+    ensures same { IfOk result (λ due. IsPermutation (filter (is_due horizon) (heap_items heap.now)) due.items) }
+    ensures sorted { IfOk result (λ due. IsSorted waiting_cmp due.items) }
+{
+    let mut due = Vec::new(alloc);
+    for waiting in heap {
+        if waiting.key.0.time < horizon {
+            due.push(*waiting)?;
+        }
+    }
+    due.sort_unstable();
+    Ok(due)
+}
