@@ -1,16 +1,14 @@
 -- A node that is looked at twice in a row counts once, in the search for the closest preceding node.
-use Rattle.std.proofs.Common.{◌≡◌, ◌+◌, ◌<◌, ℕ, Bool, true, false, List, ◌++◌, length, take, get_or, refl, nat_lt}
-use Rattle.std.specs.List.{filter, fold}
+use Rattle.std.proofs.Common.{◌≡◌, ◌==◌, ℕ, Bool, true, false, List, [], ◌∷◌, refl, nat_lt, arith, Some, None}
+use Rattle.std.proofs.lemmas.Grind.{common_steps}
+use Rattle.std.proofs.lemmas.Bool.Decides.{nat_tests}
+use Rattle.std.specs.List.{filter, fold, list_all}
 use Rattle.std.specs.Prelude.{if◌then◌else◌}
 use Rattle.chord_scenario.specs.declared.scenario.Scenario.{Scenario}
 use Rattle.chord_circle.specs.Circle.{distance}
 use Rattle.chord_scenario.specs.World.{ident_of}
-use Rattle.chord_ops.specs.Search.{farther, precedes}
-use Rattle.chord_ops.proofs.Found.{fold-filter_more}
-
--- the closest node, once one more node was looked at
-abbrev pub visited : Scenario → (n key : ℕ) → List ℕ → (closest x : ℕ) → ℕ
-visited sc n key avoid closest x = if precedes sc n key avoid x then farther sc n closest x else closest
+use Rattle.chord_node.specs.declared.state.NodeState.{NodeState}
+use Rattle.chord_ops.specs.Search.{closest_preceding, farther, finger_nodes, precedes, successor_in_use, visited}
 
 -- how far a node is from node n
 abbrev far : Scenario → (n x : ℕ) → ℕ
@@ -30,8 +28,34 @@ visited_again sc n key avoid c x =
       | false ↦ refl
     ]
 
--- the closest node of one more finger
-pub visited_more : (sc : Scenario) (n key : ℕ) (avoid first fingers : List ℕ) (i : ℕ) → i < length fingers
-    → fold (farther sc n) n (filter (precedes sc n key avoid) (first ++ take (i + 1) fingers))
-    ≡ visited sc n key avoid (fold (farther sc n) n (filter (precedes sc n key avoid) (first ++ take i fingers))) (get_or fingers i 0)
-visited_more sc n key avoid first fingers i within = fold-filter_more (farther sc n) n (precedes sc n key avoid) first fingers i 0 within
+-- to look at nodes that are all the last one changes nothing
+pub visited_repeats : (sc : Scenario) (n key : ℕ) (avoid : List ℕ) (c x : ℕ) (xs : List ℕ) → visited sc n key avoid c x ≡ c → list_all (λ y. y == x) xs ≡ true
+    → fold (visited sc n key avoid) c xs ≡ c
+visited_repeats sc n key avoid c x [] again all = refl
+visited_repeats sc n key avoid c x (y ∷ ys) again all =
+    let same : y ≡ x = grind (arith, nat_tests, common_steps) in
+    let rest : list_all (λ z. z == x) ys ≡ true = grind (arith, nat_tests, common_steps) in
+    rw (same, again) (visited_repeats sc n key avoid c x ys again rest)
+
+-- to search among the nodes that precede the key is to look at all nodes one after the other
+pub visited_all : (sc : Scenario) (n key : ℕ) (avoid : List ℕ) (c : ℕ) (xs : List ℕ)
+    → fold (farther sc n) c (filter (precedes sc n key avoid) xs) ≡ fold (visited sc n key avoid) c xs
+visited_all sc n key avoid c [] = refl
+visited_all sc n key avoid c (x ∷ xs) =
+    elim (precedes sc n key avoid x) as (λ p. fold (farther sc n) c (if p then x ∷ filter (precedes sc n key avoid) xs else filter (precedes sc n key avoid) xs)
+    ≡ fold (visited sc n key avoid) (if p then farther sc n c x else c) xs) [
+      | true ↦ visited_all sc n key avoid (farther sc n c x) xs
+      | false ↦ visited_all sc n key avoid c xs
+    ]
+
+-- the closest preceding node, by looking at the successor in use and then at the fingers
+pub closest_after_some : (sc : Scenario) (s : NodeState) (key : ℕ) (avoid : List ℕ) (x : ℕ) → Some x ≡ successor_in_use s avoid
+    → fold (visited sc s.me key avoid) (visited sc s.me key avoid s.me x) s.fingers ≡ closest_preceding sc s key avoid
+unfolding closest_preceding
+closest_after_some sc s key avoid x found = rw (visited_all sc s.me key avoid s.me (finger_nodes s avoid), ← found) refl
+
+-- the closest preceding node without a successor in use, by looking at the fingers
+pub closest_after_none : (sc : Scenario) (s : NodeState) (key : ℕ) (avoid : List ℕ) → None ≡ successor_in_use s avoid
+    → fold (visited sc s.me key avoid) s.me s.fingers ≡ closest_preceding sc s key avoid
+unfolding closest_preceding
+closest_after_none sc s key avoid found = rw (visited_all sc s.me key avoid s.me (finger_nodes s avoid), ← found) refl

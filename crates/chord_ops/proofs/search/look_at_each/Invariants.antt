@@ -1,0 +1,11 @@
+use Rattle.std.proofs.Common.{◌≡◌, ◌<◌, take}
+use Rattle.std.specs.List.{fold}
+use Rattle.chord_scenario.specs.World.{node_count}
+use Rattle.chord_ops.specs.Search.{visited}
+use Rattle.chord_ops.proofs.search.look_at_each.Given as goal
+
+abbrev pub invariant-loop-node : goal.invariant-loop-node
+invariant-loop-node l =
+    (l.closest ≡ fold (visited l.scenario l.way.me l.way.key l.avoid) l.fn.seen.closest (take l.node-index l.nodes))
+    × (l.closest < node_count l.scenario)
+    × (visited l.scenario l.way.me l.way.key l.avoid l.closest l.last ≡ l.closest)
