@@ -10,13 +10,14 @@ ghost use Rattle.chord_trace.specs.Writing.{is_write};
 use chord_event::{Event, RunError};
 use chord_machine::AuditClock;
 use chord_node::{NodeState, initial_ring};
-use chord_ops::{Effect, act};
+use chord_ops::{Effect, Spare, act_with};
 use chord_output::{put_audits, put_block};
 use chord_queue::Pending;
 use chord_scenario::Scenario;
 use chord_trace::{Report, Tally, Watched};
 use std::alloc::Global;
 use std::io::Write;
+use std::mem;
 
 /// A run in progress: what the nodes know, which events and audits are still to come, and what the
 /// report has so far.
@@ -26,6 +27,8 @@ pub struct Engine {
     pub pending: Pending,
     pub clock: AuditClock,
     pub tally: Tally,
+    /// Room for what the next event makes.
+    pub spare: Spare,
     /// How many events were taken.
     pub count: u64,
 }
@@ -46,6 +49,7 @@ impl Engine {
             pending,
             clock,
             tally: Tally::new(alloc, scenario.profile()),
+            spare: Spare::new(alloc),
             count: 0,
         })
     }
@@ -100,9 +104,18 @@ impl Engine {
             writer,
         )?;
         let node = event.target as usize;
-        let Effect { events, block } = act(alloc, scenario, &mut self.states[node], event)?;
-        self.pending.insert_all(events.into_vec())?;
+        let spare = mem::replace(&mut self.spare, Spare::new(alloc));
+        let Effect { events, block } = act_with(
+            alloc,
+            scenario,
+            &mut self.states[node],
+            event,
+            spare,
+        )?;
+        let mut events = events.into_vec();
+        self.pending.insert_from(&mut events)?;
         put_block(alloc, scenario, &block, &mut self.tally, writer)?;
+        self.spare = Spare::of(events, block.lines);
         self.count += 1;
         Ok(())
     }

@@ -5,6 +5,7 @@ use Rattle.chord_event.specs.declared.body.Body.{Body}
 use Rattle.chord_event.specs.declared.event.Event.{Event}
 use Rattle.chord_node.specs.declared.state.NodeState.{NodeState}
 use Rattle.chord_node.specs.Ring.{initial_state}
+use Rattle.chord_ops.specs.declared.spare.Spare.{Spare}
 use Rattle.chord_ops.specs.Rules.{block_of, effect}
 use Rattle.chord_scenario.specs.declared.scenario.Scenario.{Scenario}
 use Rattle.chord_trace.specs.declared.piece.Piece.{Piece}
@@ -25,17 +26,17 @@ module _ (sc : Scenario) (l : Layout) (event : Event Body) (old : OwnedPart) (re
   pub read_is : s ≡ state_at sc l old event.target
   read_is = read ∙ ap (λ k. get_or old.states.items k s) at ∙ or_same old.states.items (slot_of l event.target) s (initial_state sc 0) ready.place
 
-  pub handled : (mid sent : OwnedPart) (after : NodeState) (made : List (Event Body)) (block : Block) (tally : Tally) (before out : Output) (away : Option ℕ)
-      → mid ≡ record old { states = mid.states } → mid.states.items ≡ set old.states.items slot after
+  pub handled : (mid sent : OwnedPart) (after : NodeState) (made : List (Event Body)) (block : Block) (tally : Tally) (spare : Spare) (before out : Output)
+      (away : Option ℕ) → mid ≡ record old { states = mid.states; spare = mid.spare } → mid.states.items ≡ set old.states.items slot after
       → after ≡ (effect sc s event).state → made ≡ (effect sc s event).events → block ≡ block_of sc s event → IsShortBlock sc block
       → HasSent l.division made mid sent away → sent.states ≡ mid.states → sent.inbox ≡ mid.inbox → sent.tally ≡ mid.tally
       → ((profile : ℕ) (pieces : List Piece) → IsTallyOf profile pieces sent.tally → IsTallyOf profile (pieces ++ piece.OfEvent block ∷ []) tally)
       → ((blocks : List Block) → IsText sc blocks before → IsText sc (blocks ++ block ∷ []) out)
-      → HasHandled sc l event old (record sent { tally = tally }) before out away
-  handled mid sent after made block tally before out away mid_is set_is after_is made_is block_is short h states_same inbox_same tally_same add put =
+      → HasHandled sc l event old (record sent { tally = tally; spare = spare }) before out away
+  handled mid sent after made block tally spare before out away mid_is set_is after_is made_is block_is short h states_same inbox_same tally_same add put =
       let same_block : block ≡ block_of sc (state_at sc l old event.target) event = block_is ∙ ap (λ z. block_of sc z event) read_is in
-      let goes : HasSent l.division (effect sc (state_at sc l old event.target) event).events (record old { states = mid.states }) sent away =
-      subst (λ es. HasSent l.division es (record old { states = mid.states }) sent away) (made_is ∙ ap (λ z. (effect sc z event).events) read_is)
+      let goes : HasSent l.division (effect sc (state_at sc l old event.target) event).events (record old { states = mid.states; spare = mid.spare }) sent away =
+      subst (λ es. HasSent l.division es (record old { states = mid.states; spare = mid.spare }) sent away) (made_is ∙ ap (λ z. (effect sc z event).events) read_is)
       (subst (λ p. HasSent l.division made p sent away) mid_is h) in
       record {
         same_inbox = inbox_same ∙ ap (λ (p : OwnedPart). p.inbox) mid_is;

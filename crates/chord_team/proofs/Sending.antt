@@ -1,7 +1,7 @@
 -- The events that a part made are sent, one after another.
-use Rattle.std.proofs.Common.{◌≡◌, ◌≢◌, ◌∙◌, ◌⊎◌, ⊎_elim, inl, inr, ℕ, ◌<◌, Bool, true, false, not, List, [], ◌∷◌, ◌++◌, Option, None, Some, Vec, length, get_or, set, refl, ap, sym, subst, append_assoc, append-nil, eq-eqb, get_or-set_same, get_or-set_other}
+use Rattle.std.proofs.Common.{◌≡◌, ◌≢◌, ◌∙◌, ◌⊎◌, ⊎_elim, inl, inr, ℕ, ◌<◌, Bool, true, false, not, List, [], ◌∷◌, ◌++◌, Option, None, Some, Vec, length, get_or, set, reverse, refl, ap, sym, subst, append_assoc, append-nil, eq-eqb, get_or-set_same, get_or-set_other}
 use Rattle.std.proofs.lemmas.Bool.{and_from, cases_eq, ne_eqb, not_from_false}
-use Rattle.std.proofs.lemmas.List.{length-set}
+use Rattle.std.proofs.lemmas.List.{length-set, reverse-append, reverse-reverse}
 use Rattle.std.specs.Global.{Global}
 use Rattle.std.specs.List.{All, Contains, filter}
 use Rattle.std.specs.Prelude.{◌==◌, ◌&&◌}
@@ -38,6 +38,37 @@ sent_none d p ordered = record {
   soonest_is = refl;
 }
 
+-- of all these events those that are left, the last first, are still to be sent
+pub record IsSending (d : Division) (all left : List (Event Body)) (old now : OwnedPart) (soonest : Option ℕ) : Type 0 where
+  pub so_far : List (Event Body)
+  pub whole : so_far ++ reverse left ≡ all
+  pub sent : HasSent d so_far old now soonest
+
+pub sending_from : (d : Division) (all left : List (Event Body)) (p : OwnedPart) → InKeyOrder event_key p.pending → left ≡ reverse all
+    → IsSending d all left p p None
+sending_from d all left p ordered is = record {
+  so_far = [];
+  whole = ap reverse is ∙ reverse-reverse all;
+  sent = sent_none d p ordered;
+}
+
+pub last_is_next : (left rest : List (Event Body)) (e : Event Body) → left ≡ rest ++ e ∷ [] → reverse left ≡ e ∷ reverse rest
+last_is_next left rest e is = ap reverse is ∙ reverse-append rest (e ∷ [])
+
+pub sends_on : (d : Division) (all left rest : List (Event Body)) (e : Event Body) (old before after : OwnedPart) (soonest later : Option ℕ)
+    → (s : IsSending d all left old before soonest) → left ≡ rest ++ e ∷ [] → HasSent d (s.so_far ++ e ∷ []) old after later
+    → IsSending d all rest old after later
+sends_on d all left rest e old before after soonest later s is sent = record {
+  so_far = s.so_far ++ e ∷ [];
+  whole = append_assoc s.so_far (e ∷ []) (reverse rest) ∙ ap (λ es. s.so_far ++ es) (sym (last_is_next left rest e is)) ∙ s.whole;
+  sent = sent;
+}
+
+pub all_are_sent : (d : Division) (all left : List (Event Body)) (old now : OwnedPart) (soonest : Option ℕ) → IsSending d all left old now soonest
+    → left ≡ [] → HasSent d all old now soonest
+all_are_sent d all left old now soonest s none =
+    subst (λ es. HasSent d es old now soonest) (sym (append-nil s.so_far) ∙ ap (λ es. s.so_far ++ reverse es) (sym none) ∙ s.whole) s.sent
+
 -- the key of the next event is new to those that are pending
 pub next_is_new : (d : Division) (made sent rest : List (Event Body)) (old now : OwnedPart) (soonest : Option ℕ) (e : Event Body) (next : List (Event Body))
     → AreApart (old.pending ++ made) → HasSent d sent old now soonest → sent ++ rest ≡ made → rest ≡ e ∷ next → IsNewKey event_key e.key now.pending
@@ -49,11 +80,11 @@ next_is_new d made sent rest old now soonest e next apart s whole is = all_from 
     all : AreApart (old.pending ++ (sent ++ e ∷ next))
     all = subst (λ es. AreApart (old.pending ++ es)) (sym whole ∙ ap (λ es. sent ++ es) is) apart
 
--- its part is one of these
-pub next_is_inside : (d : Division) (parts : ℕ) (made sent rest : List (Event Body)) (e : Event Body) (next : List (Event Body))
-    → All (λ (x : Event Body). part_of d x.target < parts) made → sent ++ rest ≡ made → rest ≡ e ∷ next → part_of d e.target < parts
-next_is_inside d parts made sent rest e next inside whole is = All_at (λ (x : Event Body). part_of d x.target < parts) made e inside
-    (subst (λ es. Contains es e) whole (contains_right sent rest e (subst (λ es. Contains es e) (sym is) (contains_here e next))))
+-- what holds of all holds of the next event
+pub next_has : (P : Event Body → Type 0) (made sent rest : List (Event Body)) (e : Event Body) (next : List (Event Body)) → All P made
+    → sent ++ rest ≡ made → rest ≡ e ∷ next → P e
+next_has P made sent rest e next all whole is =
+    All_at P made e all (subst (λ es. Contains es e) whole (contains_right sent rest e (subst (λ es. Contains es e) (sym is) (contains_here e next))))
 
 module _ (d : Division) (sent : List (Event Body)) (old now : OwnedPart) (soonest : Option ℕ) (s : HasSent d sent old now soonest) (e : Event Body) where
   pushed : (x : Event Body) → Contains (sent ++ e ∷ []) x → Contains sent x ⊎ (e ≡ x)

@@ -1,11 +1,7 @@
 //! A part of the nodes, and its run in a window.
-ghost use Rattle.std.specs.Prelude.{◌≡◌, ◌↔◌, ◌++◌, ◌≤◌, ◌<◌, [], None, length, IfOk, IfErr, OnOk};
-ghost use Rattle.std.specs.List.{All, Contains};
-ghost use Rattle.chord_event.specs.declared.body.Body.{Body as ABody};
-ghost use Rattle.chord_event.specs.declared.event.Event.{Event as AnEvent};
-ghost use Rattle.chord_event.specs.KeyOrder.{InKeyOrder};
+ghost use Rattle.std.specs.Prelude.{◌≡◌, ◌++◌, ◌<◌, None, length, IfOk, IfErr, OnOk};
+ghost use Rattle.std.specs.List.{All};
 ghost use Rattle.chord_model.specs.Windows.{part_of};
-ghost use Rattle.chord_queue.specs.EventKey.{event_key};
 ghost use Rattle.chord_team.specs.Orders.{HasRun, IsFault, IsFinished, IsOrder};
 ghost use Rattle.chord_team.specs.Running.{HasHandled, HasSent, HasTakenIn, CanHandle, is_due};
 ghost use Rattle.chord_team.specs.Owned.{AreApart, all_of};
@@ -14,12 +10,13 @@ use crate::layout::Layout;
 use crate::output::Output;
 use chord_event::{Event, Memory, RunError};
 use chord_node::NodeState;
-use chord_ops::{Effect, act};
+use chord_ops::{Effect, Spare, act_with};
 use chord_queue::Pending;
 use chord_scenario::Scenario;
 use chord_trace::Tally;
 use chord_window::sooner;
 use std::alloc::Global;
+use std::mem;
 
 /// A part of the nodes, which has their states and their pending events for the whole run.
 #[derive(Drop)]
@@ -33,6 +30,8 @@ pub struct OwnedPart {
     /// What it made for each part in this one.
     pub outbox: Vec<Vec<Event>>,
     pub tally: Tally,
+    /// Room for what the next event makes.
+    pub spare: Spare,
 }
 
 /// A part on its way to a window, which follows the first `count` events of the run.
@@ -55,24 +54,6 @@ pub struct Finished {
     pub fault: Option<RunError>,
 }
 
-/// Moves the events of a list among the pending ones.
-fn take_list(pending: &mut Pending, list: &mut Vec<Event>) -> Result<(), Memory>
-    requires { AreApart (pending.old ++ list.old.items) }
-    ensures same { OnOk result ((x : AnEvent ABody) → Contains pending.new x ↔ Contains (pending.old ++ list.old.items) x) }
-    ensures none_left { OnOk result (list.new.items ≡ []) }
-    ensures ordered { InKeyOrder event_key pending.new }
-{
-    while let Some(event) = list.pop() {
-        pending.recall_order();
-        if let Err(_refused) = pending.insert(event) {
-            pending.recall_order();
-            return Err(Memory);
-        }
-    }
-    pending.recall_order();
-    Ok(())
-}
-
 /// Whether the first event, if there is one, is before the horizon.
 fn is_due(first: Option<u64>, horizon: u64) -> bool
     ensures { result ≡ is_due first horizon }
@@ -91,7 +72,7 @@ impl OwnedPart {
         ensures part { self.new.part ≡ self.old.part }
     {
         for from in 0..self.inbox.len() {
-            take_list(&mut self.pending, &mut self.inbox[from])?;
+            self.pending.insert_from(&mut self.inbox[from])?;
         }
         self.pending.recall_order();
         Ok(())
@@ -99,19 +80,21 @@ impl OwnedPart {
 
     /// Puts the events that it made for its own nodes among the pending ones, and the others into
     /// the lists of their parts. Returns the least time of the others.
-    fn send(&mut self, layout: &Layout, made: Vec<Event>) -> Result<Option<u64>, Memory>
-        requires apart { AreApart (self.old.pending ++ made.items) }
-        requires parts { All (λ x. part_of layout.now.division x.target < length self.old.outbox.items) made.items }
-        requires nodes { All (λ x. x.target < length layout.now.division.of_node) made.items }
-        ensures sent { IfOk result (λ soonest. HasSent layout.now.division made.items self.old self.new soonest) }
+    fn send(&mut self, layout: &Layout, made: &mut Vec<Event>) -> Result<Option<u64>, Memory>
+        requires apart { AreApart (self.old.pending ++ made.old.items) }
+        requires parts { All (λ x. part_of layout.now.division x.target < length self.old.outbox.items) made.old.items }
+        requires nodes { All (λ x. x.target < length layout.now.division.of_node) made.old.items }
+        ensures sent { IfOk result (λ soonest. HasSent layout.now.division made.old.items self.old self.new soonest) }
         ensures part { self.new.part ≡ self.old.part }
         ensures states { self.new.states ≡ self.old.states }
         ensures inbox { self.new.inbox ≡ self.old.inbox }
         ensures tally { self.new.tally ≡ self.old.tally }
     {
         self.pending.recall_order();
+        // Taken from the end, and so turned round first: each list has them in the order made.
+        made.reverse();
         let mut soonest = None;
-        for event in made {
+        while let Some(event) = made.pop() {
             let to = layout.division.part_of(event.target);
             if to == self.part {
                 if let Err(_refused) = self.pending.insert(event) {
@@ -142,10 +125,19 @@ impl OwnedPart {
     {
         scenario.recall_range();
         let slot = layout.slots[event.target as usize] as usize;
-        let Effect { events, block } = act(alloc, scenario, &mut self.states[slot], event)?;
-        let soonest = self.send(layout, events.into_vec())?;
+        let spare = mem::replace(&mut self.spare, Spare::new(alloc));
+        let Effect { events, block } = act_with(
+            alloc,
+            scenario,
+            &mut self.states[slot],
+            event,
+            spare,
+        )?;
+        let mut made = events.into_vec();
+        let soonest = self.send(layout, &mut made)?;
         output.put(alloc, scenario, &block)?;
         self.tally.add(&block)?;
+        self.spare = Spare::of(made, block.lines);
         Ok(soonest)
     }
 }

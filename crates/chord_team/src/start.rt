@@ -15,6 +15,7 @@ use crate::team::Team;
 use chord_event::{Event, Memory, RunError};
 use chord_machine::AuditClock;
 use chord_node::{NodeState, initial_ring};
+use chord_ops::Spare;
 use chord_queue::Pending;
 use chord_scenario::Scenario;
 use chord_trace::Tally;
@@ -57,6 +58,7 @@ fn empty_parts(alloc: Global, profile: u32, parts: u32) -> Result<Vec<OwnedPart>
             inbox: empty_lists(alloc, parts)?,
             outbox: empty_lists(alloc, parts)?,
             tally: Tally::new(alloc, profile),
+            spare: Spare::new(alloc),
         })?;
     }
     Ok(list)

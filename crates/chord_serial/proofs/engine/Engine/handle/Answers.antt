@@ -51,34 +51,34 @@ index_mut-requires g c =
     let target = target_is_node c.args.scenario.now c.recall_range.ensures c.requires.taken.0 _ c.args.self.now c.args.event.now c.requires.taken.1 in
     omega (arith, target, c.args.self.now.states.ok.0)
 
-pub act-requires-clause-invariant : goal.act-requires-clause-invariant
-act-requires-clause-invariant g c =
+pub act_with-requires-clause-invariant : goal.act_with-requires-clause-invariant
+act_with-requires-clause-invariant g c =
     let sc = c.args.scenario.now in
     let read = c.index_mut.ensures.value in
     (state_is_sound sc c.recall_range.ensures c.requires.taken.0 _ c.args.self.now c.args.event.now c.requires.taken.1 c.index_mut.result.now read).invariant
 
-pub act-requires-clause-target : goal.act-requires-clause-target
-act-requires-clause-target g c =
+pub act_with-requires-clause-target : goal.act_with-requires-clause-target
+act_with-requires-clause-target g c =
     let sc = c.args.scenario.now in
     let read = c.index_mut.ensures.value in
     sym (state_is_sound sc c.recall_range.ensures c.requires.taken.0 _ c.args.self.now c.args.event.now c.requires.taken.1 c.index_mut.result.now read).me
 
-pub act-requires-clause-event : goal.act-requires-clause-event
-act-requires-clause-event g c =
+pub act_with-requires-clause-event : goal.act_with-requires-clause-event
+act_with-requires-clause-event g c =
     event_is_sound c.args.scenario.now c.recall_range.ensures c.requires.taken.0 _ c.args.self.now c.args.event.now c.requires.taken.1
 
-pub act-requires-clause-time : goal.act-requires-clause-time
-act-requires-clause-time g c =
+pub act_with-requires-clause-time : goal.act_with-requires-clause-time
+act_with-requires-clause-time g c =
     event_is_in_time c.args.scenario.now c.recall_range.ensures c.requires.taken.0 _ c.args.self.now c.args.event.now c.requires.taken.1
 
-pub act-requires-clause-count : goal.act-requires-clause-count
-act-requires-clause-count g c =
+pub act_with-requires-clause-count : goal.act_with-requires-clause-count
+act_with-requires-clause-count g c =
     let sc = c.args.scenario.now in
     let read = c.index_mut.ensures.value in
     (state_has_room sc c.recall_range.ensures c.requires.taken.0 _ c.args.self.now c.args.event.now c.requires.taken.1 c.index_mut.result.now read).count
 
-pub act-requires-clause-place : goal.act-requires-clause-place
-act-requires-clause-place g c =
+pub act_with-requires-clause-place : goal.act_with-requires-clause-place
+act_with-requires-clause-place g c =
     let sc = c.args.scenario.now in
     let read = c.index_mut.ensures.value in
     (state_has_room sc c.recall_range.ensures c.requires.taken.0 _ c.args.self.now c.args.event.now c.requires.taken.1 c.index_mut.result.now read).place
@@ -90,17 +90,17 @@ returns-in_err-events-clause-front g c = λ old t.
     begin_middle sc c.recall_range.ensures old _ c.args.self.now c.args.event.now t c.index_mut.result.now read _ c.as_slice.ensures.value
     _ _ c.in_ok-put_audits.ensures.adds
 
-pub insert_all-requires : goal.insert_all-requires
-insert_all-requires g c =
+pub insert_from-requires : goal.insert_from-requires
+insert_from-requires g c =
     let sc = c.args.scenario.now in
     let e = c.args.self.now in
     let read = c.index_mut.ensures.value in
     let made = c.in_ok-events.ensures.events in
-    subst (λ (es : List (Event Body)). AreApart (e.pending ++ es)) (sym c.into_vec.ensures)
+    subst (λ (es : List (Event Body)). AreApart (e.pending ++ es)) (sym c.into_vec-events.ensures)
     (made_apart sc c.recall_range.ensures c.requires.taken.0 _ e c.args.event.now c.requires.taken.1 c.index_mut.result.now read _ made)
 
-pub returns-in_err-insert_all-clause-front : goal.returns-in_err-insert_all-clause-front
-returns-in_err-insert_all-clause-front g c = λ old t.
+pub returns-in_err-insert_from-clause-front : goal.returns-in_err-insert_from-clause-front
+returns-in_err-insert_from-clause-front g c = λ old t.
     let sc = c.args.scenario.now in
     let read = c.index_mut.ensures.value in
     begin_middle sc c.recall_range.ensures old _ c.args.self.now c.args.event.now t c.index_mut.result.now read _ c.as_slice.ensures.value
@@ -128,9 +128,9 @@ returns-clause-at g c = λ old t.
     let adds = c.in_ok-put_audits.ensures.adds in
     let audits = audits_add sc c.recall_range.ensures old _ e event t c.index_mut.result.now read _ c.as_slice.ensures.value _ _ adds in
     next_at sc c.recall_range.ensures old _ e event t c.index_mut.result.now read
-    c.into_vec.result.items (c.into_vec.ensures ∙ c.in_ok-events.ensures.events)
+    c.into_vec-events.result.items (c.into_vec-events.ensures ∙ c.in_ok-events.ensures.events)
     _ _ _ c.put_audits.new.tally c.in_ok-events.field-0.block c.in_ok-events.ensures.block set_state
-    c.in_ok-insert_all.ensures.same c.in_ok-insert_all.ensures.ordered c.in_ok-put_audits.ensures.left refl
+    c.in_ok-insert_from.ensures.same c.in_ok-insert_from.ensures.ordered c.in_ok-put_audits.ensures.left refl
     audits c.in_ok-put_block.ensures.adds c.in_ok-put_audits.ensures.size c.in_ok-put_block.ensures.size
 
 pub returns-clause-front : goal.returns-clause-front

@@ -10,9 +10,9 @@ returns-clause-handled c =
     (c.index.ensures ∙ or_same c.args.layout.now.slots.items c.args.event.now.target c.index.result.now 0 (omega
     (arith, c.requires.layout.long, c.requires.target)))
     c.index_mut.result.now c.index_mut.ensures.value
-    (record c.args.self.now { states = with_item c.args.self.now.states c.index.result.now c.act.new.state })
-    c.send.new.self c.act.new.state c.into_vec.result.items c.in_ok-events.field-0.block c.add.new.self c.args.output.now c.put.new.self c.in_ok-soonest.soonest
-    refl refl c.in_ok-events.ensures.state (c.into_vec.ensures ∙ c.in_ok-events.ensures.events) c.in_ok-events.ensures.block
+    (record c.args.self.now { states = with_item c.args.self.now.states c.index.result.now c.act_with.new.state; spare = c.replace-spare.new.dest })
+    c.send.new.self c.act_with.new.state c.into_vec-made.result.items c.in_ok-events.field-0.block c.add.new.self c.of.result c.args.output.now c.put.new.self
+    c.in_ok-soonest.soonest refl refl c.in_ok-events.ensures.state (c.into_vec-made.ensures ∙ c.in_ok-events.ensures.events) c.in_ok-events.ensures.block
     (record { known = c.in_ok-events.ensures.known; short = c.in_ok-events.ensures.short })
     c.in_ok-soonest.ensures.sent c.in_ok-soonest.ensures.states c.in_ok-soonest.ensures.inbox c.in_ok-soonest.ensures.tally
     c.in_ok-add.ensures.piece c.in_ok-put.ensures

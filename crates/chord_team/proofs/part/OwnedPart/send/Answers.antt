@@ -1,80 +1,81 @@
-use Rattle.std.proofs.Common.{◌≡◌, ◌∙◌, ◌<◌, ◌++◌, ◌∷◌, [], refl, ap, sym, subst, arith, append_assoc, length, append-nil}
+use Rattle.std.proofs.Common.{◌∙◌, ◌<◌, ◌++◌, ◌∷◌, [], refl, ap, sym, subst, arith, length, reverse}
 use Rattle.std.specs.Vec.{with_item}
-use Rattle.std.specs.Vec.Iter.{into_iter_items}
+use Rattle.chord_event.specs.declared.body.Body.{Body}
+use Rattle.chord_event.specs.declared.event.Event.{Event}
+use Rattle.chord_model.specs.Windows.{part_of}
 use Rattle.chord_window.proofs.Sorting.{empty}
 use Rattle.chord_team.specs.declared.part.OwnedPart.{OwnedPart}
 use Rattle.chord_team.specs.Running.{HasSent}
-use Rattle.chord_team.proofs.Sending.{next_is_inside, next_is_new, sent_away, sent_here, sent_none}
+use Rattle.chord_team.proofs.Sending.{all_are_sent, last_is_next, next_has, next_is_new, sending_from, sends_on, sent_away, sent_here}
 use Rattle.chord_team.proofs.TeamMail.{or_same}
 use Rattle.chord_team.proofs.part.OwnedPart.send.Goals as goal
 
 pub loop-event-init : goal.loop-event-init
 loop-event-init c = record {
-  can_next = tt;
-  is_finite = tt;
-  whole = c.into_iter-event-iterator.ensures.into_iter_gives.0;
-  sent = sent_none c.args.layout.now.division c.args.self.now c.recall_order.ensures;
+  sending = sending_from c.args.layout.now.division c.args.made.now.items c.reverse.new.self.items c.args.self.now c.recall_order.ensures c.reverse.ensures.items;
   others = refl;
 }
 
+pub part_of-to-requires : goal.part_of-to-requires
+part_of-to-requires c =
+    let s = c.loop-event.invariant.sending in
+    next_has (λ (x : Event Body). x.target < length c.args.layout.now.division.of_node) c.args.made.now.items s.so_far
+    (reverse c.loop-event.made.items) c.in-Some.event (reverse c.pop.new.self.items) c.requires.nodes s.whole
+    (last_is_next c.loop-event.made.items c.pop.new.self.items c.in-Some.event c.in-Some.ensures.items)
+
 pub insert-requires : goal.insert-requires
 insert-requires c =
-    next_is_new c.args.layout.now.division c.args.made.items c.loop-event.yielded (into_iter_items c.loop-event.event-iterator) c.args.self.now
-    c.loop-event.self c.loop-event.soonest c.in-Some.event (into_iter_items c.next.new.self) c.requires.apart c.loop-event.invariant.sent
-    c.loop-event.invariant.whole c.in-Some.ensures.steps.0
+    let s = c.loop-event.invariant.sending in
+    next_is_new c.args.layout.now.division c.args.made.now.items s.so_far (reverse c.loop-event.made.items) c.args.self.now
+    c.loop-event.self c.loop-event.soonest c.in-Some.event (reverse c.pop.new.self.items) c.requires.apart s.sent
+    s.whole (last_is_next c.loop-event.made.items c.pop.new.self.items c.in-Some.event c.in-Some.ensures.items)
 
 pub loop-event-preserved-then-to-self : goal.loop-event-preserved-then-to-self
 loop-event-preserved-then-to-self c =
-    let steps = c.in-Some.ensures.steps.0 in
+    let s = c.loop-event.invariant.sending in
+    let after : OwnedPart = record c.loop-event.self { pending = c.insert.new.self } in
     record {
-      can_next = tt;
-      is_finite = tt;
-      whole = append_assoc c.loop-event.yielded (c.in-Some.event ∷ []) (into_iter_items c.next.new.self)
-          ∙ ap (λ es. c.loop-event.yielded ++ es) (sym steps) ∙ c.loop-event.invariant.whole;
-      sent = sent_here c.args.layout.now.division c.loop-event.yielded c.args.self.now c.loop-event.self c.loop-event.soonest c.loop-event.invariant.sent
+      sending = sends_on c.args.layout.now.division c.args.made.now.items c.loop-event.made.items c.pop.new.self.items c.in-Some.event
+          c.args.self.now c.loop-event.self after c.loop-event.soonest c.loop-event.soonest s c.in-Some.ensures.items
+          (sent_here c.args.layout.now.division s.so_far c.args.self.now c.loop-event.self c.loop-event.soonest s.sent
           c.in-Some.event
           (sym c.part_of-to.ensures ∙ c.if-to-self.true ∙ ap (λ (p : OwnedPart). p.part) c.loop-event.invariant.others)
-          (record c.loop-event.self { pending = c.insert.new.self })
-          (ap (λ es. record c.loop-event.self { pending = es }) c.in_default.ensures.ok) c.recall_order-then-to-self.ensures;
+          after (ap (λ es. record c.loop-event.self { pending = es }) c.in_default-insert.ensures.ok) c.recall_order-then-to-self.ensures);
       others = ap (λ (p : OwnedPart). record p { pending = c.insert.new.self; outbox = c.loop-event.self.outbox }) c.loop-event.invariant.others;
     }
 
 pub index_mut-requires : goal.index_mut-requires
 index_mut-requires c =
-    let part = next_is_inside c.args.layout.now.division (length c.args.self.now.outbox.items) c.args.made.items c.loop-event.yielded
-    (into_iter_items c.loop-event.event-iterator) c.in-Some.event (into_iter_items c.next.new.self) c.requires.parts c.loop-event.invariant.whole
-    c.in-Some.ensures.steps.0 in
-    omega (arith, part, c.part_of-to.ensures, c.loop-event.invariant.sent.out_long, c.loop-event.self.outbox.ok.0)
+    let s = c.loop-event.invariant.sending in
+    let part = next_has (λ (x : Event Body). part_of c.args.layout.now.division x.target < length c.args.self.now.outbox.items) c.args.made.now.items
+    s.so_far (reverse c.loop-event.made.items) c.in-Some.event (reverse c.pop.new.self.items) c.requires.parts s.whole
+    (last_is_next c.loop-event.made.items c.pop.new.self.items c.in-Some.event c.in-Some.ensures.items) in
+    omega (arith, part, c.part_of-to.ensures, s.sent.out_long, c.loop-event.self.outbox.ok.0)
 
 pub loop-event-preserved : goal.loop-event-preserved
 loop-event-preserved c =
-    let steps = c.in-Some.ensures.steps.0 in
-    let part = next_is_inside c.args.layout.now.division (length c.args.self.now.outbox.items) c.args.made.items c.loop-event.yielded
-    (into_iter_items c.loop-event.event-iterator) c.in-Some.event (into_iter_items c.next.new.self) c.requires.parts c.loop-event.invariant.whole
-    c.in-Some.ensures.steps.0 in
-    let inside : c.part_of-to.result < length c.loop-event.self.outbox.items = omega (arith, part, c.part_of-to.ensures, c.loop-event.invariant.sent.out_long) in
+    let s = c.loop-event.invariant.sending in
+    let part = next_has (λ (x : Event Body). part_of c.args.layout.now.division x.target < length c.args.self.now.outbox.items) c.args.made.now.items
+    s.so_far (reverse c.loop-event.made.items) c.in-Some.event (reverse c.pop.new.self.items) c.requires.parts s.whole
+    (last_is_next c.loop-event.made.items c.pop.new.self.items c.in-Some.event c.in-Some.ensures.items) in
+    let inside : c.part_of-to.result < length c.loop-event.self.outbox.items = omega (arith, part, c.part_of-to.ensures, s.sent.out_long) in
     let outbox = with_item c.loop-event.self.outbox c.part_of-to.result c.push.new.self in
+    let after : OwnedPart = record c.loop-event.self { outbox = outbox } in
     record {
-      can_next = tt;
-      is_finite = tt;
-      whole = append_assoc c.loop-event.yielded (c.in-Some.event ∷ []) (into_iter_items c.next.new.self)
-          ∙ ap (λ es. c.loop-event.yielded ++ es) (sym steps) ∙ c.loop-event.invariant.whole;
-      sent = subst (λ o. HasSent c.args.layout.now.division (c.loop-event.yielded ++ c.in-Some.event ∷ []) c.args.self.now
-          (record c.loop-event.self { outbox = outbox }) o) (sym c.sooner-soonest.ensures)
-          (sent_away c.args.layout.now.division c.loop-event.yielded c.args.self.now c.loop-event.self c.loop-event.soonest c.loop-event.invariant.sent
+      sending = sends_on c.args.layout.now.division c.args.made.now.items c.loop-event.made.items c.pop.new.self.items c.in-Some.event
+          c.args.self.now c.loop-event.self after c.loop-event.soonest c.sooner-soonest.result s c.in-Some.ensures.items
+          (subst (λ o. HasSent c.args.layout.now.division (s.so_far ++ c.in-Some.event ∷ []) c.args.self.now after o) (sym c.sooner-soonest.ensures)
+          (sent_away c.args.layout.now.division s.so_far c.args.self.now c.loop-event.self c.loop-event.soonest s.sent
           c.in-Some.event
-          (λ s. c.if-to-self.false (c.part_of-to.ensures ∙ s ∙ sym (ap (λ (p : OwnedPart). p.part) c.loop-event.invariant.others)))
-          c.part_of-to.result c.push.new.self (record c.loop-event.self { outbox = outbox })
+          (λ q. c.if-to-self.false (c.part_of-to.ensures ∙ q ∙ sym (ap (λ (p : OwnedPart). p.part) c.loop-event.invariant.others)))
+          c.part_of-to.result c.push.new.self after
           c.part_of-to.ensures inside refl refl
           (λ v. c.in_ok-push.ensures.items ∙ ap (λ z. z.items ++ c.in-Some.event ∷ [])
-          (c.index_mut.ensures.value ∙ or_same c.loop-event.self.outbox.items c.part_of-to.result c.index_mut.result.now v inside)));
+          (c.index_mut.ensures.value ∙ or_same c.loop-event.self.outbox.items c.part_of-to.result c.index_mut.result.now v inside))));
       others = ap (λ (p : OwnedPart). record p { pending = c.loop-event.self.pending; outbox = outbox }) c.loop-event.invariant.others;
     }
 
 pub returns-clause-sent : goal.returns-clause-sent
 returns-clause-sent c =
-    let none : into_iter_items c.loop-event.event-iterator ≡ [] = empty (into_iter_items c.loop-event.event-iterator)
-    (omega (arith, c.in-None.ensures.steps.0, c.loop-event.event-iterator.rest.ok.0)) in
-    let all : c.loop-event.yielded ≡ c.args.made.items = sym (append-nil c.loop-event.yielded) ∙ ap (λ es. c.loop-event.yielded ++ es) (sym none)
-    ∙ c.loop-event.invariant.whole in
-    subst (λ es. HasSent c.args.layout.now.division es c.args.self.now c.loop-event.self c.loop-event.soonest) all c.loop-event.invariant.sent
+    all_are_sent c.args.layout.now.division c.args.made.now.items c.loop-event.made.items c.args.self.now c.loop-event.self c.loop-event.soonest
+    c.loop-event.invariant.sending (empty c.loop-event.made.items (omega (arith, c.in_default.ensures.cases.0, c.loop-event.made.ok.0)))
