@@ -85,6 +85,10 @@ trace_rule = record (new_rule (codes "trace")) {
   action = Some Set;
 }
 
+-- a command that takes the files of a scenario and nothing else
+abbrev pub files_app : Text → App
+files_app name = with_rule (with_rule (new_app name) scenario_rule) latency_rule
+
 unfoldable pub check_app : App
 check_app = with_rule (with_rule (new_app (codes "check")) scenario_rule) latency_rule
 

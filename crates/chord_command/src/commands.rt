@@ -1,7 +1,7 @@
 //! The command line of the program, for clap to read.
 ghost use Rattle.std.specs.Prelude.{◌≡◌, false, IfOk};
 ghost use Rattle.clap.specs.Words.{app_of, rule_of};
-ghost use Rattle.chord_command.specs.Commands.{IsEngineNames, IsSplitNames, Names, OptionNames, check_app, engine_rule, ids_app, latency_rule, parts_rule, run_app, scenario_rule, serial_rule, split_rule, trace_rule, workers_rule};
+ghost use Rattle.chord_command.specs.Commands.{IsEngineNames, IsSplitNames, Names, OptionNames, check_app, engine_rule, files_app, ids_app, latency_rule, parts_rule, run_app, scenario_rule, serial_rule, split_rule, trace_rule, workers_rule};
 
 use clap::{Arg, ArgAction, Command, value_parser};
 use std::alloc::{AllocError, Global};
@@ -12,6 +12,13 @@ const VERSION: &str = "0.1.0";
 /// The whole command line, which writes the texts for `--help` and `--version`, and refuses arguments that name
 /// no command.
 pub fn whole_command<'a>(alloc: Global) -> Result<Command<'a>, AllocError> {
+    let whole = with_command(described(alloc), check_command(alloc))?;
+    let whole = with_command(whole, ids_command(alloc))?;
+    with_command(whole, run_command(alloc))
+}
+
+/// The program's name, version and help, with no command yet.
+fn described<'a>(alloc: Global) -> Command<'a> {
     Command::new(alloc, "chordsim")
         .version(VERSION)
         .about(
@@ -21,9 +28,13 @@ pub fn whole_command<'a>(alloc: Global) -> Result<Command<'a>, AllocError> {
             "All times are in microseconds. Exit status: 0 on success, 1 if a file is refused, 2 if the arguments are refused, 3 if a run fails.",
         )
         .subcommand_required(true)
-        .subcommand(check_command(alloc)?)?
-        .subcommand(ids_command(alloc)?)?
-        .subcommand(run_command(alloc)?)
+}
+
+fn with_command<'a>(
+    whole: Command<'a>,
+    command: Result<Command<'a>, AllocError>,
+) -> Result<Command<'a>, AllocError> {
+    whole.subcommand(command?)
 }
 
 /// The command `check`.
@@ -31,11 +42,8 @@ pub fn whole_command<'a>(alloc: Global) -> Result<Command<'a>, AllocError> {
 pub fn check_command<'a>(alloc: Global) -> Result<Command<'a>, AllocError>
     ensures { IfOk result (λ c. app_of c ≡ check_app) }
 {
-    Command::new(alloc, "check")
-        .bin_name("chordsim check")?
-        .about("Checks the files, and prints how many nodes and commands the scenario has")
-        .arg(scenario_argument(alloc))?
-        .arg(latency_argument(alloc))
+    let about = "Checks the files, and prints how many nodes and commands the scenario has";
+    files_command(alloc, "check", "chordsim check", about)
 }
 
 /// The command `ids`.
@@ -43,9 +51,22 @@ pub fn check_command<'a>(alloc: Global) -> Result<Command<'a>, AllocError>
 pub fn ids_command<'a>(alloc: Global) -> Result<Command<'a>, AllocError>
     ensures { IfOk result (λ c. app_of c ≡ ids_app) }
 {
-    Command::new(alloc, "ids")
-        .bin_name("chordsim ids")?
-        .about("Prints the name and the decimal identifier of each node, in file order")
+    let about = "Prints the name and the decimal identifier of each node, in file order";
+    files_command(alloc, "ids", "chordsim ids", about)
+}
+
+/// A command that takes the files of a scenario and nothing else.
+fn files_command<'a>(
+    alloc: Global,
+    name: &'a str,
+    bin_name: &str,
+    about: &'a str,
+) -> Result<Command<'a>, AllocError>
+    ensures { IfOk result (λ c. app_of c ≡ files_app name.now) }
+{
+    Command::new(alloc, name)
+        .bin_name(bin_name)?
+        .about(about)
         .arg(scenario_argument(alloc))?
         .arg(latency_argument(alloc))
 }
@@ -54,11 +75,8 @@ pub fn ids_command<'a>(alloc: Global) -> Result<Command<'a>, AllocError>
 pub fn run_command<'a>(alloc: Global) -> Result<Command<'a>, AllocError>
     ensures { IfOk result (λ c. (names : OptionNames) × (app_of c ≡ run_app names)) }
 {
-    Command::new(alloc, "run")
-        .bin_name("chordsim run")?
-        .about("Runs the scenario, and prints its trace and then its report")
-        .arg(scenario_argument(alloc))?
-        .arg(latency_argument(alloc))?
+    let about = "Runs the scenario, and prints its trace and then its report";
+    files_command(alloc, "run", "chordsim run", about)?
         .arg(workers_argument(alloc))?
         .arg(parts_argument(alloc))?
         .arg(split_argument(alloc))?
