@@ -30,6 +30,7 @@ fn described<'a>(alloc: Global) -> Command<'a> {
         .subcommand_required(true)
 }
 
+/// The command line with one more command, if its allocations succeeded.
 fn with_command<'a>(
     whole: Command<'a>,
     command: Result<Command<'a>, AllocError>,

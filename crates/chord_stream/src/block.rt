@@ -8,8 +8,8 @@ ghost use Rattle.rand_chacha.specs.Block.{xor_rotate, column_round, diagonal_rou
 use std::simd::u32x4;
 
 /// Word `k` of the block that has this number in the key stream of `key` and `nonce`.
-// The kit's generator makes four blocks at a time, and a draw needs one word. So one block is made here, each row of its
-// state in one vector.
+// rand_chacha makes four blocks at a time, and a draw needs one word. So one block is made here,
+// each row of its state in one vector.
 pub(crate) fn block(key: &[u32; 8], counter: u64, nonce: u64) -> [u32; 16]
     ensures { (k : ℕ) → k < 16 → slice_index result k ≡ block_word 4 key.now counter nonce k }
 {
@@ -65,7 +65,8 @@ fn words(rows: [u32x4; 4]) -> [u32; 16]
     [a, b, c, d, e, f, g, h, i, j, k, l, m, n, o, p]
 }
 
-/// A round on the columns, and then one on the diagonals: each row is turned until the diagonals are columns, and back.
+/// A round on the columns, and then one on the diagonals: each row is turned until the diagonals are
+/// columns, and back.
 fn double_round(rows: [u32x4; 4]) -> [u32x4; 4]
     ensures value { concat result ≡ diagonal_round (column_round (concat rows)) }
     ensures long { map (λ row. length row) result ≡ replicate 4 4 }
