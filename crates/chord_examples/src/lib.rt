@@ -13,4 +13,4 @@ mod tests;
 pub use examples::engines::{ENGINES, Engine, Shape, run_by};
 pub use examples::own_window::window_by_one;
 pub use examples::play::{shown, text_of};
-pub use examples::table::{EXAMPLES, Example, TWO_LOOKUPS};
+pub use examples::table::{Example, TWO_LOOKUPS, example_groups};

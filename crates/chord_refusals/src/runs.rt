@@ -3,7 +3,7 @@ ghost use Rattle.std.specs.Prelude.{◌<◌, ◌≤◌};
 
 use crate::stop::{Stop, holds, holds_written};
 use chord_crew::{MOST_SEATS, OpenGate, Starter, run_crew_started};
-use chord_examples::{EXAMPLES, Engine, Example, Shape, TWO_LOOKUPS, run_by, shown, text_of};
+use chord_examples::{Engine, Example, Shape, TWO_LOOKUPS, example_groups, run_by, shown, text_of};
 use chord_scenario::read_scenario;
 use chord_trace::Watched;
 use chord_window::Division;
@@ -28,7 +28,18 @@ pub fn run_examples<T: AllocGlobal + Threads + Wait + Sync>(
     rt: &T,
     engine: Engine,
 ) -> Result<(), Stop> {
-    for example in &EXAMPLES {
+    for group in example_groups() {
+        run_named(rt, engine, group)?;
+    }
+    Ok(())
+}
+
+fn run_named<T: AllocGlobal + Threads + Wait + Sync>(
+    rt: &T,
+    engine: Engine,
+    group: &[Example],
+) -> Result<(), Stop> {
+    for example in group {
         if NAMES.contains(&example.name) {
             run_example(rt, engine, PAIR, example)?;
         }

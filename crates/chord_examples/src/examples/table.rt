@@ -97,8 +97,13 @@ pub const TWO_LOOKUPS: Example = Example {
         audits 1\n",
 };
 
-/// The examples.
-pub const EXAMPLES: [Example; 25] = [
+/// The examples in groups of five. A function proves a long table slowly, so each group has its own.
+pub fn example_groups() -> [&'static [Example]; 5] {
+    [lookups(), crashes(), joins(), repairs(), crossings()]
+}
+
+/// Lookups on rings without churn.
+const LOOKUPS: [Example; 5] = [
     Example {
         name: "three lookups",
         settings: SETTINGS,
@@ -245,6 +250,14 @@ pub const EXAMPLES: [Example; 25] = [
             ringless 1\n\
             insufficient 1\n",
     },
+];
+
+fn lookups() -> &'static [Example] {
+    &LOOKUPS
+}
+
+/// Crashes, and lookups that meet them.
+const CRASHES: [Example; 5] = [
     TWO_LOOKUPS,
     Example {
         name: "an audit at a crash",
@@ -362,6 +375,14 @@ pub const EXAMPLES: [Example; 25] = [
             audits 1\n\
             insufficient 1\n",
     },
+];
+
+fn crashes() -> &'static [Example] {
+    &CRASHES
+}
+
+/// Joins and churn.
+const JOINS: [Example; 5] = [
     Example {
         name: "nothing to do",
         settings: SETTINGS,
@@ -467,6 +488,14 @@ pub const EXAMPLES: [Example; 25] = [
             ringless 1\n\
             insufficient 1\n",
     },
+];
+
+fn joins() -> &'static [Example] {
+    &JOINS
+}
+
+/// Joins that fail, and lists and fingers that are repaired.
+const REPAIRS: [Example; 5] = [
     Example {
         name: "a join that fails eight times",
         settings: "list = 2\n\
@@ -629,6 +658,14 @@ pub const EXAMPLES: [Example; 25] = [
             audits 1\n",
     },
     // n1 is down, and n0 is a member already.
+];
+
+fn repairs() -> &'static [Example] {
+    &REPAIRS
+}
+
+/// Commands that are ignored, and messages that meet a crash.
+const CROSSINGS: [Example; 5] = [
     Example {
         name: "commands that are ignored",
         settings: SETTINGS,
@@ -796,3 +833,7 @@ pub const EXAMPLES: [Example; 25] = [
             insufficient 1\n",
     },
 ];
+
+fn crossings() -> &'static [Example] {
+    &CROSSINGS
+}

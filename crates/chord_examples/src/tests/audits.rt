@@ -4,10 +4,11 @@ ghost use Rattle.std.specs.List.{All};
 
 use crate::examples::play::{SETTINGS, text_of};
 use crate::examples::table::FOUR;
+use crate::tests::ring_of_three::scenario_of;
 use chord_audit::{AuditLine, audit};
 use chord_event::{Listed, Memory};
 use chord_node::{NodeState, Status};
-use chord_scenario::{Scenario, read_scenario};
+use chord_scenario::Scenario;
 use chord_trace::{Watched, write_audit};
 use std::alloc::Global;
 use std::process::Abort;
@@ -91,15 +92,17 @@ fn audited(
 fn audits_of_rings(rt: HostRuntime) -> Result<(), Fail> {
     let alloc = rt.alloc();
     let text = text_of(alloc, SETTINGS, FOUR, "")?;
-    let scenario = read_scenario(alloc, text.as_str().as_bytes(), b"")
-        .ok()
-        .ok_or("the ring is refused")?;
+    let scenario = scenario_of(alloc, text.as_str(), b"")?;
     for (ring, want) in &RINGS {
         let line = audited(&rt, alloc, &scenario, ring)?;
-        let mut writer = Watched::new(Vec::new(alloc));
-        write_audit(alloc, &line, &mut writer)?;
-        let text = String::from_utf8_lossy(alloc, writer.into_inner().as_slice())?;
+        let text = text_of_audit(alloc, &line)?;
         assert!(rt; text.as_str() == *want, "{text}");
     }
     Ok(())
+}
+
+fn text_of_audit(alloc: Global, line: &AuditLine) -> Result<String, Fail> {
+    let mut writer = Watched::new(Vec::new(alloc));
+    write_audit(alloc, line, &mut writer)?;
+    Ok(String::from_utf8_lossy(alloc, writer.into_inner().as_slice())?)
 }

@@ -1,12 +1,16 @@
 //! What holds of a run by any engine.
+ghost use Rattle.std.specs.Prelude.{◌<◌, ◌≤◌};
+
 use crate::examples::engines::{ENGINES, Engine, Shape};
-use crate::examples::table::{EXAMPLES, TWO_LOOKUPS};
+use crate::examples::table::{Example, TWO_LOOKUPS, example_groups};
 use crate::tests::left::{Picked, run_left, run_picks};
-use crate::tests::ring_of_three::two_lookups;
+use crate::tests::ring_of_three::{scenario_of, two_lookups};
 use crate::tests::second_profile::ring_of;
+use crate::tests::windows::divide;
 use chord_crew::MOST_SEATS;
-use chord_scenario::read_scenario;
-use chord_window::{Division, MOST_PARTS};
+use chord_play::Split;
+use chord_scenario::Scenario;
+use chord_window::MOST_PARTS;
 use std::process::Abort;
 use std::sync::Wait;
 use std::test::Fail;
@@ -66,16 +70,33 @@ const SHAPES: [Shape; 6] = [
 /// Each example has the trace and the report that it has by the rules, with any engine, parts and workers.
 #[test]
 fn examples_by_engines(rt: HostRuntime) -> Result<(), Fail> {
-    let alloc = rt.alloc();
-    for example in &EXAMPLES {
-        let name = example.name;
-        let scenario = example.scenario(alloc).ok().ok_or(name)?;
-        for engine in ENGINES {
-            for shape in SHAPES {
-                let left = run_left(&rt, engine, shape, &scenario)?;
-                let how = (name, engine, shape);
-                left.shows(&rt, &how, example.trace, example.report)?;
-            }
+    for group in example_groups() {
+        show_by_all(&rt, group)?;
+    }
+    Ok(())
+}
+
+fn show_by_all<T: Abort + AllocGlobal + Threads + Wait + Sync>(
+    rt: &T,
+    group: &[Example],
+) -> Result<(), Fail> {
+    for example in group {
+        shows_by_all(rt, example)?;
+    }
+    Ok(())
+}
+
+fn shows_by_all<T: Abort + AllocGlobal + Threads + Wait + Sync>(
+    rt: &T,
+    example: &Example,
+) -> Result<(), Fail> {
+    let name = example.name;
+    let scenario = example.scenario(rt.alloc()).ok().ok_or(name)?;
+    for engine in ENGINES {
+        for shape in SHAPES {
+            let left = run_left(rt, engine, shape, &scenario)?;
+            let how = (name, engine, shape);
+            left.shows(rt, &how, example.trace, example.report)?;
         }
     }
     Ok(())
@@ -142,15 +163,27 @@ fn too_many_events_by_engines(rt: HostRuntime) -> Result<(), Fail> {
 /// Without picks the lowest worker that can take a step takes each of them, and the run is the same.
 #[test]
 fn two_workers_without_picks(rt: HostRuntime) -> Result<(), Fail> {
-    let alloc = rt.alloc();
-    let scenario = two_lookups(alloc, 8)?;
+    let scenario = two_lookups(rt.alloc(), 8)?;
     for parts in [1, 2, 3, 5] {
-        let division = Division::dealt(alloc, scenario.nodes(), parts)?;
-        let Picked { left, steps } = run_picks(alloc, &scenario, &division, 2, &[])?;
-        left.shows(&rt, &parts, TWO_LOOKUPS.trace, TWO_LOOKUPS.report)?;
-        let first = steps.as_str().lines().all(|step| step.starts_with("0 "));
-        assert!(rt; first, "{parts} parts: {steps}");
+        takes_the_lowest(&rt, &scenario, parts)?;
     }
+    Ok(())
+}
+
+/// Asserts that the two lookups in so many parts leave what they leave in any, and that worker 0 takes each step.
+fn takes_the_lowest<T: Abort + AllocGlobal>(
+    rt: &T,
+    scenario: &Scenario,
+    parts: u32,
+) -> Result<(), Fail>
+    requires { (0 < parts) × (parts ≤ MOST_PARTS) }
+{
+    let alloc = rt.alloc();
+    let division = divide(alloc, scenario, Split::RoundRobin, parts)?;
+    let Picked { left, steps } = run_picks(alloc, scenario, &division, 2, &[])?;
+    left.shows(rt, &parts, TWO_LOOKUPS.trace, TWO_LOOKUPS.report)?;
+    let first = steps.as_str().lines().all(|step| step.starts_with("0 "));
+    assert!(rt; first, "{parts} parts: {steps}");
     Ok(())
 }
 
@@ -159,9 +192,7 @@ fn two_workers_without_picks(rt: HostRuntime) -> Result<(), Fail> {
 fn a_part_for_each_of_512_nodes(rt: HostRuntime) -> Result<(), Fail> {
     let alloc = rt.alloc();
     let ring = ring_of(alloc, 9, 512, 300)?;
-    let scenario = read_scenario(alloc, ring.as_str().as_bytes(), b"")
-        .ok()
-        .ok_or("the ring is refused")?;
+    let scenario = scenario_of(alloc, ring.as_str(), b"")?;
     let shape = Shape {
         parts: MOST_PARTS,
         workers: MOST_SEATS,

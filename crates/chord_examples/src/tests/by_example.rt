@@ -1,6 +1,6 @@
 //! Plays of examples.
 use crate::examples::play::{SERIAL, text_of};
-use crate::examples::table::{EXAMPLES, Example};
+use crate::examples::table::{Example, example_groups};
 use crate::tests::left::{play_text, play_texts};
 use crate::tests::ring_of_three::{ONE_HOP, text_of_three};
 use chord_play::Plan;
@@ -28,8 +28,18 @@ pub fn leaves_example<T: Abort + AllocGlobal + Threads + Wait + Sync>(
 
 #[test]
 fn examples(rt: HostRuntime) -> Result<(), Fail> {
-    for example in &EXAMPLES {
-        leaves_example(&rt, example, &SERIAL)?;
+    for group in example_groups() {
+        leave_examples(&rt, group)?;
+    }
+    Ok(())
+}
+
+fn leave_examples<T: Abort + AllocGlobal + Threads + Wait + Sync>(
+    rt: &T,
+    group: &[Example],
+) -> Result<(), Fail> {
+    for example in group {
+        leaves_example(rt, example, &SERIAL)?;
     }
     Ok(())
 }

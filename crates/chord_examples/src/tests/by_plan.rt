@@ -3,7 +3,7 @@
 ghost use Rattle.std.specs.Prelude.{◌≡◌, ◌≤◌};
 
 use crate::examples::play::{SERIAL, SETTINGS, THREE, text_of};
-use crate::examples::table::{EXAMPLES, TWO_LOOKUPS};
+use crate::examples::table::{Example, TWO_LOOKUPS, example_groups};
 use crate::tests::by_example::leaves_example;
 use crate::tests::gates::{NotesStarts, SizeGate};
 use crate::tests::left::{play_text, play_texts};
@@ -13,7 +13,7 @@ use chord_play::{Engine, Plan, Split, run_planned};
 use chord_trace::Watched;
 use std::process::Abort;
 use std::sync::Wait;
-use std::sync::atomic::{AtomicU64, Ordering};
+use std::sync::atomic::AtomicU64;
 use std::test::Fail;
 use std::thread::Threads;
 
@@ -57,12 +57,36 @@ fn plan_of(engine: Engine, number: u64) -> Plan {
 #[test]
 fn examples_by_plans(rt: HostRuntime) -> Result<(), Fail> {
     let mut number = 0;
-    for example in &EXAMPLES {
-        for _time in 0..3 {
-            for engine in CREW_AND_TEAM {
-                leaves_example(&rt, example, &plan_of(engine, number))?;
-            }
-            number = number.wrapping_add(1);
+    for group in example_groups() {
+        leave_by_plans(&rt, group, number)?;
+        number = number.wrapping_add(15);
+    }
+    Ok(())
+}
+
+/// Asserts that each of five examples has by three plans what it has by the rules, the first by the plan of this number.
+fn leave_by_plans<T: Abort + AllocGlobal + Threads + Wait + Sync>(
+    rt: &T,
+    group: &[Example],
+    first: u64,
+) -> Result<(), Fail> {
+    let mut number = first;
+    for example in group {
+        leaves_by_plans(rt, example, number)?;
+        number = number.wrapping_add(3);
+    }
+    Ok(())
+}
+
+/// Asserts that an example has by a crew and by a team of three plans what it has by the rules.
+fn leaves_by_plans<T: Abort + AllocGlobal + Threads + Wait + Sync>(
+    rt: &T,
+    example: &Example,
+    first: u64,
+) -> Result<(), Fail> {
+    for more in 0..3 {
+        for engine in CREW_AND_TEAM {
+            leaves_example(rt, example, &plan_of(engine, first.wrapping_add(more)))?;
         }
     }
     Ok(())
@@ -149,14 +173,33 @@ fn are_in_turn(started: &[u32], workers: usize, windows: usize) -> bool {
 }
 
 /// Whether these are the parts 0 to 2, in any order.
-fn are_three(parts: &[AtomicU64]) -> bool {
-    parts.len() == 3
-        && (0..3u64).all(|part| parts.iter().any(|pass| pass.load(Ordering::SeqCst) == part))
+fn are_three(parts: &[u64]) -> bool {
+    parts.len() == 3 && (0..3u64).all(|part| parts.contains(&part))
 }
 
-/// Whether all of these are part 0.
-fn are_first(parts: &[AtomicU64]) -> bool {
-    parts.iter().all(|part| part.load(Ordering::SeqCst) == 0)
+/// What a starter and a gate note of the two lookups by a plan.
+#[derive(Drop)]
+struct Noted {
+    /// The number of each worker that is started.
+    started: Vec<u32>,
+    /// How often the gate is passed.
+    passes: u64,
+    /// The parts of the first eight passes.
+    parts: [u64; 8],
+}
+
+fn noted_by<T: Abort + AllocGlobal + Threads + Wait + Sync>(
+    rt: &T,
+    plan: &Plan,
+) -> Result<Noted, Fail> {
+    let taken = AtomicU64::new(0);
+    let gate = SizeGate::new(&taken);
+    let started = starts_by(rt, plan, &gate)?;
+    Ok(Noted {
+        started,
+        passes: gate.passes(),
+        parts: gate.parts(),
+    })
 }
 
 /// Each of the four windows has two threads and three parts.
@@ -168,12 +211,13 @@ fn two_workers_and_three_parts(rt: HostRuntime) -> Result<(), Fail> {
         parts: 3,
         split: Split::Blocks,
     };
-    let taken = AtomicU64::new(0);
-    let gate = SizeGate::new(&taken);
-    let started = starts_by(&rt, &plan, &gate)?;
-    assert!(rt; are_in_turn(started.as_slice(), 2, 4));
-    assert!(rt; gate.passes.load(Ordering::SeqCst) == 12);
-    assert!(rt; are_three(&gate.parts[..3]) && are_three(&gate.parts[3..6]));
+    let Noted {
+        started,
+        passes,
+        parts,
+    } = noted_by(&rt, &plan)?;
+    assert!(rt; are_in_turn(started.as_slice(), 2, 4) && passes == 12);
+    assert!(rt; are_three(&parts[..3]) && are_three(&parts[3..6]));
     Ok(())
 }
 
@@ -186,11 +230,12 @@ fn three_workers_on_one_part(rt: HostRuntime) -> Result<(), Fail> {
         parts: 1,
         split: Split::RoundRobin,
     };
-    let taken = AtomicU64::new(0);
-    let gate = SizeGate::new(&taken);
-    let started = starts_by(&rt, &plan, &gate)?;
-    assert!(rt; are_in_turn(started.as_slice(), 3, 4));
-    assert!(rt; gate.passes.load(Ordering::SeqCst) == 4);
-    assert!(rt; are_first(&gate.parts[..4]));
+    let Noted {
+        started,
+        passes,
+        parts,
+    } = noted_by(&rt, &plan)?;
+    assert!(rt; are_in_turn(started.as_slice(), 3, 4) && passes == 4);
+    assert!(rt; parts[..4] == [0, 0, 0, 0]);
     Ok(())
 }

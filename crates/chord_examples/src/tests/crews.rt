@@ -85,13 +85,9 @@ fn each_window_is_put_out_at_its_end(rt: HostRuntime) -> Result<(), Fail> {
     let gate = SizeGate::new(&taken);
     let mut writer = Watched::new(Counting { taken: &taken });
     run_crew(&rt, alloc, &scenario, &division, 1, &gate, &mut writer)?;
-    assert!(rt; gate.passes.load(Ordering::SeqCst) == 8);
-    for (part, expected) in gate.parts.iter().zip([0, 1, 0, 1, 0, 1, 0, 1]) {
-        assert!(rt; part.load(Ordering::SeqCst) == expected, "part {expected}");
-    }
-    for (size, expected) in gate.sizes.iter().zip([0, 0, 32, 32, 32, 32, 116, 116]) {
-        assert!(rt; size.load(Ordering::SeqCst) == expected, "{expected}");
-    }
+    assert!(rt; gate.passes() == 8);
+    assert!(rt; gate.parts() == [0, 1, 0, 1, 0, 1, 0, 1]);
+    assert!(rt; gate.sizes() == [0, 0, 32, 32, 32, 32, 116, 116]);
     assert!(rt; taken.load(Ordering::SeqCst) == 190);
     Ok(())
 }

@@ -5,18 +5,18 @@ use crate::examples::play::{SETTINGS, text_of};
 use crate::examples::table::TWO_LOOKUPS;
 use crate::tests::gates::{NotesStarts, SizeGate};
 use crate::tests::left::Left;
-use crate::tests::ring_of_three::{is_beginning, two_lookups};
+use crate::tests::ring_of_three::{is_beginning, scenario_of, two_lookups};
 use chord_crew::{
     Balanced, Dealer, Gate, MOST_SEATS, OpenGate, Starter, run_crew_dealt, run_crew_started,
 };
 use chord_event::{Memory, RunError};
-use chord_scenario::{Scenario, read_scenario};
+use chord_scenario::Scenario;
 use chord_serial::run_serial;
 use chord_trace::Watched;
 use chord_window::Division;
 use std::alloc::Global;
 use std::sync::Wait;
-use std::sync::atomic::{AtomicU64, Ordering};
+use std::sync::atomic::AtomicU64;
 use std::test::Fail;
 use std::thread::Threads;
 
@@ -126,12 +126,11 @@ fn a_dealer_without_a_division_ends_the_run(rt: HostRuntime) -> Result<(), Fail>
 }
 
 /// Whether the gate was passed for part 0, and then for parts 0 to 2 in any order.
-fn is_one_then_three(passes: &[AtomicU64]) -> bool {
+fn is_one_then_three(passes: &[u64]) -> bool {
     let [one, three @ ..] = passes else {
         return false;
     };
-    one.load(Ordering::SeqCst) == 0
-        && (0..3u64).all(|part| three.iter().any(|pass| pass.load(Ordering::SeqCst) == part))
+    *one == 0 && (0..3u64).all(|part| three.contains(&part))
 }
 
 /// Each window has the parts of its own division.
@@ -143,8 +142,9 @@ fn each_window_has_its_own_parts(rt: HostRuntime) -> Result<(), Fail> {
     let gate = SizeGate::new(&taken);
     let left = run_dealt(&rt, &scenario, 2, &mut dealer, &gate)?;
     assert!(rt; left.trace.as_str() == TWO_LOOKUPS.trace);
-    assert!(rt; gate.passes.load(Ordering::SeqCst) == 8);
-    assert!(rt; is_one_then_three(&gate.parts[..4]) && is_one_then_three(&gate.parts[4..]));
+    let parts = gate.parts();
+    assert!(rt; gate.passes() == 8);
+    assert!(rt; is_one_then_three(&parts[..4]) && is_one_then_three(&parts[4..]));
     Ok(())
 }
 
@@ -311,9 +311,7 @@ fn load_of(part: u32, division: &Division, loads: &[u64]) -> u64
 fn parts_of_a_skewed_ring_are_evened_out(rt: HostRuntime) -> Result<(), Fail> {
     let alloc = rt.alloc();
     let text = text_of(alloc, SETTINGS, EIGHT, EVEN_LOOKUPS)?;
-    let scenario = read_scenario(alloc, text.as_str().as_bytes(), b"")
-        .ok()
-        .ok_or("the lookups are refused")?;
+    let scenario = scenario_of(alloc, text.as_str(), b"")?;
     let mut serial = Watched::new(Vec::new(alloc));
     run_serial(alloc, &scenario, &mut serial)?;
     let mut dealer = Keeping {

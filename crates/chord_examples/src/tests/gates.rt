@@ -23,6 +23,15 @@ fn eight_notes() -> [AtomicU64; 8] {
     ]
 }
 
+/// The numbers in eight places for a note.
+fn noted(notes: &[AtomicU64; 8]) -> [u64; 8] {
+    let mut noted = [0; 8];
+    for (place, note) in noted.iter_mut().zip(notes) {
+        *place = note.load(Ordering::SeqCst);
+    }
+    noted
+}
+
 /// Blocks the first of two passes until the second has come, and notes the worker of each.
 #[derive(Drop)]
 pub struct PairGate {
@@ -85,10 +94,10 @@ impl Write for Counting<'_> {
 /// Notes for each of the first eight passes its part, and how many bytes a writer has taken so far.
 #[derive(Drop)]
 pub struct SizeGate<'a> {
-    pub taken: &'a AtomicU64,
-    pub passes: AtomicU64,
-    pub parts: [AtomicU64; 8],
-    pub sizes: [AtomicU64; 8],
+    taken: &'a AtomicU64,
+    passes: AtomicU64,
+    parts: [AtomicU64; 8],
+    sizes: [AtomicU64; 8],
 }
 
 impl SizeGate<'_> {
@@ -99,6 +108,21 @@ impl SizeGate<'_> {
             parts: eight_notes(),
             sizes: eight_notes(),
         }
+    }
+
+    /// How often the gate was passed.
+    pub fn passes(&self) -> u64 {
+        self.passes.load(Ordering::SeqCst)
+    }
+
+    /// The part of each of the first eight passes.
+    pub fn parts(&self) -> [u64; 8] {
+        noted(&self.parts)
+    }
+
+    /// How many bytes the writer had taken at each of the first eight passes.
+    pub fn sizes(&self) -> [u64; 8] {
+        noted(&self.sizes)
     }
 }
 

@@ -1,13 +1,12 @@
 //! Values as great as they may be: an allocation that fails without need would be seen here.
-use crate::examples::engines::ENGINES;
 use crate::examples::play::THREE;
 use crate::examples::table::TWO_NODES;
-use crate::tests::by_engine::PAIR;
 use crate::tests::by_example::repeated;
-use crate::tests::left::run_left;
-use crate::tests::ring_of_three::ONE_HOP;
+use crate::tests::left::{all_leave, all_write};
+use crate::tests::ring_of_three::{ONE_HOP, scenario_of};
 use crate::tests::second_profile::ring_of;
-use chord_scenario::read_scenario;
+use chord_scenario::Scenario;
+use std::alloc::Global;
 use std::test::Fail;
 
 /// A latency text of one row, in a ring of as many nodes as there may be, holds in both directions.
@@ -15,9 +14,7 @@ use std::test::Fail;
 fn a_row_among_the_most_nodes(rt: HostRuntime) -> Result<(), Fail> {
     let alloc = rt.alloc();
     let ring = ring_of(alloc, 12, 4096, 3000)?;
-    let scenario = read_scenario(alloc, ring.as_str().as_bytes(), b"n1,n4095,25\n")
-        .ok()
-        .ok_or("the ring is refused")?;
+    let scenario = scenario_of(alloc, ring.as_str(), b"n1,n4095,25\n")?;
     assert!(rt; scenario.nodes() == 4096);
     assert!(rt; scenario.latency(1, 4095) == 25 && scenario.latency(4095, 1) == 25);
     assert!(rt; scenario.latency(0, 4095) == 10 && scenario.latency(4095, 4095) == 1);
@@ -35,20 +32,14 @@ fn a_spread_of_a_thousand_seconds(rt: HostRuntime) -> Result<(), Fail> {
          stabilize_us = 1000000000\nfinger_us = 1000000000\n{THREE}\
          [[command]]\nat_us = 50\ndo = \"crash\"\nnode = \"n0\"\n{ONE_HOP}"
     )?;
-    let scenario = read_scenario(alloc, text.as_str().as_bytes(), b"")
-        .ok()
-        .ok_or("the ring is refused")?;
+    let scenario = scenario_of(alloc, text.as_str(), b"")?;
     let trace = "50 n0 crash\n\
         100 n3 lookup 1\n\
         1100 n3 timeout n0\n\
         1100 n3 found 1 n1 hops=0 timeouts=1 us=1000\n\
         999990199 n0 drop step n3\n\
         1000000000 audit members=2 dead=0 ring=2 ordered=yes principals=2 sufficient=no\n";
-    for engine in ENGINES {
-        let left = run_left(&rt, engine, PAIR, &scenario)?;
-        assert!(rt; left.trace.as_str() == trace, "{engine:?}: {}", left.trace);
-    }
-    Ok(())
+    all_write(&rt, &scenario, trace)
 }
 
 /// Two nodes that lose all messages. Each asks the other for its state at 90, and both are stranded at 130. By then n0
@@ -63,27 +54,30 @@ const STRANDED_REPORT: &str =
     timeouts 2\nlookups 60\nfound 0\nlost 60\nbusy 0\nignored 0\nunfinished 0\nhops-sum 0\nhops-greatest 0\n\
     us-sum 0\nus-least 0\nus-median 0\nus-greatest 0\naudits 1\nringless 1\nunordered 0\ninsufficient 1\nlosses 64\n";
 
-/// The longest block: a timeout strands a node with sixty lookups, and the request by which it joins again is lost.
-#[test]
-fn a_block_of_63_lines(rt: HostRuntime) -> Result<(), Fail> {
-    let alloc = rt.alloc();
+fn stranded(alloc: Global) -> Result<Scenario, Fail> {
     let command = "[[command]]\nat_us = 100\ndo = \"lookup\"\nnode = \"n0\"\nkey = 5\n";
     let commands = repeated(alloc, command, 60)?;
     let text = format!(in alloc; "{STRANDED}{TWO_NODES}{commands}")?;
+    scenario_of(alloc, text.as_str(), b"")
+}
+
+/// The trace of this run.
+fn stranded_trace(alloc: Global) -> Result<String, Fail> {
     let begun = repeated(alloc, "100 n0 lookup 5\n100 n0 lose step n4\n", 60)?;
     let lost = repeated(alloc, "130 n0 lost 5 hops=0 timeouts=0 us=30\n", 60)?;
-    let trace = format!(in alloc;
+    Ok(format!(in alloc;
         "90 n0 lose get-state n4\n90 n4 lose get-state n0\n{begun}\
          130 n0 timeout n4\n130 n0 stranded n4\n{lost}130 n0 lose step n4\n\
          130 n4 timeout n0\n130 n4 stranded n0\n130 n4 lose step n0\n\
          140 audit members=0 dead=0 ring=0 ordered=yes principals=0 sufficient=no\n"
-    )?;
-    let scenario = read_scenario(alloc, text.as_str().as_bytes(), b"")
-        .ok()
-        .ok_or("the ring is refused")?;
-    for engine in ENGINES {
-        let left = run_left(&rt, engine, PAIR, &scenario)?;
-        left.is(&rt, &engine, trace.as_str(), STRANDED_REPORT)?;
-    }
-    Ok(())
+    )?)
+}
+
+/// The longest block: a timeout strands a node with sixty lookups, and the request by which it joins again is lost.
+#[test]
+fn a_block_of_63_lines(rt: HostRuntime) -> Result<(), Fail> {
+    let alloc = rt.alloc();
+    let scenario = stranded(alloc)?;
+    let trace = stranded_trace(alloc)?;
+    all_leave(&rt, "stranded", &scenario, trace.as_str(), STRANDED_REPORT)
 }

@@ -1,8 +1,9 @@
 //! What runs and plays leave, as texts, which tests compare with what they expect.
 ghost use Rattle.std.specs.Prelude.{◌<◌, ◌≤◌};
 
-use crate::examples::engines::{Engine, Shape, run_by};
+use crate::examples::engines::{ENGINES, Engine, Shape, run_by};
 use crate::examples::play::{SERIAL, nonzero};
+use crate::tests::by_engine::PAIR;
 use chord_event::RunError;
 use chord_play::{Plan, PlayFault, Text, play};
 use chord_scenario::Scenario;
@@ -45,6 +46,34 @@ pub fn run_left<T: AllocGlobal + Threads + Wait + Sync>(
     let mut writer = Watched::new(Vec::new(alloc));
     let outcome = run_by(rt, alloc, engine, shape, scenario, &mut writer);
     Left::of_run(alloc, writer.into_inner(), &outcome)
+}
+
+/// Asserts that a scenario leaves this trace and this report by each engine. `name` says which scenario it is.
+pub fn all_leave<T: Abort + AllocGlobal + Threads + Wait + Sync>(
+    rt: &T,
+    name: &str,
+    scenario: &Scenario,
+    trace: &str,
+    report: &str,
+) -> Result<(), Fail> {
+    for engine in ENGINES {
+        let left = run_left(rt, engine, PAIR, scenario)?;
+        left.is(rt, &(name, engine), trace, report)?;
+    }
+    Ok(())
+}
+
+/// Asserts that a scenario leaves this trace by each engine.
+pub fn all_write<T: Abort + AllocGlobal + Threads + Wait + Sync>(
+    rt: &T,
+    scenario: &Scenario,
+    trace: &str,
+) -> Result<(), Fail> {
+    for engine in ENGINES {
+        let left = run_left(rt, engine, PAIR, scenario)?;
+        assert!(rt; left.trace.as_str() == trace, "{engine:?}: {}", left.trace);
+    }
+    Ok(())
 }
 
 /// What a run by windows left, and a line for each step: its worker, and the step.

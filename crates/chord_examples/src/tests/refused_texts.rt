@@ -2,12 +2,17 @@
 use crate::tests::read_scenarios::NAMED;
 use crate::tests::ring_of_three::{NO_HOP, text_of_three};
 use chord_scenario::read_scenario;
+use std::process::Abort;
 use std::test::Fail;
 
 const GOOD: &str = "ok nodes=3 commands=1";
 
-/// The ring of three with one lookup, one text replaced by another, and the result.
-const CHANGES: [(&str, &str, &str); 107] = [
+/// The ring of three with one lookup, one text replaced by another, and the result. A function proves a long table
+/// slowly, so that each of these is short and has its own.
+pub type Change = (&'static str, &'static str, &'static str);
+
+/// A TOML document, and the keys of its tables.
+const KEYS: [Change; 18] = [
     ("", "", GOOD),
     ("[[node]]", "[[nod", "S1 NotToml"),
     ("seed = 1", "seed = 9223372036854775808", "S1 NotToml"),
@@ -50,6 +55,14 @@ const CHANGES: [(&str, &str, &str); 107] = [
         "profile = 1\nchurn = {}",
         "S3 MissingKey churn life_min_us",
     ),
+];
+
+fn keys() -> &'static [Change] {
+    &KEYS
+}
+
+/// Values of other types.
+const TYPES: [Change; 8] = [
     ("bits = 3", "bits = \"3\"", "S4 WrongType top bits"),
     ("seed = 1", "seed = 1979-05-27", "S4 WrongType top seed"),
     ("seed = 1", "seed = 1.0", "S4 WrongType top seed"),
@@ -70,6 +83,14 @@ const CHANGES: [(&str, &str, &str); 107] = [
     ),
     ("id = 0", "id = true", "S4 WrongType node 1 id"),
     ("do = \"lookup\"", "do = 1", "S4 WrongType command 1 do"),
+];
+
+fn types() -> &'static [Change] {
+    &TYPES
+}
+
+/// The profile, the width of the circle, the length of a list, the seed and the duration.
+const SETTINGS: [Change; 18] = [
     ("profile = 1", "profile = 0", "S5 OutOfRange top profile"),
     ("profile = 1", "profile = 2", GOOD),
     ("profile = 1", "profile = 3", "S5 OutOfRange top profile"),
@@ -100,6 +121,14 @@ const CHANGES: [(&str, &str, &str); 107] = [
         "duration_us = 1000000000001",
         "S5 OutOfRange top duration_us",
     ),
+];
+
+fn settings() -> &'static [Change] {
+    &SETTINGS
+}
+
+/// The window, the latency and the times of timers.
+const TIMES: [Change; 15] = [
     (
         "window_us = 10",
         "window_us = 0",
@@ -159,6 +188,14 @@ const CHANGES: [(&str, &str, &str); 107] = [
         "finger_us = 1000000001",
         "S5 OutOfRange top finger_us",
     ),
+];
+
+fn times() -> &'static [Change] {
+    &TIMES
+}
+
+/// The settings that may be left out.
+const OPTIONS: [Change; 13] = [
     (
         "seed = 1",
         "seed = 1\njitter_us = -1",
@@ -216,6 +253,14 @@ const CHANGES: [(&str, &str, &str); 107] = [
         "churn = { life_min_us = 5, life_max_us = 5, down_min_us = 1, down_max_us = 1 }\nseed = 1",
         GOOD,
     ),
+];
+
+fn options() -> &'static [Change] {
+    &OPTIONS
+}
+
+/// Identifiers and commands.
+const TABLES: [Change; 18] = [
     ("id = 0", "id = 8", "S5 OutOfRange node 1 id"),
     ("id = 0", "id = \"8\"", "S5 OutOfRange node 1 id"),
     ("id = 0", "id = \"\"", "S5 OutOfRange node 1 id"),
@@ -258,6 +303,14 @@ const CHANGES: [(&str, &str, &str); 107] = [
         "do = \"crash\"\nvia = \"n9\"",
         "S9 UnknownNode command 1",
     ),
+];
+
+fn tables() -> &'static [Change] {
+    &TABLES
+}
+
+/// Names, and facts of several tables.
+const RINGS: [Change; 17] = [
     ("name = \"n1\"", "name = \"audit\"", "S6 BadName node 2"),
     ("name = \"n1\"", "name = \"\"", "S6 BadName node 2"),
     ("name = \"n1\"", "name = \"n 1\"", "S6 BadName node 2"),
@@ -313,8 +366,12 @@ const CHANGES: [(&str, &str, &str); 107] = [
     ),
 ];
 
+fn rings() -> &'static [Change] {
+    &RINGS
+}
+
 /// The same for numbers at the ends of their ranges.
-const LIMITS: [(&str, &str, &str); 23] = [
+const LIMITS: [Change; 23] = [
     (
         "duration_us = 200\nwindow_us = 10\ntimeout_us = 40\naudit_us = 200",
         "duration_us = 1000000000000\nwindow_us = 10\ntimeout_us = 40\naudit_us = 1000000",
@@ -418,7 +475,7 @@ const ROWS: [(&str, &str); 22] = [
     ("\"n0,n3,15", "S12 BadLatencyRow row 1"),
 ];
 
-pub fn answer(rt: &HostRuntime, toml: &[u8], csv: &[u8]) -> Result<String, Fail> {
+pub fn answer(rt: &impl AllocGlobal, toml: &[u8], csv: &[u8]) -> Result<String, Fail> {
     match read_scenario(rt.alloc(), toml, csv) {
         Ok(scenario) => {
             let (nodes, commands) = (scenario.nodes(), scenario.commands());
@@ -428,34 +485,51 @@ pub fn answer(rt: &HostRuntime, toml: &[u8], csv: &[u8]) -> Result<String, Fail>
     }
 }
 
-#[test]
-fn first_faults(rt: HostRuntime) -> Result<(), Fail> {
-    let base = text_of_three(rt.alloc(), NO_HOP)?;
-    let base = base.as_str();
-    for (old, new, want) in &CHANGES {
+/// Asserts that the base with each of these changes has its result.
+pub fn have_results<T: Abort + AllocGlobal>(
+    rt: &T,
+    base: &str,
+    changes: &[Change],
+) -> Result<(), Fail> {
+    for (old, new, want) in changes {
         assert!(rt; base.contains(*old), "no {old}");
         let text = base.replacen(rt.alloc(), *old, *new, 1)?;
-        let got = answer(&rt, text.as_str().as_bytes(), b"")?;
+        let got = answer(rt, text.as_str().as_bytes(), b"")?;
         assert!(rt; got.as_str() == *want, "{got}, not {want}, at {new}");
     }
+    Ok(())
+}
+
+/// Asserts that the base with each of these latency texts has its result.
+fn rows_have_results<T: Abort + AllocGlobal>(rt: &T, base: &str) -> Result<(), Fail> {
     for (csv, want) in &ROWS {
-        let got = answer(&rt, base.as_bytes(), csv.as_bytes())?;
+        let got = answer(rt, base.as_bytes(), csv.as_bytes())?;
         assert!(rt; got.as_str() == *want, "{got}, not {want}, at {csv}");
     }
     Ok(())
 }
 
 #[test]
+fn first_faults(rt: HostRuntime) -> Result<(), Fail> {
+    let base = text_of_three(rt.alloc(), NO_HOP)?;
+    for changes in [
+        keys(),
+        types(),
+        settings(),
+        times(),
+        options(),
+        tables(),
+        rings(),
+    ] {
+        have_results(&rt, base.as_str(), changes)?;
+    }
+    rows_have_results(&rt, base.as_str())
+}
+
+#[test]
 fn limits_of_numbers(rt: HostRuntime) -> Result<(), Fail> {
     let base = text_of_three(rt.alloc(), NO_HOP)?;
-    let base = base.as_str();
-    for (old, new, want) in &LIMITS {
-        assert!(rt; base.contains(*old), "no {old}");
-        let text = base.replacen(rt.alloc(), *old, *new, 1)?;
-        let got = answer(&rt, text.as_str().as_bytes(), b"")?;
-        assert!(rt; got.as_str() == *want, "{got}, not {want}, at {new}");
-    }
-    Ok(())
+    have_results(&rt, base.as_str(), &LIMITS)
 }
 
 /// Texts cut short, no text, and the most nodes allowed and one more.

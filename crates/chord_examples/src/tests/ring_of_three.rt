@@ -24,9 +24,14 @@ pub fn ring_of_three(alloc: Global, commands: &str) -> Result<Scenario, Fail> {
 /// The ring with these settings and commands.
 pub fn ring_with(alloc: Global, settings: &str, commands: &str) -> Result<Scenario, Fail> {
     let text = text_of(alloc, settings, THREE, commands)?;
-    let scenario = read_scenario(alloc, text.as_str().as_bytes(), b"")
+    scenario_of(alloc, text.as_str(), b"")
+}
+
+/// The scenario of a text that is not refused.
+pub fn scenario_of(alloc: Global, toml: &str, csv: &[u8]) -> Result<Scenario, Fail> {
+    let scenario = read_scenario(alloc, toml.as_bytes(), csv)
         .ok()
-        .ok_or("the ring is refused")?;
+        .ok_or("the scenario is refused")?;
     Ok(scenario)
 }
 

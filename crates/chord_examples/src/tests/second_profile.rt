@@ -1,16 +1,19 @@
 //! Worked examples of the second profile: messages that are lost or late, wide identifiers, many nodes.
-use crate::examples::engines::{ENGINES, Engine, Shape};
+use crate::examples::engines::{Engine, Shape};
 use crate::examples::play::{SETTINGS, THREE, text_of};
-use crate::examples::table::{EXAMPLES, Example};
+use crate::examples::table::{Example, example_groups};
 use crate::tests::by_engine::PAIR;
-use crate::tests::left::run_left;
-use crate::tests::refused_texts::answer;
-use crate::tests::ring_of_three::{NO_HOP, ONE_HOP, text_of_three};
+use crate::tests::left::{all_leave, all_write, run_left};
+use crate::tests::refused_texts::{Change, answer, have_results};
+use crate::tests::ring_of_three::{NO_HOP, ONE_HOP, scenario_of, text_of_three};
 use chord_circle::Raw;
-use chord_scenario::{Scenario, read_scenario};
+use chord_scenario::Scenario;
 use chord_stream::Stream;
 use std::alloc::Global;
+use std::process::Abort;
+use std::sync::Wait;
 use std::test::Fail;
+use std::thread::Threads;
 
 /// The scenario of an example in the second profile, with these settings in addition to its own.
 fn in_second_profile(alloc: Global, own: &str, example: &Example) -> Result<Scenario, Fail> {
@@ -19,27 +22,47 @@ fn in_second_profile(alloc: Global, own: &str, example: &Example) -> Result<Scen
     let text = text
         .as_str()
         .replacen(alloc, "profile = 1", "profile = 2", 1)?;
-    let scenario = read_scenario(alloc, text.as_str().as_bytes(), b"").ok();
-    Ok(scenario.ok_or(example.name)?)
+    scenario_of(alloc, text.as_str(), b"")
 }
 
 /// An example that draws nothing that makes a difference has its trace in the second profile too, and one line more in
 /// its report.
 #[test]
 fn examples_without_loss(rt: HostRuntime) -> Result<(), Fail> {
-    let alloc = rt.alloc();
-    for example in &EXAMPLES {
-        let name = example.name;
-        let first = example.scenario(alloc).ok().ok_or(name)?;
-        let one_profile = run_left(&rt, Engine::Serial, PAIR, &first)?;
-        let report = format!(in alloc; "{}losses 0\n", one_profile.end)?;
-        let scenario = in_second_profile(alloc, "", example)?;
-        for engine in ENGINES {
-            let left = run_left(&rt, engine, PAIR, &scenario)?;
-            left.is(&rt, &(name, engine), example.trace, report.as_str())?;
-        }
+    for group in example_groups() {
+        have_no_loss(&rt, group)?;
     }
     Ok(())
+}
+
+fn have_no_loss<T: Abort + AllocGlobal + Threads + Wait + Sync>(
+    rt: &T,
+    group: &[Example],
+) -> Result<(), Fail> {
+    for example in group {
+        has_no_loss(rt, example)?;
+    }
+    Ok(())
+}
+
+fn has_no_loss<T: Abort + AllocGlobal + Threads + Wait + Sync>(
+    rt: &T,
+    example: &Example,
+) -> Result<(), Fail> {
+    let report = report_without_loss(rt, example)?;
+    let scenario = in_second_profile(rt.alloc(), "", example)?;
+    all_leave(rt, example.name, &scenario, example.trace, report.as_str())
+}
+
+/// The report of an example in the first profile, and one line more.
+fn report_without_loss<T: AllocGlobal + Threads + Wait + Sync>(
+    rt: &T,
+    example: &Example,
+) -> Result<String, Fail> {
+    let alloc = rt.alloc();
+    let scenario = example.scenario(alloc).ok().ok_or(example.name)?;
+    let left = run_left(rt, Engine::Serial, PAIR, &scenario)?;
+    Ok(format!(in alloc; "{}losses 0\n", left.end)?)
 }
 
 /// A lookup of n3 whose messages are all lost.
@@ -87,10 +110,7 @@ fn messages_that_are_lost_or_late(rt: HostRuntime) -> Result<(), Fail> {
         ("spread_us = 5\n", &SILENT),
     ] {
         let scenario = in_second_profile(alloc, own, example)?;
-        for engine in ENGINES {
-            let left = run_left(&rt, engine, PAIR, &scenario)?;
-            left.is(&rt, &(example.name, engine), example.trace, example.report)?;
-        }
+        all_leave(&rt, example.name, &scenario, example.trace, example.report)?;
     }
     Ok(())
 }
@@ -106,15 +126,11 @@ fn spreads_are_added(rt: HostRuntime) -> Result<(), Fail> {
         124 n3 found 1 n1 hops=1 timeouts=0 us=24\n\
         200 audit members=3 dead=0 ring=3 ordered=yes principals=3 sufficient=yes\n";
     let scenario = in_second_profile(alloc, "spread_us = 5\n", &LOSE_ALL)?;
-    for engine in ENGINES {
-        let left = run_left(&rt, engine, PAIR, &scenario)?;
-        assert!(rt; left.trace.as_str() == trace, "{engine:?}: {}", left.trace);
-    }
-    Ok(())
+    all_write(&rt, &scenario, trace)
 }
 
 /// The ring of three with one lookup in the second profile, one text replaced by another, and the result.
-const CHANGES: [(&str, &str, &str); 17] = [
+const CHANGES: [Change; 17] = [
     ("", "", "ok nodes=3 commands=1"),
     (
         "seed = 1",
@@ -193,13 +209,7 @@ fn texts_of_the_second_profile(rt: HostRuntime) -> Result<(), Fail> {
     let base = base
         .as_str()
         .replacen(rt.alloc(), "profile = 1", "profile = 2", 1)?;
-    for (old, new, want) in &CHANGES {
-        assert!(rt; base.as_str().contains(*old), "no {old}");
-        let text = base.as_str().replacen(rt.alloc(), *old, *new, 1)?;
-        let got = answer(&rt, text.as_str().as_bytes(), b"")?;
-        assert!(rt; got.as_str() == *want, "{got}, not {want}, at {new}");
-    }
-    Ok(())
+    have_results(&rt, base.as_str(), &CHANGES)
 }
 
 /// The report of the lookup that needs no hop.
@@ -222,9 +232,7 @@ fn the_widest_identifier(rt: HostRuntime) -> Result<(), Fail> {
     )?;
     let wide = "id = \"ffffffffffffffffffffffffffffffff\"";
     let text = text.as_str().replacen(alloc, "id = 3", wide, 1)?;
-    let scenario = read_scenario(alloc, text.as_str().as_bytes(), b"")
-        .ok()
-        .ok_or("refused")?;
+    let scenario = scenario_of(alloc, text.as_str(), b"")?;
     assert!(rt; scenario.nodes() == 3);
     assert!(rt; scenario.ident(0).raw() == 0 && scenario.ident(1).raw() == 1);
     assert!(rt; scenario.ident(2).raw() == Raw::MAX);
@@ -263,9 +271,7 @@ fn as_many_nodes_as_there_may_be(rt: HostRuntime) -> Result<(), Fail> {
     let refused = answer(&rt, more.as_str().as_bytes(), b"")?;
     assert!(rt; refused.as_str() == "S5 OutOfRange top node", "{refused}");
     let most = ring_of(alloc, 12, 4096, 3000)?;
-    let scenario = read_scenario(alloc, most.as_str().as_bytes(), b"")
-        .ok()
-        .ok_or("the ring is refused")?;
+    let scenario = scenario_of(alloc, most.as_str(), b"")?;
     let shape = Shape {
         parts: 512,
         workers: 8,
