@@ -657,7 +657,6 @@ const REPAIRS: [Example; 5] = [
             us-greatest 40\n\
             audits 1\n",
     },
-    // n1 is down, and n0 is a member already.
 ];
 
 fn repairs() -> &'static [Example] {
@@ -666,6 +665,7 @@ fn repairs() -> &'static [Example] {
 
 /// Commands that are ignored, and messages that meet a crash.
 const CROSSINGS: [Example; 5] = [
+    // n1 is down, and n0 is a member already.
     Example {
         name: "commands that are ignored",
         settings: SETTINGS,
