@@ -14,7 +14,7 @@ use std::marker::Model;
 
 /// How many events must be pending for a calendar. Fewer are as fast in a heap, and take less memory
 /// there than lists would.
-const FEW: u64 = 512;
+const FEW: u64 = 2048;
 
 /// Events by day, which contracts see as their list in the order of their keys.
 #[derive(Drop)]

@@ -16,9 +16,6 @@ const DAYS: u64 = 1024;
 /// The length of a day in microseconds.
 const DAY: u64 = 1024;
 
-/// How many empty days an event may cost, when days are opened one after another.
-const STEPS: u64 = 16;
-
 /// Events by day. A list has the events of one day, and only days after the last opened one have
 /// events.
 #[derive(Drop)]
@@ -29,7 +26,7 @@ pub struct Days {
     pub today: u64,
     /// No event has a later day.
     pub latest: u64,
-    /// The number of events in the lists. Only `put` reads it, so nothing is proved of it.
+    /// The number of events in the lists. It decides where an event goes, so nothing is proved of it.
     pub count: u64,
 }
 
@@ -72,11 +69,6 @@ impl Days {
         let day = event.key.time / DAY;
         let place = (day % DAYS) as usize;
         if day <= self.today || day - self.today >= DAYS || place >= self.lists.len() {
-            return Err(event);
-        }
-        // So that the steps over empty days stay in proportion to the events: a few events that are
-        // far apart would cost many steps each.
-        if day - self.today > self.count.saturating_add(1).saturating_mul(STEPS) {
             return Err(event);
         }
         if let Err(refused) = self.lists[place].push(event) {
