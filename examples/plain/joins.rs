@@ -1,0 +1,125 @@
+//! Joins: how a node comes up, goes on with an attempt, fails, and becomes a member.
+
+use crate::circle::between;
+use crate::events::{Answer, Request};
+use crate::lookups::MOST_STEPS;
+use crate::state::{Attempt, Purpose, Status};
+use crate::trace::Line;
+use crate::turn::Turn;
+
+/// The failures that end an attempt.
+const MOST_FAILURES: u32 = 8;
+
+impl Turn<'_> {
+    /// The node through which the node joins. It has one once it has come up.
+    fn via(&self) -> u32 {
+        self.node.via.expect("a node that has come up has a via")
+    }
+
+    /// The attempt of a joining node.
+    fn attempt(&mut self) -> &mut Attempt {
+        let attempt = self.node.attempt.as_mut();
+        attempt.expect("a joining node has an attempt")
+    }
+
+    /// Comes up, and joins through a node.
+    pub fn come_up(&mut self, via: u32) {
+        self.note(Line::Join {
+            via: self.name(via),
+        });
+        self.node.epoch += 1;
+        self.node.via = Some(via);
+        self.node.next_finger = 2;
+        self.start_attempt();
+        self.arm();
+        self.ask_for_place(via);
+    }
+
+    /// Becomes a joining node, with an attempt that has no failures and no steps.
+    fn start_attempt(&mut self) {
+        self.node.status = Status::Joining;
+        self.node.attempt = Some(Attempt::default());
+    }
+
+    /// Asks a node for the owner of the node's own identifier.
+    fn ask_for_place(&mut self, to: u32) {
+        let request = Request::Step {
+            key: self.scenario.ident(self.node.me),
+            avoid: self.attempt().avoid.clone(),
+        };
+        self.call(to, request, Purpose::JoinStep);
+    }
+
+    /// A try of the attempt has failed. The node tries again, or goes down after the last try.
+    fn fail_join(&mut self) {
+        let attempt = self.attempt();
+        attempt.failures += 1;
+        if attempt.failures < MOST_FAILURES {
+            attempt.steps = 0;
+            return self.ask_for_place(self.via());
+        }
+        self.note(Line::JoinFailed);
+        self.node.go_down();
+        if self.churns() {
+            self.arm_rise();
+        }
+    }
+
+    /// Joins again, since no successor is left.
+    pub fn strand(&mut self) {
+        let via = self.via();
+        self.note(Line::Stranded {
+            via: self.name(via),
+        });
+        for lookup in std::mem::take(&mut self.node.lookups) {
+            self.note_lost(&lookup);
+        }
+        self.node.forget_ring();
+        self.start_attempt();
+        self.ask_for_place(via);
+    }
+
+    /// A node has answered a step of the attempt.
+    pub fn join_step_answered(&mut self, asked: u32, answer: Answer) {
+        match answer {
+            Answer::Owner(_) => {
+                self.call(asked, Request::GetList, Purpose::JoinList);
+            }
+            Answer::Next(next) if self.attempt().steps < MOST_STEPS => {
+                self.attempt().steps += 1;
+                self.ask_for_place(next);
+            }
+            Answer::Next(_) | Answer::Stuck => self.fail_join(),
+        }
+    }
+
+    /// A node has sent its successor list. If the node's place is at its head, the node takes it.
+    pub fn join_list_received(&mut self, predecessor: u32, successors: Vec<u32>) {
+        let scenario = self.scenario;
+        let me = scenario.ident(self.node.me);
+        let is_before =
+            |&head: &u32| between(scenario.ident(predecessor), me, scenario.ident(head));
+        let Some(head) = successors.first().copied().filter(is_before) else {
+            return self.fail_join();
+        };
+        self.node.predecessor = Some(predecessor);
+        self.node.successors = successors;
+        self.node.successors.truncate(self.scenario.list);
+        self.node.fingers = vec![head; self.scenario.circle.bits() as usize - 1];
+        self.node.status = Status::Member;
+        self.node.attempt = None;
+        self.note(Line::Member {
+            predecessor: self.name(predecessor),
+        });
+    }
+
+    /// A request of the attempt to a node timed out.
+    pub fn join_timed_out(&mut self, asked: u32) {
+        let is_via = asked == self.via();
+        let attempt = self.attempt();
+        if !is_via && !attempt.avoid.contains(&asked) {
+            attempt.avoid.push(asked);
+        }
+        self.fail_join();
+    }
+}

@@ -1,0 +1,147 @@
+//! Lookups: the search for the next node, and how a lookup starts, goes on and ends.
+
+use crate::circle::{between, in_half_open, Ident};
+use crate::events::{Answer, Request};
+use crate::scenario::Scenario;
+use crate::state::{Aim, Lookup, Node, Purpose};
+use crate::trace::Line;
+use crate::turn::Turn;
+
+/// The most lookups of a user that a node has at once.
+const MOST_USER_LOOKUPS: usize = 60;
+
+/// The most requests of a lookup. A join has as many after its first.
+pub const MOST_STEPS: u32 = 128;
+
+/// The timeouts that a lookup survives.
+const MOST_TIMEOUTS: u32 = 8;
+
+/// The step answer of a node, for a key and nodes to avoid.
+pub fn step_answer(scenario: &Scenario, node: &Node, key: Ident, avoid: &[u32]) -> Answer {
+    let mut successors = node.successors.iter().copied();
+    let Some(head) = successors.find(|successor| !avoid.contains(successor)) else {
+        return Answer::Stuck;
+    };
+    let (circle, me) = (scenario.circle, scenario.ident(node.me));
+    if in_half_open(me, key, scenario.ident(head)) {
+        return Answer::Owner(head);
+    }
+    let mut closest = head;
+    let mut farthest = circle.distance(me, scenario.ident(head));
+    for &finger in &node.fingers {
+        // Fingers that are next to each other are mostly the same node.
+        if finger == closest || avoid.contains(&finger) {
+            continue;
+        }
+        let ident = scenario.ident(finger);
+        let distance = circle.distance(me, ident);
+        if between(me, ident, key) && distance > farthest {
+            closest = finger;
+            farthest = distance;
+        }
+    }
+    Answer::Next(closest)
+}
+
+impl Turn<'_> {
+    /// Starts a user's lookup of a key, unless too many are in progress.
+    pub fn look_up(&mut self, key: Ident) {
+        let is_user = |lookup: &&Lookup| lookup.aim == Aim::User;
+        if self.node.lookups.iter().filter(is_user).count() >= MOST_USER_LOOKUPS {
+            self.note(Line::Busy { key });
+        } else {
+            self.note(Line::Lookup { key });
+            self.begin_lookup(key, Aim::User);
+        }
+    }
+
+    /// Starts a lookup, behind all others.
+    pub fn begin_lookup(&mut self, key: Ident, aim: Aim) {
+        self.node.lookups.push(Lookup::new(key, aim, self.time));
+        self.walk_lookup(self.node.lookups.len() - 1);
+    }
+
+    /// Goes on with a lookup from the node itself.
+    fn walk_lookup(&mut self, index: usize) {
+        let lookup = &self.node.lookups[index];
+        let answer = step_answer(self.scenario, self.node, lookup.key, &lookup.avoid);
+        self.follow_answer(index, answer);
+    }
+
+    /// Goes on with a lookup as a step answer says.
+    fn follow_answer(&mut self, index: usize, answer: Answer) {
+        match answer {
+            Answer::Owner(owner) => self.finish_lookup(index, owner),
+            Answer::Next(next) => self.ask_next(index, next),
+            Answer::Stuck => self.fail_lookup(index),
+        }
+    }
+
+    /// Asks the next node, unless the lookup has sent all its requests.
+    fn ask_next(&mut self, index: usize, next: u32) {
+        let lookup = &mut self.node.lookups[index];
+        if lookup.steps >= MOST_STEPS {
+            return self.fail_lookup(index);
+        }
+        lookup.steps += 1;
+        let request = Request::Step {
+            key: lookup.key,
+            avoid: lookup.avoid.clone(),
+        };
+        self.node.lookups[index].call = self.call(next, request, Purpose::Lookup);
+    }
+
+    /// Ends a lookup whose owner is known.
+    fn finish_lookup(&mut self, index: usize, owner: u32) {
+        let lookup = self.node.lookups.remove(index);
+        match lookup.aim {
+            Aim::User => self.note(Line::Found {
+                key: lookup.key,
+                owner: self.name(owner),
+                hops: lookup.hops,
+                timeouts: lookup.timeouts,
+                us: self.time - lookup.started,
+            }),
+            Aim::Finger { index } => self.node.fingers[index as usize - 2] = owner,
+        }
+    }
+
+    /// Ends a lookup without an owner.
+    fn fail_lookup(&mut self, index: usize) {
+        let lookup = self.node.lookups.remove(index);
+        self.note_lost(&lookup);
+    }
+
+    /// The line of a lookup that ends without an owner, if it is a user's.
+    pub fn note_lost(&mut self, lookup: &Lookup) {
+        if lookup.aim == Aim::User {
+            self.note(Line::Lost {
+                key: lookup.key,
+                hops: lookup.hops,
+                timeouts: lookup.timeouts,
+                us: self.time - lookup.started,
+            });
+        }
+    }
+
+    /// A request of a lookup was answered.
+    pub fn lookup_answered(&mut self, call: u64, answer: Answer) {
+        let index = self.node.lookup_of(call);
+        self.node.lookups[index].hops += 1;
+        self.follow_answer(index, answer);
+    }
+
+    /// A request of a lookup to a node timed out.
+    pub fn lookup_timed_out(&mut self, call: u64, asked: u32) {
+        let index = self.node.lookup_of(call);
+        let lookup = &mut self.node.lookups[index];
+        lookup.timeouts += 1;
+        if lookup.timeouts > MOST_TIMEOUTS {
+            return self.fail_lookup(index);
+        }
+        if !lookup.avoid.contains(&asked) {
+            lookup.avoid.push(asked);
+        }
+        self.walk_lookup(index);
+    }
+}

@@ -1,0 +1,313 @@
+//! The rule table: what a node does at each body of an event.
+
+use crate::circle::{between, Ident};
+use crate::events::{Answer, Body, MessageKind, Request};
+use crate::lookups::step_answer;
+use crate::state::{Aim, Call, Purpose};
+use crate::trace::Line;
+use crate::turn::Turn;
+
+impl Turn<'_> {
+    /// Acts on an event. The sender matters for messages only.
+    #[inline]
+    pub fn act(&mut self, sender: u32, body: Body) {
+        match body {
+            Body::CmdJoin { via } => self.on_cmd_join(via),
+            Body::CmdCrash => self.on_cmd_crash(),
+            Body::CmdLookup { key } => self.on_cmd_lookup(key),
+            Body::StabilizeTick { epoch } => self.on_stabilize_tick(epoch),
+            Body::FingerTick { epoch } => self.on_finger_tick(epoch),
+            Body::TrafficTick { epoch } => self.on_traffic_tick(epoch),
+            Body::LifeEnd { epoch } => self.on_life_end(epoch),
+            Body::Rise { epoch } => self.on_rise(epoch),
+            Body::Timeout { call } => self.on_timeout(call),
+            Body::Step { call, key, avoid } => self.on_step(sender, call, key, &avoid),
+            Body::GetState { call } => self.on_get_state(sender, call),
+            Body::GetList { call } => self.on_get_list(sender, call),
+            Body::Ping { call } => self.on_ping(sender, call),
+            Body::Notify => self.on_notify(sender),
+            Body::StepReply { call, answer } => self.on_step_reply(sender, call, answer),
+            Body::StateReply {
+                call,
+                predecessor,
+                successors,
+            } => self.on_state_reply(sender, call, predecessor, &successors),
+            Body::ListReply { call, successors } => self.on_list_reply(sender, call, successors),
+            Body::Pong { call } => self.on_pong(sender, call),
+        }
+    }
+
+    /// A command to join.
+    fn on_cmd_join(&mut self, via: u32) {
+        if self.node.is_down() {
+            self.come_up(via);
+        } else {
+            self.note(Line::Ignored { command: "join" });
+        }
+    }
+
+    /// A command to crash.
+    fn on_cmd_crash(&mut self) {
+        if self.node.is_down() {
+            self.note(Line::Ignored { command: "crash" });
+        } else {
+            self.crash();
+        }
+    }
+
+    /// A command to look up a key.
+    fn on_cmd_lookup(&mut self, key: Ident) {
+        if self.node.is_member() {
+            self.look_up(key);
+        } else {
+            self.note(Line::Ignored { command: "lookup" });
+        }
+    }
+
+    /// Crashes.
+    fn crash(&mut self) {
+        self.note(Line::Crash);
+        self.node.go_down();
+    }
+
+    /// The timer to stabilize: asks the head of the successor list for its state.
+    fn on_stabilize_tick(&mut self, epoch: u64) {
+        if self.node.is_void(epoch) {
+            return;
+        }
+        self.arm_stabilize();
+        let is_repair = |purpose| matches!(purpose, Purpose::State | Purpose::List);
+        if self.node.is_member() && !self.node.has_call(is_repair) {
+            self.ask_for_state();
+        }
+    }
+
+    /// Asks the head of the successor list for its state.
+    fn ask_for_state(&mut self) {
+        self.call(self.node.head(), Request::GetState, Purpose::State);
+    }
+
+    /// The timer to refresh a finger: looks up the start of the next one.
+    fn on_finger_tick(&mut self, epoch: u64) {
+        if self.node.is_void(epoch) {
+            return;
+        }
+        self.arm_finger();
+        let has_finger_lookup = self.node.lookups.iter().any(|x| x.aim != Aim::User);
+        if !self.node.is_member() || has_finger_lookup {
+            return;
+        }
+        let circle = self.scenario.circle;
+        let index = self.node.next_finger;
+        self.node.next_finger = if index == circle.bits() { 2 } else { index + 1 };
+        let start = circle.finger_start(self.scenario.ident(self.node.me), index);
+        self.begin_lookup(start, Aim::Finger { index });
+    }
+
+    /// The timer to look up a random key.
+    fn on_traffic_tick(&mut self, epoch: u64) {
+        if self.node.is_void(epoch) || self.scenario.lookup_gap.is_none() {
+            return;
+        }
+        self.arm_traffic();
+        if self.node.is_member() {
+            let key = self.node.draws.key(self.scenario.circle);
+            self.look_up(key);
+        }
+    }
+
+    /// The end of a churn node's life.
+    fn on_life_end(&mut self, epoch: u64) {
+        if !self.node.is_void(epoch) && self.churns() {
+            self.crash();
+            self.arm_rise();
+        }
+    }
+
+    /// A churn node comes up again.
+    fn on_rise(&mut self, epoch: u64) {
+        if self.node.epoch != epoch || !self.node.is_down() {
+            return;
+        }
+        if let Some(via) = self.node.via {
+            self.come_up(via);
+        }
+    }
+
+    /// The time for the reply to a call is over.
+    fn on_timeout(&mut self, number: u64) {
+        let Some(call) = self.take_call(|call| call.number == number) else {
+            return;
+        };
+        let asked = call.to;
+        self.note(Line::Timeout {
+            asked: self.name(asked),
+        });
+        match call.purpose {
+            Purpose::Lookup => self.lookup_timed_out(number, asked),
+            Purpose::JoinStep | Purpose::JoinList => self.join_timed_out(asked),
+            Purpose::State => self.drop_head(),
+            Purpose::List => self.notify_head(),
+            Purpose::Ping { notifier } => {
+                if self.node.predecessor == Some(asked) {
+                    self.node.predecessor = Some(notifier);
+                }
+            }
+        }
+    }
+
+    /// Takes the first such call out of the calls.
+    fn take_call(&mut self, is_such: impl Fn(&Call) -> bool) -> Option<Call> {
+        let index = self.node.calls.iter().position(is_such)?;
+        Some(self.node.calls.remove(index))
+    }
+
+    /// Drops the head of the successor list, and asks the next one.
+    fn drop_head(&mut self) {
+        self.node.successors.remove(0);
+        if self.node.successors.is_empty() {
+            self.strand();
+        } else {
+            self.ask_for_state();
+        }
+    }
+
+    /// Whether the node is a member. If not, the message leaves a line.
+    fn accepts(&mut self, kind: MessageKind, sender: u32) -> bool {
+        let is_member = self.node.is_member();
+        if !is_member {
+            self.note_drop(kind, sender);
+        }
+        is_member
+    }
+
+    /// The line of a message that is not handled.
+    fn note_drop(&mut self, kind: MessageKind, sender: u32) {
+        self.note(Line::Drop {
+            kind,
+            sender: self.name(sender),
+        });
+    }
+
+    /// A request for a step answer.
+    fn on_step(&mut self, sender: u32, call: u64, key: Ident, avoid: &[u32]) {
+        if self.accepts(MessageKind::Step, sender) {
+            let answer = step_answer(self.scenario, self.node, key, avoid);
+            let reply = Body::StepReply { call, answer };
+            self.send(MessageKind::StepReply, sender, reply);
+        }
+    }
+
+    /// The predecessor of a member.
+    fn predecessor(&self) -> u32 {
+        self.node.predecessor.expect("a member has a predecessor")
+    }
+
+    /// A request for the predecessor and the successor list.
+    fn on_get_state(&mut self, sender: u32, call: u64) {
+        if self.accepts(MessageKind::GetState, sender) {
+            let reply = Body::StateReply {
+                call,
+                predecessor: self.predecessor(),
+                successors: self.node.successors.clone(),
+            };
+            self.send(MessageKind::StateReply, sender, reply);
+        }
+    }
+
+    /// A request for the successor list.
+    fn on_get_list(&mut self, sender: u32, call: u64) {
+        if self.accepts(MessageKind::GetList, sender) {
+            let successors = self.node.successors.clone();
+            let reply = Body::ListReply { call, successors };
+            self.send(MessageKind::ListReply, sender, reply);
+        }
+    }
+
+    /// A request for a sign of life.
+    fn on_ping(&mut self, sender: u32, call: u64) {
+        if self.accepts(MessageKind::Ping, sender) {
+            self.send(MessageKind::Pong, sender, Body::Pong { call });
+        }
+    }
+
+    /// A node that may be the predecessor. If it is no nearer than the predecessor, that one is pinged.
+    fn on_notify(&mut self, sender: u32) {
+        if !self.accepts(MessageKind::Notify, sender) {
+            return;
+        }
+        let predecessor = self.predecessor();
+        let ident = |node: u32| self.scenario.ident(node);
+        let is_ping = |purpose| matches!(purpose, Purpose::Ping { .. });
+        if between(ident(predecessor), ident(sender), ident(self.node.me)) {
+            self.node.predecessor = Some(sender);
+        } else if sender != predecessor && !self.node.has_call(is_ping) {
+            let purpose = Purpose::Ping { notifier: sender };
+            self.call(predecessor, Request::Ping, purpose);
+        }
+    }
+
+    /// Takes the call of a reply out of the calls. Without one the reply leaves a line.
+    fn answered(&mut self, kind: MessageKind, sender: u32, number: u64) -> Option<Call> {
+        if self.node.is_down() {
+            self.note_drop(kind, sender);
+            return None;
+        }
+        let is_answered = |call: &Call| call.number == number && call.purpose.reply() == kind;
+        let call = self.take_call(is_answered);
+        if call.is_none() {
+            self.note(Line::Late {
+                kind,
+                sender: self.name(sender),
+            });
+        }
+        call
+    }
+
+    /// The reply to a step request.
+    fn on_step_reply(&mut self, sender: u32, number: u64, answer: Answer) {
+        let Some(call) = self.answered(MessageKind::StepReply, sender, number) else {
+            return;
+        };
+        if call.purpose == Purpose::Lookup {
+            self.lookup_answered(number, answer);
+        } else {
+            self.join_step_answered(call.to, answer);
+        }
+    }
+
+    /// The reply to a request for the state: renews the successor list. A node between this one and
+    /// its successor is asked for its list.
+    fn on_state_reply(&mut self, sender: u32, number: u64, predecessor: u32, list: &[u32]) {
+        let Some(call) = self.answered(MessageKind::StateReply, sender, number) else {
+            return;
+        };
+        self.node
+            .renew_successors(call.to, list, self.scenario.list);
+        let ident = |node: u32| self.scenario.ident(node);
+        if between(ident(self.node.me), ident(predecessor), ident(call.to)) {
+            self.call(predecessor, Request::GetList, Purpose::List);
+        } else {
+            self.notify_head();
+        }
+    }
+
+    /// The reply to a request for the successor list.
+    fn on_list_reply(&mut self, sender: u32, number: u64, list: Vec<u32>) {
+        let Some(call) = self.answered(MessageKind::ListReply, sender, number) else {
+            return;
+        };
+        if call.purpose == Purpose::List {
+            self.node
+                .renew_successors(call.to, &list, self.scenario.list);
+            self.notify_head();
+        } else {
+            self.join_list_received(call.to, list);
+        }
+    }
+
+    /// The reply to a ping: the predecessor stays.
+    fn on_pong(&mut self, sender: u32, number: u64) {
+        self.answered(MessageKind::Pong, sender, number);
+    }
+}

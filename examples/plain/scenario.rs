@@ -1,0 +1,250 @@
+//! The scenario, as it is read from the flat form that `flatten` writes.
+
+use std::str::{FromStr, SplitAsciiWhitespace};
+
+use crate::circle::{Circle, Ident};
+use crate::draws::Span;
+
+/// What may happen to a message between different nodes.
+pub enum Profile {
+    /// It arrives after the latency.
+    First,
+    /// It may be lost, or arrive later by a part of the spread.
+    Second { loss_ppm: u32, spread_us: u32 },
+}
+
+/// How long a churn node is up, and then down.
+pub struct Churn {
+    pub life: Span,
+    pub down: Span,
+}
+
+/// What a command does to its node.
+pub enum Action {
+    Join { via: u32 },
+    Crash,
+    Lookup { key: Ident },
+}
+
+/// A command, its time and its node.
+pub struct Command {
+    pub at_us: u64,
+    pub node: u32,
+    pub action: Action,
+}
+
+/// All that a scenario and its latency file say. Nodes are numbered from 0. The rank of a node is
+/// its place in the order of the identifiers.
+pub struct Scenario {
+    pub profile: Profile,
+    pub circle: Circle,
+    pub list: usize,
+    pub seed: u64,
+    pub duration_us: u64,
+    pub timeout_us: u64,
+    pub audit_us: u64,
+    pub stabilize: Span,
+    pub finger: Span,
+    pub max_events: u64,
+    pub churn: Option<Churn>,
+    pub lookup_gap: Option<Span>,
+    pub names: Vec<String>,
+    pub idents: Vec<Ident>,
+    pub initial: Vec<bool>,
+    pub churns: Vec<bool>,
+    pub ranks: Vec<u32>,
+    pub latencies: Latencies,
+    pub commands: Vec<Command>,
+}
+
+impl Scenario {
+    /// Reads a scenario. Panics if the text is not one that `flatten` writes.
+    pub fn read(text: &str) -> Self {
+        let mut words = Words(text.split_ascii_whitespace());
+        let profile = words.profile();
+        let circle = Circle::new(words.next());
+        let (list, seed) = (words.next(), words.next());
+        let (duration_us, timeout_us, audit_us) = (words.next(), words.next(), words.next());
+        let (stabilize_us, finger_us, jitter_us): (u64, u64, u64) =
+            (words.next(), words.next(), words.next());
+        let max_events = words.next();
+        let latency_us = words.next();
+        let churn = words.churn();
+        let lookup_gap = words.flag().then(|| words.span());
+        let nodes = words.nodes();
+        let mut latencies = Latencies::same_for_all(nodes.len(), latency_us);
+        words.rows(&mut latencies);
+        let commands = words.commands();
+        let idents: Vec<Ident> = nodes.iter().map(|node| node.ident).collect();
+        Self {
+            profile,
+            circle,
+            list,
+            seed,
+            duration_us,
+            timeout_us,
+            audit_us,
+            stabilize: Span::new(stabilize_us, stabilize_us + jitter_us),
+            finger: Span::new(finger_us, finger_us + jitter_us),
+            max_events,
+            churn,
+            lookup_gap,
+            initial: nodes.iter().map(|node| node.is_initial).collect(),
+            churns: nodes.iter().map(|node| node.churns).collect(),
+            names: nodes.into_iter().map(|node| node.name).collect(),
+            ranks: ranks_of(&idents),
+            idents,
+            latencies,
+            commands,
+        }
+    }
+
+    /// The identifier of a node.
+    pub fn ident(&self, node: u32) -> Ident {
+        self.idents[node as usize]
+    }
+
+    /// The name of a node.
+    pub fn name(&self, node: u32) -> &str {
+        &self.names[node as usize]
+    }
+
+    /// The numbers of all nodes, in the order of the file.
+    pub fn nodes(&self) -> impl Iterator<Item = u32> {
+        0..self.names.len() as u32
+    }
+}
+
+/// The rank of each node.
+fn ranks_of(idents: &[Ident]) -> Vec<u32> {
+    let mut ordered: Vec<usize> = (0..idents.len()).collect();
+    ordered.sort_unstable_by_key(|&node| idents[node]);
+    let mut ranks = vec![0; idents.len()];
+    for (rank, node) in ordered.into_iter().enumerate() {
+        ranks[node] = rank as u32;
+    }
+    ranks
+}
+
+/// The latency of each pair of nodes, in microseconds.
+pub struct Latencies {
+    nodes: usize,
+    table: Vec<u32>,
+}
+
+impl Latencies {
+    /// The same latency for all pairs of nodes.
+    fn same_for_all(nodes: usize, latency_us: u32) -> Self {
+        let table = vec![latency_us; nodes * nodes];
+        Self { nodes, table }
+    }
+
+    /// Sets the latency of a pair, in both directions.
+    fn set(&mut self, a: usize, b: usize, latency_us: u32) {
+        self.table[a * self.nodes + b] = latency_us;
+        self.table[b * self.nodes + a] = latency_us;
+    }
+
+    /// The latency of two different nodes.
+    pub fn of(&self, from: u32, to: u32) -> u64 {
+        u64::from(self.table[from as usize * self.nodes + to as usize])
+    }
+}
+
+/// A node of the flat form.
+struct NodeRow {
+    name: String,
+    ident: Ident,
+    is_initial: bool,
+    churns: bool,
+}
+
+/// The words of the flat form that have not been read.
+struct Words<'a>(SplitAsciiWhitespace<'a>);
+
+impl<'a> Words<'a> {
+    /// The next word.
+    fn word(&mut self) -> &'a str {
+        self.0.next().expect("the flat form ends early")
+    }
+
+    /// The value of the next word.
+    fn next<T: FromStr>(&mut self) -> T {
+        let word = self.word();
+        word.parse()
+            .unwrap_or_else(|_| panic!("a word of the flat form is wrong: {word}"))
+    }
+
+    /// Whether the next word is 1. Otherwise it is 0.
+    fn flag(&mut self) -> bool {
+        self.word() == "1"
+    }
+
+    /// A span of times.
+    fn span(&mut self) -> Span {
+        Span::new(self.next(), self.next())
+    }
+
+    /// The profile, with the loss and the spread of the second one.
+    fn profile(&mut self) -> Profile {
+        let number: u32 = self.next();
+        let (loss_ppm, spread_us) = (self.next(), self.next());
+        if number == 1 {
+            Profile::First
+        } else {
+            Profile::Second {
+                loss_ppm,
+                spread_us,
+            }
+        }
+    }
+
+    /// The times of churn nodes, if there are any.
+    fn churn(&mut self) -> Option<Churn> {
+        self.flag().then(|| Churn {
+            life: self.span(),
+            down: self.span(),
+        })
+    }
+
+    /// The nodes, after their number.
+    fn nodes(&mut self) -> Vec<NodeRow> {
+        let count: usize = self.next();
+        let row = |_| NodeRow {
+            name: self.next(),
+            ident: self.next(),
+            is_initial: self.flag(),
+            churns: self.flag(),
+        };
+        (0..count).map(row).collect()
+    }
+
+    /// Sets the latencies of the rows, which follow their number.
+    fn rows(&mut self, latencies: &mut Latencies) {
+        let count: usize = self.next();
+        for _ in 0..count {
+            latencies.set(self.next(), self.next(), self.next());
+        }
+    }
+
+    /// The commands, after their number.
+    fn commands(&mut self) -> Vec<Command> {
+        let count: usize = self.next();
+        (0..count).map(|_| self.command()).collect()
+    }
+
+    /// A command.
+    fn command(&mut self) -> Command {
+        let (at_us, node) = (self.next(), self.next());
+        let action = match self.word() {
+            "join" => Action::Join { via: self.next() },
+            "crash" => Action::Crash,
+            _ => Action::Lookup { key: self.next() },
+        };
+        Command {
+            at_us,
+            node,
+            action,
+        }
+    }
+}

@@ -1,0 +1,215 @@
+//! The state of a node.
+
+use crate::circle::Ident;
+use crate::draws::Draws;
+use crate::events::MessageKind;
+use crate::scenario::Scenario;
+
+/// Whether a node takes part in the ring.
+#[derive(Clone, Copy, PartialEq)]
+pub enum Status {
+    Down,
+    Joining,
+    Member,
+}
+
+/// What a call is for.
+#[derive(Clone, Copy, PartialEq)]
+pub enum Purpose {
+    Lookup,
+    JoinStep,
+    JoinList,
+    State,
+    List,
+    Ping { notifier: u32 },
+}
+
+impl Purpose {
+    /// The kind of the reply that a call of this purpose waits for.
+    pub fn reply(self) -> MessageKind {
+        match self {
+            Purpose::Lookup | Purpose::JoinStep => MessageKind::StepReply,
+            Purpose::JoinList | Purpose::List => MessageKind::ListReply,
+            Purpose::State => MessageKind::StateReply,
+            Purpose::Ping { .. } => MessageKind::Pong,
+        }
+    }
+}
+
+/// A request that is out. Its number is that of its event.
+pub struct Call {
+    pub number: u64,
+    pub to: u32,
+    pub purpose: Purpose,
+}
+
+/// Who a lookup is for.
+#[derive(Clone, Copy, PartialEq)]
+pub enum Aim {
+    User,
+    Finger { index: u32 },
+}
+
+/// A lookup in progress: the number of its call, its key and aim, when it started, how many requests
+/// it has sent, how many were answered and how many timed out, and the nodes that it avoids.
+pub struct Lookup {
+    pub call: u64,
+    pub key: Ident,
+    pub aim: Aim,
+    pub started: u64,
+    pub steps: u32,
+    pub hops: u32,
+    pub timeouts: u32,
+    pub avoid: Vec<u32>,
+}
+
+impl Lookup {
+    /// A lookup that has sent no request.
+    pub fn new(key: Ident, aim: Aim, started: u64) -> Self {
+        Self {
+            call: 0,
+            key,
+            aim,
+            started,
+            steps: 0,
+            hops: 0,
+            timeouts: 0,
+            avoid: Vec::new(),
+        }
+    }
+}
+
+/// An attempt to join: its failures, its requests after the first, and the nodes that it avoids.
+#[derive(Default)]
+pub struct Attempt {
+    pub failures: u32,
+    pub steps: u32,
+    pub avoid: Vec<u32>,
+}
+
+/// What a node knows. `epoch` counts its lives. `via` is the node through which it joined last.
+/// `fingers` has the fingers from the second to the last. `count` is the number of its last event.
+pub struct Node {
+    pub me: u32,
+    pub status: Status,
+    pub epoch: u64,
+    pub via: Option<u32>,
+    pub predecessor: Option<u32>,
+    pub successors: Vec<u32>,
+    pub fingers: Vec<u32>,
+    pub next_finger: u32,
+    pub calls: Vec<Call>,
+    pub lookups: Vec<Lookup>,
+    pub attempt: Option<Attempt>,
+    pub draws: Draws,
+    pub count: u64,
+}
+
+impl Node {
+    /// A node that has never been up.
+    fn never_up(me: u32, seed: u64) -> Self {
+        Self {
+            me,
+            status: Status::Down,
+            epoch: 0,
+            via: None,
+            predecessor: None,
+            successors: Vec::new(),
+            fingers: Vec::new(),
+            next_finger: 2,
+            calls: Vec::new(),
+            lookups: Vec::new(),
+            attempt: None,
+            draws: Draws::new(seed, me),
+            count: 0,
+        }
+    }
+
+    /// Whether the node is down.
+    pub fn is_down(&self) -> bool {
+        self.status == Status::Down
+    }
+
+    /// Whether the node is a member.
+    pub fn is_member(&self) -> bool {
+        self.status == Status::Member
+    }
+
+    /// The first entry of the successor list. A member has one.
+    pub fn head(&self) -> u32 {
+        self.successors[0]
+    }
+
+    /// Whether a timer of this epoch is void: it belongs to another life, or the node is down.
+    pub fn is_void(&self, epoch: u64) -> bool {
+        self.epoch != epoch || self.is_down()
+    }
+
+    /// Whether a call of such a purpose is out.
+    pub fn has_call(&self, is_such: impl Fn(Purpose) -> bool) -> bool {
+        self.calls.iter().any(|call| is_such(call.purpose))
+    }
+
+    /// The index of the lookup that waits for the call of this number.
+    pub fn lookup_of(&self, call: u64) -> usize {
+        let index = self.lookups.iter().position(|lookup| lookup.call == call);
+        index.expect("each Lookup call has its lookup")
+    }
+
+    /// Makes the successor list of a node and the nodes of a list after it.
+    pub fn renew_successors(&mut self, first: u32, list: &[u32], most: usize) {
+        self.successors.clear();
+        self.successors.push(first);
+        self.successors.extend_from_slice(list);
+        self.successors.truncate(most);
+    }
+
+    /// Forgets the ring: the predecessor, the successors, the fingers, and all that was in progress.
+    pub fn forget_ring(&mut self) {
+        self.predecessor = None;
+        self.successors.clear();
+        self.fingers.clear();
+        self.calls.clear();
+        self.lookups.clear();
+    }
+
+    /// Goes down. The epoch, `via`, the place in the random stream and `count` are kept.
+    pub fn go_down(&mut self) {
+        self.forget_ring();
+        self.status = Status::Down;
+        self.next_finger = 2;
+        self.attempt = None;
+    }
+}
+
+/// The states at the start: each initial node knows the whole ring, and the others are down.
+pub fn first_states(scenario: &Scenario) -> Vec<Node> {
+    let nodes = scenario.nodes();
+    let mut nodes: Vec<Node> = nodes.map(|me| Node::never_up(me, scenario.seed)).collect();
+    let is_initial = |node: &u32| scenario.initial[*node as usize];
+    let initial: Vec<u32> = scenario.nodes().filter(is_initial).collect();
+    let mut ring = initial.clone();
+    ring.sort_unstable_by_key(|&node| scenario.ranks[node as usize]);
+    for (place, &me) in ring.iter().enumerate() {
+        let node = &mut nodes[me as usize];
+        enter_ring(scenario, node, &ring, place);
+        node.via = initial.iter().copied().find(|&other| other != me);
+    }
+    nodes
+}
+
+/// Makes a node a member of the ring at the start, in which it has this place.
+fn enter_ring(scenario: &Scenario, node: &mut Node, ring: &[u32], place: usize) {
+    let from = |offset: usize| ring[(place + offset) % ring.len()];
+    node.status = Status::Member;
+    node.epoch = 1;
+    node.predecessor = Some(from(ring.len() - 1));
+    node.successors = (1..=scenario.list).map(from).collect();
+    let me = scenario.ident(node.me);
+    let owner = |finger: u32| {
+        let start = scenario.circle.finger_start(me, finger);
+        let at = ring.partition_point(|&other| scenario.ident(other) < start);
+        ring[at % ring.len()]
+    };
+    node.fingers = (2..=scenario.circle.bits()).map(owner).collect();
+}

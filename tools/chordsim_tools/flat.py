@@ -1,0 +1,88 @@
+"""The command examples/plain/flatten: the flat form of a scenario, which the plain program of examples/plain reads."""
+
+from collections.abc import Iterator
+
+from chordsim_tools.cli import Parser, run
+from chordsim_tools.files import put, read_input
+from chordsim_tools.known import known
+from chordsim_tools.scenario.reading import Command, Scenario, read_scenario
+from chordsim_tools.scenario.tables import GREATEST_SIZE
+
+PROG = "examples/plain/flatten"
+HELP = """\
+Writes the flat form of a scenario: its values one after the other, each between blanks or line ends. The program of
+examples/plain reads this form. The scenario and its latencies are checked as chordsim checks them."""
+EPILOG = """\
+The flat form:
+  profile, loss_ppm, spread_us
+  bits, list, seed, duration_us, timeout_us, audit_us, stabilize_us, finger_us, jitter_us, max_events, latency_us
+  1 and life_min_us, life_max_us, down_min_us, down_max_us, or 0 if there is no [churn]
+  1 and gap_min_us, gap_max_us, or 0 if there is no [lookups]
+  the number of nodes; for each its name, its identifier, initial and churn as 1 or 0
+  the number of latency rows; for each its two nodes by number and its microseconds
+  the number of commands; for each its time, its node by number and `join VIA`, `crash` or `lookup KEY`
+Nodes are numbered from 0. Numbers are decimal.
+
+example:
+  examples/plain/flatten examples/churn64.toml -o churn64.flat
+
+status: 0 the file is written; 1 a file is refused; 2 the arguments are wrong; 3 the file could not be written; 130
+interrupted. A file is whole or not there."""
+
+
+def parser_of() -> Parser:
+    """The parser of the arguments."""
+    parser = Parser(PROG, HELP, EPILOG, strict=True)
+    parser.add_argument("scenario", metavar="SCENARIO", help="the scenario file (TOML)")
+    parser.add_argument("latency", metavar="LATENCY", nargs="?", help="the latency file (CSV)")
+    parser.add_argument("-o", dest="file", metavar="FILE", help="write to this file, not to standard output")
+    return parser
+
+
+def flat_form(scenario: Scenario) -> str:
+    """The flat form of a scenario."""
+    return "".join(" ".join(map(str, values)) + "\n" for values in lines_of(scenario))
+
+
+def lines_of(scenario: Scenario) -> Iterator[list[int | str]]:
+    """The values of each line."""
+    s = scenario
+    yield [s.profile, s.loss_ppm, s.spread_us]
+    yield [s.bits, s.list, s.seed, s.duration_us, s.timeout_us, s.audit_us, s.stabilize_us, s.finger_us, s.jitter_us,
+           s.max_events, s.latency_us]
+    c = s.churn
+    yield [0] if c is None else [1, c.life_min_us, c.life_max_us, c.down_min_us, c.down_max_us]
+    yield [0] if s.lookups is None else [1, s.lookups.gap_min_us, s.lookups.gap_max_us]
+    yield [len(s.nodes)]
+    for node in s.nodes:
+        yield [node.name, node.ident, int(node.initial), int(node.churn)]
+    # Each pair is there in both orders.
+    rows: list[list[int | str]] = [[a, b, micros] for (a, b), micros in s.latencies.items() if a < b]
+    yield [len(rows)]
+    yield from rows
+    yield [len(s.commands)]
+    for command in s.commands:
+        yield [command.at_us, command.node, *action_of(command)]
+
+
+def action_of(command: Command) -> list[int | str]:
+    """What a command does, with the value that it needs for it."""
+    match command.do:
+        case "join":
+            return ["join", known(command.via)]
+        case "lookup":
+            return ["lookup", known(command.key)]
+        case _:
+            return ["crash"]
+
+
+def write(scenario: str, latency: str | None, file: str | None) -> None:
+    """Writes the flat form of the two files."""
+    rows = b"" if latency is None else read_input(latency, GREATEST_SIZE, reasons=False)
+    put(flat_form(read_scenario(read_input(scenario, GREATEST_SIZE, reasons=False), rows)), file)
+
+
+def main(arguments: list[str]) -> int:
+    """The command."""
+    args = parser_of().parse_args(arguments)
+    return run(PROG, lambda: write(args.scenario, args.latency, args.file))
