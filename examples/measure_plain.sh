@@ -1,0 +1,101 @@
+#!/usr/bin/env bash
+# Times the serial engine of chordsim and the plain program of examples/plain, alternately, on the examples churn64,
+# churn512, lossy64 and churn4096. Both write a trace and a report, which must be the same bytes. Prints for each example
+# the seconds of each turn, the processor seconds of each turn (user + system), the least of each, the greatest resident
+# memory, and the least of the plain program as a ratio to that of chordsim: 1.00 means as fast.
+#
+#   examples/measure_plain.sh [TURNS]     so many turns, 3 if not said
+#
+# CHORDSIM names another program than ./chordsim. The status is 0 if there is no rustc, and 1 if trace or report differ.
+set -eu
+top=$(CDPATH='' cd -- "$(dirname -- "$0")/.." && pwd)
+if ! command -v rustc > /dev/null; then
+    echo "measure_plain: there is no rustc, which builds the plain program: nothing is measured" >&2
+    exit 0
+fi
+# The launcher takes time of its own, so the program that it would start is timed.
+program=${CHORDSIM:-$("$top/chordsim" --where)}
+turns=${1:-3}
+work=$(mktemp -d)
+trap 'rm -rf "$work"' EXIT
+# What `time` prints: the seconds, and those of the processors for the program and for the system.
+TIMEFORMAT='%3R %3U %3S'
+# GNU time says how much memory a program had. Its own start counts for both programs alike.
+gauge=()
+if [ -x /usr/bin/time ]; then
+    gauge=(/usr/bin/time -f %M -a -o "$work/memory")
+else
+    echo "measure_plain: there is no /usr/bin/time: no memory is measured" >&2
+fi
+
+# Runs a command, and adds what it took to the rows of this name. Its standard output is the report.
+take() {
+    name=$1
+    shift
+    : > "$work/memory"
+    { time "${gauge[@]}" "$@" > "$work/$name.report" 2> "$work/errors"; } 2>> "$work/$name.row" || {
+        echo "measure_plain: $name fails:" >&2
+        cat "$work/errors" >&2
+        exit 1
+    }
+    cat "$work/memory" >> "$work/$name.memory"
+}
+
+# Fails if this file of the two programs differs.
+same() {
+    cmp "$work/chordsim.$1" "$work/plain.$1" >&2 || {
+        echo "measure_plain: another $1 of $example" >&2
+        exit 1
+    }
+}
+
+# The seconds of a row, and the processor seconds.
+seconds() {
+    awk '{ print $1 }' "$work/$1.row"
+}
+processors() {
+    awk '{ printf "%.3f\n", $2 + $3 }' "$work/$1.row"
+}
+
+# The least of the numbers in the lines of the input.
+least() {
+    sort -n | head -n 1
+}
+
+# Prints the rows of this name.
+show() {
+    memory=$(sort -n "$work/$1.memory" | tail -n 1)
+    printf '    %-8s  seconds: %s  processors: %s  least: %s and %s  memory: %s\n' "$1" \
+        "$(seconds "$1" | paste -s -d ' ')" "$(processors "$1" | paste -s -d ' ')" \
+        "$(seconds "$1" | least)" "$(processors "$1" | least)" "${memory:+$memory kB}"
+}
+
+# Prints the ratio of two numbers.
+ratio() {
+    echo "$1 $2" | awk '{ if ($2 > 0) printf "%.2f", $1 / $2; else printf "-" }'
+}
+
+# Times both programs on an example.
+measure() {
+    example=$1
+    scenario=$top/examples/$example.toml
+    rm -f "$work"/*.row "$work"/*.memory
+    "$top/examples/plain/flatten" "$scenario" -o "$work/flat"
+    for ((turn = 0; turn < turns; turn++)); do
+        take chordsim "$program" run --serial --scenario "$scenario" --trace "$work/chordsim.trace"
+        take plain "$work/plain" "$work/flat" "$work/plain.trace"
+        same trace
+        same report
+    done
+    echo "$example ($(sed -n 's/^events //p' "$work/plain.report") events)"
+    show chordsim
+    show plain
+    printf '    plain/chordsim: %s of the seconds, %s of the processor seconds\n' \
+        "$(ratio "$(seconds plain | least)" "$(seconds chordsim | least)")" \
+        "$(ratio "$(processors plain | least)" "$(processors chordsim | least)")"
+}
+
+rustc --edition 2021 -O -o "$work/plain" "$top/examples/plain/main.rs"
+for name in churn64 churn512 lossy64 churn4096; do
+    measure "$name"
+done
