@@ -1,8 +1,9 @@
 #!/usr/bin/env bash
 # Times the serial engine of chordsim and the plain program of examples/plain, alternately, on the examples churn64,
-# churn512, lossy64 and churn4096. Both write a trace and a report, which must be the same bytes. Prints for each example
-# the seconds of each turn, the processor seconds of each turn (user + system), the least of each, the greatest resident
-# memory, and the least of the plain program as a ratio to that of chordsim: 1.00 means as fast.
+# churn512, lossy64 and churn4096. Both write a trace and a report, which must be the same bytes. Prints for each
+# example and program the seconds of each turn, the processor seconds of each turn (user + system), the least of each,
+# and the greatest resident memory. Then prints the least of the plain program as a ratio to that of chordsim: 1.00 means
+# as fast.
 #
 #   examples/measure_plain.sh [TURNS]     so many turns, 3 if not said
 #

@@ -1,4 +1,4 @@
-//! The pending events: their keys in a heap, and the events themselves in slots that are used again.
+//! The pending events: their keys in a heap, and the events in slots that are used again.
 
 use std::cmp::Reverse;
 use std::collections::BinaryHeap;

@@ -5,7 +5,8 @@ use std::fmt;
 use crate::audits::Audit;
 use crate::trace::Line;
 
-/// The numbers of the report. `times_us` has the time of each lookup that was found.
+/// The numbers of the report. `times_us` has the time of each lookup that was found, in ascending
+/// order after `sort_times`.
 #[derive(Default)]
 pub struct Report {
     pub events: u64,
@@ -70,10 +71,14 @@ impl Report {
         self.insufficient += u64::from(!audit.is_sufficient);
     }
 
+    /// Puts the times in order, which they have to be in before the report is printed.
+    pub fn sort_times(&mut self) {
+        self.times_us.sort_unstable();
+    }
+
     /// The words and numbers of the lines, in their order.
     fn rows(&self) -> Vec<(&'static str, u64)> {
-        let mut times = self.times_us.clone();
-        times.sort_unstable();
+        let times = &self.times_us;
         let median = times.get(times.len().saturating_sub(1) / 2);
         let ended = self.found + self.lost;
         let mut rows = vec![

@@ -231,7 +231,7 @@ impl Turn<'_> {
         }
     }
 
-    /// A node that may be the predecessor. If it is no nearer than the predecessor, that one is pinged.
+    /// A node that may be the predecessor. If it is not nearer, the predecessor is pinged.
     fn on_notify(&mut self, sender: u32) {
         if !self.accepts(MessageKind::Notify, sender) {
             return;

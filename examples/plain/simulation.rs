@@ -80,6 +80,7 @@ impl<'a> Simulation<'a> {
         let result = self.take_events();
         self.write_trace()?;
         result?;
+        self.trace.report.sort_times();
         Ok(self.trace.report)
     }
 

@@ -50,8 +50,9 @@ pub enum Aim {
     Finger { index: u32 },
 }
 
-/// A lookup in progress: the number of its call, its key and aim, when it started, how many requests
-/// it has sent, how many were answered and how many timed out, and the nodes that it avoids.
+/// A lookup in progress: the number of its call, its key and aim, and when it started. `steps`
+/// counts the requests that it has sent, `hops` those that were answered, and `timeouts` those that
+/// timed out. It avoids the nodes that did not reply.
 pub struct Lookup {
     pub call: u64,
     pub key: Ident,
@@ -164,7 +165,7 @@ impl Node {
         self.successors.truncate(most);
     }
 
-    /// Forgets the ring: the predecessor, the successors, the fingers, and all that was in progress.
+    /// Forgets the predecessor, the successors, the fingers, and all that was in progress.
     pub fn forget_ring(&mut self) {
         self.predecessor = None;
         self.successors.clear();
