@@ -31,7 +31,7 @@ fi
 
 # Runs a command, and adds what it took to the rows of this name. Its standard output is the report.
 take() {
-    name=$1
+    local name=$1
     shift
     : > "$work/memory"
     { time "${gauge[@]}" "$@" > "$work/$name.report" 2> "$work/errors"; } 2>> "$work/$name.row" || {

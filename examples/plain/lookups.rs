@@ -34,10 +34,12 @@ pub fn step_answer(scenario: &Scenario, node: &Node, key: Ident, avoid: &[u32]) 
             continue;
         }
         let ident = scenario.ident(finger);
+        if !between(me, ident, key) {
+            continue;
+        }
         let distance = circle.distance(me, ident);
-        if between(me, ident, key) && distance > farthest {
-            closest = finger;
-            farthest = distance;
+        if distance > farthest {
+            (closest, farthest) = (finger, distance);
         }
     }
     Answer::Next(closest)
