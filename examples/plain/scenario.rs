@@ -129,25 +129,35 @@ fn ranks_of(idents: &[Ident]) -> Vec<u32> {
 /// The latency of each pair of nodes, in microseconds.
 pub struct Latencies {
     nodes: usize,
+    same: u32,
+    /// Empty if all latencies are the same.
     table: Vec<u32>,
 }
 
 impl Latencies {
     /// The same latency for all pairs of nodes.
-    fn same_for_all(nodes: usize, latency_us: u32) -> Self {
-        let table = vec![latency_us; nodes * nodes];
-        Self { nodes, table }
+    fn same_for_all(nodes: usize, same: u32) -> Self {
+        let table = Vec::new();
+        Self { nodes, same, table }
     }
 
     /// Sets the latency of a pair, in both directions.
     fn set(&mut self, a: usize, b: usize, latency_us: u32) {
+        if self.table.is_empty() {
+            self.table = vec![self.same; self.nodes * self.nodes];
+        }
         self.table[a * self.nodes + b] = latency_us;
         self.table[b * self.nodes + a] = latency_us;
     }
 
     /// The latency of two different nodes.
     pub fn of(&self, from: u32, to: u32) -> u64 {
-        u64::from(self.table[from as usize * self.nodes + to as usize])
+        let latency_us = if self.table.is_empty() {
+            self.same
+        } else {
+            self.table[from as usize * self.nodes + to as usize]
+        };
+        u64::from(latency_us)
     }
 }
 
