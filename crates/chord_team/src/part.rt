@@ -1,7 +1,11 @@
 //! A part of the nodes, and its run in a window.
-ghost use Rattle.std.specs.Prelude.{◌≡◌, ◌++◌, ◌<◌, None, length, IfOk, IfErr, OnOk};
-ghost use Rattle.std.specs.List.{All};
+ghost use Rattle.std.specs.Prelude.{◌≡◌, ◌↔◌, ◌++◌, ◌<◌, [], None, length, IfOk, IfErr, OnOk};
+ghost use Rattle.std.specs.List.{All, Contains};
+ghost use Rattle.chord_event.specs.declared.body.Body.{Body as ABody};
+ghost use Rattle.chord_event.specs.declared.event.Event.{Event as AnEvent};
+ghost use Rattle.chord_event.specs.KeyOrder.{InKeyOrder};
 ghost use Rattle.chord_model.specs.Windows.{part_of};
+ghost use Rattle.chord_queue.specs.EventKey.{event_key};
 ghost use Rattle.chord_team.specs.Orders.{HasRun, IsFault, IsFinished, IsOrder};
 ghost use Rattle.chord_team.specs.Running.{HasHandled, HasSent, HasTakenIn, CanHandle, is_due};
 ghost use Rattle.chord_team.specs.Owned.{AreApart, all_of};
@@ -17,6 +21,10 @@ use chord_trace::Tally;
 use chord_window::sooner;
 use std::alloc::Global;
 use std::mem;
+
+/// With more parts than this, lists of mail give their memory back: there is one for each pair of
+/// parts.
+const MOST_KEPT: usize = 64;
 
 /// A part of the nodes, which has their states and their pending events for the whole run.
 #[derive(Drop)]
@@ -54,6 +62,20 @@ pub struct Finished {
     pub fault: Option<RunError>,
 }
 
+/// Moves the events of a list among the pending ones. The list keeps its memory if it `keeps`.
+fn take_list(pending: &mut Pending, list: &mut Vec<Event>, keeps: bool) -> Result<(), Memory>
+    requires { AreApart (pending.old ++ list.old.items) }
+    ensures same { OnOk result ((x : AnEvent ABody) → Contains pending.new x ↔ Contains (pending.old ++ list.old.items) x) }
+    ensures none_left { OnOk result (list.new.items ≡ []) }
+    ensures ordered { InKeyOrder event_key pending.new }
+{
+    if keeps {
+        return pending.insert_from(list);
+    }
+    let alloc = *list.allocator();
+    pending.insert_all(mem::replace(list, Vec::new(alloc)))
+}
+
 /// Whether the first event, if there is one, is before the horizon.
 fn is_due(first: Option<u64>, horizon: u64) -> bool
     ensures { result ≡ is_due first horizon }
@@ -71,8 +93,9 @@ impl OwnedPart {
         ensures taken { OnOk result (HasTakenIn self.old self.new) }
         ensures part { self.new.part ≡ self.old.part }
     {
+        let keeps = self.inbox.len() <= MOST_KEPT;
         for from in 0..self.inbox.len() {
-            self.pending.insert_from(&mut self.inbox[from])?;
+            take_list(&mut self.pending, &mut self.inbox[from], keeps)?;
         }
         self.pending.recall_order();
         Ok(())

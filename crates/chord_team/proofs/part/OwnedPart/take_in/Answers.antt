@@ -7,8 +7,8 @@ use Rattle.chord_team.specs.Owned.{all_of}
 use Rattle.chord_team.proofs.TakingIn.{one_more_done, still_apart, still_same, taken_apart}
 use Rattle.chord_team.proofs.part.OwnedPart.take_in.Goals as goal
 
-pub insert_from-requires : goal.insert_from-requires
-insert_from-requires c =
+pub take_list-requires : goal.take_list-requires
+take_list-requires c =
     taken_apart c.loop-from.self.pending c.loop-from.self.inbox.items c.loop-from.from c.index_mut.result.now
     (omega (arith, c.loop-from-test.true, c.len-from-end.ensures, c.loop-from.invariant.in_long))
     c.index_mut.ensures.value c.loop-from.invariant.done c.loop-from.invariant.apart
@@ -19,21 +19,21 @@ loop-from-preserved c =
     (arith, c.loop-from-test.true, c.len-from-end.ensures, c.loop-from.invariant.in_long) in
     record {
       apart = still_apart c.loop-from.self.pending c.loop-from.self.inbox.items c.loop-from.from c.index_mut.result.now inside c.index_mut.ensures.value
-          c.loop-from.invariant.done c.loop-from.invariant.apart c.insert_from.new.self c.in_ok-insert_from.ensures.same
-          c.in_ok-insert_from.ensures.ordered c.insert_from.new.events c.in_ok-insert_from.ensures.emptied;
+          c.loop-from.invariant.done c.loop-from.invariant.apart c.take_list.new.pending c.in_ok-take_list.ensures.same
+          c.in_ok-take_list.ensures.ordered c.take_list.new.list c.in_ok-take_list.ensures.none_left;
       same = λ x.
           let now = still_same c.loop-from.self.pending c.loop-from.self.inbox.items c.loop-from.from c.index_mut.result.now inside
-          c.index_mut.ensures.value c.loop-from.invariant.done c.loop-from.invariant.apart c.insert_from.new.self c.in_ok-insert_from.ensures.same
-          c.in_ok-insert_from.ensures.ordered c.insert_from.new.events c.in_ok-insert_from.ensures.emptied x in
+          c.index_mut.ensures.value c.loop-from.invariant.done c.loop-from.invariant.apart c.take_list.new.pending c.in_ok-take_list.ensures.same
+          c.in_ok-take_list.ensures.ordered c.take_list.new.list c.in_ok-take_list.ensures.none_left x in
           let before = c.loop-from.invariant.same x in
           (λ d. before.0 (now.0 d), λ d. now.1 (before.1 d));
-      done = subst (λ k. all_of (take k (set c.loop-from.self.inbox.items c.loop-from.from c.insert_from.new.events)) ≡ [])
+      done = subst (λ k. all_of (take k (set c.loop-from.self.inbox.items c.loop-from.from c.take_list.new.list)) ≡ [])
           (let e : suc c.loop-from.from ≡ c.loop-from.from + 1 = omega arith in e)
           (one_more_done c.loop-from.self.pending c.loop-from.self.inbox.items c.loop-from.from c.index_mut.result.now inside c.index_mut.ensures.value
-          c.loop-from.invariant.done c.loop-from.invariant.apart c.insert_from.new.self c.in_ok-insert_from.ensures.same
-          c.in_ok-insert_from.ensures.ordered c.insert_from.new.events c.in_ok-insert_from.ensures.emptied);
-      in_long = length-set c.loop-from.self.inbox.items c.loop-from.from c.insert_from.new.events ∙ c.loop-from.invariant.in_long;
-      others = ap (λ (p : OwnedPart). record p { pending = c.insert_from.new.self; inbox = with_item c.loop-from.self.inbox c.loop-from.from c.insert_from.new.events })
+          c.loop-from.invariant.done c.loop-from.invariant.apart c.take_list.new.pending c.in_ok-take_list.ensures.same
+          c.in_ok-take_list.ensures.ordered c.take_list.new.list c.in_ok-take_list.ensures.none_left);
+      in_long = length-set c.loop-from.self.inbox.items c.loop-from.from c.take_list.new.list ∙ c.loop-from.invariant.in_long;
+      others = ap (λ (p : OwnedPart). record p { pending = c.take_list.new.pending; inbox = with_item c.loop-from.self.inbox c.loop-from.from c.take_list.new.list })
           c.loop-from.invariant.others;
     }
 
