@@ -3,4 +3,4 @@ use Rattle.std.specs.Prelude.{ℕ}
 
 pub record StreamOf : Type 0 where
   pub seed : ℕ
-  pub node : ℕ
+  pub number : ℕ
