@@ -53,6 +53,11 @@ pub enum Line {
         kind: MessageKind,
         receiver: u32,
     },
+    /// A request that this node sends again.
+    Again {
+        kind: MessageKind,
+        receiver: u32,
+    },
     Lookup {
         key: Ident,
     },

@@ -1,5 +1,5 @@
 -- What a sound table holds at its keys: each fact is found by its key, wherever that is among the keys of the table.
-use Rattle.std.proofs.Common.{◌≡◌, subst, ap, ℕ, ◌==◌, Bool, true, false, List, [], ◌∷◌, bytes_eq, find, Option, Some, unwrap_or, inl, inr}
+use Rattle.std.proofs.Common.{◌≡◌, subst, ap, ℕ, ◌==◌, Bool, true, false, List, [], ◌∷◌, bytes_eq, find, Option, Some, unwrap_or, inl, inr, ◌⊎◌}
 use Rattle.std.specs.List.{AllByRecursion}
 use Rattle.std.specs.Option.{option_and_then}
 use Rattle.std.proofs.lemmas.Bool.{cases_Bool}
@@ -21,13 +21,37 @@ use Rattle.chord_scenario.proofs.SoundSections.{IsSound, Fits, number_fits, defa
 abbrev pub entry_of : FileKey → List Entry → Option Entry
 entry_of k es = find (λ e. bytes_eq (key_name k) (key_name e.0)) es
 
+-- a profile is the third or the second, or counts as the first
+abbrev pub IsThird : (profile : ℕ) → Type 0
+IsThird profile = (profile == 3) ≡ true
+
+pub record IsSecond (profile : ℕ) : Type 0 where
+  pub not_third : (profile == 3) ≡ false
+  pub second : (profile == 2) ≡ true
+
+pub record IsFirst (profile : ℕ) : Type 0 where
+  pub not_third : (profile == 3) ≡ false
+  pub not_second : (profile == 2) ≡ false
+
+pub profile_cases : (profile : ℕ) → IsThird profile ⊎ (IsSecond profile ⊎ IsFirst profile)
+profile_cases profile =
+    elim (cases_Bool (profile == 3)) [
+      | inl third ↦ inl third
+      | inr not_third ↦
+          elim (cases_Bool (profile == 2)) [
+            | inl second ↦ inr (inl (record { not_third = not_third; second = second }))
+            | inr not_second ↦ inr (inr (record { not_third = not_third; not_second = not_second }))
+          ]
+    ]
+
 -- the entry of a key at top is that of each profile
-pub in_each : (profile : ℕ) {e : Entry} → entry_of e.0 (keys_at 2 place.Top) ≡ Some e → entry_of e.0 (keys_at 1 place.Top) ≡ Some e
-    → entry_of e.0 (keys_at profile place.Top) ≡ Some e
-in_each profile second other =
-    elim (cases_Bool (profile == 2)) [
-      | inl is_second ↦ rw is_second second
-      | inr is_other ↦ rw is_other other
+pub in_each : (profile : ℕ) {e : Entry} → entry_of e.0 (keys_at 3 place.Top) ≡ Some e → entry_of e.0 (keys_at 2 place.Top) ≡ Some e
+    → entry_of e.0 (keys_at 1 place.Top) ≡ Some e → entry_of e.0 (keys_at profile place.Top) ≡ Some e
+in_each profile in_third in_second in_first =
+    elim (profile_cases profile) [
+      | inl third ↦ rw third in_third
+      | inr (inl is) ↦ rw (is.not_third, is.second) in_second
+      | inr (inr is) ↦ rw (is.not_third, is.not_second) in_first
     ]
 
 -- what holds of every entry holds of one that is found

@@ -55,7 +55,7 @@ faultless top rows own late =
 
 -- what the questions of keys say
 pub record KeysFit (top : Members) : Type 0 where
-  pub profile : number_at key.Profile top ≤ 2
+  pub profile : number_at key.Profile top ≤ 3
   pub least : 3 ≤ number_at key.Bits top
   pub greatest : number_at key.Bits top ≤ 128
   pub nodes : length (nodes_in top) ≤ 4096

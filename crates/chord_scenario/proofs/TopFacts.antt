@@ -6,8 +6,6 @@ use Rattle.std.proofs.Common.{
   ap,
   refl,
   ℕ,
-  zero,
-  suc,
   ◌+◌,
   ◌*◌,
   ◌≤◌,
@@ -23,7 +21,6 @@ use Rattle.std.proofs.Common.{
   length,
   filter,
   nat_le,
-  ◌==◌,
   Option,
   Some,
   None,
@@ -32,13 +29,12 @@ use Rattle.std.proofs.Common.{
   option_map,
   inl,
   inr,
-  ◌⊎◌,
   arith,
   length-append,
 }
 use Rattle.std.specs.Option.{option_map_or, option_and_then, is_some}
 use Rattle.std.specs.List.{AllByRecursion}
-use Rattle.std.proofs.lemmas.Bool.{cases_Bool, and_parts, false≢true, leb-true}
+use Rattle.std.proofs.lemmas.Bool.{cases_Bool, and_parts, eqb-true, false≢true, leb-true}
 use Rattle.std.proofs.lemmas.List.{length-map}
 use Rattle.std.proofs.lemmas.List.Elements.{filter-append}
 use Rattle.toml.specs.Data.{Data, string, integer, float, boolean, datetime, array, table, Items, no_items, item, Members, as_table}
@@ -56,59 +52,89 @@ use Rattle.chord_scenario.specs.Values.{data_at, number_at, has_type, is_within,
 use Rattle.chord_scenario.specs.Sections.{Section, place_in, table_at, tables_among, tables_of, sections}
 use Rattle.chord_scenario.specs.Settings.{number_or, is_node, is_command, node_of, nodes_of, command_of, commands_of, churn_of, lookups_of}
 use Rattle.chord_scenario.specs.Accepted.{setup_with}
-use Rattle.chord_scenario.specs.Range.{IsSpan, IsChurn, IsInterval, NumbersInRange}
+use Rattle.chord_scenario.specs.Range.{IsSpan, IsChurn, IsInterval, NumbersInRange, most_events}
 use Rattle.chord_scenario.proofs.SoundSections.{IsSound, Fits, HoldsInFile}
-use Rattle.chord_scenario.proofs.Entries.{in_each, required_fits, required_agrees, optional_fits, unlisted_default, has_typed, not_out}
+use Rattle.chord_scenario.proofs.Entries.{Lists, in_each, profile_cases, required_fits, required_agrees, optional_fits, unlisted_default, has_typed, not_out}
 
 -- a number of microseconds that is at least 1
 interval : {n : ℕ} → Fits 1 1000000000 n → IsInterval n
 interval f = record { least = f.low; greatest = f.high }
 
-first_or_second : (n : ℕ) → Fits 1 2 n → (n ≡ 1) ⊎ (n ≡ 2)
-first_or_second zero f = absurd (omega (arith, f.low))
-first_or_second (suc zero) f = inl refl
-first_or_second (suc (suc zero)) f = inr refl
-first_or_second (suc (suc (suc n))) f = absurd (omega (arith, f.high))
-
 module _ (profile bits : ℕ) (churns : Bool) (top : Members) (s : IsSound profile bits churns (record { at = place.Top; members = top })) where
-  pub profile_fits : Fits 1 2 (number_at key.Profile top)
-  profile_fits = required_fits s key.Profile 1 2 (in_each profile refl refl)
+  pub profile_fits : Fits 1 3 (number_at key.Profile top)
+  profile_fits = required_fits s key.Profile 1 3 (in_each profile refl refl refl)
 
   pub bits_fit : Fits 3 128 (number_at key.Bits top)
   bits_fit =
-      elim (cases_Bool (profile == 2)) [
-        | inl is_second ↦ required_fits s key.Bits 3 128 (rw is_second refl)
-        | inr is_other ↦ let fits = required_fits s key.Bits 3 64 (rw is_other refl) in record { low = fits.low; high = omega (arith, fits.high) }
+      elim (profile_cases profile) [
+        | inl third ↦ required_fits s key.Bits 3 128 (rw third refl)
+        | inr (inl is) ↦ required_fits s key.Bits 3 128 (rw (is.not_third, is.second) refl)
+        | inr (inr is) ↦
+            let fits = required_fits s key.Bits 3 64 (rw (is.not_third, is.not_second) refl) in
+            record { low = fits.low; high = omega (arith, fits.high) }
       ]
 
   list_fits : Fits 1 16 (number_at key.List top)
-  list_fits = required_fits s key.List 1 16 (in_each profile refl refl)
+  list_fits = required_fits s key.List 1 16 (in_each profile refl refl refl)
 
   duration_fits : Fits 1 1000000000000 (number_at key.DurationUs top)
-  duration_fits = required_fits s key.DurationUs 1 1000000000000 (in_each profile refl refl)
+  duration_fits = required_fits s key.DurationUs 1 1000000000000 (in_each profile refl refl refl)
 
   audits_fit : number_at key.DurationUs top ≤ 1000000 * number_at key.AuditUs top
-  audits_fit = leb-true _ _ (required_agrees s key.AuditUs 1 1000000000 (in_each profile refl refl))
+  audits_fit = leb-true _ _ (required_agrees s key.AuditUs 1 1000000000 (in_each profile refl refl refl))
 
   jitter_fits : Fits 0 1000000000 (number_or 0 key.JitterUs top)
-  jitter_fits = optional_fits s key.JitterUs 0 1000000000 0 (in_each profile refl refl) (record { low = omega arith; high = omega arith })
+  jitter_fits = optional_fits s key.JitterUs 0 1000000000 0 (in_each profile refl refl refl) (record { low = omega arith; high = omega arith })
 
-  max_events_fits : Fits 1 50000000 (number_or 50000000 key.MaxEvents top)
-  max_events_fits = optional_fits s key.MaxEvents 1 50000000 50000000 (in_each profile refl refl) (record { low = omega arith; high = omega arith })
+  max_events_fits : Fits 1 most_events (number_or 50000000 key.MaxEvents top)
+  max_events_fits =
+      elim (profile_cases profile) [
+        | inl third ↦ optional_fits s key.MaxEvents 1 most_events 50000000 (rw third refl) (record { low = omega arith; high = omega arith })
+        | inr (inl is) ↦ fewer (optional_fits s key.MaxEvents 1 50000000 50000000 (rw (is.not_third, is.second) refl) few)
+        | inr (inr is) ↦ fewer (optional_fits s key.MaxEvents 1 50000000 50000000 (rw (is.not_third, is.not_second) refl) few)
+      ]
+    where
+      few : Fits 1 50000000 50000000
+      few = record { low = omega arith; high = omega arith }
 
-  -- a number that the second profile alone has is 0 in another
+      fewer : {n : ℕ} → Fits 1 50000000 n → Fits 1 most_events n
+      fewer f = record { low = f.low; high = omega (arith, f.high) }
+
+  -- 0 is in such a range
+  zero_fits : {most : ℕ} → Fits 0 most 0
+  zero_fits = record { low = omega arith; high = omega arith }
+
+  -- a number that a profile does not have is 0 in it
   loss_fits : number_or 0 key.LossPpm top ≤ 1000000
   loss_fits =
-      elim (cases_Bool (profile == 2)) [
-        | inl is_second ↦ (optional_fits s key.LossPpm 0 1000000 0 (rw is_second refl) (record { low = omega arith; high = omega arith })).high
-        | inr is_other ↦ omega (arith, unlisted_default s key.LossPpm 0 (rw is_other refl))
+      elim (profile_cases profile) [
+        | inl third ↦ (optional_fits s key.LossPpm 0 1000000 0 (rw third refl) zero_fits).high
+        | inr (inl is) ↦ (optional_fits s key.LossPpm 0 1000000 0 (rw (is.not_third, is.second) refl) zero_fits).high
+        | inr (inr is) ↦ omega (arith, unlisted_default s key.LossPpm 0 (rw (is.not_third, is.not_second) refl))
       ]
 
   spread_fits : number_or 0 key.SpreadUs top ≤ 1000000000
   spread_fits =
-      elim (cases_Bool (profile == 2)) [
-        | inl is_second ↦ (optional_fits s key.SpreadUs 0 1000000000 0 (rw is_second refl) (record { low = omega arith; high = omega arith })).high
-        | inr is_other ↦ omega (arith, unlisted_default s key.SpreadUs 0 (rw is_other refl))
+      elim (profile_cases profile) [
+        | inl third ↦ (optional_fits s key.SpreadUs 0 1000000000 0 (rw third refl) zero_fits).high
+        | inr (inl is) ↦ (optional_fits s key.SpreadUs 0 1000000000 0 (rw (is.not_third, is.second) refl) zero_fits).high
+        | inr (inr is) ↦ omega (arith, unlisted_default s key.SpreadUs 0 (rw (is.not_third, is.not_second) refl))
+      ]
+
+  retries_fit : number_or 0 key.Retries top ≤ 3
+  retries_fit =
+      elim (profile_cases profile) [
+        | inl third ↦ (optional_fits s key.Retries 0 3 0 (rw third refl) zero_fits).high
+        | inr (inl is) ↦ omega (arith, unlisted_default s key.Retries 0 (rw (is.not_third, is.second) refl))
+        | inr (inr is) ↦ omega (arith, unlisted_default s key.Retries 0 (rw (is.not_third, is.not_second) refl))
+      ]
+
+  no_retries : profile ≤ 2 → number_or 0 key.Retries top ≡ 0
+  no_retries early =
+      elim (profile_cases profile) [
+        | inl third ↦ let is : profile ≡ 3 = eqb-true profile 3 third in absurd (omega (arith, early, is))
+        | inr (inl is) ↦ unlisted_default s key.Retries 0 (rw (is.not_third, is.second) refl)
+        | inr (inr is) ↦ unlisted_default s key.Retries 0 (rw (is.not_third, is.not_second) refl)
       ]
 
   no_loss : profile ≡ 1 → (number_or 0 key.LossPpm top ≡ 0) × (number_or 0 key.SpreadUs top ≡ 0)
@@ -123,27 +149,30 @@ module _ (profile bits : ℕ) (churns : Bool) (top : Members) (s : IsSound profi
     list_greatest = list_fits.high;
     duration_least = duration_fits.low;
     duration_greatest = duration_fits.high;
-    window = interval (required_fits s key.WindowUs 1 1000000000 (in_each profile refl refl));
-    latency = interval (required_fits s key.LatencyUs 1 1000000000 (in_each profile refl refl));
-    timeout = interval (required_fits s key.TimeoutUs 1 1000000000 (in_each profile refl refl));
-    audit = interval (required_fits s key.AuditUs 1 1000000000 (in_each profile refl refl));
+    window = interval (required_fits s key.WindowUs 1 1000000000 (in_each profile refl refl refl));
+    latency = interval (required_fits s key.LatencyUs 1 1000000000 (in_each profile refl refl refl));
+    timeout = interval (required_fits s key.TimeoutUs 1 1000000000 (in_each profile refl refl refl));
+    audit = interval (required_fits s key.AuditUs 1 1000000000 (in_each profile refl refl refl));
     audits = audits_fit;
-    stabilize = interval (required_fits s key.StabilizeUs 1 1000000000 (in_each profile refl refl));
-    finger = interval (required_fits s key.FingerUs 1 1000000000 (in_each profile refl refl));
+    stabilize = interval (required_fits s key.StabilizeUs 1 1000000000 (in_each profile refl refl refl));
+    finger = interval (required_fits s key.FingerUs 1 1000000000 (in_each profile refl refl refl));
     jitter = jitter_fits.high;
     max_events_least = max_events_fits.low;
     max_events_greatest = max_events_fits.high;
     loss = loss_fits;
     spread = spread_fits;
-    profile = first_or_second (number_at key.Profile top) profile_fits;
+    retries = retries_fit;
+    profile_least = profile_fits.low;
+    profile_greatest = profile_fits.high;
     lossless = λ is_first. no_loss (is_profile ∙ is_first);
+    asked_once = λ early. no_retries (omega (arith, is_profile, early));
   }
 
   -- the file has a churn table if a node churns
   pub churn_there : churns ≡ true → IsSome (churn_of top)
   unfolding churn_of has_type
   churn_there some =
-      let (d, is, typed) = has_typed s (record { 0 = key.Churn; 1 = Table; 2 = ForChurn }) (in_each profile refl refl) some in
+      let (d, is, typed) = has_typed s (record { 0 = key.Churn; 1 = Table; 2 = ForChurn }) (in_each profile refl refl refl) some in
       rw is (mapped _ (as_table d) typed)
     where
       mapped : {A B : Type 0} (f : A → B) (o : Option A) → is_some o ≡ true → is_some (option_map f o) ≡ true
@@ -314,11 +343,14 @@ module _ (test : Place → Bool) where
 module _ (profile bits : ℕ) (churns : Bool) (top : Members) (s : IsSound profile bits churns (record { at = place.Top; members = top })) where
   nodes_fit : length (filter (λ s. is_node s.at) (tables_of Nodes (data_at key.Node top))) ≤ 4096
   nodes_fit =
-      elim (cases_Bool (profile == 2)) [
-        | inl is_second ↦ chosen-most_of is_node Nodes bits 2 4096 _ (data_at key.Node top) (not_out s (required key.Node (Tables 2 4096)) (rw is_second refl))
-        | inr is_other ↦
-            omega (arith, chosen-most_of is_node Nodes bits 2 512 _ (data_at key.Node top) (not_out s (required key.Node (Tables 2 512)) (rw is_other refl)))
+      elim (profile_cases profile) [
+        | inl third ↦ most_nodes 4096 (rw third refl)
+        | inr (inl is) ↦ most_nodes 4096 (rw (is.not_third, is.second) refl)
+        | inr (inr is) ↦ omega (arith, most_nodes 512 (rw (is.not_third, is.not_second) refl))
       ]
+    where
+      most_nodes : (most : ℕ) → Lists s (required key.Node (Tables 2 most)) → length (filter (λ s. is_node s.at) (tables_of Nodes (data_at key.Node top))) ≤ most
+      most_nodes most is = chosen-most_of is_node Nodes bits 2 most _ (data_at key.Node top) (not_out s (required key.Node (Tables 2 most)) is)
 
   pub few_nodes : (circle : ℕ) → length (nodes_of circle (sections top)) ≤ 4096
   unfolding nodes_of
@@ -341,5 +373,5 @@ module _ (profile bits : ℕ) (churns : Bool) (top : Members) (s : IsSound profi
         length-map ss (λ s. command_of circle nodes s.members),
         chosen-sections is_command top refl refl refl,
         chosen-none_of is_command Nodes (λ n. refl) (data_at key.Node top),
-        chosen-most_of is_command Commands bits 0 100000 _ (data_at key.Command top) (not_out s (optional key.Command (Tables 0 100000)) (in_each profile refl refl)),
+        chosen-most_of is_command Commands bits 0 100000 _ (data_at key.Command top) (not_out s (optional key.Command (Tables 0 100000)) (in_each profile refl refl refl)),
       )

@@ -30,6 +30,7 @@ setup_with top nodes commands latencies = record {
   max_events = number_or 50000000 key.MaxEvents top;
   loss = number_or 0 key.LossPpm top;
   spread = number_or 0 key.SpreadUs top;
+  retries = number_or 0 key.Retries top;
   churn = churn_of top;
   lookups = lookups_of top;
   nodes = nodes;

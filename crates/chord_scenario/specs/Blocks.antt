@@ -15,6 +15,7 @@ nodes_named (line.Drop kind sender) = sender ∷ []
 nodes_named (line.Late kind sender) = sender ∷ []
 nodes_named (line.Timeout silent) = silent ∷ []
 nodes_named (line.Lose kind receiver) = receiver ∷ []
+nodes_named (line.Again kind receiver) = receiver ∷ []
 nodes_named (line.Found key owner hops timeouts us) = owner ∷ []
 nodes_named _ = []
 

@@ -1,5 +1,5 @@
 -- The tables of a scenario file: the keys of each in order, what each may hold and when it is required.
-use Rattle.std.specs.Prelude.{ℕ, List, [], ◌∷◌, ◌++◌, ◌==◌, codes, if◌then◌else◌}
+use Rattle.std.specs.Prelude.{ℕ, Bool, List, [], ◌∷◌, ◌++◌, ◌==◌, ◌||◌, codes, if◌then◌else◌}
 use Rattle.chord_scenario.specs.declared.key.Place.{Place}
 use Rattle.chord_scenario.specs.declared.key.Place.TheVariants as place
 use Rattle.chord_scenario.specs.declared.key.FileKey.{FileKey}
@@ -26,6 +26,7 @@ key_name key.JitterUs = codes "jitter_us"
 key_name key.MaxEvents = codes "max_events"
 key_name key.LossPpm = codes "loss_ppm"
 key_name key.SpreadUs = codes "spread_us"
+key_name key.Retries = codes "retries"
 key_name key.Churn = codes "churn"
 key_name key.Lookups = codes "lookups"
 key_name key.Node = codes "node"
@@ -54,10 +55,11 @@ optional k form = record { 0 = k; 1 = form; 2 = Optional }
 abbrev pub interval : Form
 interval = Whole 1 1000000000
 
--- the keys at top, by the most bits of a circle, the most nodes of a file, and the keys that only this profile has
-abbrev pub top_keys_of : (most_bits most_nodes : ℕ) → (own : List Entry) → List Entry
-top_keys_of most_bits most_nodes own =
-    required key.Profile (Whole 1 2)
+-- the keys at top, by the most bits of a circle, the most nodes of a file, the most events of a run, and the keys that
+-- only this profile has
+abbrev pub top_keys_of : (most_bits most_nodes most_events : ℕ) → (own : List Entry) → List Entry
+top_keys_of most_bits most_nodes most_events own =
+    required key.Profile (Whole 1 3)
     ∷ required key.Bits (Whole 3 most_bits)
     ∷ required key.List (Whole 1 16)
     ∷ required key.Seed (Whole 0 9223372036854775807)
@@ -69,7 +71,7 @@ top_keys_of most_bits most_nodes own =
     ∷ required key.StabilizeUs interval
     ∷ required key.FingerUs interval
     ∷ optional key.JitterUs (Whole 0 1000000000)
-    ∷ optional key.MaxEvents (Whole 1 50000000)
+    ∷ optional key.MaxEvents (Whole 1 most_events)
     ∷ own
     ++ record { 0 = key.Churn; 1 = Table; 2 = ForChurn }
     ∷ optional key.Lookups Table
@@ -77,12 +79,19 @@ top_keys_of most_bits most_nodes own =
     ∷ optional key.Command (Tables 0 100000)
     ∷ []
 
--- the keys that the second profile adds
-abbrev pub network_keys : List Entry
-network_keys = optional key.LossPpm (Whole 0 1000000) ∷ optional key.SpreadUs (Whole 0 1000000000) ∷ []
+-- the keys that the second profile adds, with those that another one has besides
+abbrev pub network_keys_and : List Entry → List Entry
+network_keys_and more = optional key.LossPpm (Whole 0 1000000) ∷ optional key.SpreadUs (Whole 0 1000000000) ∷ more
+
+-- the keys that the third profile adds to these
+abbrev pub retry_keys : List Entry
+retry_keys = optional key.Retries (Whole 0 3) ∷ []
 
 abbrev pub top_keys : (profile : ℕ) → List Entry
-top_keys profile = if profile == 2 then top_keys_of 128 4096 network_keys else top_keys_of 64 512 []
+top_keys profile =
+    if profile == 3 then top_keys_of 128 4096 700000000 (network_keys_and retry_keys)
+    else if profile == 2 then top_keys_of 128 4096 50000000 (network_keys_and [])
+    else top_keys_of 64 512 50000000 []
 
 abbrev pub churn_keys : List Entry
 churn_keys =
@@ -95,9 +104,13 @@ churn_keys =
 abbrev pub lookups_keys : List Entry
 lookups_keys = required key.GapMinUs interval ∷ required key.GapMaxUs interval ∷ []
 
+-- whether identifiers have up to 128 bits
+abbrev pub is_wide : (profile : ℕ) → Bool
+is_wide profile = profile == 2 || profile == 3
+
 -- the most digits that an identifier is written in
 abbrev pub most_digits : (profile : ℕ) → ℕ
-most_digits profile = if profile == 2 then 32 else 16
+most_digits profile = if is_wide profile then 32 else 16
 
 abbrev pub node_keys : (profile : ℕ) → List Entry
 node_keys profile =
@@ -116,7 +129,7 @@ command_keys profile =
     ∷ record { 0 = key.Key; 1 = Identifier (most_digits profile); 2 = ForLookup }
     ∷ []
 
--- the keys of the table at a place; a profile other than the number 2 has the keys of the first
+-- the keys of the table at a place; a profile other than the numbers 2 and 3 has the keys of the first
 abbrev pub keys_at : (profile : ℕ) → Place → List Entry
 keys_at profile place.Top = top_keys profile
 keys_at profile place.Churn = churn_keys

@@ -21,6 +21,7 @@ setup_of s = record {
   max_events = s.max_events;
   loss = s.loss;
   spread = s.spread;
+  retries = s.retries;
   churn = s.churn;
   lookups = s.lookups;
   nodes = s.nodes.items;

@@ -1,6 +1,6 @@
--- What holds of every scenario. The greatest numbers are those of the second profile: no engine has a use for the
--- tighter ones of the first.
-use Rattle.std.specs.Prelude.{ℕ, ◌≡◌, ◌≢◌, ◌⊎◌, ◌+◌, ◌*◌, ◌<◌, ◌≤◌, ◌^◌, true, length, count_by, IfSome, IsSome}
+-- What holds of every scenario. The greatest numbers are those of the third profile: no engine has a use for the
+-- tighter ones of the others.
+use Rattle.std.specs.Prelude.{ℕ, ◌≡◌, ◌≢◌, ◌+◌, ◌*◌, ◌<◌, ◌≤◌, ◌^◌, true, length, count_by, IfSome, IsSome}
 use Rattle.std.specs.List.{All}
 use Rattle.chord_scenario.specs.declared.setting.Action.{Action}
 use Rattle.chord_scenario.specs.declared.setting.Action.TheVariants as action
@@ -40,8 +40,12 @@ pub record IsCommandOf (sc : Setup) (command : Command) : Type 0 where
   pub node : command.node < node_count sc
   pub action : IsActionOf sc command.action
 
+-- the most events of a run: they make fewer than 2 ^ 32 others, which is as many as a window's queue can number
+abbrev pub most_events : ℕ
+most_events = 700000000
+
 -- the numbers of a scenario are in the ranges of the file format; in the first profile messages are neither lost nor
--- delayed at random
+-- delayed at random, and in the third alone are requests sent again
 pub record NumbersInRange (sc : Setup) : Type 0 where
   pub bits_least : 3 ≤ sc.bits
   pub bits_greatest : sc.bits ≤ 128
@@ -58,11 +62,14 @@ pub record NumbersInRange (sc : Setup) : Type 0 where
   pub finger : IsInterval sc.finger
   pub jitter : sc.jitter ≤ 1000000000
   pub max_events_least : 1 ≤ sc.max_events
-  pub max_events_greatest : sc.max_events ≤ 50000000
+  pub max_events_greatest : sc.max_events ≤ most_events
   pub loss : sc.loss ≤ 1000000
   pub spread : sc.spread ≤ 1000000000
-  pub profile : (sc.profile ≡ 1) ⊎ (sc.profile ≡ 2)
+  pub retries : sc.retries ≤ 3
+  pub profile_least : 1 ≤ sc.profile
+  pub profile_greatest : sc.profile ≤ 3
   pub lossless : sc.profile ≡ 1 → (sc.loss ≡ 0) × (sc.spread ≡ 0)
+  pub asked_once : sc.profile ≤ 2 → sc.retries ≡ 0
 
 -- no two nodes are at one place of the circle
 pub record NodesInRange (sc : Setup) : Type 0 where

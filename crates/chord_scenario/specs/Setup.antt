@@ -22,10 +22,12 @@ pub record Setup : Type 0 where
   pub finger : ℕ
   pub jitter : ℕ
   pub max_events : ℕ
-  -- in the second profile: the chance in millionths that a message is lost, and how much longer than its latency it may
-  -- take
+  -- from the second profile on: the chance in millionths that a message is lost, and how much longer than its latency it
+  -- may take
   pub loss : ℕ
   pub spread : ℕ
+  -- in the third profile: how often a request without a reply in time is sent again
+  pub retries : ℕ
   pub churn : Option Churn
   pub lookups : Option Span
   pub nodes : List Node

@@ -1,5 +1,5 @@
 -- The events that a run starts with: the commands, and the first timers of the nodes that are members at the start.
-use Rattle.std.specs.Prelude.{ℕ, ◌+◌, ◌-◌, ◌%◌, List, [], ◌∷◌, ◌++◌, map, filter, flat_map, option_map, Option, Some, None, if◌then◌else◌}
+use Rattle.std.specs.Prelude.{ℕ, ◌+◌, List, [], ◌∷◌, ◌++◌, map, filter, flat_map, option_map, Option, Some, None, if◌then◌else◌}
 use Rattle.std.specs.List.{enumerate_from, filter_map, range_with_len}
 use Rattle.chord_event.specs.declared.body.Body.{Body}
 use Rattle.chord_event.specs.declared.body.Body.TheVariants as body
@@ -8,9 +8,9 @@ use Rattle.chord_scenario.specs.declared.setting.Action.{Action}
 use Rattle.chord_scenario.specs.declared.setting.Action.TheVariants as action
 use Rattle.chord_scenario.specs.declared.setting.Command.{Command}
 use Rattle.chord_scenario.specs.declared.setting.Span.{Span}
+use Rattle.chord_scenario.specs.Draws.{delay}
 use Rattle.chord_scenario.specs.Setup.{Setup}
 use Rattle.chord_scenario.specs.World.{node_count, is_initial, is_churn_node}
-use Rattle.chord_stream.specs.Word.{word}
 
 -- what a command asks of its node, as the body of an event
 abbrev pub command_body : Action → Body
@@ -69,18 +69,11 @@ most_timers = 4
 unfoldable pub timers : Setup → (n : ℕ) → List (Span × Body)
 timers sc n = filter_map (λ row. row) (timer_table sc n 1)
 
--- a number below the bound, drawn at a place of the stream of node n
-abbrev pub drawn : Setup → (n place bound : ℕ) → ℕ
-drawn sc n place bound = word sc.seed n place % bound
-
--- a time of the span, drawn at a place of the stream of node n
-abbrev pub delay : Setup → (n place : ℕ) → Span → ℕ
-delay sc n place span = span.least + drawn sc n place (span.greatest - span.least + 1)
-
--- the timer at this place, from 0, among the first ones of node n; nodes number their events from 1
+-- the timer at this place, from 0, among the first ones of node n, which are set at time 0; nodes number their events
+-- from 1
 abbrev pub timer_event : Setup → (n place : ℕ) → Span × Body → Event Body
 timer_event sc n place timer = record {
-  key = record { time = delay sc n place timer.0; origin = 2 + n; number = place + 1 };
+  key = record { time = delay sc n place 0 timer.0 timer.1; origin = 2 + n; number = place + 1 };
   target = n;
   body = timer.1;
 }

@@ -1,7 +1,7 @@
 //! The tables of a scenario file: their places, their keys, and what each key holds.
 
 ghost use Rattle.std.specs.Prelude.{◌≡◌};
-ghost use Rattle.chord_scenario.specs.FileKeys.{keys_at, key_name};
+ghost use Rattle.chord_scenario.specs.FileKeys.{is_wide, keys_at, key_name, top_keys};
 ghost use Rattle.chord_scenario.specs.Sections.{key_of, place_in};
 
 use std::fmt;
@@ -49,6 +49,7 @@ pub enum FileKey {
     MaxEvents,
     LossPpm,
     SpreadUs,
+    Retries,
     Churn,
     Lookups,
     Node,
@@ -89,6 +90,7 @@ impl FileKey {
             FileKey::MaxEvents => "max_events",
             FileKey::LossPpm => "loss_ppm",
             FileKey::SpreadUs => "spread_us",
+            FileKey::Retries => "retries",
             FileKey::Churn => "churn",
             FileKey::Lookups => "lookups",
             FileKey::Node => "node",
@@ -175,7 +177,7 @@ pub(crate) struct Entry(pub FileKey, pub Form, pub Presence);
 /// A number of microseconds that is at least 1.
 const INTERVAL: Form = Form::Whole(1, 1_000_000_000);
 
-const PROFILE: Entry = Entry(FileKey::Profile, Form::Whole(1, 2), Presence::Required);
+const PROFILE: Entry = Entry(FileKey::Profile, Form::Whole(1, 3), Presence::Required);
 
 const BITS: Entry = Entry(FileKey::Bits, Form::Whole(3, 64), Presence::Required);
 
@@ -219,6 +221,13 @@ const MAX_EVENTS: Entry = Entry(
     Presence::Optional,
 );
 
+/// The most events of a run in the third profile: 4,096 nodes for ten minutes have some 100,000,000.
+const LONG_RUN: Entry = Entry(
+    FileKey::MaxEvents,
+    Form::Whole(1, 700_000_000),
+    Presence::Optional,
+);
+
 const LOSS: Entry = Entry(
     FileKey::LossPpm,
     Form::Whole(0, 1_000_000),
@@ -230,6 +239,8 @@ const SPREAD: Entry = Entry(
     Form::Whole(0, 1_000_000_000),
     Presence::Optional,
 );
+
+const RETRIES: Entry = Entry(FileKey::Retries, Form::Whole(0, 3), Presence::Optional);
 
 const CHURN: Entry = Entry(FileKey::Churn, Form::Table, Presence::ForChurn);
 
@@ -258,6 +269,12 @@ static NETWORK_TOP_KEYS: [Entry; 19] = [
     JITTER, MAX_EVENTS, LOSS, SPREAD, CHURN, LOOKUPS, MANY_NODES, COMMANDS,
 ];
 
+/// The keys at top in the third profile.
+static RETRY_TOP_KEYS: [Entry; 20] = [
+    PROFILE, WIDE_BITS, LIST, SEED, DURATION, WINDOW, LATENCY, TIMEOUT, AUDIT, STABILIZE, FINGER,
+    JITTER, LONG_RUN, LOSS, SPREAD, RETRIES, CHURN, LOOKUPS, MANY_NODES, COMMANDS,
+];
+
 static CHURN_KEYS: [Entry; 4] = [
     Entry(FileKey::LifeMinUs, INTERVAL, Presence::Required),
     Entry(FileKey::LifeMaxUs, INTERVAL, Presence::Required),
@@ -273,7 +290,7 @@ static LOOKUPS_KEYS: [Entry; 2] = [
 /// An identifier of the first profile.
 const IDENTIFIER: Form = Form::Identifier(16);
 
-/// An identifier of the second profile.
+/// An identifier of the second and third profile.
 const LONG_IDENTIFIER: Form = Form::Identifier(32);
 
 const NAME: Entry = Entry(FileKey::Name, Form::Text, Presence::Required);
@@ -289,7 +306,7 @@ const CHURNS: Entry = Entry(FileKey::Churn, Form::Boolean, Presence::Optional);
 /// The keys of a node in the first profile.
 static NODE_KEYS: [Entry; 4] = [NAME, ID, INITIAL, CHURNS];
 
-/// The keys of a node in the second profile.
+/// The keys of a node in the second and third profile.
 static LONG_NODE_KEYS: [Entry; 4] = [NAME, LONG_ID, INITIAL, CHURNS];
 
 const AT: Entry = Entry(
@@ -311,22 +328,39 @@ const LONG_KEY: Entry = Entry(FileKey::Key, LONG_IDENTIFIER, Presence::ForLookup
 /// The keys of a command in the first profile.
 static COMMAND_KEYS: [Entry; 5] = [AT, DO, NODE, VIA, KEY];
 
-/// The keys of a command in the second profile.
+/// The keys of a command in the second and third profile.
 static LONG_COMMAND_KEYS: [Entry; 5] = [AT, DO, NODE, VIA, LONG_KEY];
 
-/// The keys of the table at a place, in order. A `profile` other than the number 2 is checked with
-/// the keys of the first profile.
+/// Whether a profile has identifiers of up to 128 bits.
+fn is_wide(profile: u64) -> bool
+    ensures { result ≡ is_wide profile }
+{
+    profile == 2 || profile == 3
+}
+
+/// The keys at top in a profile.
+fn top_keys(profile: u64) -> &'static [Entry]
+    ensures { result.now ≡ top_keys profile }
+{
+    match profile {
+        3 => &RETRY_TOP_KEYS,
+        2 => &NETWORK_TOP_KEYS,
+        _ => &TOP_KEYS,
+    }
+}
+
+/// The keys of the table at a place, in order. A `profile` other than the numbers 2 and 3 is checked
+/// with the keys of the first profile.
 pub(crate) fn keys_at(profile: u64, place: Place) -> &'static [Entry]
     ensures { result.now ≡ keys_at profile place }
 {
     match place {
-        Place::Top if profile == 2 => &NETWORK_TOP_KEYS,
-        Place::Top => &TOP_KEYS,
+        Place::Top => top_keys(profile),
         Place::Churn => &CHURN_KEYS,
         Place::Lookups => &LOOKUPS_KEYS,
-        Place::Node(_) if profile == 2 => &LONG_NODE_KEYS,
+        Place::Node(_) if is_wide(profile) => &LONG_NODE_KEYS,
         Place::Node(_) => &NODE_KEYS,
-        Place::Command(_) if profile == 2 => &LONG_COMMAND_KEYS,
+        Place::Command(_) if is_wide(profile) => &LONG_COMMAND_KEYS,
         Place::Command(_) => &COMMAND_KEYS,
         Place::Row(_) => &[],
     }

@@ -3,6 +3,7 @@
 
 mod command;
 mod document;
+mod draw;
 mod fault;
 mod key;
 mod keys_check;
@@ -22,6 +23,7 @@ mod start;
 mod value;
 mod window_check;
 
+pub use draw::{Drawer, KEY_PURPOSE};
 pub use fault::ScenarioFault;
 pub use key::{FileKey, Place};
 pub use name::Name;

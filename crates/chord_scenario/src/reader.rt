@@ -174,7 +174,7 @@ fn scenario_of(alloc: Global, top: &Table, csv: &[u8]) -> Result<Scenario, Scena
 /// The scenario of a table, its nodes, and what links them.
 fn assembled(circle: Circle, top: &Table, nodes: Vec<Node>, linked: Linked) -> Scenario
     requires circle { circle ≡ number_at key.Bits (table_view top.now) }
-    requires profile { number_at key.Profile (table_view top.now) ≤ 2 }
+    requires profile { number_at key.Profile (table_view top.now) ≤ 3 }
     requires in_range { IsInRange (setup_with (table_view top.now) nodes.items linked.commands.items (square_or_zeros (length nodes.items) linked.cells.items)) }
     ensures { result ≡ setup_with (table_view top.now) nodes.items linked.commands.items (square_or_zeros (length nodes.items) linked.cells.items) }
 {
@@ -194,6 +194,7 @@ fn assembled(circle: Circle, top: &Table, nodes: Vec<Node>, linked: Linked) -> S
         max_events: number_or(top, FileKey::MaxEvents, 50_000_000),
         loss: number_or(top, FileKey::LossPpm, 0),
         spread: number_or(top, FileKey::SpreadUs, 0),
+        retries: number_or(top, FileKey::Retries, 0),
         churn: churn_of(top),
         lookups: lookups_of(top),
         nodes,

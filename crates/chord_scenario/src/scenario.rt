@@ -27,6 +27,7 @@ pub struct Scenario {
     pub(crate) max_events: u64,
     pub(crate) loss: u64,
     pub(crate) spread: u64,
+    pub(crate) retries: u64,
     pub(crate) churn: Option<Churn>,
     pub(crate) lookups: Option<Span>,
     pub(crate) nodes: Vec<Node>,
@@ -57,7 +58,8 @@ impl Scenario {
         let _ = &self.circle;
     }
 
-    /// The profile: 1 is a lossless network with fixed latencies, 2 adds loss and delay.
+    /// The profile: 1 is a lossless network with fixed latencies, 2 adds loss and delay, and 3 adds
+    /// requests that are sent again and draws that do not depend on earlier ones.
     pub fn profile(&self) -> u32
         ensures { result ≡ self.now.profile }
     {
@@ -164,6 +166,13 @@ impl Scenario {
         ensures { result ≡ self.now.spread }
     {
         self.spread
+    }
+
+    /// How often a request without a reply in time is sent again: 0 in the first two profiles.
+    pub fn retries(&self) -> u64
+        ensures { result ≡ self.now.retries }
+    {
+        self.retries
     }
 
     /// How long churn nodes live and stay down, if the scenario says so.

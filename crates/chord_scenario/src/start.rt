@@ -5,10 +5,10 @@ ghost use Rattle.chord_scenario.specs.Range.{IsSpanUpTo};
 ghost use Rattle.chord_scenario.specs.Start.{command_body, command_event, jittered, most_timers, timer_event, first_timers, start_events};
 ghost use Rattle.chord_scenario.specs.World.{node_count};
 
+use crate::draw::Drawer;
 use crate::scenario::Scenario;
 use crate::setting::{Action, Command, Span};
 use chord_event::{Body, Event, Key, Memory};
-use chord_stream::Stream;
 use std::alloc::Global;
 
 /// What a command asks of its node, as the body of an event.
@@ -75,9 +75,12 @@ impl Scenario {
         ensures { OnOk result (events.new.items ≡ events.old.items ++ timer_event self.now node place (span, body) ∷ []) }
     {
         self.recall_range();
-        let width = span.greatest - span.least + 1;
-        let word = Stream::of(self.seed(), node).word_at(place);
-        let time = span.least + u64::from(word) % width;
+        let drawer = Drawer {
+            node,
+            place,
+            time: 0,
+        };
+        let time = self.delay(drawer, span, &body);
         events.push(Event {
             key: Key::next_of(time, node, place),
             target: node,

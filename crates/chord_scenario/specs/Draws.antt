@@ -1,0 +1,60 @@
+-- What a node draws. In the first two profiles each draw takes the next words of the node's one stream. In the third each
+-- draw has a group of words of its own, by the purpose and the occasion, so that no draw depends on earlier ones.
+use Rattle.std.specs.Prelude.{ℕ, ◌==◌, ◌+◌, ◌-◌, ◌%◌, if◌then◌else◌}
+use Rattle.chord_event.specs.declared.body.Body.{Body}
+use Rattle.chord_event.specs.declared.body.Body.TheVariants as body
+use Rattle.chord_scenario.specs.declared.setting.Span.{Span}
+use Rattle.chord_scenario.specs.Setup.{Setup}
+use Rattle.chord_stream.specs.Draws.{first_number, own_stream, second_number}
+use Rattle.chord_stream.specs.Word.{word}
+
+-- what is drawn: the delay of each kind of timer, a random key, and what becomes of a message
+abbrev pub timer_purpose : Body → ℕ
+timer_purpose (body.StabilizeTick epoch) = 1
+timer_purpose (body.FingerTick epoch) = 2
+timer_purpose (body.TrafficTick epoch) = 3
+timer_purpose (body.LifeEnd epoch) = 4
+timer_purpose (body.Rise epoch) = 5
+timer_purpose _ = 0
+
+abbrev pub key_purpose : ℕ
+key_purpose = 6
+
+abbrev pub message_purpose : ℕ
+message_purpose = 7
+
+-- when a timer's delay is drawn: in which life of the node, for the end of a life and for the rise after it; otherwise
+-- at which time
+abbrev pub timer_occasion : (time : ℕ) → Body → ℕ
+timer_occasion time (body.LifeEnd epoch) = epoch
+timer_occasion time (body.Rise epoch) = epoch
+timer_occasion time _ = time
+
+-- a number below the bound, drawn at a place of the stream of node n
+abbrev pub drawn : Setup → (n place bound : ℕ) → ℕ
+drawn sc n place bound = word sc.seed n place % bound
+
+-- the number that decides how long a timer takes which node n sets
+abbrev pub timer_number : Setup → (n place time : ℕ) → Body → (bound : ℕ) → ℕ
+timer_number sc n place time timer bound =
+    if sc.profile == 3
+    then first_number sc.seed (own_stream n (timer_purpose timer)) (timer_occasion time timer) bound
+    else drawn sc n place bound
+
+-- how long a timer takes that node n sets at this time: a time of the span
+abbrev pub delay : Setup → (n place time : ℕ) → Span → Body → ℕ
+delay sc n place time span timer = span.least + timer_number sc n place time timer (span.greatest - span.least + 1)
+
+-- the two numbers of the message of this number: the first decides whether it is lost, the second how much longer than
+-- the latency it takes
+abbrev pub chance : Setup → (n place number : ℕ) → ℕ
+chance sc n place number =
+    if sc.profile == 3
+    then first_number sc.seed (own_stream n message_purpose) number 1000000
+    else drawn sc n place 1000000
+
+abbrev pub extra : Setup → (n place number : ℕ) → ℕ
+extra sc n place number =
+    if sc.profile == 3
+    then second_number sc.seed (own_stream n message_purpose) number (sc.spread + 1)
+    else drawn sc n (place + 1) (sc.spread + 1)

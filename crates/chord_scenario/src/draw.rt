@@ -1,0 +1,94 @@
+//! What nodes draw. In the first two profiles each draw takes the next words of the node's one stream.
+//! In the third each draw has words of its own, so that no draw depends on earlier ones.
+ghost use Rattle.std.specs.Prelude.{◌≡◌, ◌+◌, ◌-◌, ◌^◌, ◌<◌, ◌≤◌};
+ghost use Rattle.chord_scenario.specs.Draws.{chance, delay, extra, timer_number, timer_occasion, timer_purpose};
+ghost use Rattle.chord_scenario.specs.Range.{IsSpanUpTo};
+
+use crate::scenario::Scenario;
+use crate::setting::Span;
+use chord_event::Body;
+use chord_stream::Stream;
+
+/// The purpose of the words from which a random key is made, in the third profile.
+pub const KEY_PURPOSE: u32 = 6;
+
+/// The purpose of the words that decide what becomes of a message, in the third profile.
+const MESSAGE_PURPOSE: u32 = 7;
+
+/// Who draws and when: the node, how many words of its stream it has drawn, and the time in
+/// microseconds.
+#[derive(Clone, Copy, Debug, PartialEq, Eq, Drop)]
+pub struct Drawer {
+    pub node: u32,
+    pub place: u64,
+    pub time: u64,
+}
+
+/// The purpose of the words from which a timer's delay is made, in the third profile.
+fn timer_purpose(timer: &Body) -> u32
+    ensures { result ≡ timer_purpose timer.now }
+{
+    match timer {
+        Body::StabilizeTick { .. } => 1,
+        Body::FingerTick { .. } => 2,
+        Body::TrafficTick { .. } => 3,
+        Body::LifeEnd { .. } => 4,
+        Body::Rise { .. } => 5,
+        _ => 0,
+    }
+}
+
+/// Which of the delays of its kind a timer has, in the third profile.
+fn timer_occasion(time: u64, timer: &Body) -> u64
+    ensures { result ≡ timer_occasion time timer.now }
+{
+    match timer {
+        Body::LifeEnd { epoch } | Body::Rise { epoch } => *epoch,
+        _ => time,
+    }
+}
+
+impl Scenario {
+    /// The number below a bound that decides how long a timer takes.
+    fn timer_number(&self, drawer: Drawer, timer: &Body, bound: u64) -> u64
+        requires { 0 < bound }
+        ensures value { result ≡ timer_number self.now drawer.node drawer.place drawer.time timer.now bound }
+        ensures below { result < bound }
+    {
+        if self.profile() == 3 {
+            let stream = Stream::for_purpose(self.seed(), drawer.node, timer_purpose(timer));
+            return stream.number_in(timer_occasion(drawer.time, timer), bound);
+        }
+        let word = Stream::of(self.seed(), drawer.node).word_at(drawer.place);
+        u64::from(word) % bound
+    }
+
+    /// How long a timer takes that a node sets, in microseconds: a time of the span.
+    pub fn delay(&self, drawer: Drawer, span: Span, timer: &Body) -> u64
+        requires { IsSpanUpTo 2000000000 span }
+        ensures value { result ≡ delay self.now drawer.node drawer.place drawer.time span timer.now }
+        ensures least { span.least ≤ result }
+        ensures greatest { result ≤ span.greatest }
+    {
+        span.least + self.timer_number(drawer, timer, span.greatest - span.least + 1)
+    }
+
+    /// The two numbers of a node's message of this number. The first is below 1,000,000 and decides
+    /// whether the message is lost. The second says how many microseconds longer than the latency it
+    /// takes.
+    pub fn message_numbers(&self, drawer: Drawer, number: u64) -> (u64, u64)
+        requires { drawer.place < 2 ^ 64 - 1 }
+        ensures chance { result.0 ≡ chance self.now drawer.node drawer.place number }
+        ensures extra { result.1 ≡ extra self.now drawer.node drawer.place number }
+        ensures most_extra { result.1 ≤ self.now.spread }
+    {
+        self.recall_range();
+        let bounds = (1_000_000, self.spread() + 1);
+        if self.profile() == 3 {
+            let stream = Stream::for_purpose(self.seed(), drawer.node, MESSAGE_PURPOSE);
+            return stream.numbers_in(number, bounds);
+        }
+        let (chance, extra) = Stream::of(self.seed(), drawer.node).pair_at(drawer.place);
+        (u64::from(chance) % bounds.0, u64::from(extra) % bounds.1)
+    }
+}
