@@ -1,11 +1,12 @@
 -- The timers that a run starts with are those that a node arms at time 0 in its first life.
-use Rattle.std.proofs.Common.{◌≡◌, ℕ, ◌+◌, List, [], ◌∷◌, ◌++◌, Option, Some, None, refl, sym, ap, ◌∙◌, append_assoc, append-nil, arith, map}
+use Rattle.std.proofs.Common.{◌≡◌, ℕ, ◌+◌, List, [], ◌∷◌, ◌++◌, Option, Some, None, refl, sym, ap, ◌∙◌, append_assoc, append-nil, arith, map, zero-add}
 use Rattle.std.specs.List.{enumerate_from, filter_map}
 use Rattle.chord_event.specs.declared.body.Body.{Body}
 use Rattle.chord_event.specs.declared.event.Event.{Event}
 use Rattle.chord_scenario.specs.declared.scenario.Scenario.{Scenario}
 use Rattle.chord_scenario.specs.declared.setting.Span.{Span}
-use Rattle.chord_scenario.specs.Start.{delay, first_timers, life_timer, timer_event, timer_table, timers, traffic_timer}
+use Rattle.chord_scenario.specs.Draws.{delay}
+use Rattle.chord_scenario.specs.Start.{first_timers, life_timer, timer_event, timer_table, timers, traffic_timer}
 use Rattle.chord_node.specs.declared.state.NodeState.{NodeState}
 use Rattle.chord_ops.specs.declared.turn.Turn.{Turn}
 use Rattle.chord_ops.specs.FirstTurns.{IsNew, first_turn}
@@ -26,14 +27,15 @@ rows_are_first sc (None ∷ rows) turn at same = rows_are_first sc rows turn at 
 rows_are_first sc (Some timer ∷ rows) turn at same =
     let me : ℕ = turn.state.me in
     let place : ℕ = turn.state.place in
-    let later : ℕ = delay sc me place timer.0 in
+    let wait : ℕ → ℕ = λ time. delay sc me place time timer.0 timer.1 in
+    let later : ℕ = wait 0 in
     let rest : List (Event Body) = events_of sc me (place + 1) rows in
     let set : ℕ → ℕ → Event Body = λ time number.
     record { key = record { time = time; origin = 2 + me; number = number }; target = me; body = timer.1 } in
-    let time_is : turn.time + later ≡ later = omega (arith, at) in
+    let time_is : turn.time + wait turn.time ≡ later = ap (λ (time : ℕ). time + wait time) at ∙ zero-add later in
     let number_is : turn.state.count + 1 ≡ place + 1 = omega (arith, same) in
     rows_are_first sc rows (timer_made sc timer.0 timer.1 turn) at number_is
-    ∙ append_assoc turn.events (set (turn.time + later) (turn.state.count + 1) ∷ []) rest
+    ∙ append_assoc turn.events (set (turn.time + wait turn.time) (turn.state.count + 1) ∷ []) rest
     ∙ ap (λ (time : ℕ). turn.events ++ set time (turn.state.count + 1) ∷ rest) time_is
     ∙ ap (λ (number : ℕ). turn.events ++ set later number ∷ rest) number_is
 

@@ -11,6 +11,7 @@ use Rattle.chord_event.specs.declared.line.MessageKind.{MessageKind}
 use Rattle.chord_scenario.specs.declared.scenario.Scenario.{Scenario}
 use Rattle.chord_node.specs.declared.state.Aim.{Aim}
 use Rattle.chord_node.specs.declared.state.Aim.TheVariants as aim
+use Rattle.chord_node.specs.declared.state.Call.{Call}
 use Rattle.chord_node.specs.declared.state.Lookup.{Lookup}
 use Rattle.chord_node.specs.declared.state.NodeState.{NodeState}
 use Rattle.chord_node.specs.declared.state.Purpose.{Purpose}
@@ -20,8 +21,8 @@ use Rattle.chord_scenario.specs.World.{node_count}
 use Rattle.chord_ops.specs.declared.turn.Request.{Request}
 use Rattle.chord_ops.specs.declared.turn.Turn.{Turn}
 use Rattle.chord_ops.specs.Procedures.{lost_for, lost_line}
-use Rattle.chord_ops.specs.Turns.{called, kind_of, noted, sent, when_some}
-use Rattle.chord_ops.proofs.Sending.{called_as, sent_as}
+use Rattle.chord_ops.specs.Turns.{asked, called, kind_of, noted, sent, when_some}
+use Rattle.chord_ops.proofs.Sending.{asked_as, called_as, sent_as}
 use Rattle.chord_ops.proofs.KeptRules.{none_of}
 
 -- the lines name only nodes of the scenario; with the lookups, each of which may still leave a line, this is their
@@ -102,6 +103,13 @@ noted_sent sc n k to message turn at h =
     sent_as (λ out. HasNoted sc (n + 1) out) sc k to message turn
     (λ delay place late near. one_more sc n h)
     (λ place near. noted_line sc n (line.Lose k to) turn (one_node sc to at) h)
+
+pub noted_asked : (sc : Scenario) (n : ℕ) (request : Request) (call : Call) (turn : Turn) → call.to < node_count sc → HasNoted sc n turn
+    → HasNoted sc (n + 1) (asked sc request call turn)
+noted_asked sc n request call turn at h =
+    asked_as (λ out. HasNoted sc (n + 1) out) sc request call turn
+    (λ delay place late near. one_more sc n h)
+    (λ place near. noted_line sc n (line.Lose (kind_of request) call.to) turn (one_node sc call.to at) h)
 
 pub noted_called : (sc : Scenario) (n to : ℕ) (asked : Request) (wanted : Purpose) (turn : Turn) → to < node_count sc → HasNoted sc n turn
     → HasNoted sc (n + 1) (called sc to asked wanted turn)

@@ -106,10 +106,14 @@ use Rattle.chord_ops.specs.Rules.{
   traffic_tick,
   successors_taken,
   without_head,
+  call_given_up,
+  call_repeated,
+  request_again,
+  sent_once_more,
 }
 use Rattle.chord_ops.specs.Search.{NamesNode}
 use Rattle.chord_ops.specs.Sound.{IsSoundEvent}
-use Rattle.chord_ops.specs.Turns.{after_words, noted, timer_made}
+use Rattle.chord_ops.specs.Turns.{after_words, kind_of, noted, timer_made}
 use Rattle.chord_ops.proofs.Answered.{IfSome-answered_call}
 use Rattle.chord_ops.proofs.Found.{IfSome-find}
 use Rattle.chord_ops.proofs.Growing.{known}
@@ -118,6 +122,7 @@ use Rattle.chord_ops.proofs.Noted.{
   HasNoted,
   KnowsNodes,
   no_node,
+  noted_asked,
   noted_called,
   noted_if,
   noted_line,
@@ -212,7 +217,7 @@ noted_random_lookup : (sc : Scenario) (n : ℕ) (turn : Turn) → KnowsNodes sc 
     → HasNoted sc (n + 1 + 1 + 1) (random_lookup sc turn)
 unfolding random_lookup
 noted_random_lookup sc n turn knows h =
-    noted_user_lookup sc n (random_key sc turn.state)
+    noted_user_lookup sc n (random_key sc turn.time turn.state)
     (record turn { state = after_words (key_words sc.bits) turn.state }) knows h
 
 noted_traffic_tick : (sc : Scenario) (n epoch : ℕ) (turn : Turn) → KnowsNodes sc turn.state → HasNoted sc n turn
@@ -289,6 +294,21 @@ noted_timed_out sc n number silent purpose.List turn knows h =
 noted_timed_out sc n number silent (purpose.Ping notifier) turn knows h =
     two_more sc n (noted_ping_timed_out sc n silent notifier turn h)
 
+noted_call_repeated : (sc : Scenario) (n number : ℕ) (call : Call) (turn : Turn) → call.to < node_count sc → HasNoted sc n turn
+    → HasNoted sc (n + 1 + 1) (call_repeated sc number call turn)
+unfolding call_repeated
+noted_call_repeated sc n number call turn at h =
+    noted_when_some sc (n + 1 + 1) (λ _. Unit {0}) (request_again sc number call.purpose turn.state) _ turn (known _) (two_more sc n h)
+    (λ request _. noted_asked sc (n + 1) request (sent_once_more number call) (noted (line.Again (kind_of request) call.to) (without_call number turn)) at
+    (noted_line sc n (line.Again (kind_of request) call.to) (without_call number turn) (one_node sc call.to at) h))
+
+noted_call_given_up : (sc : Scenario) (n number : ℕ) (call : Call) (turn : Turn) → call.to < node_count sc → KnowsNodes sc turn.state
+    → HasNoted sc n turn → HasNoted sc (n + 1 + 1 + 1) (call_given_up sc number call turn)
+unfolding call_given_up
+noted_call_given_up sc n number call turn at knows h =
+    noted_timed_out sc (n + 1) number call.to call.purpose (noted (line.Timeout call.to) (without_call number turn)) knows
+    (noted_line sc n (line.Timeout call.to) (without_call number turn) (one_node sc call.to at) h)
+
 noted_timeout : (sc : Scenario) (n number : ℕ) (turn : Turn) → IsNodeState sc turn.state → KnowsNodes sc turn.state → HasNoted sc n turn
     → HasNoted sc (n + 1 + 1 + 1) (timeout sc number turn)
 unfolding timeout
@@ -296,9 +316,9 @@ noted_timeout sc n number turn is knows h =
     noted_when_some sc (n + 1 + 1 + 1) (IsCall sc) (call_of number turn.state) _ turn
     (IfSome-find (IsCall sc) (λ (call : Call). call.number == number) turn.state.calls is.calls.each)
     (three_more sc n h)
-    (λ call out. noted_timed_out sc (n + 1) number call.to call.purpose (noted (line.Timeout call.to) (without_call number turn))
-    knows
-    (noted_line sc n (line.Timeout call.to) (without_call number turn) (one_node sc call.to out.to) h))
+    (λ call out. noted_if sc (n + 1 + 1 + 1) (nat_lt call.resent sc.retries) _ _
+    (one_more sc (n + 1 + 1) (noted_call_repeated sc n number call turn out.to h))
+    (noted_call_given_up sc n number call turn out.to knows h))
 
 -- Requests, and notifies
 

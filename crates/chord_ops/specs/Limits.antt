@@ -7,7 +7,7 @@ use Rattle.chord_scenario.specs.Start.{most_timers}
 abbrev pub most_made : ℕ
 most_made = most_timers + 2
 
--- the most words that one event draws: one for the time of the next generated lookup, at most four for the key of this
--- one and two for its request
+-- the most words by which one event moves the place in the node's stream on: one for the time of the next generated
+-- lookup, at most four for the key of this one and two for its request
 abbrev pub most_drawn : ℕ
 most_drawn = 7

@@ -17,11 +17,11 @@ loop-word-preserved c =
     let most : 2 ^ (32 * (n + 1)) ≤ 2 ^ 128 = pow-le-pow_right (lit< tt) upto in
     let fits : number * 4294967296 < 340282366920938463463374607431768211456 = omega (arith, c.loop-word.invariant.below, wider, most) in
     let shifted : number * 4294967296 % 340282366920938463463374607431768211456 ≡ number * 4294967296 = mod-eq_of_lt fits in
-    let drawn : c.from-in-loop-word.result ≡ word c.args.stream.seed c.args.stream.node (c.args.place + n) =
-    c.from-in-loop-word.ensures ∙ c.word_at.ensures ∙ ap (λ (k : ℕ). word c.args.stream.seed c.args.stream.node (c.args.place + k)) c.from.ensures in
+    let drawn : c.from-in-loop-word.result ≡ word c.args.stream.seed c.args.stream.number (c.args.place + n) =
+    c.from-in-loop-word.ensures ∙ c.word_at.ensures ∙ ap (λ (k : ℕ). word c.args.stream.seed c.args.stream.number (c.args.place + k)) c.from.ensures in
     record {
       value = ap (λ (k : ℕ). k + c.from-in-loop-word.result) (shifted ∙ ap (λ (k : ℕ). k * 4294967296) c.loop-word.invariant.value)
-          ∙ ap (λ (k : ℕ). words_number c.args.stream.seed c.args.stream.node c.args.place n * 4294967296 + k) drawn
-          ∙ ap (λ (k : ℕ). words_number c.args.stream.seed c.args.stream.node c.args.place k) next;
+          ∙ ap (λ (k : ℕ). words_number c.args.stream.seed c.args.stream.number c.args.place n * 4294967296 + k) drawn
+          ∙ ap (λ (k : ℕ). words_number c.args.stream.seed c.args.stream.number c.args.place k) next;
       below = omega (arith, shifted, c.loop-word.invariant.below, wider, c.word_at.type_inv, c.from-in-loop-word.ensures);
     }
