@@ -14,7 +14,7 @@ use Rattle.chord_trace.specs.declared.tally.Tally.{Tally}
 use Rattle.chord_trace.specs.AuditCounts.{audit_counts_in, audits_plus}
 use Rattle.chord_trace.specs.Counts.{counts_in, plus}
 use Rattle.chord_trace.specs.FoundLookups.{HasFound}
-use Rattle.chord_trace.specs.Kinds.{found_in, is_loss}
+use Rattle.chord_trace.specs.Kinds.{found_in, is_again, is_loss}
 use Rattle.chord_trace.specs.Pieces.{block_in, audit_in, lines_in, blocks_of, lines_of, audits_of}
 use Rattle.chord_trace.specs.Report.{found_lookups}
 use Rattle.chord_trace.specs.Tally.{IsTallyOf}
@@ -48,9 +48,9 @@ audit_counts_in-append xs ys = simp (count_by-append, length-append)
 pub with_block : (profile : ℕ) (pieces : List Piece) (b : Block) (old new : Tally) → IsTallyOf profile pieces old
     → new.profile ≡ old.profile → new.events ≡ old.events + 1 → new.counts ≡ plus old.counts (counts_in b.lines)
     → ((seen : List (ℕ × ℕ)) → HasFound seen old.founds → HasFound (seen ++ filter_map found_in b.lines) new.founds)
-    → new.losses ≡ old.losses + count_by is_loss b.lines → new.audits ≡ old.audits
+    → new.losses ≡ old.losses + count_by is_loss b.lines → new.again ≡ old.again + count_by is_again b.lines → new.audits ≡ old.audits
     → IsTallyOf profile (pieces ++ piece.OfEvent b ∷ []) new
-with_block profile pieces b old new t same events counts founds losses audits =
+with_block profile pieces b old new t same events counts founds losses again audits =
     let lines = lines_more pieces b in
     let found = ap (filter_map found_in) lines ∙ filter_map-append found_in (lines_of pieces) b.lines in
     record {
@@ -60,15 +60,16 @@ with_block profile pieces b old new t same events counts founds losses audits =
       counts = counts ∙ ap (λ c. plus c (counts_in b.lines)) t.counts ∙ sym (counts_in-append (lines_of pieces) b.lines) ∙ ap counts_in (sym lines);
       founds = subst (λ l. HasFound l new.founds) (sym found) (founds _ t.founds);
       losses = omega (arith, losses, t.losses, ap (count_by is_loss) lines, count_by-append is_loss (lines_of pieces) b.lines);
+      again = omega (arith, again, t.again, ap (count_by is_again) lines, count_by-append is_again (lines_of pieces) b.lines);
       audits = audits ∙ t.audits ∙ ap audit_counts_in (sym (audits_same pieces b));
     }
 
 -- with an audit
 pub with_audit : (profile : ℕ) (pieces : List Piece) (a : AuditLine) (old new : Tally) → IsTallyOf profile pieces old
     → new.profile ≡ old.profile → new.events ≡ old.events → new.counts ≡ old.counts → new.founds ≡ old.founds → new.losses ≡ old.losses
-    → new.audits ≡ audits_plus old.audits (audit_counts_in (a ∷ []))
+    → new.again ≡ old.again → new.audits ≡ audits_plus old.audits (audit_counts_in (a ∷ []))
     → IsTallyOf profile (pieces ++ piece.OfAudit a ∷ []) new
-with_audit profile pieces a old new t same events counts founds losses audits =
+with_audit profile pieces a old new t same events counts founds losses again audits =
     let lines = sym (lines_same pieces a) in
     let one = audit_counts_in (a ∷ []) in
     record {
@@ -78,6 +79,7 @@ with_audit profile pieces a old new t same events counts founds losses audits =
       counts = counts ∙ t.counts ∙ ap counts_in lines;
       founds = rw founds (subst (λ l. HasFound (filter_map found_in l) old.founds) lines t.founds);
       losses = losses ∙ t.losses ∙ ap (count_by is_loss) lines;
+      again = again ∙ t.again ∙ ap (count_by is_again) lines;
       audits = audits ∙ ap (λ c. audits_plus c one) t.audits ∙ sym (audit_counts_in-append (audits_of pieces) (a ∷ []))
           ∙ ap audit_counts_in (sym (audits_more pieces a));
     }
@@ -86,9 +88,9 @@ with_audit profile pieces a old new t same events counts founds losses audits =
 pub joined : (profile : ℕ) (mine others : List Piece) (a b new : Tally) → IsTallyOf profile mine a → IsTallyOf profile others b
     → new.profile ≡ a.profile → new.events ≡ a.events + b.events → new.counts ≡ plus a.counts b.counts
     → ((seen more : List (ℕ × ℕ)) → HasFound seen a.founds → HasFound more b.founds → HasFound (seen ++ more) new.founds)
-    → new.losses ≡ a.losses + b.losses → new.audits ≡ audits_plus a.audits b.audits
+    → new.losses ≡ a.losses + b.losses → new.again ≡ a.again + b.again → new.audits ≡ audits_plus a.audits b.audits
     → IsTallyOf profile (mine ++ others) new
-joined profile mine others a b new t u same events counts founds losses audits =
+joined profile mine others a b new t u same events counts founds losses again audits =
     record {
       in_profile = same ∙ t.in_profile;
       size = omega (arith, events, ap AuditCounts.audits audits, t.size, u.size, length-append mine others);
@@ -97,6 +99,7 @@ joined profile mine others a b new t u same events counts founds losses audits =
           ∙ sym (counts_in-append (lines_of mine) (lines_of others)) ∙ ap counts_in (sym (lines-append mine others));
       founds = subst (λ l. HasFound l new.founds) (sym (founds-append mine others)) (founds (found_lookups mine) (found_lookups others) t.founds u.founds);
       losses = omega (arith, losses, t.losses, u.losses, lines_by-add is_loss mine others);
+      again = omega (arith, again, t.again, u.again, lines_by-add is_again mine others);
       audits = audits ∙ ap (λ c. audits_plus c b.audits) t.audits ∙ ap (audits_plus (audit_counts_in (audits_of mine))) u.audits
           ∙ sym (audit_counts_in-append (audits_of mine) (audits_of others)) ∙ ap audit_counts_in (sym (audits-append mine others));
     }

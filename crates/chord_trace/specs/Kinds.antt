@@ -35,6 +35,10 @@ abbrev pub is_loss : Line → Bool
 is_loss (line.Lose kind receiver) = true
 is_loss _ = false
 
+abbrev pub is_again : Line → Bool
+is_again (line.Again kind receiver) = true
+is_again _ = false
+
 abbrev pub is_lookup : Line → Bool
 is_lookup (line.Lookup key) = true
 is_lookup _ = false

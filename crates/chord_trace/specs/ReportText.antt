@@ -17,10 +17,10 @@ numbers_of r =
     ∷ (codes "audits", r.audits.audits) ∷ (codes "ringless", r.audits.ringless)
     ∷ (codes "unordered", r.audits.unordered) ∷ (codes "insufficient", r.audits.insufficient) ∷ []
 
--- the name and number of the lost messages, if the report has them
-abbrev pub loss_number : Option ℕ → List (List ℕ × ℕ)
-loss_number None = []
-loss_number (Some losses) = (codes "losses", losses) ∷ []
+-- a name and its number, if there is one
+abbrev pub optional_number : (name : List ℕ) → Option ℕ → List (List ℕ × ℕ)
+optional_number name None = []
+optional_number name (Some number) = (name, number) ∷ []
 
 -- a line for each name and its number
 abbrev pub number_text : List (List ℕ × ℕ) → List ℕ
@@ -28,4 +28,6 @@ number_text = flat_map (λ p. p.0 ++ codes " " ++ decimal p.1 ++ codes "\n")
 
 -- the text of a report, a line for each of its numbers
 abbrev pub report_text : Report → List ℕ
-report_text r = number_text (numbers_of r ++ loss_number r.losses)
+report_text r =
+    number_text (numbers_of r) ++ number_text (optional_number (codes "losses") r.losses)
+    ++ number_text (optional_number (codes "again") r.again)

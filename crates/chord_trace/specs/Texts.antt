@@ -46,6 +46,8 @@ line_words sc (line.Late kind sender) =
 line_words sc (line.Timeout silent) = codes "timeout " ++ name_of sc silent
 line_words sc (line.Lose kind receiver) =
     codes "lose " ++ message_text kind ++ codes " " ++ name_of sc receiver
+line_words sc (line.Again kind receiver) =
+    codes "again " ++ message_text kind ++ codes " " ++ name_of sc receiver
 line_words sc (line.Lookup key) = codes "lookup " ++ decimal key
 line_words sc (line.Found key owner hops timeouts us) =
     codes "found " ++ decimal key ++ codes " " ++ name_of sc owner ++ codes " hops=" ++ decimal hops

@@ -95,6 +95,14 @@ fn push_words(text: &mut String, scenario: &Scenario, line: Line) -> Result<(), 
                 scenario.name(receiver)
             )
         }
+        Line::Again { kind, receiver } => {
+            write!(
+                text,
+                "again {} {}",
+                message_text(kind),
+                scenario.name(receiver)
+            )
+        }
         Line::Timeout { silent } => write!(text, "timeout {}", scenario.name(silent)),
         Line::Lookup { key } => write!(text, "lookup {}", key.raw()),
         Line::Found {

@@ -60,7 +60,7 @@ impl LineCounts {
         ensures { self.new ≡ plus self.old (counts_in (line ∷ [])) }
     {
         match line {
-            Line::Join { .. } | Line::Lose { .. } => {}
+            Line::Join { .. } | Line::Lose { .. } | Line::Again { .. } => {}
             Line::Member { .. } => self.members += 1,
             Line::JoinFailed => self.join_failed += 1,
             Line::Crash => self.crashes += 1,

@@ -3,7 +3,7 @@ ghost use Rattle.std.specs.Prelude.{◌≡◌, ◌⊎◌, ℕ, ◌++◌, false, 
 ghost use Rattle.std.specs.Io.KnownBytes.{Appends};
 ghost use Rattle.std.specs.List.Sorted.{IsPermutation};
 ghost use Rattle.chord_trace.specs.Report.{IsReportOf};
-ghost use Rattle.chord_trace.specs.ReportText.{numbers_of, report_text, number_text};
+ghost use Rattle.chord_trace.specs.ReportText.{numbers_of, number_text, optional_number, report_text};
 ghost use Rattle.chord_trace.specs.Watched.{wrapped, has_failed};
 ghost use Rattle.chord_trace.specs.Writing.{AppendsFront, is_write};
 ghost use Rattle.chord_trace.specs.declared.piece.Piece.{Piece};
@@ -32,6 +32,8 @@ pub struct Report {
     pub audits: AuditCounts,
     /// The number of lost messages. `None` in the first profile, which has no such line.
     pub losses: Option<u64>,
+    /// The number of requests that were sent again. `None` but in the third profile.
+    pub again: Option<u64>,
 }
 
 impl Report {
@@ -53,10 +55,8 @@ impl Report {
         ensures { OnOk result (string_bytes text.new ≡ string_bytes text.old ++ report_text self.now) }
     {
         push_numbers(text, &self.numbers())?;
-        if let Some(losses) = self.losses {
-            push_numbers(text, &[("losses", u128::from(losses))])?;
-        }
-        Ok(())
+        push_optional(text, "losses", self.losses)?;
+        push_optional(text, "again", self.again)
     }
 
     fn numbers(&self) -> [(&'static str, u128); 24]
@@ -88,6 +88,15 @@ impl Report {
             ("unordered", u128::from(self.audits.unordered)),
             ("insufficient", u128::from(self.audits.insufficient)),
         ]
+    }
+}
+
+fn push_optional(text: &mut String, word: &str, number: Option<u64>) -> Result<(), AllocError>
+    ensures { OnOk result (string_bytes text.new ≡ string_bytes text.old ++ number_text (optional_number word.now number)) }
+{
+    match number {
+        Some(number) => push_numbers(text, &[(word, u128::from(number))]),
+        None => Ok(()),
     }
 }
 

@@ -3,7 +3,7 @@ ghost use Rattle.std.specs.Prelude.{◌≡◌, ◌+◌, ◌*◌, ◌≤◌, ◌^
 ghost use Rattle.chord_trace.specs.AuditCounts.{AreAmong};
 ghost use Rattle.chord_trace.specs.Counts.{AreWithin};
 ghost use Rattle.chord_trace.specs.FoundLookups.{found_len};
-ghost use Rattle.chord_trace.specs.Kinds.{is_loss};
+ghost use Rattle.chord_trace.specs.Kinds.{is_again, is_loss};
 
 use crate::audit_counts::AuditCounts;
 use crate::found_lookups::FoundLookups;
@@ -21,10 +21,12 @@ pub struct Tally {
     counts: LineCounts,
     founds: FoundLookups,
     losses: u64,
+    again: u64,
     audits: AuditCounts,
     ghost counts_fit: { AreWithin (64 * events) counts },
     ghost founds_fit: { found_len founds ≤ 64 * events },
     ghost losses_fit: { losses ≤ 64 * events },
+    ghost again_fit: { again ≤ 64 * events },
     ghost audits_fit: { AreAmong audits },
 }
 
@@ -45,6 +47,7 @@ impl Tally {
             counts: LineCounts::default(),
             founds: FoundLookups::new(alloc),
             losses: 0,
+            again: 0,
             audits: AuditCounts::default(),
         }
     }
@@ -59,8 +62,9 @@ impl Tally {
         let lines = block.lines.as_slice();
         self.events += 1;
         self.counts.add(lines);
-        // Counted in every profile, and reported in the second. In the first there are none.
+        // Both are counted in every profile, and reported in those that may have such lines.
         self.losses += count_losses(lines);
+        self.again += count_again(lines);
         self.founds.add_lines(lines)?;
         Ok(())
     }
@@ -88,6 +92,7 @@ impl Tally {
             counts: self.counts.join(other.counts),
             founds: self.founds.join(other.founds)?,
             losses: self.losses + other.losses,
+            again: self.again + other.again,
             audits: self.audits.join(other.audits),
         })
     }
@@ -114,7 +119,8 @@ impl Tally {
             us_median: self.founds.us_median(),
             us_greatest: self.founds.us_greatest,
             audits: self.audits,
-            losses: (self.profile == 2).then_some(self.losses),
+            losses: (self.profile > 1).then_some(self.losses),
+            again: (self.profile == 3).then_some(self.again),
         }
     }
 }
@@ -129,4 +135,16 @@ fn count_losses(lines: &[Line]) -> u64
         losses += u64::from(matches!(line, Line::Lose { .. }));
     }
     losses
+}
+
+/// The number of requests that were sent again, according to these lines.
+fn count_again(lines: &[Line]) -> u64
+    requires { length lines.now ≤ 64 }
+    ensures { result ≡ count_by is_again lines.now }
+{
+    let mut again = 0;
+    for line in lines {
+        again += u64::from(matches!(line, Line::Again { .. }));
+    }
+    again
 }
