@@ -7,6 +7,7 @@ use Rattle.std.proofs.Math.Nat.{mul-le-mul_left}
 use Rattle.std.proofs.Math.Seq.{drop-cons}
 use Rattle.std.proofs.lemmas.List.Elements.{All-cons}
 use Rattle.chord_event.specs.declared.block.Block.{Block}
+use Rattle.chord_scenario.specs.Range.{most_events}
 use Rattle.chord_scenario.specs.declared.scenario.Scenario.{Scenario}
 use Rattle.chord_scenario.specs.World.{node_count}
 use Rattle.chord_window.specs.declared.part_run.Done.{Done}
@@ -54,7 +55,7 @@ targets_fit sc w horizon dones list loads a same long = subst
 
 -- loads of at most the events of the run have room for those of a window
 pub loads_fit : (sc : Scenario) (w : World) (horizon : ℕ) (dones list : List Done) (loads : List ℕ) → AreDone sc w horizon dones → list ≡ dones
-    → ((node : ℕ) → get_or loads node 0 ≤ w.count) → w.count ≤ sc.max_events → sc.max_events ≤ 50000000 → w.division.parts ≤ 512
+    → ((node : ℕ) → get_or loads node 0 ≤ w.count) → w.count ≤ sc.max_events → sc.max_events ≤ most_events → w.division.parts ≤ 512
     → (node : ℕ) → get_or loads node 0 + events_at node list < 2 ^ 64
 loads_fit sc w horizon dones list loads a same few within most parts node = omega (
   arith,

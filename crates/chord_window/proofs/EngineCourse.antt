@@ -50,7 +50,7 @@ use Rattle.chord_model.proofs.Runs.{history_is_legal, possible_from_legal}
 use Rattle.chord_node.specs.declared.state.NodeState.{NodeState}
 use Rattle.chord_node.specs.Invariant.{AllNodes}
 use Rattle.chord_scenario.specs.declared.scenario.Scenario.{Scenario}
-use Rattle.chord_scenario.specs.Range.{IsInRange}
+use Rattle.chord_scenario.specs.Range.{IsInRange, most_events}
 use Rattle.chord_scenario.specs.World.{node_count}
 use Rattle.chord_output.specs.Runs.{IsBeginning}
 use Rattle.chord_output.specs.Output.{Adds, audits_at, due}
@@ -117,7 +117,7 @@ module _ {sc : Scenario} {old now : Option (List ℕ)} {e : Engine} (at : IsAt s
   first_tally : (before : Tally) → before ≡ get_or e.tallies.items 0 before → IsTallyOf sc.profile (at.tallied.share 0) before
   first_tally before is = subst (λ t. IsTallyOf sc.profile (at.tallied.share 0) t) (sym is) (at.tallied.each 0 before (omega (arith, some, at.each)))
 
-  pub audits_fit : sc.max_events ≤ 50000000 → (before : Tally) → before ≡ get_or e.tallies.items 0 before → taken before + length e.clock ≤ 2 ^ 40
+  pub audits_fit : sc.max_events ≤ most_events → (before : Tally) → before ≡ get_or e.tallies.items 0 before → taken before + length e.clock ≤ 2 ^ 40
   audits_fit few before is = omega (
     arith,
     (first_tally before is).size,
