@@ -5,14 +5,12 @@ ghost use Rattle.std.specs.List.{All};
 use crate::examples::play::{SETTINGS, text_of};
 use crate::examples::table::FOUR;
 use crate::tests::ring_of_three::scenario_of;
+use crate::tests::steps::{is_text, value_of};
 use chord_audit::{AuditLine, audit};
-use chord_event::{Listed, Memory};
 use chord_node::{NodeState, Status};
 use chord_scenario::Scenario;
 use chord_trace::{Watched, write_audit};
-use std::alloc::Global;
 use std::process::Abort;
-use std::test::Fail;
 
 /// What each node knows: nothing if it is down, otherwise its list.
 type Ring<'a> = [Option<&'a [u32]>; 4];
@@ -36,17 +34,15 @@ const RINGS: [(Ring, &str); 3] = [
     ),
 ];
 
-fn state(alloc: Global, knows: Option<&[u32]>) -> Result<NodeState, Memory> {
-    let mut state = NodeState::never_up(alloc, 0);
+fn state<T: Abort + AllocGlobal>(rt: &T, knows: Option<&[u32]>) -> NodeState {
+    let mut state = NodeState::never_up(rt.alloc(), 0);
     if let Some(list) = knows {
         state.status = Status::Member;
-        let mut succ = Listed::new(alloc);
         for next in list {
-            succ.push(*next)?;
+            value_of(rt, state.succ.push(*next));
         }
-        state.succ = succ;
     }
-    Ok(state)
+    state
 }
 
 /// Whether all lists name nodes below this number.
@@ -72,37 +68,35 @@ fn is_below(list: &[u32], nodes: u32) -> bool
     true
 }
 
-fn audited(
-    rt: &impl Abort,
-    alloc: Global,
+fn audited<T: Abort + AllocGlobal>(
+    rt: &T,
     scenario: &Scenario,
     ring: &[Option<&[u32]>],
-) -> Result<AuditLine, Memory> {
-    let mut states = Vec::new(alloc);
+) -> AuditLine {
+    let mut states = Vec::new(rt.alloc());
     for knows in ring {
-        states.push(state(alloc, *knows)?)?;
+        value_of(rt, states.push(state(rt, *knows)));
     }
     if states.len() != scenario.nodes() as usize || !names_nodes(&states, scenario.nodes()) {
         panic!(rt; "not the scenario's nodes");
     }
-    audit(alloc, scenario, &states, 200)
+    value_of(rt, audit(rt.alloc(), scenario, &states, 200))
 }
 
 #[test]
-fn audits_of_rings(rt: HostRuntime) -> Result<(), Fail> {
-    let alloc = rt.alloc();
-    let text = text_of(alloc, SETTINGS, FOUR, "")?;
-    let scenario = scenario_of(alloc, text.as_str(), b"")?;
+fn audits_of_rings(rt: HostRuntime) {
+    let text = value_of(&rt, text_of(rt.alloc(), SETTINGS, FOUR, ""));
+    let scenario = scenario_of(&rt, text.as_str(), b"");
     for (ring, want) in &RINGS {
-        let line = audited(&rt, alloc, &scenario, ring)?;
-        let text = text_of_audit(alloc, &line)?;
-        assert!(rt; text.as_str() == *want, "{text}");
+        let line = audited(&rt, &scenario, ring);
+        has_text(&rt, &line, want);
     }
-    Ok(())
 }
 
-fn text_of_audit(alloc: Global, line: &AuditLine) -> Result<String, Fail> {
-    let mut writer = Watched::new(Vec::new(alloc));
-    write_audit(alloc, line, &mut writer)?;
-    Ok(String::from_utf8_lossy(alloc, writer.into_inner().as_slice())?)
+fn has_text<T: Abort + AllocGlobal>(rt: &T, line: &AuditLine, want: &str) {
+    let mut writer = Watched::new(Vec::new(rt.alloc()));
+    value_of(rt, write_audit(rt.alloc(), line, &mut writer));
+    let text = String::from_utf8_lossy(rt.alloc(), writer.into_inner().as_slice());
+    let text = value_of(rt, text);
+    is_text(rt, text.as_str(), want);
 }

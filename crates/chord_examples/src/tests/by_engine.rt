@@ -4,8 +4,9 @@ ghost use Rattle.std.specs.Prelude.{◌<◌, ◌≤◌};
 use crate::examples::engines::{ENGINES, Engine, Shape};
 use crate::examples::table::{Example, TWO_LOOKUPS, example_groups};
 use crate::tests::left::{Picked, run_left, run_picks};
-use crate::tests::ring_of_three::{scenario_of, two_lookups};
+use crate::tests::ring_of_three::{scenario_of, scenario_of_example, two_lookups};
 use crate::tests::second_profile::ring_of;
+use crate::tests::steps::holds;
 use crate::tests::windows::divide;
 use chord_crew::MOST_SEATS;
 use chord_play::Split;
@@ -13,7 +14,6 @@ use chord_scenario::Scenario;
 use chord_window::MOST_PARTS;
 use std::process::Abort;
 use std::sync::Wait;
-use std::test::Fail;
 use std::thread::Threads;
 
 /// Two parts, and a worker for each.
@@ -69,37 +69,27 @@ const SHAPES: [Shape; 6] = [
 
 /// Each example has the trace and the report that it has by the rules, with any engine, parts and workers.
 #[test]
-fn examples_by_engines(rt: HostRuntime) -> Result<(), Fail> {
+fn examples_by_engines(rt: HostRuntime) {
     for group in example_groups() {
-        show_by_all(&rt, group)?;
+        show_by_all(&rt, group);
     }
-    Ok(())
 }
 
-fn show_by_all<T: Abort + AllocGlobal + Threads + Wait + Sync>(
-    rt: &T,
-    group: &[Example],
-) -> Result<(), Fail> {
+fn show_by_all<T: Abort + AllocGlobal + Threads + Wait + Sync>(rt: &T, group: &[Example]) {
     for example in group {
-        shows_by_all(rt, example)?;
+        shows_by_all(rt, example);
     }
-    Ok(())
 }
 
-fn shows_by_all<T: Abort + AllocGlobal + Threads + Wait + Sync>(
-    rt: &T,
-    example: &Example,
-) -> Result<(), Fail> {
-    let name = example.name;
-    let scenario = example.scenario(rt.alloc()).ok().ok_or(name)?;
+fn shows_by_all<T: Abort + AllocGlobal + Threads + Wait + Sync>(rt: &T, example: &Example) {
+    let scenario = scenario_of_example(rt, example);
     for engine in ENGINES {
         for shape in SHAPES {
-            let left = run_left(rt, engine, shape, &scenario)?;
-            let how = (name, engine, shape);
-            left.shows(rt, &how, example.trace, example.report)?;
+            let left = run_left(rt, engine, shape, &scenario);
+            let how = (example.name, engine, shape);
+            left.shows(rt, &how, example.trace, example.report);
         }
     }
-    Ok(())
 }
 
 /// How many lines a run of two lookups has written when it meets the limit: the limit, and the lines one event at a
@@ -125,25 +115,20 @@ fn meets_the_limit<T: Abort + AllocGlobal + Threads + Wait + Sync>(
     shape: Shape,
     allowed: u32,
     lines: usize,
-) -> Result<(), Fail> {
-    let scenario = two_lookups(rt.alloc(), allowed)?;
-    let left = run_left(rt, engine, shape, &scenario)?;
+) {
+    let scenario = two_lookups(rt, allowed);
+    let left = run_left(rt, engine, shape, &scenario);
     let is_over = left.end.as_str() == "TooManyEvents";
-    assert!(rt;
-        is_over == (allowed < 8) && left.has_ended() == (allowed == 8),
-        "{engine:?}, {allowed}: {}",
-        left.end
-    );
+    let how = (engine, allowed);
+    holds(rt, is_over == (allowed < 8), &how);
+    holds(rt, left.has_ended() == (allowed == 8), &how);
     let trace = left.trace.as_str();
-    assert!(rt;
-        TWO_LOOKUPS.trace.starts_with(trace) && trace.lines().count() == lines,
-        "{engine:?}, {allowed}: {trace}"
-    );
-    Ok(())
+    holds(rt, TWO_LOOKUPS.trace.starts_with(trace), &how);
+    holds(rt, trace.lines().count() == lines, &how);
 }
 
 #[test]
-fn too_many_events_by_engines(rt: HostRuntime) -> Result<(), Fail> {
+fn too_many_events_by_engines(rt: HostRuntime) {
     for (allowed, one_at_a_time, by_windows) in LIMITS {
         for engine in ENGINES {
             let lines = if engine == Engine::Serial {
@@ -151,57 +136,47 @@ fn too_many_events_by_engines(rt: HostRuntime) -> Result<(), Fail> {
             } else {
                 by_windows
             };
-            meets_the_limit(&rt, engine, PAIR, allowed, lines)?;
+            meets_the_limit(&rt, engine, PAIR, allowed, lines);
         }
         for shape in TEAMS {
-            meets_the_limit(&rt, Engine::Team, shape, allowed, by_windows)?;
+            meets_the_limit(&rt, Engine::Team, shape, allowed, by_windows);
         }
     }
-    Ok(())
 }
 
 /// Without picks the lowest worker that can take a step takes each of them, and the run is the same.
 #[test]
-fn two_workers_without_picks(rt: HostRuntime) -> Result<(), Fail> {
-    let scenario = two_lookups(rt.alloc(), 8)?;
+fn two_workers_without_picks(rt: HostRuntime) {
+    let scenario = two_lookups(&rt, 8);
     for parts in [1, 2, 3, 5] {
-        takes_the_lowest(&rt, &scenario, parts)?;
+        takes_the_lowest(&rt, &scenario, parts);
     }
-    Ok(())
 }
 
 /// Asserts that the two lookups in so many parts leave what they leave in any, and that worker 0 takes each step.
-fn takes_the_lowest<T: Abort + AllocGlobal>(
-    rt: &T,
-    scenario: &Scenario,
-    parts: u32,
-) -> Result<(), Fail>
+fn takes_the_lowest<T: Abort + AllocGlobal>(rt: &T, scenario: &Scenario, parts: u32)
     requires { (0 < parts) × (parts ≤ MOST_PARTS) }
 {
-    let alloc = rt.alloc();
-    let division = divide(alloc, scenario, Split::RoundRobin, parts)?;
-    let Picked { left, steps } = run_picks(alloc, scenario, &division, 2, &[])?;
-    left.shows(rt, &parts, TWO_LOOKUPS.trace, TWO_LOOKUPS.report)?;
+    let division = divide(rt, scenario, Split::RoundRobin, parts);
+    let Picked { left, steps } = run_picks(rt, scenario, &division, 2, &[]);
+    left.shows(rt, &parts, TWO_LOOKUPS.trace, TWO_LOOKUPS.report);
     let first = steps.as_str().lines().all(|step| step.starts_with("0 "));
-    assert!(rt; first, "{parts} parts: {steps}");
-    Ok(())
+    holds(rt, first, &parts);
 }
 
 /// As many parts as nodes, and as many workers as there can be, write what one event at a time writes.
 #[test]
-fn a_part_for_each_of_512_nodes(rt: HostRuntime) -> Result<(), Fail> {
-    let alloc = rt.alloc();
-    let ring = ring_of(alloc, 9, 512, 300)?;
-    let scenario = scenario_of(alloc, ring.as_str(), b"")?;
+fn a_part_for_each_of_512_nodes(rt: HostRuntime) {
+    let ring = ring_of(&rt, 9, 512, 300);
+    let scenario = scenario_of(&rt, ring.as_str(), b"");
     let shape = Shape {
         parts: MOST_PARTS,
         workers: MOST_SEATS,
     };
-    let serial = run_left(&rt, Engine::Serial, shape, &scenario)?;
+    let serial = run_left(&rt, Engine::Serial, shape, &scenario);
     assert!(rt; serial.has_ended() && serial.trace.starts_with("100 n0 lookup 300\n"));
     for engine in [Engine::Picked, Engine::Crew, Engine::Dealt, Engine::Team] {
-        let left = run_left(&rt, engine, shape, &scenario)?;
-        left.is(&rt, &engine, serial.trace.as_str(), serial.end.as_str())?;
+        let left = run_left(&rt, engine, shape, &scenario);
+        left.is(&rt, &engine, serial.trace.as_str(), serial.end.as_str());
     }
-    Ok(())
 }

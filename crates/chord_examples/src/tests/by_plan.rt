@@ -9,12 +9,12 @@ use crate::tests::gates::{NotesStarts, SizeGate};
 use crate::tests::left::{play_text, play_texts};
 use crate::tests::random_texts::{Dice, RandomTexts, random_texts};
 use crate::tests::ring_of_three::two_lookups;
+use crate::tests::steps::{holds, value_of};
 use chord_play::{Engine, Plan, Split, run_planned};
 use chord_trace::Watched;
 use std::process::Abort;
 use std::sync::Wait;
 use std::sync::atomic::AtomicU64;
-use std::test::Fail;
 use std::thread::Threads;
 
 /// The number of plans.
@@ -55,13 +55,12 @@ fn plan_of(engine: Engine, number: u64) -> Plan {
 
 /// Three plans for each example by a crew and by a team, and all plans among these.
 #[test]
-fn examples_by_plans(rt: HostRuntime) -> Result<(), Fail> {
+fn examples_by_plans(rt: HostRuntime) {
     let mut number = 0;
     for group in example_groups() {
-        leave_by_plans(&rt, group, number)?;
+        leave_by_plans(&rt, group, number);
         number = number.wrapping_add(15);
     }
-    Ok(())
 }
 
 /// Asserts that each of five examples has by three plans what it has by the rules, the first by the plan of this number.
@@ -69,13 +68,12 @@ fn leave_by_plans<T: Abort + AllocGlobal + Threads + Wait + Sync>(
     rt: &T,
     group: &[Example],
     first: u64,
-) -> Result<(), Fail> {
+) {
     let mut number = first;
     for example in group {
-        leaves_by_plans(rt, example, number)?;
+        leaves_by_plans(rt, example, number);
         number = number.wrapping_add(3);
     }
-    Ok(())
 }
 
 /// Asserts that an example has by a crew and by a team of three plans what it has by the rules.
@@ -83,32 +81,31 @@ fn leaves_by_plans<T: Abort + AllocGlobal + Threads + Wait + Sync>(
     rt: &T,
     example: &Example,
     first: u64,
-) -> Result<(), Fail> {
+) {
     for more in 0..3 {
         for engine in CREW_AND_TEAM {
-            leaves_example(rt, example, &plan_of(engine, first.wrapping_add(more)))?;
+            leaves_example(rt, example, &plan_of(engine, first.wrapping_add(more)));
         }
     }
-    Ok(())
 }
 
 /// If one event is allowed, a serial plan writes what that one leaves. By workers the first window
 /// has two events, and a window that fails writes nothing: so they do not run one event at a time.
 #[test]
-fn plans_differ_in_what_fails(rt: HostRuntime) -> Result<(), Fail> {
-    let alloc = rt.alloc();
-    let settings = format!(in alloc; "{SETTINGS}max_events = 1\n")?;
-    let text = text_of(alloc, settings.as_str(), THREE, TWO_LOOKUPS.commands)?;
-    let serial = play_text(&rt, text.as_str())?;
-    serial.is(&rt, &SERIAL, "100 n0 lookup 4\n", "TooManyEvents")?;
+fn plans_differ_in_what_fails(rt: HostRuntime) {
+    let settings = format!(in rt.alloc(); "{SETTINGS}max_events = 1\n");
+    let settings = value_of(&rt, settings);
+    let text = text_of(rt.alloc(), settings.as_str(), THREE, TWO_LOOKUPS.commands);
+    let text = value_of(&rt, text);
+    let serial = play_text(&rt, text.as_str());
+    serial.is(&rt, &SERIAL, "100 n0 lookup 4\n", "TooManyEvents");
     for number in 0..PLANS {
         for engine in CREW_AND_TEAM {
             let plan = plan_of(engine, number);
-            let other = play_texts(&rt, text.as_str().as_bytes(), b"", &plan)?;
-            other.is(&rt, &plan, "", "TooManyEvents")?;
+            let other = play_texts(&rt, text.as_str().as_bytes(), b"", &plan);
+            other.is(&rt, &plan, "", "TooManyEvents");
         }
     }
-    Ok(())
 }
 
 /// Asserts that a random scenario, if it is accepted, leaves the same by a crew and by a team of the plan of this number
@@ -117,35 +114,33 @@ fn leaves_the_same<T: Abort + AllocGlobal + Threads + Wait + Sync>(
     rt: &T,
     texts: &RandomTexts,
     number: u64,
-) -> Result<bool, Fail> {
+) -> bool {
     let toml = texts.toml.as_str().as_bytes();
     let csv = texts.csv.as_str().as_bytes();
-    let one = play_texts(rt, toml, csv, &SERIAL)?;
+    let one = play_texts(rt, toml, csv, &SERIAL);
     if one.end.as_str() == "refused" {
-        return Ok(false);
+        return false;
     }
-    assert!(rt; one.has_ended(), "seed {number}: {}", one.end);
+    holds(rt, one.has_ended(), &number);
     for engine in CREW_AND_TEAM {
         let plan = plan_of(engine, number);
-        let other = play_texts(rt, toml, csv, &plan)?;
-        other.is(rt, &(number, plan), one.trace.as_str(), one.end.as_str())?;
+        let other = play_texts(rt, toml, csv, &plan);
+        other.is(rt, &(number, plan), one.trace.as_str(), one.end.as_str());
     }
-    Ok(true)
+    true
 }
 
 #[test]
-fn random_scenarios_by_plans(rt: HostRuntime) -> Result<(), Fail> {
-    let alloc = rt.alloc();
-    let mut accepted = Vec::new(alloc);
+fn random_scenarios_by_plans(rt: HostRuntime) {
+    let mut accepted: u64 = 0;
     for seed in 0..SEEDS {
         let mut dice = Dice { state: 1000 + seed };
-        let texts = random_texts(alloc, &mut dice, 400)?;
-        if leaves_the_same(&rt, &texts, seed)? {
-            accepted.push(seed)?;
+        let texts = value_of(&rt, random_texts(rt.alloc(), &mut dice, 400));
+        if leaves_the_same(&rt, &texts, seed) {
+            accepted = accepted.wrapping_add(1);
         }
     }
-    assert!(rt; accepted.len() >= 40, "{accepted:?}");
-    Ok(())
+    assert!(rt; accepted >= 40, "{accepted}");
 }
 
 /// Runs two lookups by a plan with this gate. Returns the number of each worker that is started.
@@ -153,14 +148,15 @@ fn starts_by<T: Abort + AllocGlobal + Threads + Wait + Sync>(
     rt: &T,
     plan: &Plan,
     gate: &SizeGate<'_>,
-) -> Result<Vec<u32>, Fail> {
+) -> Vec<u32> {
     let alloc = rt.alloc();
-    let scenario = two_lookups(alloc, 50)?;
+    let scenario = two_lookups(rt, 50);
     let mut starter = NotesStarts::new(alloc);
     let mut writer = Watched::new(Vec::new(alloc));
-    run_planned(rt, alloc, &scenario, plan, &mut starter, gate, &mut writer)?;
+    let outcome = run_planned(rt, alloc, &scenario, plan, &mut starter, gate, &mut writer);
+    value_of(rt, outcome);
     assert!(rt; writer.into_inner().as_slice() == TWO_LOOKUPS.trace.as_bytes());
-    Ok(starter.workers)
+    starter.workers
 }
 
 /// Whether so many workers are started in turn, worker 0 first, and so on for so many windows.
@@ -188,23 +184,20 @@ struct Noted {
     parts: [u64; 8],
 }
 
-fn noted_by<T: Abort + AllocGlobal + Threads + Wait + Sync>(
-    rt: &T,
-    plan: &Plan,
-) -> Result<Noted, Fail> {
+fn noted_by<T: Abort + AllocGlobal + Threads + Wait + Sync>(rt: &T, plan: &Plan) -> Noted {
     let taken = AtomicU64::new(0);
     let gate = SizeGate::new(&taken);
-    let started = starts_by(rt, plan, &gate)?;
-    Ok(Noted {
+    let started = starts_by(rt, plan, &gate);
+    Noted {
         started,
         passes: gate.passes(),
         parts: gate.parts(),
-    })
+    }
 }
 
 /// Each of the four windows has two threads and three parts.
 #[test]
-fn two_workers_and_three_parts(rt: HostRuntime) -> Result<(), Fail> {
+fn two_workers_and_three_parts(rt: HostRuntime) {
     let plan = Plan {
         engine: Engine::Crew,
         workers: 2,
@@ -215,15 +208,14 @@ fn two_workers_and_three_parts(rt: HostRuntime) -> Result<(), Fail> {
         started,
         passes,
         parts,
-    } = noted_by(&rt, &plan)?;
+    } = noted_by(&rt, &plan);
     assert!(rt; are_in_turn(started.as_slice(), 2, 4) && passes == 12);
     assert!(rt; are_three(&parts[..3]) && are_three(&parts[3..6]));
-    Ok(())
 }
 
 /// More workers than parts have a thread each, too.
 #[test]
-fn three_workers_on_one_part(rt: HostRuntime) -> Result<(), Fail> {
+fn three_workers_on_one_part(rt: HostRuntime) {
     let plan = Plan {
         engine: Engine::Crew,
         workers: 3,
@@ -234,8 +226,7 @@ fn three_workers_on_one_part(rt: HostRuntime) -> Result<(), Fail> {
         started,
         passes,
         parts,
-    } = noted_by(&rt, &plan)?;
+    } = noted_by(&rt, &plan);
     assert!(rt; are_in_turn(started.as_slice(), 3, 4) && passes == 4);
     assert!(rt; parts[..4] == [0, 0, 0, 0]);
-    Ok(())
 }

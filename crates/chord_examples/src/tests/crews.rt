@@ -9,7 +9,8 @@ use crate::tests::gates::{
 };
 use crate::tests::left::Left;
 use crate::tests::ring_of_three::{ring_with, two_lookups};
-use crate::tests::windows::divide;
+use crate::tests::steps::{holds, is_text, value_of};
+use crate::tests::windows::{divide, horizon_of};
 use chord_crew::{Draws, Gate, MOST_SEATS, OpenGate, Seat, run_crew, work_by};
 use chord_event::{Memory, RunError};
 use chord_play::Split;
@@ -17,89 +18,89 @@ use chord_scenario::Scenario;
 use chord_trace::Watched;
 use chord_window::{Division, Window, World, exchange, run_picked};
 use std::alloc::Global;
+use std::process::Abort;
 use std::snapshot::Snapshot;
 use std::sync::atomic::{AtomicU64, Ordering};
 use std::sync::{Mutex, Wait};
-use std::test::Fail;
 use std::thread::Threads;
 
 /// Runs a scenario by `workers` workers.
-fn run_by<T: AllocGlobal + Threads + Wait + Sync, G: Gate + Sync>(
+fn run_by<T: Abort + AllocGlobal + Threads + Wait + Sync, G: Gate + Sync>(
     rt: &T,
     scenario: &Scenario,
     division: &Division,
     workers: u32,
     gate: &G,
-) -> Result<Left, Fail>
+) -> Left
     requires { (0 < workers) × (workers ≤ MOST_SEATS) }
 {
     let alloc = rt.alloc();
     let mut writer = Watched::new(Vec::new(alloc));
     let outcome = run_crew(rt, alloc, scenario, division, workers, gate, &mut writer);
-    Left::of_run(alloc, writer.into_inner(), &outcome)
+    Left::of_run(rt, writer.into_inner(), &outcome)
 }
 
 /// A division of four nodes does not fit a ring of three, and nothing is written.
 #[test]
-fn a_crew_with_a_division_of_other_nodes(rt: HostRuntime) -> Result<(), Fail> {
+fn a_crew_with_a_division_of_other_nodes(rt: HostRuntime) {
     let alloc = rt.alloc();
-    let scenario = two_lookups(alloc, 50)?;
-    let division = Division::dealt(alloc, 4, 2)?;
-    let left = run_by(&rt, &scenario, &division, 2, &OpenGate)?;
-    left.is(&rt, &"four nodes", "", "BadDivision")
+    let scenario = two_lookups(&rt, 50);
+    let division = value_of(&rt, Division::dealt(rt.alloc(), 4, 2));
+    let left = run_by(&rt, &scenario, &division, 2, &OpenGate);
+    left.is(&rt, &"four nodes", "", "BadDivision");
+}
+
+/// Whether these are workers 0 and 1, in any order.
+fn is_pair(workers: &[AtomicU64]) -> bool {
+    let [one, other] = workers else {
+        return false;
+    };
+    let (one, other) = (one.load(Ordering::SeqCst), other.load(Ordering::SeqCst));
+    (one == 0 && other == 1) || (one == 1 && other == 0)
 }
 
 #[test]
-fn two_workers_pass_in_pairs(rt: HostRuntime) -> Result<(), Fail> {
+fn two_workers_pass_in_pairs(rt: HostRuntime) {
     let alloc = rt.alloc();
-    let scenario = two_lookups(alloc, 50)?;
-    let division = divide(alloc, &scenario, Split::Blocks, 2)?;
+    let scenario = two_lookups(&rt, 50);
+    let division = divide(&rt, &scenario, Split::Blocks, 2);
     let gate = PairGate::new();
-    let left = run_by(&rt, &scenario, &division, 2, &gate)?;
-    assert!(rt; left.trace.as_str() == TWO_LOOKUPS.trace);
+    let left = run_by(&rt, &scenario, &division, 2, &gate);
+    left.has_written(&rt, &"two lookups", TWO_LOOKUPS.trace);
     assert!(rt; gate.passes.load(Ordering::SeqCst) == 8);
     assert!(rt; gate.alone.load(Ordering::SeqCst) == 0);
     for pair in gate.workers.chunks(2) {
-        let [one, other] = pair else {
-            assert!(rt; false, "no pair");
-            return Ok(());
-        };
-        let (one, other) = (one.load(Ordering::SeqCst), other.load(Ordering::SeqCst));
-        assert!(rt;
-            (one == 0 && other == 1) || (one == 1 && other == 0),
-            "{one} {other}"
-        );
+        holds(&rt, is_pair(pair), &pair.len());
     }
-    Ok(())
 }
 
 /// What a window leaves is written before the next one begins: the lines of the two lookups after the first, those of
 /// the replies after the third, the audit at the end. The gate is passed the parts in the order in which the one worker
 /// draws them.
 #[test]
-fn each_window_is_put_out_at_its_end(rt: HostRuntime) -> Result<(), Fail> {
+fn each_window_is_put_out_at_its_end(rt: HostRuntime) {
     let alloc = rt.alloc();
-    let scenario = two_lookups(alloc, 50)?;
-    let division = divide(alloc, &scenario, Split::Blocks, 2)?;
+    let scenario = two_lookups(&rt, 50);
+    let division = divide(&rt, &scenario, Split::Blocks, 2);
     let taken = AtomicU64::new(0);
     let gate = SizeGate::new(&taken);
     let mut writer = Watched::new(Counting { taken: &taken });
-    run_crew(&rt, alloc, &scenario, &division, 1, &gate, &mut writer)?;
+    let outcome = run_crew(&rt, alloc, &scenario, &division, 1, &gate, &mut writer);
+    value_of(&rt, outcome);
     assert!(rt; gate.passes() == 8);
     assert!(rt; gate.parts() == [0, 1, 0, 1, 0, 1, 0, 1]);
     assert!(rt; gate.sizes() == [0, 0, 32, 32, 32, 32, 116, 116]);
     assert!(rt; taken.load(Ordering::SeqCst) == 190);
-    Ok(())
 }
 
 /// One worker runs a window of two parts, with a gate and a runner that write to one log.
 #[test]
-fn a_gate_is_passed_before_its_part_is_run(rt: HostRuntime) -> Result<(), Fail> {
+fn a_gate_is_passed_before_its_part_is_run(rt: HostRuntime) {
     let alloc = rt.alloc();
-    let scenario = two_lookups(alloc, 50)?;
-    let division = divide(alloc, &scenario, Split::Blocks, 2)?;
-    let world = World::start(alloc, &scenario, &division)?;
-    let horizon = world.horizon(&scenario).ok_or("the run is over")?;
+    let scenario = two_lookups(&rt, 50);
+    let division = divide(&rt, &scenario, Split::Blocks, 2);
+    let world = value_of(&rt, World::start(alloc, &scenario, &division));
+    let horizon = horizon_of(&rt, &scenario, &world);
     let window = Window {
         alloc,
         scenario: &scenario,
@@ -107,7 +108,7 @@ fn a_gate_is_passed_before_its_part_is_run(rt: HostRuntime) -> Result<(), Fail> 
         horizon,
     };
     world.division.recall_division();
-    let (draws, seat) = Draws::start(alloc, world.division.parts(), 1)?;
+    let (draws, seat) = value_of(&rt, Draws::start(alloc, world.division.parts(), 1));
     let log = Log::new();
     let gate = LogGate { log: &log };
     let runner = LogRunner { log: &log };
@@ -115,9 +116,8 @@ fn a_gate_is_passed_before_its_part_is_run(rt: HostRuntime) -> Result<(), Fail> 
     assert!(rt; shift.fault.is_none() && shift.done.len() == 2);
     assert!(rt; log.count.load(Ordering::SeqCst) == 4);
     for (note, expected) in log.notes.iter().zip([300, 0, 301, 1]) {
-        assert!(rt; note.load(Ordering::SeqCst) == expected, "{expected}");
+        holds(&rt, note.load(Ordering::SeqCst) == expected, &expected);
     }
-    Ok(())
 }
 
 /// The settings of a run whose first window has an audit, and which allows fewer events than that window has.
@@ -127,11 +127,11 @@ const AUDITED: &str =
 /// That a window has too many events is found before any of it is written, in two parts as in one: the writer fails at
 /// the window's audit, and is never called.
 #[test]
-fn too_many_events_come_before_a_failed_write(rt: HostRuntime) -> Result<(), Fail> {
+fn too_many_events_come_before_a_failed_write(rt: HostRuntime) {
     let alloc = rt.alloc();
-    let scenario = ring_with(alloc, AUDITED, TWO_LOOKUPS.commands)?;
-    let one = divide(alloc, &scenario, Split::Blocks, 1)?;
-    let two = divide(alloc, &scenario, Split::Blocks, 2)?;
+    let scenario = ring_with(&rt, AUDITED, TWO_LOOKUPS.commands);
+    let one = divide(&rt, &scenario, Split::Blocks, 1);
+    let two = divide(&rt, &scenario, Split::Blocks, 2);
     for division in [&one, &two] {
         let mut writer = Watched::new(Broken);
         let by_crew = run_crew(&rt, alloc, &scenario, division, 2, &OpenGate, &mut writer).err();
@@ -140,47 +140,44 @@ fn too_many_events_come_before_a_failed_write(rt: HostRuntime) -> Result<(), Fai
         let picked = run_picked(alloc, &scenario, division, 2, &[], &mut writer).err();
         assert!(rt; picked == Some(RunError::TooManyEvents));
     }
-    Ok(())
 }
 
 /// One event is allowed, and the first window has two in its one part. The part's run fails, and its gate is passed
 /// once.
 #[test]
-fn a_gate_is_passed_for_a_part_that_fails(rt: HostRuntime) -> Result<(), Fail> {
-    let scenario = two_lookups(rt.alloc(), 1)?;
-    let division = divide(rt.alloc(), &scenario, Split::Blocks, 1)?;
+fn a_gate_is_passed_for_a_part_that_fails(rt: HostRuntime) {
+    let scenario = two_lookups(&rt, 1);
+    let division = divide(&rt, &scenario, Split::Blocks, 1);
     let gate = CountGate {
         rt: &rt,
         passes: Mutex::new(0),
     };
-    let left = run_by(&rt, &scenario, &division, 1, &gate)?;
-    assert!(rt; left.end.as_str() == "TooManyEvents", "{}", left.end);
+    let left = run_by(&rt, &scenario, &division, 1, &gate);
+    is_text(&rt, left.end.as_str(), "TooManyEvents");
     assert!(rt; *gate.passes.lock(&rt) == 1);
-    Ok(())
 }
 
 #[test]
-fn a_gate_may_wait(rt: HostRuntime) -> Result<(), Fail> {
-    let scenario = two_lookups(rt.alloc(), 50)?;
-    let division = divide(rt.alloc(), &scenario, Split::Blocks, 3)?;
+fn a_gate_may_wait(rt: HostRuntime) {
+    let scenario = two_lookups(&rt, 50);
+    let division = divide(&rt, &scenario, Split::Blocks, 3);
     let gate = CountGate {
         rt: &rt,
         passes: Mutex::new(0),
     };
-    let left = run_by(&rt, &scenario, &division, 3, &gate)?;
-    assert!(rt; left.trace.as_str() == TWO_LOOKUPS.trace);
+    let left = run_by(&rt, &scenario, &division, 3, &gate);
+    left.has_written(&rt, &"two lookups", TWO_LOOKUPS.trace);
     assert!(rt; *gate.passes.lock(&rt) == 12);
-    Ok(())
 }
 
 /// One worker alone draws both parts of the first window, and each runs its one event.
 #[test]
-fn one_worker_alone(rt: HostRuntime) -> Result<(), Fail> {
+fn one_worker_alone(rt: HostRuntime) {
     let alloc = rt.alloc();
-    let scenario = two_lookups(alloc, 50)?;
-    let division = divide(alloc, &scenario, Split::Blocks, 2)?;
-    let mut world = World::start(alloc, &scenario, &division)?;
-    let horizon = world.horizon(&scenario).ok_or("the run is over")?;
+    let scenario = two_lookups(&rt, 50);
+    let division = divide(&rt, &scenario, Split::Blocks, 2);
+    let mut world = value_of(&rt, World::start(alloc, &scenario, &division));
+    let horizon = horizon_of(&rt, &scenario, &world);
     assert!(rt; horizon == 110);
     let window = Window {
         alloc,
@@ -188,14 +185,13 @@ fn one_worker_alone(rt: HostRuntime) -> Result<(), Fail> {
         world: &world,
         horizon,
     };
-    let dones = window_by_one(&window)?;
+    let dones = value_of(&rt, window_by_one(&window));
     assert!(rt; dones.len() == 2);
     for done in dones.iter() {
         assert!(rt; done.events == 1);
     }
-    let lists = exchange(alloc, &scenario, &mut world, dones)?;
+    let lists = value_of(&rt, exchange(alloc, &scenario, &mut world, dones));
     assert!(rt; lists.len() == 2 && world.count == 2);
-    Ok(())
 }
 
 /// Two seats draw five times alternately, and are joined. The snapshot shows the joined seat to the contract.
@@ -218,8 +214,7 @@ fn draw_in_turn(alloc: Global) -> Result<([Option<u32>; 5], Snapshot<Seat>), Mem
 }
 
 #[test]
-fn numbers_come_in_turn(rt: HostRuntime) -> Result<(), Fail> {
-    let (answers, _seat) = draw_in_turn(rt.alloc())?;
+fn numbers_come_in_turn(rt: HostRuntime) {
+    let (answers, _seat) = value_of(&rt, draw_in_turn(rt.alloc()));
     assert!(rt; answers == [Some(0), Some(1), Some(2), None, None]);
-    Ok(())
 }

@@ -3,9 +3,11 @@ ghost use Rattle.std.specs.Prelude.{◌≡◌, ◌<◌, ◌≤◌, length};
 
 use crate::examples::play::{SETTINGS, text_of};
 use crate::examples::table::TWO_LOOKUPS;
+use crate::tests::divisions::divides;
 use crate::tests::gates::{NotesStarts, SizeGate};
 use crate::tests::left::Left;
 use crate::tests::ring_of_three::{is_beginning, scenario_of, two_lookups};
+use crate::tests::steps::{holds, value_of};
 use chord_crew::{
     Balanced, Dealer, Gate, MOST_SEATS, OpenGate, Starter, run_crew_dealt, run_crew_started,
 };
@@ -13,11 +15,11 @@ use chord_event::{Memory, RunError};
 use chord_scenario::Scenario;
 use chord_serial::run_serial;
 use chord_trace::Watched;
-use chord_window::Division;
+use chord_window::{Division, MOST_PARTS};
 use std::alloc::Global;
+use std::process::Abort;
 use std::sync::Wait;
 use std::sync::atomic::AtomicU64;
-use std::test::Fail;
 use std::thread::Threads;
 
 /// What a dealer returns for a ring of three nodes.
@@ -80,38 +82,39 @@ impl Dealer for InTurn {
 }
 
 /// Runs a scenario by `workers` workers, with the divisions of a dealer.
-fn run_dealt<T: AllocGlobal + Threads + Wait + Sync, D: Dealer, G: Gate + Sync>(
+fn run_dealt<T, D: Dealer, G: Gate + Sync>(
     rt: &T,
     scenario: &Scenario,
     workers: u32,
     dealer: &mut D,
     gate: &G,
-) -> Result<Left, Fail>
+) -> Left
+where
+    T: Abort + AllocGlobal + Threads + Wait + Sync,
     requires { (0 < workers) × (workers ≤ MOST_SEATS) }
 {
     let alloc = rt.alloc();
     let mut writer = Watched::new(Vec::new(alloc));
     let outcome = run_crew_dealt(rt, alloc, scenario, workers, dealer, gate, &mut writer);
-    Left::of_run(alloc, writer.into_inner(), &outcome)
+    Left::of_run(rt, writer.into_inner(), &outcome)
 }
 
 /// The dealer is asked before each of the four windows, and passed what each node has handled so far.
 #[test]
-fn a_dealer_is_told_the_loads(rt: HostRuntime) -> Result<(), Fail> {
-    let scenario = two_lookups(rt.alloc(), 50)?;
+fn a_dealer_is_told_the_loads(rt: HostRuntime) {
+    let scenario = two_lookups(&rt, 50);
     let mut dealer = InTurn::new(rt.alloc(), Answer::ByTurns, Answer::ByBlocks);
-    let left = run_dealt(&rt, &scenario, 2, &mut dealer, &OpenGate)?;
-    assert!(rt; left.has_ended() && left.trace.as_str() == TWO_LOOKUPS.trace);
+    let left = run_dealt(&rt, &scenario, 2, &mut dealer, &OpenGate);
+    left.ends_with(&rt, &"in turn", TWO_LOOKUPS.trace);
     assert!(rt; dealer.calls == 4);
     assert!(rt; dealer.loads.as_slice() == [0, 0, 0, 1, 0, 1, 2, 0, 2, 3, 0, 3].as_slice());
-    Ok(())
 }
 
 /// A division that does not fit the ring ends the run, and so does one for which an allocation fails. What was written
 /// before stays.
 #[test]
-fn a_dealer_without_a_division_ends_the_run(rt: HostRuntime) -> Result<(), Fail> {
-    let scenario = two_lookups(rt.alloc(), 50)?;
+fn a_dealer_without_a_division_ends_the_run(rt: HostRuntime) {
+    let scenario = two_lookups(&rt, 50);
     for (first, second, error, taken) in [
         (Answer::OfFourNodes, Answer::ByTurns, "BadDivision", 0),
         (Answer::ByTurns, Answer::OfFourNodes, "BadDivision", 32),
@@ -119,10 +122,9 @@ fn a_dealer_without_a_division_ends_the_run(rt: HostRuntime) -> Result<(), Fail>
         (Answer::ByTurns, Answer::Refused, "Memory", 32),
     ] {
         let mut dealer = InTurn::new(rt.alloc(), first, second);
-        let left = run_dealt(&rt, &scenario, 2, &mut dealer, &OpenGate)?;
-        left.is(&rt, &taken, &TWO_LOOKUPS.trace[..taken], error)?;
+        let left = run_dealt(&rt, &scenario, 2, &mut dealer, &OpenGate);
+        left.is(&rt, &taken, &TWO_LOOKUPS.trace[..taken], error);
     }
-    Ok(())
 }
 
 /// Whether the gate was passed for part 0, and then for parts 0 to 2 in any order.
@@ -135,17 +137,16 @@ fn is_one_then_three(passes: &[u64]) -> bool {
 
 /// Each window has the parts of its own division.
 #[test]
-fn each_window_has_its_own_parts(rt: HostRuntime) -> Result<(), Fail> {
-    let scenario = two_lookups(rt.alloc(), 50)?;
+fn each_window_has_its_own_parts(rt: HostRuntime) {
+    let scenario = two_lookups(&rt, 50);
     let mut dealer = InTurn::new(rt.alloc(), Answer::InOnePart, Answer::EachAlone);
     let taken = AtomicU64::new(0);
     let gate = SizeGate::new(&taken);
-    let left = run_dealt(&rt, &scenario, 2, &mut dealer, &gate)?;
-    assert!(rt; left.trace.as_str() == TWO_LOOKUPS.trace);
+    let left = run_dealt(&rt, &scenario, 2, &mut dealer, &gate);
+    left.has_written(&rt, &"own parts", TWO_LOOKUPS.trace);
     let parts = gate.parts();
     assert!(rt; gate.passes() == 8);
     assert!(rt; is_one_then_three(&parts[..4]) && is_one_then_three(&parts[4..]));
-    Ok(())
 }
 
 /// Refuses one start, the first being number 1.
@@ -165,10 +166,9 @@ impl Starter for RefusesStart {
 /// The four windows have two starts each. A refused one ends the run: what earlier windows left stays, and the starter
 /// is not asked again.
 #[test]
-fn a_refused_start_ends_the_run(rt: HostRuntime) -> Result<(), Fail> {
-    let alloc = rt.alloc();
-    let scenario = two_lookups(alloc, 50)?;
-    let division = Division::blocks(alloc, 3, 2)?;
+fn a_refused_start_ends_the_run(rt: HostRuntime) {
+    let scenario = two_lookups(&rt, 50);
+    let division = value_of(&rt, Division::blocks(rt.alloc(), 3, 2));
     for (refused, taken) in [
         (1, 0),
         (2, 0),
@@ -180,82 +180,90 @@ fn a_refused_start_ends_the_run(rt: HostRuntime) -> Result<(), Fail> {
         (8, 116),
         (9, 190),
     ] {
-        let mut starter = RefusesStart { refused, asked: 0 };
-        let mut writer = Watched::new(Vec::new(alloc));
-        let fault = run_crew_started(
-            &rt,
-            alloc,
-            &scenario,
-            &division,
-            2,
-            &mut starter,
-            &OpenGate,
-            &mut writer,
-        )
-        .err();
-        let expected = if refused < 9 {
-            Some(RunError::Worker)
-        } else {
-            None
-        };
-        assert!(rt; fault == expected, "{refused}");
-        assert!(rt; starter.asked == refused.min(8), "{refused}");
-        let trace = writer.into_inner();
-        assert!(rt; is_beginning(trace.as_slice(), taken), "{refused}");
+        ends_at(&rt, &scenario, &division, refused, taken);
     }
-    Ok(())
 }
 
-/// Runs the two lookups with threads for `workers` workers, and returns the workers that a starter was asked for.
-fn asked_for<T: AllocGlobal + Threads + Wait + Sync>(
+/// Asserts that a run by two workers whose start of this number is refused has written so many bytes.
+fn ends_at<T: Abort + AllocGlobal + Threads + Wait + Sync>(
     rt: &T,
+    scenario: &Scenario,
+    division: &Division,
+    refused: u32,
+    taken: usize,
+) {
+    let mut starter = RefusesStart { refused, asked: 0 };
+    let (trace, fault) = run_started(rt, scenario, division, 2, &mut starter);
+    let expected = if refused < 9 {
+        Some(RunError::Worker)
+    } else {
+        None
+    };
+    holds(rt, fault == expected, &refused);
+    holds(rt, starter.asked == refused.min(8), &refused);
+    holds(rt, is_beginning(trace.as_slice(), taken), &refused);
+}
+
+/// Runs a scenario with the threads that a starter lets start, and returns the trace and the fault.
+fn run_started<T: Abort + AllocGlobal + Threads + Wait + Sync, S: Starter>(
+    rt: &T,
+    scenario: &Scenario,
     division: &Division,
     workers: u32,
-) -> Result<Vec<u32>, Fail>
+    starter: &mut S,
+) -> (Vec<u8>, Option<RunError>)
     requires { (0 < workers) × (workers ≤ MOST_SEATS) }
 {
     let alloc = rt.alloc();
-    let scenario = two_lookups(alloc, 50)?;
-    let mut starter = NotesStarts::new(alloc);
     let mut writer = Watched::new(Vec::new(alloc));
-    let gate = &OpenGate;
-    run_crew_started(
+    let outcome = run_crew_started(
         rt,
         alloc,
-        &scenario,
+        scenario,
         division,
         workers,
-        &mut starter,
-        gate,
+        starter,
+        &OpenGate,
         &mut writer,
-    )?;
-    Ok(starter.workers)
+    );
+    (writer.into_inner(), outcome.err())
+}
+
+/// Runs the two lookups with threads for `workers` workers, and returns the workers that a starter was asked for.
+fn asked_for<T: Abort + AllocGlobal + Threads + Wait + Sync>(
+    rt: &T,
+    parts: u32,
+    workers: u32,
+) -> Vec<u32>
+    requires parts { (0 < parts) × (parts ≤ MOST_PARTS) }
+    requires workers { (0 < workers) × (workers ≤ MOST_SEATS) }
+{
+    let scenario = two_lookups(rt, 50);
+    let division = value_of(rt, Division::blocks(rt.alloc(), 3, parts));
+    let mut starter = NotesStarts::new(rt.alloc());
+    let (_trace, fault) = run_started(rt, &scenario, &division, workers, &mut starter);
+    holds(rt, fault.is_none(), &workers);
+    starter.workers
 }
 
 /// In each of the four windows a starter is asked for each worker, worker 0 first, also if there are more workers than
 /// parts.
 #[test]
-fn a_starter_is_told_each_worker(rt: HostRuntime) -> Result<(), Fail> {
-    let alloc = rt.alloc();
-    let two = asked_for(&rt, &Division::blocks(alloc, 3, 2)?, 2)?;
+fn a_starter_is_told_each_worker(rt: HostRuntime) {
+    let two = asked_for(&rt, 2, 2);
     assert!(rt; two.as_slice() == [0, 1, 0, 1, 0, 1, 0, 1].as_slice());
-    let three = asked_for(&rt, &Division::blocks(alloc, 3, 1)?, 3)?;
+    let three = asked_for(&rt, 1, 3);
     assert!(rt; three.as_slice() == [0, 1, 2, 0, 1, 2, 0, 1, 2, 0, 1, 2].as_slice());
-    Ok(())
 }
 
 /// The node with the greatest load goes first, each to the part with the least load so far.
 #[test]
-fn loads_are_evened_out(rt: HostRuntime) -> Result<(), Fail> {
+fn loads_are_evened_out(rt: HostRuntime) {
     let mut dealer = Balanced::new(rt.alloc(), 2);
-    let division = dealer.deal(&[7, 5, 4, 3, 1])?;
-    assert!(rt; division.parts() == 2 && division.nodes() == 5);
-    assert!(rt; division.part_of(0) == 0 && division.part_of(1) == 1 && division.part_of(2) == 1);
-    assert!(rt; division.part_of(3) == 0 && division.part_of(4) == 1);
-    let division = dealer.deal(&[0, 0, 0, 0])?;
-    assert!(rt; division.part_of(0) == 0 && division.part_of(1) == 1);
-    assert!(rt; division.part_of(2) == 0 && division.part_of(3) == 1);
-    Ok(())
+    let division = value_of(&rt, dealer.deal(&[7, 5, 4, 3, 1]));
+    divides(&rt, &division, 2, &[0, 1, 1, 0, 1]);
+    let division = value_of(&rt, dealer.deal(&[0, 0, 0, 0]));
+    divides(&rt, &division, 2, &[0, 1, 0, 1]);
 }
 
 /// A ring in which the nodes of even number start all lookups.
@@ -306,28 +314,36 @@ fn load_of(part: u32, division: &Division, loads: &[u64]) -> u64
     sum
 }
 
+/// What one event at a time writes of a scenario.
+fn serial_trace<T: Abort + AllocGlobal>(rt: &T, scenario: &Scenario) -> Vec<u8> {
+    let mut writer = Watched::new(Vec::new(rt.alloc()));
+    value_of(rt, run_serial(rt.alloc(), scenario, &mut writer));
+    writer.into_inner()
+}
+
+/// The greater load of two parts of eight nodes.
+fn greater_load(division: &Division, loads: &[u64]) -> u64
+    requires nodes { length division.now.of_node ≡ 8 }
+    requires loads { length loads.now ≡ 8 }
+{
+    load_of(0, division, loads).max(load_of(1, division, loads))
+}
+
 /// Dealt in turn, the nodes of even number are one part of two.
 #[test]
-fn parts_of_a_skewed_ring_are_evened_out(rt: HostRuntime) -> Result<(), Fail> {
-    let alloc = rt.alloc();
-    let text = text_of(alloc, SETTINGS, EIGHT, EVEN_LOOKUPS)?;
-    let scenario = scenario_of(alloc, text.as_str(), b"")?;
-    let mut serial = Watched::new(Vec::new(alloc));
-    run_serial(alloc, &scenario, &mut serial)?;
+fn parts_of_a_skewed_ring_are_evened_out(rt: HostRuntime) {
+    let text = value_of(&rt, text_of(rt.alloc(), SETTINGS, EIGHT, EVEN_LOOKUPS));
+    let scenario = scenario_of(&rt, text.as_str(), b"");
+    let serial = serial_trace(&rt, &scenario);
     let mut dealer = Keeping {
-        balanced: Balanced::new(alloc, 2),
-        last: Vec::new(alloc),
+        balanced: Balanced::new(rt.alloc(), 2),
+        last: Vec::new(rt.alloc()),
     };
-    let left = run_dealt(&rt, &scenario, 2, &mut dealer, &OpenGate)?;
-    assert!(rt;
-        left.has_ended() && left.trace.as_str().as_bytes() == serial.into_inner().as_slice()
-    );
+    let left = run_dealt(&rt, &scenario, 2, &mut dealer, &OpenGate);
+    assert!(rt; left.has_ended() && left.trace.as_str().as_bytes() == serial.as_slice());
     let loads = dealer.last.as_slice();
     assert!(rt; loads.len() == 8);
-    let even = dealer.balanced.deal(loads)?;
-    let skewed = Division::dealt(alloc, 8, 2)?;
-    let evened_out = load_of(0, &even, loads).max(load_of(1, &even, loads));
-    let in_turn = load_of(0, &skewed, loads).max(load_of(1, &skewed, loads));
-    assert!(rt; evened_out < in_turn, "{evened_out} {in_turn}");
-    Ok(())
+    let even = value_of(&rt, dealer.balanced.deal(loads));
+    let skewed = value_of(&rt, Division::dealt(rt.alloc(), 8, 2));
+    assert!(rt; greater_load(&even, loads) < greater_load(&skewed, loads));
 }

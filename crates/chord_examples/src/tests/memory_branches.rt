@@ -2,13 +2,13 @@
 //! no clause could say that a branch does not fail without need: so each is taken once.
 use crate::examples::play::SERIAL;
 use crate::tests::left::{play_text, play_texts};
+use crate::tests::ring_of_three::scenario_of;
+use crate::tests::steps::{holds, value_of};
 use chord_circle::{Circle, Ident};
-use chord_event::{Answer, Body, Listed, Memory};
+use chord_event::{Answer, Body, Listed};
 use chord_play::{Engine, Plan, Split};
-use chord_scenario::read_scenario;
 use std::alloc::{AllocError, Global};
 use std::fmt::Write as _;
-use std::test::Fail;
 
 /// The plans of these runs.
 const PLANS: [Plan; 3] = [
@@ -66,33 +66,42 @@ const ASKED: [(u32, u32, u32); 9] = [
     (9, 430, 460),
 ];
 
-/// The ninth node that is silent ends the lookup.
-#[test]
-fn a_lookup_of_nine_timeouts(rt: HostRuntime) -> Result<(), Fail> {
-    let alloc = rt.alloc();
-    let scenario = fourteen_crashes(alloc)?;
+fn asked() -> &'static [(u32, u32, u32)] {
+    &ASKED
+}
+
+/// The trace of the lookup that the ninth silent node ends.
+fn trace_of_nine(alloc: Global) -> Result<String, AllocError> {
     let mut trace = String::new(alloc);
     for node in 1u32..15 {
         writeln!(trace, "50 n{node} crash")?;
     }
-    trace.push_str("100 n0 lookup 115\n")?;
-    for (node, dropped, silent) in &ASKED {
+    writeln!(trace, "100 n0 lookup 115")?;
+    for (node, dropped, silent) in asked() {
         writeln!(
             trace,
             "{dropped} n{node} drop step n0\n{silent} n0 timeout n{node}"
         )?;
     }
-    trace.push_str(
+    writeln!(
+        trace,
         "460 n0 lost 115 hops=0 timeouts=9 us=360\n\
-        1000 audit members=4 dead=0 ring=4 ordered=yes principals=4 sufficient=no\n",
+        1000 audit members=4 dead=0 ring=4 ordered=yes principals=4 sufficient=no"
     )?;
+    Ok(trace)
+}
+
+/// The ninth node that is silent ends the lookup.
+#[test]
+fn a_lookup_of_nine_timeouts(rt: HostRuntime) {
+    let scenario = value_of(&rt, fourteen_crashes(rt.alloc()));
+    let trace = value_of(&rt, trace_of_nine(rt.alloc()));
     let report =
         "events 33\ncrashes 14\ndrops 9\ntimeouts 9\nlookups 1\nlost 1\naudits 1\ninsufficient 1\n";
     for plan in &PLANS {
-        let left = play_texts(&rt, scenario.as_str().as_bytes(), b"", plan)?;
-        left.shows(&rt, plan, trace.as_str(), report)?;
+        let left = play_texts(&rt, scenario.as_str().as_bytes(), b"", plan);
+        left.shows(&rt, plan, trace.as_str(), report);
     }
-    Ok(())
 }
 
 /// A ring of n0 and n131, into which n130 to n1 join one after another. Each of them knows only the node after it, so
@@ -123,26 +132,21 @@ fn chain(alloc: Global) -> Result<String, AllocError> {
 
 /// n1 asks n2 to n129. The last of these 128 names n130, which is not asked any more.
 #[test]
-fn a_lookup_of_128_requests(rt: HostRuntime) -> Result<(), Fail> {
-    let alloc = rt.alloc();
-    let scenario = chain(alloc)?;
-    let left = play_text(&rt, scenario.as_str())?;
+fn a_lookup_of_128_requests(rt: HostRuntime) {
+    let scenario = value_of(&rt, chain(rt.alloc()));
+    let left = play_text(&rt, scenario.as_str());
     assert!(rt; left.has_ended());
     let lost = "\n55560 n1 lost 131 hops=128 timeouts=0 us=2560\n";
     assert!(rt; left.trace.contains(lost), "{}", left.trace);
-    Ok(())
 }
 
-/// A row for each pair of 512 nodes.
-#[test]
-fn a_latency_for_each_pair(rt: HostRuntime) -> Result<(), Fail> {
-    let alloc = rt.alloc();
-    let mut toml = String::new(alloc);
-    toml.push_str(
+/// 512 nodes, and a row for each pair of them.
+fn write_pairs(toml: &mut String, csv: &mut String) -> Result<(), AllocError> {
+    writeln!(
+        toml,
         "profile = 1\nbits = 9\nseed = 1\nlatency_us = 9\nlist = 1\nduration_us = 10\nwindow_us = 9\n\
-        timeout_us = 3000\naudit_us = 10\nstabilize_us = 10\nfinger_us = 10\n",
+        timeout_us = 3000\naudit_us = 10\nstabilize_us = 10\nfinger_us = 10"
     )?;
-    let mut csv = String::new(alloc);
     for node in 0u32..512 {
         writeln!(
             toml,
@@ -153,11 +157,16 @@ fn a_latency_for_each_pair(rt: HostRuntime) -> Result<(), Fail> {
             writeln!(csv, "n{node},n{other},{latency}")?;
         }
     }
-    let outcome = read_scenario(alloc, toml.as_str().as_bytes(), csv.as_str().as_bytes());
-    let Ok(scenario) = outcome else {
-        assert!(rt; false, "the scenario is refused");
-        return Ok(());
-    };
+    Ok(())
+}
+
+/// A row for each pair of 512 nodes.
+#[test]
+fn a_latency_for_each_pair(rt: HostRuntime) {
+    let mut toml = String::new(rt.alloc());
+    let mut csv = String::new(rt.alloc());
+    value_of(&rt, write_pairs(&mut toml, &mut csv));
+    let scenario = scenario_of(&rt, toml.as_str(), csv.as_str().as_bytes());
     assert!(rt; scenario.nodes() == 512);
     for (from, to, latency) in [
         (0, 1, 11),
@@ -167,68 +176,61 @@ fn a_latency_for_each_pair(rt: HostRuntime) -> Result<(), Fail> {
         (7, 7, 1),
     ] {
         assert!(rt; from < scenario.nodes() && to < scenario.nodes());
-        assert!(rt; scenario.latency(from, to) == latency, "{from} to {to}");
+        holds(&rt, scenario.latency(from, to) == latency, &(from, to));
     }
-    Ok(())
 }
 
-/// Every kind of body, with two nodes in each list.
-fn bodies(alloc: Global, key: Ident) -> Result<Vec<Body>, Memory> {
-    let mut list = Listed::new(alloc);
-    list.push(1)?;
-    list.push(2)?;
-    let all = [
-        Body::CmdJoin { via: 1 },
-        Body::CmdCrash,
-        Body::CmdLookup { key },
-        Body::StabilizeTick { epoch: 1 },
-        Body::FingerTick { epoch: 1 },
-        Body::TrafficTick { epoch: 1 },
-        Body::LifeEnd { epoch: 1 },
-        Body::Rise { epoch: 1 },
-        Body::Timeout { call: 1 },
-        Body::Step {
-            call: 1,
-            key,
-            avoid: list.try_clone()?,
-        },
-        Body::GetState { call: 1 },
-        Body::GetList { call: 1 },
-        Body::Ping { call: 1 },
-        Body::Notify,
-        Body::StepReply {
+/// The body of each kind from 0 to 17, with two nodes in each list.
+fn body_of(kind: u32, key: Ident, list: Listed<u32>) -> Body {
+    match kind {
+        0 => Body::CmdJoin { via: 1 },
+        1 => Body::CmdCrash,
+        2 => Body::CmdLookup { key },
+        3 => Body::StabilizeTick { epoch: 1 },
+        4 => Body::FingerTick { epoch: 1 },
+        5 => Body::TrafficTick { epoch: 1 },
+        6 => Body::LifeEnd { epoch: 1 },
+        7 => Body::Rise { epoch: 1 },
+        8 => Body::Timeout { call: 1 },
+        9 => Body::GetState { call: 1 },
+        10 => Body::GetList { call: 1 },
+        11 => Body::Ping { call: 1 },
+        12 => Body::Notify,
+        13 => Body::StepReply {
             call: 1,
             answer: Answer::Stuck,
         },
-        Body::StateReply {
+        14 => Body::Pong { call: 1 },
+        _ => body_with(kind, key, list),
+    }
+}
+
+/// The bodies that have a list.
+fn body_with(kind: u32, key: Ident, list: Listed<u32>) -> Body {
+    match kind {
+        15 => Body::Step {
+            call: 1,
+            key,
+            avoid: list,
+        },
+        16 => Body::StateReply {
             call: 1,
             prdc: 1,
-            list: list.try_clone()?,
+            list,
         },
-        Body::ListReply { call: 1, list },
-        Body::Pong { call: 1 },
-    ];
-    let mut bodies = Vec::new(alloc);
-    for body in all {
-        bodies.push(body)?;
+        _ => Body::ListReply { call: 1, list },
     }
-    Ok(bodies)
 }
 
 #[test]
-fn a_copy_of_each_body(rt: HostRuntime) -> Result<(), Fail> {
+fn a_copy_of_each_body(rt: HostRuntime) {
     let key = Circle::new(3).and_then(|circle| circle.ident(5));
-    let Some(key) = key else {
-        assert!(rt; false, "no key");
-        return Ok(());
-    };
-    let Ok(bodies) = bodies(rt.alloc(), key) else {
-        assert!(rt; false, "no memory");
-        return Ok(());
-    };
-    assert!(rt; bodies.len() == 18);
-    for body in bodies.as_slice() {
-        assert!(rt; body.try_clone().is_ok());
+    let key = value_of(&rt, key.ok_or("no key"));
+    for kind in 0..18 {
+        let mut list = Listed::new(rt.alloc());
+        value_of(&rt, list.push(1));
+        value_of(&rt, list.push(2));
+        let body = body_of(kind, key, list);
+        value_of(&rt, body.try_clone());
     }
-    Ok(())
 }

@@ -1,4 +1,4 @@
-//! Tests, and what they share: `gates`, `left`, `random_texts` and `ring_of_three`.
+//! Tests, and what they share: `gates`, `left`, `random_texts`, `ring_of_three` and `steps`.
 mod audits;
 mod by_engine;
 mod by_example;
@@ -20,7 +20,9 @@ mod report_text;
 mod ring_of_three;
 mod searches;
 mod second_profile;
+mod steps;
 mod streams;
+mod third_profile;
 mod watched;
 mod windows;
 mod windows_at_random;

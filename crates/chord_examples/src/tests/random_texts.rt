@@ -1,9 +1,8 @@
 //! Random scenarios of 3 to 8 nodes.
 ghost use Rattle.std.specs.Prelude.{◌≡◌, ◌<◌, ◌≤◌};
 
-use std::alloc::Global;
+use std::alloc::{AllocError, Global};
 use std::fmt::Write as _;
-use std::test::Fail;
 
 /// A generator of pseudorandom numbers.
 #[derive(Drop)]
@@ -74,8 +73,23 @@ fn random_shape(dice: &mut Dice, shortest: u32) -> Shape
     }
 }
 
-/// The settings of a random scenario, in either profile.
-fn write_settings(text: &mut String, dice: &mut Dice, shape: Shape) -> Result<(), Fail> {
+/// The profile of a random scenario, and the settings of its network.
+fn write_network(text: &mut String, dice: &mut Dice) -> Result<(), AllocError> {
+    let profile = 1 + dice.below(3);
+    writeln!(text, "profile = {profile}")?;
+    if profile == 1 {
+        return Ok(());
+    }
+    let (loss, spread) = (dice.below(200_000), dice.below(60));
+    writeln!(text, "loss_ppm = {loss}\nspread_us = {spread}")?;
+    if profile == 3 {
+        writeln!(text, "retries = {}", dice.below(4))?;
+    }
+    Ok(())
+}
+
+/// The settings of a random scenario.
+fn write_settings(text: &mut String, dice: &mut Dice, shape: Shape) -> Result<(), AllocError> {
     let Shape {
         bits,
         list,
@@ -83,12 +97,7 @@ fn write_settings(text: &mut String, dice: &mut Dice, shape: Shape) -> Result<()
         duration,
         ..
     } = shape;
-    if dice.below(2) == 0 {
-        writeln!(text, "profile = 1")?;
-    } else {
-        let (loss, spread) = (dice.below(200_000), dice.below(60));
-        writeln!(text, "profile = 2\nloss_ppm = {loss}\nspread_us = {spread}")?;
-    }
+    write_network(text, dice)?;
     writeln!(text, "bits = {bits}\nlist = {list}")?;
     writeln!(text, "seed = {}", dice.below(1_000_000))?;
     writeln!(text, "duration_us = {duration}\nwindow_us = {window}")?;
@@ -119,7 +128,7 @@ fn write_settings(text: &mut String, dice: &mut Dice, shape: Shape) -> Result<()
 }
 
 /// The nodes of a random scenario: their identifiers differ, and one more than the list has places are initial.
-fn write_nodes(text: &mut String, dice: &mut Dice, shape: Shape) -> Result<(), Fail> {
+fn write_nodes(text: &mut String, dice: &mut Dice, shape: Shape) -> Result<(), AllocError> {
     let size = size_of(shape.bits);
     let mut ident = dice.below(256);
     let step = 2 * dice.below(128) + 1;
@@ -138,7 +147,7 @@ fn write_nodes(text: &mut String, dice: &mut Dice, shape: Shape) -> Result<(), F
 }
 
 /// Up to eleven commands.
-fn write_commands(text: &mut String, dice: &mut Dice, shape: Shape) -> Result<(), Fail> {
+fn write_commands(text: &mut String, dice: &mut Dice, shape: Shape) -> Result<(), AllocError> {
     for _command in 0..dice.below(12) {
         let time = dice.below(shape.duration);
         let node = dice.below(shape.nodes);
@@ -159,7 +168,7 @@ fn write_commands(text: &mut String, dice: &mut Dice, shape: Shape) -> Result<()
 }
 
 /// Rows with latencies for some pairs of nodes.
-fn write_latencies(text: &mut String, dice: &mut Dice, shape: Shape) -> Result<(), Fail> {
+fn write_latencies(text: &mut String, dice: &mut Dice, shape: Shape) -> Result<(), AllocError> {
     for first in 0..shape.nodes {
         for second in 0..first {
             if dice.below(3) == 0 {
@@ -180,7 +189,11 @@ pub struct RandomTexts {
 }
 
 /// The next random scenario, which lasts `shortest` microseconds or up to twice as long. Some are not accepted.
-pub fn random_texts(alloc: Global, dice: &mut Dice, shortest: u32) -> Result<RandomTexts, Fail>
+pub fn random_texts(
+    alloc: Global,
+    dice: &mut Dice,
+    shortest: u32,
+) -> Result<RandomTexts, AllocError>
     requires { (0 < shortest) × (shortest ≤ 3000) }
 {
     let shape = random_shape(dice, shortest);

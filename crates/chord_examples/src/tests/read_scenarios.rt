@@ -1,8 +1,10 @@
 //! Scenarios as they are read.
-use crate::tests::ring_of_three::{NO_HOP, text_of_three};
-use chord_event::{Body, Event, Key};
-use chord_scenario::{Action, read_scenario};
-use std::test::Fail;
+use crate::tests::ring_of_three::{NO_HOP, scenario_of, text_of_three};
+use crate::tests::steps::{is_text, value_of};
+use chord_event::{Body, Event};
+use chord_scenario::Action;
+use std::alloc::AllocError;
+use std::fmt::Write as _;
 
 /// Three nodes without identifiers, which churn and look up at once.
 pub const NAMED: &str = r#"profile = 1
@@ -40,12 +42,9 @@ node = "a"
 
 /// The texts and the latencies of the ring of three with one lookup.
 #[test]
-fn readers(rt: HostRuntime) -> Result<(), Fail> {
-    let text = text_of_three(rt.alloc(), NO_HOP)?;
-    let Ok(scenario) = read_scenario(rt.alloc(), text.as_str().as_bytes(), b"n3,n0,15\n") else {
-        assert!(rt; false, "the ring is refused");
-        return Ok(());
-    };
+fn readers(rt: HostRuntime) {
+    let text = text_of_three(&rt, NO_HOP);
+    let scenario = scenario_of(&rt, text.as_str(), b"n3,n0,15\n");
     assert!(rt; scenario.nodes() == 3);
     assert!(rt; scenario.latency(0, 2) == 15 && scenario.latency(2, 0) == 15);
     assert!(rt; scenario.latency(0, 1) == 10 && scenario.latency(1, 1) == 1);
@@ -57,25 +56,44 @@ fn readers(rt: HostRuntime) -> Result<(), Fail> {
     assert!(rt; command.at == 100 && command.node == 0);
     let key = scenario.ident(1);
     assert!(rt; command.action == Action::Lookup { key });
-    Ok(())
 }
 
-fn is_at(event: &Event, time: u64, origin: u32, number: u64, target: u32) -> bool {
-    event.key
-        == Key {
-            time,
-            origin,
-            number,
-        }
-        && event.target == target
+/// The time, the origin, the number and the target of each first event of the named ring, and what it asks for.
+const FIRST: &str = "100 1 1 1 join by 2\n\
+    50 1 2 0 crash\n\
+    1000 2 1 0 stabilize 1\n\
+    2000 2 2 0 finger 1\n\
+    5 2 3 0 traffic 1\n\
+    1000 4 1 2 stabilize 1\n\
+    2000 4 2 2 finger 1\n\
+    5 4 3 2 traffic 1\n\
+    7 4 4 2 end of life 1\n";
+
+/// What a first event asks for, and its epoch or the node that a join asks.
+fn named(body: &Body) -> (&'static str, u64) {
+    match body {
+        Body::CmdJoin { via } => (" join by ", *via as u64),
+        Body::StabilizeTick { epoch } => (" stabilize ", *epoch),
+        Body::FingerTick { epoch } => (" finger ", *epoch),
+        Body::TrafficTick { epoch } => (" traffic ", *epoch),
+        Body::LifeEnd { epoch } => (" end of life ", *epoch),
+        _ => (" another ", 0),
+    }
+}
+
+fn write_event(text: &mut String, event: &Event) -> Result<(), AllocError> {
+    let Event { key, target, body } = event;
+    write!(text, "{} {} {} {target}", key.time, key.origin, key.number)?;
+    if let Body::CmdCrash = body {
+        return writeln!(text, " crash");
+    }
+    let (name, number) = named(body);
+    writeln!(text, "{name}{number}")
 }
 
 #[test]
-fn starts(rt: HostRuntime) -> Result<(), Fail> {
-    let Ok(scenario) = read_scenario(rt.alloc(), NAMED.as_bytes(), b"") else {
-        assert!(rt; false, "the named ring is refused");
-        return Ok(());
-    };
+fn starts(rt: HostRuntime) {
+    let scenario = scenario_of(&rt, NAMED, b"");
     assert!(rt; scenario.nodes() == 3);
     let idents = (
         scenario.ident(0).raw(),
@@ -83,37 +101,10 @@ fn starts(rt: HostRuntime) -> Result<(), Fail> {
         scenario.ident(2).raw(),
     );
     assert!(rt; idents == (134, 233, 132));
-    let Ok(events) = scenario.start_events(rt.alloc()) else {
-        assert!(rt; false, "no memory");
-        return Ok(());
-    };
-    assert!(rt; events.len() == 9);
-    assert!(rt;
-        is_at(&events[0], 100, 1, 1, 1) && matches!(events[0].body, Body::CmdJoin { via: 2 })
-    );
-    assert!(rt; is_at(&events[1], 50, 1, 2, 0) && matches!(events[1].body, Body::CmdCrash));
-    assert!(rt;
-        is_at(&events[2], 1000, 2, 1, 0)
-            && matches!(events[2].body, Body::StabilizeTick { epoch: 1 })
-    );
-    assert!(rt;
-        is_at(&events[3], 2000, 2, 2, 0) && matches!(events[3].body, Body::FingerTick { epoch: 1 })
-    );
-    assert!(rt;
-        is_at(&events[4], 5, 2, 3, 0) && matches!(events[4].body, Body::TrafficTick { epoch: 1 })
-    );
-    assert!(rt;
-        is_at(&events[5], 1000, 4, 1, 2)
-            && matches!(events[5].body, Body::StabilizeTick { epoch: 1 })
-    );
-    assert!(rt;
-        is_at(&events[6], 2000, 4, 2, 2) && matches!(events[6].body, Body::FingerTick { epoch: 1 })
-    );
-    assert!(rt;
-        is_at(&events[7], 5, 4, 3, 2) && matches!(events[7].body, Body::TrafficTick { epoch: 1 })
-    );
-    assert!(rt;
-        is_at(&events[8], 7, 4, 4, 2) && matches!(events[8].body, Body::LifeEnd { epoch: 1 })
-    );
-    Ok(())
+    let events = value_of(&rt, scenario.start_events(rt.alloc()));
+    let mut text = String::new(rt.alloc());
+    for event in events.as_slice() {
+        value_of(&rt, write_event(&mut text, event));
+    }
+    is_text(&rt, text.as_str(), FIRST);
 }

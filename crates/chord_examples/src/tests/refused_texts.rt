@@ -1,9 +1,10 @@
 //! Texts of scenarios, each with its first fault.
 use crate::tests::read_scenarios::NAMED;
 use crate::tests::ring_of_three::{NO_HOP, text_of_three};
+use crate::tests::steps::{holds, is_text, value_of};
 use chord_scenario::read_scenario;
+use std::fmt::Write as _;
 use std::process::Abort;
-use std::test::Fail;
 
 const GOOD: &str = "ok nodes=3 commands=1";
 
@@ -90,10 +91,11 @@ fn types() -> &'static [Change] {
 }
 
 /// The profile, the width of the circle, the length of a list, the seed and the duration.
-const SETTINGS: [Change; 18] = [
+const SETTINGS: [Change; 19] = [
     ("profile = 1", "profile = 0", "S5 OutOfRange top profile"),
     ("profile = 1", "profile = 2", GOOD),
-    ("profile = 1", "profile = 3", "S5 OutOfRange top profile"),
+    ("profile = 1", "profile = 3", GOOD),
+    ("profile = 1", "profile = 4", "S5 OutOfRange top profile"),
     ("bits = 3", "bits = 2", "S5 OutOfRange top bits"),
     ("bits = 3", "bits = 64", GOOD),
     ("bits = 3", "bits = 65", "S5 OutOfRange top bits"),
@@ -449,6 +451,10 @@ const LIMITS: [Change; 23] = [
     ("at_us = 100", "at_us = -1", "S5 OutOfRange command 1 at_us"),
 ];
 
+fn limits() -> &'static [Change] {
+    &LIMITS
+}
+
 /// Latency texts of the base, and the result.
 const ROWS: [(&str, &str); 22] = [
     ("n0,n3,15", GOOD),
@@ -475,43 +481,48 @@ const ROWS: [(&str, &str); 22] = [
     ("\"n0,n3,15", "S12 BadLatencyRow row 1"),
 ];
 
-pub fn answer(rt: &impl AllocGlobal, toml: &[u8], csv: &[u8]) -> Result<String, Fail> {
-    match read_scenario(rt.alloc(), toml, csv) {
+fn rows() -> &'static [(&'static str, &'static str)] {
+    &ROWS
+}
+
+pub fn answer<T: Abort + AllocGlobal>(rt: &T, toml: &[u8], csv: &[u8]) -> String {
+    let answer = match read_scenario(rt.alloc(), toml, csv) {
         Ok(scenario) => {
             let (nodes, commands) = (scenario.nodes(), scenario.commands());
-            Ok(format!(in rt.alloc(); "ok nodes={nodes} commands={commands}")?)
+            format!(in rt.alloc(); "ok nodes={nodes} commands={commands}")
         }
-        Err(fault) => Ok(format!(in rt.alloc(); "{fault}")?),
-    }
+        Err(fault) => format!(in rt.alloc(); "{fault}"),
+    };
+    value_of(rt, answer)
+}
+
+/// Asserts that this is the result of these texts.
+pub fn has_answer<T: Abort + AllocGlobal>(rt: &T, toml: &str, csv: &[u8], want: &str) {
+    let found = answer(rt, toml.as_bytes(), csv);
+    is_text(rt, found.as_str(), want);
 }
 
 /// Asserts that the base with each of these changes has its result.
-pub fn have_results<T: Abort + AllocGlobal>(
-    rt: &T,
-    base: &str,
-    changes: &[Change],
-) -> Result<(), Fail> {
+pub fn have_results<T: Abort + AllocGlobal>(rt: &T, base: &str, changes: &[Change]) {
     for (old, new, want) in changes {
-        assert!(rt; base.contains(*old), "no {old}");
-        let text = base.replacen(rt.alloc(), *old, *new, 1)?;
-        let got = answer(rt, text.as_str().as_bytes(), b"")?;
-        assert!(rt; got.as_str() == *want, "{got}, not {want}, at {new}");
+        holds(rt, base.contains(*old), old);
+        let text = value_of(rt, base.replacen(rt.alloc(), *old, *new, 1));
+        let found = answer(rt, text.as_str().as_bytes(), b"");
+        assert!(rt; found.as_str() == *want, "{found}, not {want}, at {new}");
     }
-    Ok(())
 }
 
 /// Asserts that the base with each of these latency texts has its result.
-fn rows_have_results<T: Abort + AllocGlobal>(rt: &T, base: &str) -> Result<(), Fail> {
-    for (csv, want) in &ROWS {
-        let got = answer(rt, base.as_bytes(), csv.as_bytes())?;
-        assert!(rt; got.as_str() == *want, "{got}, not {want}, at {csv}");
+fn rows_have_results<T: Abort + AllocGlobal>(rt: &T, base: &str) {
+    for (csv, want) in rows() {
+        let found = answer(rt, base.as_bytes(), csv.as_bytes());
+        assert!(rt; found.as_str() == *want, "{found}, not {want}, at {csv}");
     }
-    Ok(())
 }
 
 #[test]
-fn first_faults(rt: HostRuntime) -> Result<(), Fail> {
-    let base = text_of_three(rt.alloc(), NO_HOP)?;
+fn first_faults(rt: HostRuntime) {
+    let base = text_of_three(&rt, NO_HOP);
     for changes in [
         keys(),
         types(),
@@ -520,60 +531,63 @@ fn first_faults(rt: HostRuntime) -> Result<(), Fail> {
         options(),
         tables(),
         rings(),
+        limits(),
     ] {
-        have_results(&rt, base.as_str(), changes)?;
+        have_results(&rt, base.as_str(), changes);
     }
-    rows_have_results(&rt, base.as_str())
+    rows_have_results(&rt, base.as_str());
 }
 
+/// Texts cut short, and no text.
 #[test]
-fn limits_of_numbers(rt: HostRuntime) -> Result<(), Fail> {
-    let base = text_of_three(rt.alloc(), NO_HOP)?;
-    have_results(&rt, base.as_str(), &LIMITS)
+fn ends_of_texts(rt: HostRuntime) {
+    for (text, want) in [
+        ("profile = 1\n", "S3 MissingKey top bits"),
+        ("profile = 1\nx = 1", "S2 UnknownKey top"),
+        ("profile = 1\n[[nod", "S1 NotToml"),
+        ("", "S3 MissingKey top profile"),
+    ] {
+        has_answer(&rt, text, b"", want);
+    }
+    let narrow = NAMED.replacen(rt.alloc(), "bits = 8", "bits = 3", 1);
+    let narrow = value_of(&rt, narrow);
+    has_answer(&rt, narrow.as_str(), b"", "S8 SameId a c");
 }
 
-/// Texts cut short, no text, and the most nodes allowed and one more.
+/// Texts with a byte that is in no text.
 #[test]
-fn ends_of_texts(rt: HostRuntime) -> Result<(), Fail> {
-    let short = answer(&rt, b"profile = 1\n", b"")?;
-    assert!(rt; short.as_str() == "S3 MissingKey top bits", "{short}");
-    let unknown = answer(&rt, b"profile = 1\nx = 1", b"")?;
-    assert!(rt; unknown.as_str() == "S2 UnknownKey top", "{unknown}");
-    let cut = answer(&rt, b"profile = 1\n[[nod", b"")?;
-    assert!(rt; cut.as_str() == "S1 NotToml", "{cut}");
-    let empty = answer(&rt, b"", b"")?;
-    assert!(rt; empty.as_str() == "S3 MissingKey top profile", "{empty}");
-    let base = text_of_three(rt.alloc(), NO_HOP)?;
+fn bytes_of_no_text(rt: HostRuntime) {
+    let base = text_of_three(&rt, NO_HOP);
     for i in 0..base.len() {
-        let mut bytes = Vec::from_slice(rt.alloc(), base.as_str().as_bytes())?;
+        let mut bytes = value_of(&rt, Vec::from_slice(rt.alloc(), base.as_str().as_bytes()));
         if let Some(byte) = bytes.get_mut(i) {
             *byte = 255;
         }
-        let no_text = answer(&rt, bytes.as_slice(), b"")?;
-        assert!(rt; no_text.as_str() == "S1 NotToml", "{no_text} at {i}");
+        let no_text = answer(&rt, bytes.as_slice(), b"");
+        is_text(&rt, no_text.as_str(), "S1 NotToml");
     }
-    let narrow = NAMED.replacen(rt.alloc(), "bits = 8", "bits = 3", 1)?;
-    let twins = answer(&rt, narrow.as_str().as_bytes(), b"")?;
-    assert!(rt; twins.as_str() == "S8 SameId a c", "{twins}");
-    let row = answer(&rt, base.as_str().as_bytes(), &[255])?;
-    assert!(rt; row.as_str() == "S12 BadLatencyRow row 1", "{row}");
-    for (nodes, want) in [
-        (512, "ok nodes=512 commands=0"),
-        (513, "S5 OutOfRange top node"),
-    ] {
-        let mut text = String::from_str(
-            rt.alloc(),
-            "profile = 1\nbits = 64\nlist = 16\nseed = 1\nduration_us = 200\nwindow_us = 10\nlatency_us = 10\ntimeout_us = 40\naudit_us = 200\nstabilize_us = 1000\nfinger_us = 1000\n",
-        )?;
-        for i in 0..nodes {
-            text.push_str(format!(in rt.alloc();
-                "[[node]]\nname = \"n{i}\"\ninitial = true\n"
-            )?.as_str())?;
-        }
-        let got = answer(&rt, text.as_str().as_bytes(), b"")?;
-        assert!(rt; got.as_str() == want, "{got}");
+    has_answer(&rt, base.as_str(), &[255], "S12 BadLatencyRow row 1");
+}
+
+/// A scenario of so many nodes without identifiers.
+fn text_of_nodes<T: Abort + AllocGlobal>(rt: &T, nodes: u32) -> String {
+    let top =
+        "profile = 1\nbits = 64\nlist = 16\nseed = 1\nduration_us = 200\nwindow_us = 10\nlatency_us = 10\ntimeout_us = 40\naudit_us = 200\nstabilize_us = 1000\nfinger_us = 1000\n";
+    let mut text = value_of(rt, String::from_str(rt.alloc(), top));
+    for i in 0..nodes {
+        let node = writeln!(text, "[[node]]\nname = \"n{i}\"\ninitial = true");
+        value_of(rt, node);
     }
-    Ok(())
+    text
+}
+
+/// The most nodes allowed, and one more.
+#[test]
+fn many_nodes(rt: HostRuntime) {
+    let most = text_of_nodes(&rt, 512);
+    has_answer(&rt, most.as_str(), b"", "ok nodes=512 commands=0");
+    let more = text_of_nodes(&rt, 513);
+    has_answer(&rt, more.as_str(), b"", "S5 OutOfRange top node");
 }
 
 /// Two nodes, and each number the least that is allowed.
@@ -603,23 +617,19 @@ node = "a"
 "#;
 
 #[test]
-fn least_of_each(rt: HostRuntime) -> Result<(), Fail> {
-    let got = answer(&rt, LEAST.as_bytes(), b"a,b,1")?;
-    assert!(rt; got.as_str() == "ok nodes=2 commands=1", "{got}");
-    Ok(())
+fn least_of_each(rt: HostRuntime) {
+    has_answer(&rt, LEAST, b"a,b,1", "ok nodes=2 commands=1");
 }
 
 /// The most commands allowed, and one more.
 #[test]
-fn many_commands(rt: HostRuntime) -> Result<(), Fail> {
-    let mut text = text_of_three(rt.alloc(), NO_HOP)?;
+fn many_commands(rt: HostRuntime) {
+    let crash = "[[command]]\nat_us = 1\ndo = \"crash\"\nnode = \"n0\"\n";
+    let mut text = text_of_three(&rt, NO_HOP);
     for _ in 1..100_000 {
-        text.push_str("[[command]]\nat_us = 1\ndo = \"crash\"\nnode = \"n0\"\n")?;
+        value_of(&rt, text.push_str(crash));
     }
-    let most = answer(&rt, text.as_str().as_bytes(), b"")?;
-    assert!(rt; most.as_str() == "ok nodes=3 commands=100000", "{most}");
-    text.push_str("[[command]]\nat_us = 1\ndo = \"crash\"\nnode = \"n0\"\n")?;
-    let more = answer(&rt, text.as_str().as_bytes(), b"")?;
-    assert!(rt; more.as_str() == "S5 OutOfRange top command", "{more}");
-    Ok(())
+    has_answer(&rt, text.as_str(), b"", "ok nodes=3 commands=100000");
+    value_of(&rt, text.push_str(crash));
+    has_answer(&rt, text.as_str(), b"", "S5 OutOfRange top command");
 }

@@ -1,6 +1,6 @@
 //! The text of a report.
+use crate::tests::steps::{is_text, value_of};
 use chord_trace::{AuditCounts, LineCounts, Report, Watched};
-use std::test::Fail;
 
 /// A report whose numbers all differ.
 const REPORT: Report = Report {
@@ -33,6 +33,7 @@ const REPORT: Report = Report {
         insufficient: 24,
     },
     losses: Some(18446744073709551614),
+    again: Some(26),
 };
 
 const TEXT: &str =
@@ -40,14 +41,13 @@ const TEXT: &str =
     lookups 9\nfound 10\nlost 11\nbusy 12\nignored 13\nunfinished 14\nhops-sum 15\n\
     hops-greatest 16\nus-sum 340282366920938463463374607431768211455\nus-least 18\nus-median 19\n\
     us-greatest 18446744073709551615\naudits 21\nringless 22\nunordered 23\ninsufficient 24\n\
-    losses 18446744073709551614\n";
+    losses 18446744073709551614\nagain 26\n";
 
 #[test]
-fn each_number_has_its_line(rt: HostRuntime) -> Result<(), Fail> {
-    let alloc = rt.alloc();
-    let mut writer = Watched::new(Vec::new(alloc));
-    REPORT.write(alloc, &mut writer)?;
-    let text = String::from_utf8_lossy(alloc, writer.into_inner().as_slice())?;
-    assert!(rt; text.as_str() == TEXT, "{text}");
-    Ok(())
+fn each_number_has_its_line(rt: HostRuntime) {
+    let mut writer = Watched::new(Vec::new(rt.alloc()));
+    value_of(&rt, REPORT.write(rt.alloc(), &mut writer));
+    let text = String::from_utf8_lossy(rt.alloc(), writer.into_inner().as_slice());
+    let text = value_of(&rt, text);
+    is_text(&rt, text.as_str(), TEXT);
 }

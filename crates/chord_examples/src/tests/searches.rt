@@ -3,15 +3,18 @@ ghost use Rattle.std.specs.Prelude.{◌≡◌, true};
 ghost use Rattle.chord_node.specs.Invariant.{AllNodes};
 
 use crate::tests::ring_of_three::ring_of_three;
+use crate::tests::steps::{holds, value_of};
 use chord_circle::Raw;
 use chord_event::Answer;
-use chord_node::initial_ring;
+use chord_node::{NodeState, initial_ring};
 use chord_ops::{closest_preceding, step_answer};
 use chord_scenario::Scenario;
-use std::test::Fail;
+use std::process::Abort;
 
 /// For a node, a key and nodes to avoid: the closest preceding node and the step answer.
-const SEARCHES: [(usize, Raw, &[u32], u32, Answer); 27] = [
+type Search = (usize, Raw, &'static [u32], u32, Answer);
+
+const SEARCHES: [Search; 27] = [
     (0, 0, &[], 2, Answer::Next(2)),
     (0, 1, &[], 0, Answer::Owner(1)),
     (0, 2, &[], 1, Answer::Next(1)),
@@ -41,6 +44,10 @@ const SEARCHES: [(usize, Raw, &[u32], u32, Answer); 27] = [
     (2, 2, &[0, 1], 2, Answer::Stuck),
 ];
 
+fn searches() -> &'static [Search] {
+    &SEARCHES
+}
+
 /// Whether all these nodes are the scenario's.
 fn are_known(scenario: &Scenario, nodes: &[u32]) -> bool
     ensures { result ≡ true → AllNodes scenario.now nodes.now }
@@ -54,30 +61,25 @@ fn are_known(scenario: &Scenario, nodes: &[u32]) -> bool
 /// key it names the node that it knows closest before the key, as n3 for key 4 at n0: the second
 /// entry of a list counts for this only if the first is to be avoided.
 #[test]
-fn searches_of_the_first_ring(rt: HostRuntime) -> Result<(), Fail> {
-    let alloc = rt.alloc();
-    let scenario = ring_of_three(alloc, "")?;
-    let Ok(states) = initial_ring(alloc, &scenario) else {
-        assert!(rt; false, "no memory");
-        return Ok(());
-    };
-    for (node, key, avoid, closest, answer) in &SEARCHES {
-        let Some(state) = states.as_slice().get(*node) else {
-            assert!(rt; false, "no node {node}");
-            return Ok(());
+fn searches_of_the_first_ring(rt: HostRuntime) {
+    let scenario = ring_of_three(&rt, "");
+    let states = value_of(&rt, initial_ring(rt.alloc(), &scenario));
+    for search in searches() {
+        let Some(state) = states.as_slice().get(search.0) else {
+            panic!(rt; "no such node");
         };
-        assert!(rt; state.me < scenario.nodes());
-        assert!(rt; are_known(&scenario, state.succ.as_slice()));
-        assert!(rt; are_known(&scenario, state.fingers.as_slice()));
-        let place = scenario.circle().low_bits(*key);
-        assert!(rt;
-            closest_preceding(&scenario, state, place, avoid) == *closest,
-            "node {node}, key {key}"
-        );
-        assert!(rt;
-            step_answer(&scenario, state, place, avoid) == *answer,
-            "node {node}, key {key}"
-        );
+        ends_as_listed(&rt, &scenario, state, search);
     }
-    Ok(())
+}
+
+fn ends_as_listed(rt: &impl Abort, scenario: &Scenario, state: &NodeState, search: &Search) {
+    let (_, key, avoid, closest, answer) = search;
+    assert!(rt; state.me < scenario.nodes());
+    assert!(rt; are_known(scenario, state.succ.as_slice()));
+    assert!(rt; are_known(scenario, state.fingers.as_slice()));
+    let place = scenario.circle().low_bits(*key);
+    let found = closest_preceding(scenario, state, place, avoid);
+    holds(rt, found == *closest, search);
+    let found = step_answer(scenario, state, place, avoid);
+    holds(rt, found == *answer, search);
 }

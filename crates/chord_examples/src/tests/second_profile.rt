@@ -4,65 +4,64 @@ use crate::examples::play::{SETTINGS, THREE, text_of};
 use crate::examples::table::{Example, example_groups};
 use crate::tests::by_engine::PAIR;
 use crate::tests::left::{all_leave, all_write, run_left};
-use crate::tests::refused_texts::{Change, answer, have_results};
-use crate::tests::ring_of_three::{NO_HOP, ONE_HOP, scenario_of, text_of_three};
+use crate::tests::refused_texts::{Change, has_answer, have_results};
+use crate::tests::ring_of_three::{
+    NO_HOP, ONE_HOP, scenario_of, scenario_of_example, text_of_three,
+};
+use crate::tests::steps::{holds, value_of};
 use chord_circle::Raw;
 use chord_scenario::Scenario;
 use chord_stream::Stream;
-use std::alloc::Global;
+use std::fmt::Write as _;
 use std::process::Abort;
 use std::sync::Wait;
-use std::test::Fail;
 use std::thread::Threads;
 
-/// The scenario of an example in the second profile, with these settings in addition to its own.
-fn in_second_profile(alloc: Global, own: &str, example: &Example) -> Result<Scenario, Fail> {
-    let settings = format!(in alloc; "{own}{}", example.settings)?;
-    let text = text_of(alloc, settings.as_str(), example.nodes, example.commands)?;
-    let text = text
-        .as_str()
-        .replacen(alloc, "profile = 1", "profile = 2", 1)?;
-    scenario_of(alloc, text.as_str(), b"")
+/// The scenario of an example with these settings in place of its profile.
+pub fn in_profile<T: Abort + AllocGlobal>(rt: &T, profile: &str, example: &Example) -> Scenario {
+    let (nodes, commands) = (example.nodes, example.commands);
+    let text = value_of(rt, text_of(rt.alloc(), example.settings, nodes, commands));
+    let text = of_profile(rt, profile, text.as_str());
+    scenario_of(rt, text.as_str(), b"")
 }
 
-/// An example that draws nothing that makes a difference has its trace in the second profile too, and one line more in
-/// its report.
+/// A text with these settings in place of its profile.
+pub fn of_profile<T: Abort + AllocGlobal>(rt: &T, profile: &str, text: &str) -> String {
+    value_of(rt, text.replacen(rt.alloc(), "profile = 1", profile, 1))
+}
+
+/// An example that draws nothing that makes a difference has its trace in each profile, and more lines in its report.
 #[test]
-fn examples_without_loss(rt: HostRuntime) -> Result<(), Fail> {
+fn examples_without_loss(rt: HostRuntime) {
     for group in example_groups() {
-        have_no_loss(&rt, group)?;
+        have_no_loss(&rt, group);
     }
-    Ok(())
 }
 
-fn have_no_loss<T: Abort + AllocGlobal + Threads + Wait + Sync>(
-    rt: &T,
-    group: &[Example],
-) -> Result<(), Fail> {
+fn have_no_loss<T: Abort + AllocGlobal + Threads + Wait + Sync>(rt: &T, group: &[Example]) {
     for example in group {
-        has_no_loss(rt, example)?;
+        has_no_loss(rt, example, "profile = 2", "losses 0\n");
+        has_no_loss(
+            rt,
+            example,
+            "profile = 3\nretries = 0",
+            "losses 0\nagain 0\n",
+        );
     }
-    Ok(())
 }
 
+/// Asserts that an example leaves in a profile the trace and the report of the first, and these lines more.
 fn has_no_loss<T: Abort + AllocGlobal + Threads + Wait + Sync>(
     rt: &T,
     example: &Example,
-) -> Result<(), Fail> {
-    let report = report_without_loss(rt, example)?;
-    let scenario = in_second_profile(rt.alloc(), "", example)?;
-    all_leave(rt, example.name, &scenario, example.trace, report.as_str())
-}
-
-/// The report of an example in the first profile, and one line more.
-fn report_without_loss<T: AllocGlobal + Threads + Wait + Sync>(
-    rt: &T,
-    example: &Example,
-) -> Result<String, Fail> {
-    let alloc = rt.alloc();
-    let scenario = example.scenario(alloc).ok().ok_or(example.name)?;
-    let left = run_left(rt, Engine::Serial, PAIR, &scenario)?;
-    Ok(format!(in alloc; "{}losses 0\n", left.end)?)
+    profile: &str,
+    last: &str,
+) {
+    let first = scenario_of_example(rt, example);
+    let left = run_left(rt, Engine::Serial, PAIR, &first);
+    let report = value_of(rt, format!(in rt.alloc(); "{}{last}", left.end));
+    let scenario = in_profile(rt, profile, example);
+    all_leave(rt, example.name, &scenario, example.trace, report.as_str());
 }
 
 /// A lookup of n3 whose messages are all lost.
@@ -103,30 +102,27 @@ const SILENT: Example = Example {
 
 /// A lost message uses up its number, makes no event and leaves a line. The random words of a message are its sender's.
 #[test]
-fn messages_that_are_lost_or_late(rt: HostRuntime) -> Result<(), Fail> {
-    let alloc = rt.alloc();
-    for (own, example) in [
-        ("loss_ppm = 1000000\n", &LOSE_ALL),
-        ("spread_us = 5\n", &SILENT),
+fn messages_that_are_lost_or_late(rt: HostRuntime) {
+    for (profile, example) in [
+        ("profile = 2\nloss_ppm = 1000000", &LOSE_ALL),
+        ("profile = 2\nspread_us = 5", &SILENT),
     ] {
-        let scenario = in_second_profile(alloc, own, example)?;
-        all_leave(&rt, example.name, &scenario, example.trace, example.report)?;
+        let scenario = in_profile(&rt, profile, example);
+        all_leave(&rt, example.name, &scenario, example.trace, example.report);
     }
-    Ok(())
 }
 
 /// A request and its reply each take their latency and a spread drawn by their sender. Before it in the stream come the
 /// words of the node's two timers, and the word that could have lost the message.
 #[test]
-fn spreads_are_added(rt: HostRuntime) -> Result<(), Fail> {
-    let alloc = rt.alloc();
+fn spreads_are_added(rt: HostRuntime) {
     let spread = Stream::of(1, 2).below(3, 6) + Stream::of(1, 0).below(3, 6);
-    assert!(rt; spread == 4, "{spread}");
+    assert!(rt; spread == 4);
     let trace = "100 n3 lookup 1\n\
         124 n3 found 1 n1 hops=1 timeouts=0 us=24\n\
         200 audit members=3 dead=0 ring=3 ordered=yes principals=3 sufficient=yes\n";
-    let scenario = in_second_profile(alloc, "spread_us = 5\n", &LOSE_ALL)?;
-    all_write(&rt, &scenario, trace)
+    let scenario = in_profile(&rt, "profile = 2\nspread_us = 5", &LOSE_ALL);
+    all_write(&rt, &scenario, trace);
 }
 
 /// The ring of three with one lookup in the second profile, one text replaced by another, and the result.
@@ -202,14 +198,16 @@ const CHANGES: [Change; 17] = [
     ),
 ];
 
+fn changes() -> &'static [Change] {
+    &CHANGES
+}
+
 /// The keys and ranges of the second profile.
 #[test]
-fn texts_of_the_second_profile(rt: HostRuntime) -> Result<(), Fail> {
-    let base = text_of_three(rt.alloc(), NO_HOP)?;
-    let base = base
-        .as_str()
-        .replacen(rt.alloc(), "profile = 1", "profile = 2", 1)?;
-    have_results(&rt, base.as_str(), &CHANGES)
+fn texts_of_the_second_profile(rt: HostRuntime) {
+    let base = text_of_three(&rt, NO_HOP);
+    let base = of_profile(&rt, "profile = 2", base.as_str());
+    have_results(&rt, base.as_str(), changes());
 }
 
 /// The report of the lookup that needs no hop.
@@ -221,57 +219,54 @@ const NO_HOP_REPORT: &str =
 
 /// The last identifier of the widest circle, as a text of 32 digits.
 #[test]
-fn the_widest_identifier(rt: HostRuntime) -> Result<(), Fail> {
+fn the_widest_identifier(rt: HostRuntime) {
     let alloc = rt.alloc();
-    let text = text_of_three(alloc, NO_HOP)?;
-    let text = text.as_str().replacen(
-        alloc,
-        "profile = 1\nbits = 3",
-        "profile = 2\nbits = 128",
-        1,
-    )?;
-    let wide = "id = \"ffffffffffffffffffffffffffffffff\"";
-    let text = text.as_str().replacen(alloc, "id = 3", wide, 1)?;
-    let scenario = scenario_of(alloc, text.as_str(), b"")?;
+    let text = text_of_three(&rt, NO_HOP);
+    let (narrow, wide) = ("profile = 1\nbits = 3", "profile = 2\nbits = 128");
+    let text = value_of(&rt, text.as_str().replacen(alloc, narrow, wide, 1));
+    let last = "id = \"ffffffffffffffffffffffffffffffff\"";
+    let text = value_of(&rt, text.as_str().replacen(alloc, "id = 3", last, 1));
+    let scenario = scenario_of(&rt, text.as_str(), b"");
     assert!(rt; scenario.nodes() == 3);
     assert!(rt; scenario.ident(0).raw() == 0 && scenario.ident(1).raw() == 1);
     assert!(rt; scenario.ident(2).raw() == Raw::MAX);
-    let left = run_left(&rt, Engine::Serial, PAIR, &scenario)?;
+    let left = run_left(&rt, Engine::Serial, PAIR, &scenario);
     let trace = "100 n0 lookup 1\n\
         100 n0 found 1 n1 hops=0 timeouts=0 us=0\n\
         200 audit members=3 dead=0 ring=3 ordered=yes principals=3 sufficient=yes\n";
-    left.is(&rt, &"serial", trace, NO_HOP_REPORT)
+    left.is(&rt, &"serial", trace, NO_HOP_REPORT);
 }
 
 /// A ring of `nodes` nodes, each with its number as identifier, in which the first node looks a key up.
-pub fn ring_of(alloc: Global, bits: u32, nodes: u32, key: u32) -> Result<String, Fail> {
-    let mut text = format!(in alloc;
+pub fn ring_of<T: Abort + AllocGlobal>(rt: &T, bits: u32, nodes: u32, key: u32) -> String {
+    let top = format!(in rt.alloc();
         "profile = 2\nbits = {bits}\nseed = 1\nlatency_us = 10\nlist = 16\nduration_us = 300\n\
          window_us = 10\ntimeout_us = 40\naudit_us = 300\nstabilize_us = 1000\nfinger_us = 1000\n"
-    )?;
+    );
+    let mut text = value_of(rt, top);
     for node in 0..nodes {
-        let table = format!(in alloc;
-            "[[node]]\nname = \"n{node}\"\nid = {node}\ninitial = true\n"
-        )?;
-        text.push_str(table.as_str())?;
+        let table = writeln!(
+            text,
+            "[[node]]\nname = \"n{node}\"\nid = {node}\ninitial = true"
+        );
+        value_of(rt, table);
     }
-    let command = format!(in alloc;
-        "[[command]]\nat_us = 100\ndo = \"lookup\"\nnode = \"n0\"\nkey = {key}\n"
-    )?;
-    text.push_str(command.as_str())?;
-    Ok(text)
+    let command = writeln!(
+        text,
+        "[[command]]\nat_us = 100\ndo = \"lookup\"\nnode = \"n0\"\nkey = {key}"
+    );
+    value_of(rt, command);
+    text
 }
 
 /// The most nodes allowed, in 512 parts and by eight workers, leave what one event at a time leaves. The lookup of n0
 /// goes 2048, 512, 256, 128, 32, 16, 4, 2 and 1 places on, to the node before the owner. One node more is refused.
 #[test]
-fn as_many_nodes_as_there_may_be(rt: HostRuntime) -> Result<(), Fail> {
-    let alloc = rt.alloc();
-    let more = ring_of(alloc, 13, 4097, 3000)?;
-    let refused = answer(&rt, more.as_str().as_bytes(), b"")?;
-    assert!(rt; refused.as_str() == "S5 OutOfRange top node", "{refused}");
-    let most = ring_of(alloc, 12, 4096, 3000)?;
-    let scenario = scenario_of(alloc, most.as_str(), b"")?;
+fn as_many_nodes_as_there_may_be(rt: HostRuntime) {
+    let more = ring_of(&rt, 13, 4097, 3000);
+    has_answer(&rt, more.as_str(), b"", "S5 OutOfRange top node");
+    let most = ring_of(&rt, 12, 4096, 3000);
+    let scenario = scenario_of(&rt, most.as_str(), b"");
     let shape = Shape {
         parts: 512,
         workers: 8,
@@ -280,13 +275,8 @@ fn as_many_nodes_as_there_may_be(rt: HostRuntime) -> Result<(), Fail> {
         280 n0 found 3000 n3000 hops=9 timeouts=0 us=180\n\
         300 audit members=4096 dead=0 ring=4096 ordered=yes principals=4096 sufficient=yes\n";
     for engine in [Engine::Serial, Engine::Crew, Engine::Team] {
-        let left = run_left(&rt, engine, shape, &scenario)?;
-        let events = left.end.as_str().starts_with("events 27\n");
-        assert!(rt;
-            events && left.trace.as_str() == expected,
-            "{engine:?}: {}",
-            left.trace
-        );
+        let left = run_left(&rt, engine, shape, &scenario);
+        left.has_written(&rt, &engine, expected);
+        holds(&rt, left.end.as_str().starts_with("events 27\n"), &engine);
     }
-    Ok(())
 }

@@ -3,6 +3,7 @@ use crate::examples::engines::{ENGINES, Engine, Shape, run_by};
 use crate::examples::table::TWO_LOOKUPS;
 use crate::tests::by_engine::{PAIR, TEAMS};
 use crate::tests::ring_of_three::{is_beginning, two_lookups};
+use crate::tests::steps::holds;
 use chord_event::RunError;
 use chord_scenario::Scenario;
 use chord_trace::Watched;
@@ -10,7 +11,6 @@ use std::io;
 use std::io::{ErrorKind, Write};
 use std::process::Abort;
 use std::sync::Wait;
-use std::test::Fail;
 use std::thread::Threads;
 
 /// A writer with room for some bytes, which takes a limited number of them in a call. After that it fails, or takes
@@ -51,7 +51,7 @@ fn fills<T: Abort + AllocGlobal + Threads + Wait + Sync>(
     shape: Shape,
     scenario: &Scenario,
     bounded: Bounded,
-) -> Result<(), Fail> {
+) {
     let room = bounded.room;
     let expected = if room < TWO_LOOKUPS.trace.len() {
         Some(RunError::Write)
@@ -60,13 +60,10 @@ fn fills<T: Abort + AllocGlobal + Threads + Wait + Sync>(
     };
     let mut writer = Watched::new(bounded);
     let fault = run_by(rt, rt.alloc(), engine, shape, scenario, &mut writer).err();
-    assert!(rt; fault == expected, "{engine:?}, {shape:?}, room {room}");
+    let how = (engine, shape, room);
+    holds(rt, fault == expected, &how);
     let taken = writer.into_inner().taken;
-    assert!(rt;
-        is_beginning(taken.as_slice(), room),
-        "{engine:?}, {shape:?}, room {room}"
-    );
-    Ok(())
+    holds(rt, is_beginning(taken.as_slice(), room), &how);
 }
 
 /// Runs the two lookups with each room for bytes up to the whole trace. The writers take them one by one or in whole
@@ -75,8 +72,8 @@ fn fills_each_room<T: Abort + AllocGlobal + Threads + Wait + Sync>(
     rt: &T,
     engine: Engine,
     shape: Shape,
-) -> Result<(), Fail> {
-    let scenario = two_lookups(rt.alloc(), 50)?;
+) {
+    let scenario = two_lookups(rt, 50);
     for room in 0..=TWO_LOOKUPS.trace.len() {
         for (most, takes_nothing) in [(1, false), (1, true), (190, false), (190, true)] {
             let bounded = Bounded {
@@ -85,24 +82,21 @@ fn fills_each_room<T: Abort + AllocGlobal + Threads + Wait + Sync>(
                 most,
                 takes_nothing,
             };
-            fills(rt, engine, shape, &scenario, bounded)?;
+            fills(rt, engine, shape, &scenario, bounded);
         }
     }
-    Ok(())
 }
 
 #[test]
-fn writers_that_fail_by_engines(rt: HostRuntime) -> Result<(), Fail> {
+fn writers_that_fail_by_engines(rt: HostRuntime) {
     for engine in ENGINES {
-        fills_each_room(&rt, engine, PAIR)?;
+        fills_each_room(&rt, engine, PAIR);
     }
-    Ok(())
 }
 
 #[test]
-fn writers_that_fail_by_teams(rt: HostRuntime) -> Result<(), Fail> {
+fn writers_that_fail_by_teams(rt: HostRuntime) {
     for shape in TEAMS {
-        fills_each_room(&rt, Engine::Team, shape)?;
+        fills_each_room(&rt, Engine::Team, shape);
     }
-    Ok(())
 }
