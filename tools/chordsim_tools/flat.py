@@ -14,7 +14,7 @@ Writes the flat form of a scenario: its values one after the other, each between
 examples/plain reads this form. The scenario and its latencies are checked as chordsim checks them."""
 EPILOG = """\
 The flat form:
-  profile, loss_ppm, spread_us
+  profile, loss_ppm, spread_us, retries
   bits, list, seed, duration_us, timeout_us, audit_us, stabilize_us, finger_us, jitter_us, max_events, latency_us
   1 and life_min_us, life_max_us, down_min_us, down_max_us, or 0 if there is no [churn]
   1 and gap_min_us, gap_max_us, or 0 if there is no [lookups]
@@ -47,7 +47,7 @@ def flat_form(scenario: Scenario) -> str:
 def lines_of(scenario: Scenario) -> Iterator[list[int | str]]:
     """The values of each line."""
     s = scenario
-    yield [s.profile, s.loss_ppm, s.spread_us]
+    yield [s.profile, s.loss_ppm, s.spread_us, s.retries]
     yield [s.bits, s.list, s.seed, s.duration_us, s.timeout_us, s.audit_us, s.stabilize_us, s.finger_us, s.jitter_us,
            s.max_events, s.latency_us]
     c = s.churn

@@ -174,8 +174,26 @@ class ExplainTest(TestCase):
         assert found.hints == ["`spread_us` is a key of the top: put it above the first heading"]
         unknown, wrong = faults(changed(("profile = 1", 'profile = "2"\nloss_ppm = 5')))
         assert (unknown.fault, wrong.fault) == ("S2 UnknownKey top", "S4 WrongType top profile")
-        assert (wrong.allowed, wrong.hints) == ("an integer from 1 to 2", ["without quotes: profile = 2"])
+        assert (wrong.allowed, wrong.hints) == ("an integer from 1 to 3", ["without quotes: profile = 2"])
         assert faults(changed(("profile = 1", "profile = 2\nloss_ppm = 5\nspread_us = 5"))) == []
+
+    def test_keys_of_the_third_profile(self) -> None:
+        """Its own key in the other profiles, misspelled, below a heading, out of range; other ranges are the second's."""
+        hint = "profile 3 has `retries`: write profile = 3"
+        for profile in (1, 2):
+            (found,) = faults(changed(("profile = 1", f"profile = {profile}\nretries = 1")))
+            assert (found.fault, found.line, found.hints) == ("S2 UnknownKey top", 2, [hint])
+        (found,) = faults(changed(("profile = 1", "profile = 2\nretires = 1")))
+        assert found.hints == [f"did you mean `retries`? {hint}"]
+        (found,) = faults(changed(("profile = 1", "profile = 2"), ("[churn]", "[churn]\nretries = 1")))
+        assert found.hints == [f"{hint}, and put it above the first heading"]
+        (found,) = faults(changed(("profile = 1", "profile = 3"), ("[churn]", "[churn]\nretries = 1")))
+        assert found.hints == ["`retries` is a key of the top: put it above the first heading"]
+        (found,) = faults(changed(("profile = 1", "profile = 3\nretries = 4")))
+        assert (found.fault, found.allowed) == ("S5 OutOfRange top retries", "an integer from 0 to 3")
+        assert faults(changed(("profile = 1", "profile = 3\nloss_ppm = 5\nspread_us = 5\nretries = 3"))) == []
+        (found,) = faults(changed(("profile = 1", "profile = 3"), ("bits = 3", "bits = 129")))
+        assert (found.allowed, found.hints) == ("an integer from 3 to 128", [])
 
     def test_ranges_of_both_profiles(self) -> None:
         """What profile 1 refuses and profile 2 allows, and what both refuse."""
@@ -201,8 +219,8 @@ class ExplainTest(TestCase):
             "S5 OutOfRange top node", ["profile 2 allows up to 4096 tables: write profile = 2"]
         )
         assert faults(changed(second, ("[[command]]", more + "[[command]]"), ("bits = 3", "bits = 64"))) == []
-        (found,) = faults(changed(("profile = 1", "profile = 3")))
-        assert (found.fault, found.allowed) == ("S5 OutOfRange top profile", "an integer from 1 to 2")
+        (found,) = faults(changed(("profile = 1", "profile = 4")))
+        assert (found.fault, found.allowed) == ("S5 OutOfRange top profile", "an integer from 1 to 3")
 
     def test_window_and_spread(self) -> None:
         """A spread does not make a latency long enough."""

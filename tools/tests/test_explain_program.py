@@ -1,4 +1,4 @@
-"""The first fault is the program's: on 200 spoiled files of both profiles, and where the tool knows another one."""
+"""The first fault is the program's: on 200 spoiled files of all profiles, and where the tool knows another one."""
 
 import shutil
 from unittest import TestCase
@@ -26,7 +26,7 @@ class ExplainProgramTest(TestCase):
 
     def test_the_good_world_is_accepted(self) -> None:
         """Else the spoiled files would say nothing."""
-        for profile in (1, 2):
+        for profile in (1, 2, 3):
             files = good_world(profile).scenario().encode(), good_world(profile).latency().encode()
             assert answer(*files) == answer_of(program(), *files) == "accepted: 5 nodes, 4 commands"
 

@@ -43,6 +43,13 @@ class ExplainTrapsTest(TestCase):
         assert greatest_latency(top, b"n0,n1,12\nn0,n3,12\nn1,n3,12\n") == 23
         assert greatest_latency(top, b"n0,n1,12\n") == 23 and greatest_latency(top, b"n0,n1,8\n") == 21
 
+    def test_timeout_with_retries(self) -> None:
+        """A call lasts for three timeouts, 120: a round trip of 120 is answered late, and one of 122 never."""
+        third = SOUND.replace("profile = 1", "profile = 3\nretries = 2")
+        assert spoken(third, "n0,n1,20\n") == []
+        assert spoken(third, "n0,n1,60\n")[0].endswith("120 (120us): calls between such nodes are always sent again")
+        assert spoken(third, "n0,n1,61\n")[0].endswith("122 (122us): calls between such nodes always time out")
+
     def test_duration(self) -> None:
         """Below a period: each one that is longer is named."""
         lines = spoken(WORLD)
@@ -98,6 +105,7 @@ class OtherTrapsTest(TestCase):
             ("--latency 60 --timeout 1s", "--latency 60: 60 without a unit"),
             ("--timeout 39ms", "timeout_us = 39000 (39ms) is below the greatest round trip, 40000 (40ms)"),
             ("--profile 2 --spread 81ms", "timeout_us = 200000 (200ms) is below the greatest round trip, 202000"),
+            ("--profile 3 --spread 81ms --retries 1", "timeout_us = 200000 (200ms) is below the greatest round trip,"),
             ("--duration 400ms", "duration_us = 400000 (400ms) is below stabilize_us = 500000"),
         ):
             with self.subTest(words=words):

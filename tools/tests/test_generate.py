@@ -34,13 +34,17 @@ REFUSED = [
     ("--audit 119us", "--audit: a time of 120us to 1000s"),
     ("--jitter 1001s", "--jitter: a time of 0us to 1000s"),
     ("--max-events 50000001", "--max-events: 1 to 50000000"),
-    ("--profile 3", "--profile: 1 to 2"),
+    ("--profile 4", "--profile: 1 to 3"),
     ("--profile 2 --bits 129", "--bits: 3 to 128"),
     ("--profile 2 --nodes 4097", "--nodes: 2 to 4096"),
     ("--profile 2 --loss 1000001", "--loss: 0 to 1000000"),
     ("--profile 2 --spread 1001s", "--spread: a time of 0us to 1000s"),
-    ("--loss 0", "--loss: only with --profile 2"),
-    ("--profile 1 --spread 1ms", "--spread: only with --profile 2"),
+    ("--loss 0", "--loss: only with --profile 2 or 3"),
+    ("--profile 1 --spread 1ms", "--spread: only with --profile 2 or 3"),
+    ("--profile 3 --bits 129", "--bits: 3 to 128"),
+    ("--profile 3 --nodes 4097", "--nodes: 2 to 4096"),
+    ("--profile 3 --retries 4", "--retries: 0 to 3"),
+    ("--profile 2 --retries 0", "--retries: only with --profile 3"),
     ("--lookup-gap 2s..1s", "--lookup-gap: none or MIN..MAX"),
     ("--lookup-gap 0..1s", "--lookup-gap: none or MIN..MAX"),
     ("--churn-uniform 1s..2s 0..1s", "--churn-uniform: two spans"),
@@ -94,7 +98,7 @@ def ups(scenario: Scenario) -> dict[int, int]:
 
 def random_words(random: Random) -> list[str]:
     """Words that the tool takes."""
-    profile = random.choice((1, 2))
+    profile = random.choice((1, 2, 3))
     bits = random.choice((3, 4, 8, 31, 32, 33, 63, 64) if profile == 1 else (3, 8, 64, 65, 96, 97, 127, 128))
     nodes = random.randint(2, min(60, 2**bits))
     initial = random.randint(2, nodes)
@@ -119,7 +123,9 @@ def random_words(random: Random) -> list[str]:
         given += ["--arrive", f"0..{duration - 1}us"]
     if random.random() < 0.5:
         given += ["--lookups", random.choice(("0.5", "3.25")), "--keys", random.choice(("uniform", "zipf:0.8:7"))]
-    if profile == 2 and random.random() < 0.7:
+    if profile == 3 and random.random() < 0.7:
+        given += ["--retries", str(random.randint(0, 3))]
+    if profile >= 2 and random.random() < 0.7:
         given += ["--loss", random.choice(("0", "1000000", "20000")), "--spread", random.choice(("0", "3us", "1000s"))]
     if random.random() < 0.3:
         given += ["--lookup-gap", random.choice(("none", "1..1000s"))]
@@ -167,6 +173,14 @@ class GenerateTest(TestCase):
         plain = tomllib.loads(text_of("--profile 2"))
         assert (plain["loss_ppm"], plain["spread_us"]) == (0, 0)
         assert text_of("--profile 1 --seed 1").split("\n", 4)[4] == text_of("--seed 1").split("\n", 4)[4]
+
+    def test_third_profile(self) -> None:
+        """`retries` stands behind loss and spread, and is 0 if it is not given."""
+        ring = tomllib.loads(text_of("--profile 3 --bits 100 --loss 20000 --retries 2"))
+        assert [ring[key] for key in ("profile", "bits", "loss_ppm", "spread_us", "retries")] == [3, 100, 20_000, 0, 2]
+        assert list(ring)[12:16] == ["max_events", "loss_ppm", "spread_us", "retries"]
+        second, third = (tomllib.loads(text_of(f"--profile {profile} --seed 1")) for profile in (2, 3))
+        assert third == second | {"profile": 3, "retries": 0}
 
     def test_defaults_that_follow(self) -> None:
         """Timeout and window go with the latency, the audits with the duration, the list with the initial nodes."""
@@ -357,10 +371,10 @@ class GenerateTest(TestCase):
                 read_scenario(text.encode(), b"")
 
     def test_random_scenarios(self) -> None:
-        """Both files of a seed are read, and are the same each time; two of four seeds have the second profile."""
+        """Both files of a seed are read, and are the same each time; two of six seeds have each profile."""
         with tempfile.TemporaryDirectory() as folder:
             rows = Path(folder) / "links.csv"
-            for seed, profile in enumerate((1, 1, 2, 2, 1)):
+            for seed, profile in enumerate((1, 1, 2, 2, 3, 3, 1)):
                 with self.subTest(seed=seed):
                     status, text, err = ended(main, "--random", str(seed), "--links", str(rows))
                     assert (status, err, (text, rows.read_text())) == (0, "", scenario_files(seed))

@@ -15,11 +15,13 @@ from tests.support.worlds import EXAMPLES, ring
 
 SOURCE = EXAMPLES / "plain" / "main.rs"
 COMMAND = EXAMPLES / "plain" / "flatten"
-NAMES = ("ring", "churn64", "lossy64", "half_crash", "join_storm", "slow_repair", "ninth_timeout", "join_stuck")
-# Of both profiles. Some have commands, some rows of latencies, and some more events than they allow.
+NAMES = (
+    "ring", "churn64", "lossy64", "retries64", "half_crash", "join_storm", "slow_repair", "ninth_timeout", "join_stuck",
+)
+# Of all profiles. Some have commands, some rows of latencies, and some more events than they allow.
 SEEDS = range(12)
 FLAT_RING = """\
-1 0 0
+1 0 0 0
 3 2 1 200 40 200 1000 1000 0 50000000 10
 0
 0

@@ -69,6 +69,11 @@ class StudyMessagesTest(TestCase):
             with self.subTest(name=name):
                 self.check(shortened(f"{name}.toml", seconds * 1_000_000))
 
+    def test_requests_sent_again(self) -> None:
+        """A tenth of the messages lost, and each request sent again up to twice."""
+        text = shortened("lossy64.toml", 20_000_000).replace("profile = 2", "profile = 3\nretries = 2", 1)
+        self.check(text.replace("loss_ppm = 20000", "loss_ppm = 100000", 1))
+
     def test_after_a_warmup(self) -> None:
         """The same from the tenth second on."""
         self.check(shortened("churn64.toml", 40_000_000), 10_000_000)

@@ -22,7 +22,7 @@ from chordsim_tools.study.front import BELOW, LOST, ON, UNSURE, Plane, spots_of
 from chordsim_tools.study.layout import layout_of
 from chordsim_tools.study.looks import Axis, look_of, setting_words, value_words
 from chordsim_tools.study.numbers import groups
-from chordsim_tools.study.overtime import pieces, points_of, share_right
+from chordsim_tools.study.overtime import network_of, pieces, points_of, share_right
 from chordsim_tools.study.tables import Tables
 from tests.test_study_run import TOOL, call, study_folder
 
@@ -241,6 +241,7 @@ class CurvesTest(TestCase):
         for line in (
             "10 a lookup 5", "20 a lookup 6", "25 a found 5 b hops=9 timeouts=0 us=15", "29 timeout timeout b",
             "30 a found 6 b hops=2 timeouts=1 us=10", "31 a lose step b", "69 a lookup 7", "70 found lookup 8",
+            "70 a again step b", "75 again again step b",
             "80 a ignored lookup", "90 found found 7 b hops=1 timeouts=0 us=21",
             "95 found found 8 b hops=3 timeouts=0 us=25",
             "100 audit members=2 dead=0 ring=2 ordered=yes principals=2 sufficient=yes",
@@ -250,3 +251,20 @@ class CurvesTest(TestCase):
         assert (numbers["begun"], numbers["found"], numbers["hops"]) == (2, 2, [0, 1, 1])
         assert numbers["us"][0] == 10 and numbers["us"][-1] == 21
         assert (numbers["timeouts"], numbers["losses"]) == ([1, 0, 0, 0], [0, 1, 0, 0])
+        assert numbers["again"] == [0, 0, 2, 0]
+
+    def test_what_of_the_network_is_drawn(self) -> None:
+        """Timeouts always, losses and requests sent again where there are some; older tables have no `again`."""
+        def told(*steps: dict[str, str]) -> tuple[str, list[str]]:
+            """The title and the labels."""
+            title, quantities = network_of(list(steps))
+            return title, [label.split("\n")[0] for label, _, _ in quantities]
+
+        quiet, lossy = {"timeouts": "0", "losses": "0"}, {"timeouts": "1", "losses": "2"}
+        assert told(quiet) == ("Timeouts over time (no message is lost)", ["timeouts"])
+        assert told(quiet, lossy) == ("Timeouts and lost messages over time", ["timeouts", "messages lost"])
+        all_three = ["timeouts", "messages lost", "sent again"]
+        title = "Timeouts, lost messages and requests sent again over time"
+        assert told(quiet | {"again": "0"}, lossy | {"again": "3"}) == (title, all_three)
+        title = "Timeouts and requests sent again over time (no message is lost)"
+        assert told(quiet | {"again": "3"}) == (title, [all_three[0], all_three[2]])

@@ -10,6 +10,7 @@ from chordsim_tools.scenario.reading import read_scenario
 from chordsim_tools.trace.reading import Run, read_report, read_run
 from chordsim_tools.trace.summary import summary
 from chordsim_tools.trace.tables import node_rows, step_rows
+from chordsim_tools.trace.text import summary_text
 
 SCENARIO = """\
 profile = 1
@@ -148,6 +149,24 @@ class Nodes(TestCase):
         )["joins"]
         self.assertEqual(joins, {"begun": 4, "done": 1, "failed": 1, "cut_by_crash": 1, "open_at_end": 1,
                                  "times_us": {"p50": 30, "p90": 30, "p99": 30}})
+
+    def test_requests_sent_again(self) -> None:
+        """They and the lost ones are counted if the profile has them. Notifies and replies are never sent again."""
+        lines = (
+            "10 a lose step b", "50 a again step b", "90 a again step b", "95 c again get-list a", "130 a timeout b",
+            audit(500, 3), audit(1000, 3),
+        )
+        text = "".join(line + "\n" for line in lines)
+        for profile, wanted in ((1, [1, None, None]), (2, [1, 1, None]), (3, [1, 1, 3])):
+            facts = summary(run_of_text(text, SCENARIO.replace("profile = 1", f"profile = {profile}")))
+            self.assertEqual([facts[word] for word in ("timeouts", "losses", "again")], wanted)
+        told = list(summary_text(facts))
+        self.assertIn("requests sent again     3", told)
+        run = run_of_text(text + "events 9\nlosses 1\nagain 3\n")
+        self.assertEqual("".join(run.history.lines.text(at) + "\n" for at in range(len(run.history.lines.times))), text)
+        self.assertRaises(Refused, run_of_text, text + "again 2\n")
+        for kind in ("notify", "step-reply", "pong", "sing"):
+            self.assertRaises(Refused, run_of, f"10 a again {kind} b")
 
     def test_audits(self) -> None:
         """Torn and lost for the first time, with the members then: those before the lines of the time."""

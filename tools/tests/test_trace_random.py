@@ -46,7 +46,7 @@ def owners_since(states: list[State], begin: int, key: int, idents: dict[str, in
 
 
 class RandomTraces(TestCase):
-    """Traces of scenarios of both profiles, some of which end early."""
+    """Traces of scenarios of all profiles, some of which end early."""
 
     def run_of(self, folder: Path, seed: int) -> tuple[Run, str]:
         """A run, and the text of its trace."""

@@ -8,7 +8,7 @@ from typing import Any
 
 from chordsim_tools.quantities import time_of
 from chordsim_tools.scenario.tables import (
-    BILLION, FIRST, NETWORK, SECOND, Key, Profile, Row, has_type, is_hexadecimal, is_in_own_range,
+    BILLION, FIRST, PROFILES, SECOND, Key, Profile, Row, has_type, is_hexadecimal, is_in_own_range,
 )
 
 HEADINGS = {"top": "the top", "churn": "[churn]", "lookups": "[lookups]", "node": "[[node]]", "command": "[[command]]"}
@@ -38,8 +38,9 @@ def close_to(word: str, words: Iterable[str]) -> str | None:
 def of_unknown_key(name: str, place: str, table: dict[str, Any], profile: Profile) -> list[str]:
     """A key that is like it, or the table or the profile that has it."""
     kind = place.split()[0]
-    if profile is FIRST and name in {key.name for key in NETWORK}:
-        return [of_network_key(name, kind)]
+    later = later_keys(profile)
+    if name in later:
+        return [of_later_key(name, later[name], kind)]
     headings = HEADINGS if kind == "top" else {}
     keys = profile.tables[kind]
     meant = close_to(name, (key.name for key in keys if key.name not in table or key.name in headings))
@@ -53,14 +54,25 @@ def of_unknown_key(name: str, place: str, table: dict[str, Any], profile: Profil
     present = close_to(name, (key.name for key in keys))
     if present is not None:
         return [f"`{present}` is there already: take `{name}` away"]
-    meant = close_to(name, (key.name for key in NETWORK)) if profile is FIRST and kind == "top" else None
-    return [] if meant is None else [f"did you mean `{meant}`? {of_network_key(meant, kind)}"]
+    meant = close_to(name, later) if kind == "top" else None
+    return [] if meant is None else [f"did you mean `{meant}`? {of_later_key(meant, later[meant], kind)}"]
 
 
-def of_network_key(name: str, kind: str) -> str:
-    """That the second profile has this key, and where."""
+def later_keys(profile: Profile) -> dict[str, int]:
+    """The keys of the top that this profile does not have, each with the number of the first one that has it."""
+    present = {key.name for key in profile.tables["top"]}
+    later: dict[str, int] = {}
+    for number, other in PROFILES.items():
+        for key in other.tables["top"]:
+            if key.name not in present:
+                later.setdefault(key.name, number)
+    return later
+
+
+def of_later_key(name: str, number: int, kind: str) -> str:
+    """That the profile of this number has this key, and where."""
     where = "" if kind == "top" else ", and put it above the first heading"
-    return f"profile 2 has `{name}`: write profile = 2{where}"
+    return f"profile {number} has `{name}`: write profile = {number}{where}"
 
 
 def of_missing_key(key: str, place: str, table: dict[str, Any], profile: Profile) -> list[str]:
@@ -150,8 +162,10 @@ def of_digits(text: str, bits: int | None, digits: int) -> list[str]:
 
 def of_profile(value: Any, key: Key, place: str, profile: Profile) -> list[str]:
     """That the second profile allows a value that the first one does not."""
+    if profile is not FIRST:
+        return []
     wider = next(other for other in SECOND.tables[place.split()[0]] if other.name == key.name)
-    if profile is SECOND or is_in_own_range(value, key) or not is_in_own_range(value, wider):
+    if is_in_own_range(value, key) or not is_in_own_range(value, wider):
         return []
     unit = {"tables": " tables", "id": " hexadecimal digits, and 128 bits"}.get(key.kind, "")
     return [f"profile 2 allows up to {wider.greatest}{unit}: write profile = 2"]

@@ -40,17 +40,18 @@ def greatest_latency(top: dict[str, Any], latency: bytes) -> int:
 
 def traps_of(top: dict[str, Any], greatest: int) -> list[str]:
     """The traps of a scenario that is accepted, with this greatest latency."""
-    return [*timeout_trap(top["timeout_us"], greatest), *duration_traps(top)]
+    return [*timeout_trap(top["timeout_us"], greatest, top.get("retries", 0)), *duration_traps(top)]
 
 
-def timeout_trap(timeout: int, greatest: int) -> list[str]:
-    """A timeout that is below a round trip."""
+def timeout_trap(timeout: int, greatest: int, retries: int = 0) -> list[str]:
+    """A timeout that is below a round trip. With retries a call may last for several timeouts."""
     trip = 2 * greatest
     if timeout >= trip:
         return []
+    is_late = timeout * (1 + retries) < trip
     return [
         f"timeout_us = {timeout} ({time_text(timeout)}) is below the greatest round trip, {trip} ({time_text(trip)}): "
-        "calls between such nodes always time out"
+        + ("calls between such nodes always time out" if is_late else "calls between such nodes are always sent again")
     ]
 
 

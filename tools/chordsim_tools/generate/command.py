@@ -51,9 +51,9 @@ the lives; more nodes do not change what is drawn for the others (but for the no
 longer run begins as the shorter one (if --arrive is given).
 
 A small random scenario, which tries out as much as possible in little time: --random SEED, alone. It has 3 to 16 nodes,
-2 to 8 ms, mostly much churn and calls that time out; of four seeds the first two have profile 1, the others profile 2.
-Most have also a latency file of some pairs, which --links writes; without it the scenario stands by itself. The same
-SEED makes the same bytes.
+2 to 8 ms, mostly much churn and calls that time out; of six seeds the first two have profile 1, the next two profile 2
+and the last two profile 3. Most have also a latency file of some pairs, which --links writes; without it the scenario
+stands by itself. The same SEED makes the same bytes.
 
 examples:
   tools/generate -o ring.toml                                   a ring without churn
@@ -62,6 +62,7 @@ examples:
   tools/generate --nodes 200 --lifetime exp:10m --down exp:1m --stay 0 --stationary --lookups 0.2 --duration 30m
   tools/generate --initial 8 --arrive 5s..5055ms --duration 1m  a storm of joins
   tools/generate --profile 2 --loss 20000 --spread 5ms          two messages of a hundred are lost, the others late
+  tools/generate --profile 3 --loss 20000 --retries 2           the same loss, and requests that are sent again
   tools/generate --lookups 0.5 --keys zipf:0.9:1000 --seed 3
   tools/generate --random 7 --links links.csv -o any.toml
 A scenario that is run with a latency file wants a --window of at most the file's least latency and a --timeout above
@@ -73,11 +74,12 @@ not be written. 130 interrupted. A file is whole or not there."""
 LENGTH = duration(1, BILLION)
 LIFE = value(distribution_of, LIVES)
 OPTIONS = (
-    ("profile", "N", whole(1, 2),
-     "the set of rules: 1, or 2 for a network with loss and spread, wider identifiers and more nodes (1)"),
-    ("nodes", "N", a_whole(), "2 to 512 nodes, in profile 2 to 4096, and at most 2^BITS (64)"),
+    ("profile", "N", whole(1, 3),
+     "the set of rules: 1; 2 for a network with loss and spread, wider identifiers and more nodes; 3 for this and "
+     "requests that are sent again (1)"),
+    ("nodes", "N", a_whole(), "2 to 512 nodes, in profiles 2 and 3 to 4096, and at most 2^BITS (64)"),
     ("initial", "N", a_whole(), "how many of them, the first ones, are members at the start: 2 to NODES (all)"),
-    ("bits", "N", a_whole(), "bits of an identifier: 3 to 64, in profile 2 to 128 (32)"),
+    ("bits", "N", a_whole(), "bits of an identifier: 3 to 64, in profiles 2 and 3 to 128 (32)"),
     ("list", "N", a_whole(),
      "entries of a successor list: 1 to 16, and below the initial nodes (4, or as many as may be)"),
     ("duration", "TIME", duration(1, 1000 * BILLION), "1us to 1000000s (120s)"),
@@ -88,10 +90,12 @@ OPTIONS = (
     ("stabilize", "TIME", LENGTH, "1us to 1000s (500ms)"),
     ("finger", "TIME", LENGTH, "1us to 1000s (250ms)"),
     ("jitter", "TIME", duration(0, BILLION), "0us to 1000s (50ms)"),
-    ("max-events", "N", whole(1, 50_000_000), "1 to 50000000 (50000000)"),
-    ("loss", "N", whole(0, 1_000_000), "profile 2 alone: messages lost of a million, 0 to 1000000 (0)"),
+    ("max-events", "N", a_whole(), "1 to 50000000, in profile 3 to 700000000 (50000000)"),
+    ("loss", "N", whole(0, 1_000_000), "profiles 2 and 3: messages lost of a million, 0 to 1000000 (0)"),
     ("spread", "TIME", duration(0, BILLION),
-     "profile 2 alone: up to this much is added to each latency, 0us to 1000s (0us)"),
+     "profiles 2 and 3: up to this much is added to each latency, 0us to 1000s (0us)"),
+    ("retries", "N", whole(0, 3),
+     "profile 3 alone: how often a request is sent again before its node is taken for dead, 0 to 3 (0)"),
     ("seed", "N", whole(0, GREATEST_SEED),
      "of the simulated streams, and of all that is drawn here: 0 to 9223372036854775807 (1)"),
     ("churn-uniform", "SPAN", value(length_span_of, f"two spans {LENGTHS}"),
@@ -169,7 +173,8 @@ def write_planned(plan: Plan, args: Namespace) -> None:
     """Writes the scenario of a plan, and warns of what is hardly meant."""
     put(scenario_of(plan, arguments_again(args)), args.file)
     slowest = plan.top["latency_us"] + plan.top.get("spread_us", 0)
-    warn([*bare_traps(args), *timeout_trap(plan.top["timeout_us"], slowest), *duration_traps(plan.top)])
+    traps = timeout_trap(plan.top["timeout_us"], slowest, plan.top.get("retries", 0))
+    warn([*bare_traps(args), *traps, *duration_traps(plan.top)])
 
 
 def main(arguments: list[str]) -> int:

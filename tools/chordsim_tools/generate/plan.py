@@ -42,7 +42,7 @@ def check(args: Namespace, parser: Parser) -> Plan:
     """The plan of the arguments. If two of them do not fit together the parser ends with the first such option."""
     options = Options(args, parser)
     profile = options.get("profile", 1)
-    most_bits, most_nodes = (128, 4096) if profile == 2 else (64, 512)
+    most_bits, most_nodes = (64, 512) if profile == 1 else (128, 4096)
     bits = options.whole("bits", 32, 3, most_bits, f" (in profile {profile})")
     room = min(most_nodes, 2**bits)
     why = f" (at most {most_nodes} in profile {profile}, and 2^{bits}, by --bits)"
@@ -88,6 +88,7 @@ def top_of(options: Options, profile: int, bits: int, initial: int) -> dict[str,
     latency = options.get("latency", 20_000)
     audit = min(BILLION, max(1, duration // 24))
     least_audit = -(-duration // 1_000_000)
+    most_events = 700_000_000 if profile == 3 else 50_000_000
     return {
         "profile": profile,
         "bits": bits,
@@ -101,17 +102,19 @@ def top_of(options: Options, profile: int, bits: int, initial: int) -> dict[str,
         "stabilize_us": options.get("stabilize", 500_000),
         "finger_us": options.get("finger", 250_000),
         "jitter_us": options.get("jitter", 50_000),
-        "max_events": options.get("max-events", 50_000_000),
+        "max_events": options.whole("max-events", 50_000_000, 1, most_events, f" (in profile {profile})"),
     }
 
 
 def network_of(options: Options, profile: int) -> dict[str, int]:
-    """The keys of loss and spread, which profile 2 alone has."""
+    """The keys of loss and spread, which profiles 2 and 3 have, and of sending again, which profile 3 alone has."""
     for name in ("loss", "spread"):
-        options.only_with(name, profile == 2, "--profile 2")
+        options.only_with(name, profile >= 2, "--profile 2 or 3")
+    options.only_with("retries", profile == 3, "--profile 3")
     if profile == 1:
         return {}
-    return {"loss_ppm": options.get("loss", 0), "spread_us": options.get("spread", 0)}
+    network = {"loss_ppm": options.get("loss", 0), "spread_us": options.get("spread", 0)}
+    return network if profile == 2 else network | {"retries": options.get("retries", 0)}
 
 
 def check_companions(options: Options, some_arrive: bool) -> None:

@@ -2,17 +2,18 @@
 
 from random import Random
 
-BITS = {1: [3, 4, 5, 6, 8, 16, 31, 32, 33, 63, 64], 2: [3, 4, 5, 6, 8, 32, 33, 64, 65, 96, 97, 127, 128]}
+WIDE = [3, 4, 5, 6, 8, 32, 33, 64, 65, 96, 97, 127, 128]
+BITS = {1: [3, 4, 5, 6, 8, 16, 31, 32, 33, 63, 64], 2: WIDE, 3: WIDE}
 """The bits of the scenarios of each profile."""
 
 
 def scenario_files(seed: int) -> tuple[str, str]:
     """A scenario and a latency file that chordsim accepts: few nodes, much churn, calls that time out.
 
-    Two of four seeds have the second profile, one of them an even seed and one an odd one.
+    Of six seeds in a row two have each profile, one of them an even seed and one an odd one.
     """
     dice = Random(seed)
-    profile = 1 + seed // 2 % 2
+    profile = 1 + seed // 2 % 3
     bits = dice.choice(BITS[profile])
     nodes = dice.randint(3, min(2**bits, dice.choice([4, 8, 16])))
     entries = dice.randint(1, min(16, nodes - 1, dice.choice([1, 2, 3, 5])))
@@ -22,7 +23,7 @@ def scenario_files(seed: int) -> tuple[str, str]:
     is_churning = dice.random() < 0.6
     idents = dice.sample(range(2**bits), nodes) if bits < 20 else distinct(dice, 2**bits, nodes)
     initial = set(dice.sample(range(nodes), dice.randint(entries + 1, nodes)))
-    network = network_of(dice, latency) if profile == 2 else {}
+    network = network_of(dice, latency, profile) if profile >= 2 else {}
     reach = latency + network.get("spread_us", 0)
     top = {"profile": profile} | settings(dice, bits, entries, window, latency, reach, duration) | network
     text = "".join(f"{key} = {value}\n" for key, value in top.items())
@@ -45,7 +46,7 @@ def distinct(dice: Random, size: int, count: int) -> list[int]:
 def settings(
     dice: Random, bits: int, entries: int, window: int, latency: int, reach: int, duration: int
 ) -> dict[str, int]:
-    """The keys of the top table that both profiles have. The reach is the latency with the spread."""
+    """The keys of the top table that all profiles have. The reach is the latency with the spread."""
     timeout = dice.choice([dice.randint(1, 40), 2 * reach + dice.randint(1, 100)])
     return {
         "bits": bits,
@@ -63,11 +64,16 @@ def settings(
     }
 
 
-def network_of(dice: Random, latency: int) -> dict[str, int]:
-    """Loss and spread, if the scenario has them: all messages lost, some or none, and late by some latencies."""
+def network_of(dice: Random, latency: int, profile: int) -> dict[str, int]:
+    """Loss and spread, if the scenario has them: all messages lost, some or none, and late by some latencies.
+
+    In the third profile also how often a request is sent again.
+    """
     loss = dice.choice([0, 1_000_000, dice.randint(1, 200_000), dice.randint(1, 50_000), dice.randint(1, 50_000)])
     spread = dice.choice([0, 1, dice.randint(0, latency), dice.randint(0, 5 * latency)])
     keys = {"loss_ppm": loss, "spread_us": spread}
+    if profile == 3:
+        keys["retries"] = dice.randint(0, 3)
     return {key: value for key, value in keys.items() if dice.random() < 0.85}
 
 

@@ -40,7 +40,7 @@ them, rounded up; SIDE is the way from one corner to the next.
 
 At the end a line on standard error says the number of hosts and of gaps filled, the least, the median and the greatest
 latency, and the greatest window_us that a scenario with these latencies may have (which is the least latency). A spread
-(spread_us, of profile 2) only adds to these and does not count for the window.
+(spread_us, of profiles 2 and 3) only adds to these and does not count for the window.
 
 chordsim reads at most 16,777,216 bytes of latencies, which a row for each pair of some 1,400 nodes has. A greater file
 is refused; profile 1 has at most 512 nodes.
@@ -191,9 +191,9 @@ def traps(options: Options, result: Latencies) -> list[str]:
         )
     if options.args.names is not None:
         top = parse_toml(read_input(options.args.names, GREATEST_SIZE, reasons=False))
-        timeout, spread = (top.get(key, 0) for key in ("timeout_us", "spread_us"))
-        if isinstance(timeout, int) and isinstance(spread, int) and timeout > 0:
-            found += timeout_trap(timeout, max(times) + spread)
+        timeout, spread, retries = (top.get(key, 0) for key in ("timeout_us", "spread_us", "retries"))
+        if all(isinstance(value, int) for value in (timeout, spread, retries)) and timeout > 0 and retries >= 0:
+            found += timeout_trap(timeout, max(times) + spread, retries)
     return found
 
 

@@ -27,7 +27,7 @@ examples:
                                                            says where the two traces first differ
   tools/reference examples/churn64.toml --report --messages
                                                            the report, and how many messages of each kind were made
-                                                           (in profile 2 also how many of these were lost)
+                                                           (in profiles 2 and 3 also how many were lost)
 
 status: 0 all was done; 1 a file is refused, or the traces differ; 2 the arguments are wrong; 3 the run failed"""
 
@@ -68,10 +68,10 @@ def simulate(scenario: Scenario, trace: TextIO | None, messages: bool) -> None:
 
 
 def print_messages(simulation: Simulation, report: Report) -> None:
-    """Counts the messages made by kind, the lost ones with them; in the second profile also the lost ones alone."""
+    """Counts the messages made by kind, the lost ones with them; after the first profile also the lost ones alone."""
     for kind in KINDS.values():
         print(f"sent {kind} {simulation.messages[kind] + report.lost_messages[kind]}")
-    if report.profile == 2:
+    if report.profile >= 2:
         for kind in KINDS.values():
             print(f"lost {kind} {report.lost_messages[kind]}")
 

@@ -4,8 +4,8 @@ from chordsim_tools.known import known
 from chordsim_tools.reference.chacha import Stream
 from chordsim_tools.reference.circle import Circle
 from chordsim_tools.reference.state import (
-    KINDS, Answer, Attempt, Body, Call, Event, FingerTick, LifeEnd, Lookup, Message, Next, Node, Owner, Purpose, Rise,
-    StabilizeTick, Status, Step, Stuck, Timeout, TrafficTick,
+    KINDS, REQUEST_OF, Answer, Attempt, Body, Call, Drawn, Event, FingerTick, LifeEnd, Lookup, Message, Next, Node,
+    Owner, Purpose, Rise, StabilizeTick, Status, Step, Stuck, Timeout, TrafficTick,
 )
 from chordsim_tools.scenario.reading import Scenario
 
@@ -17,7 +17,7 @@ JOIN_STEPS = 128
 
 
 class World:
-    """What does not change in a run: the scenario, the circle, and the random stream of each node."""
+    """What does not change in a run: the scenario, the circle, and the random streams of each node."""
 
     def __init__(self, scenario: Scenario) -> None:
         """The world of a scenario."""
@@ -26,6 +26,14 @@ class World:
         self.idents = [node.ident for node in scenario.nodes]
         self.names = [node.name for node in scenario.nodes]
         self.streams = [Stream(scenario.seed, i) for i in range(len(scenario.nodes))]
+        self.own_streams: dict[int, Stream] = {}
+
+    def own_stream(self, node: int, what: Drawn) -> Stream:
+        """The stream from which a node draws this in the third profile."""
+        number = node + what * 2**32
+        if number not in self.own_streams:
+            self.own_streams[number] = Stream(self.scenario.seed, number)
+        return self.own_streams[number]
 
     def latency(self, a: int, b: int) -> int:
         """How long a message from node a to node b takes, without the spread."""
@@ -69,14 +77,13 @@ class Procedures:
         self.make(self.t + delay, self.n.me, body)
 
     def send(self, to: int, body: Message) -> None:
-        """Makes a message. In the second profile one to another node may be lost, and comes later by a drawn spread."""
+        """Makes a message. After the first profile one to another node may be lost, and comes later by a spread."""
         scenario = self.world.scenario
         time = self.t + self.world.latency(self.n.me, to)
         if scenario.profile == 1 or to == self.n.me:
             self.make(time, to, body)
             return
-        x = self.number_below(1_000_000)
-        e = self.number_below(scenario.spread_us + 1)
+        x, e = self.numbers_below(Drawn.MESSAGE, self.n.count + 1, 1_000_000, scenario.spread_us + 1)
         if x < scenario.loss_ppm:
             self.lose(to, body)
         else:
@@ -87,26 +94,38 @@ class Procedures:
         self.n.count += 1
         self.line(f"lose {KINDS[type(body)]} {self.name(to)}")
 
-    def word(self) -> int:
-        """The next word of the node's stream."""
-        word = self.world.streams[self.n.me].word(self.n.place)
-        self.n.place += 1
-        return word
+    def words(self, what: Drawn, occasion: int, count: int) -> list[int]:
+        """The words of a draw: the next ones of the node's stream; in the third profile four of the draw's own.
 
-    def number_below(self, n: int) -> int:
-        """A number below n: the next word modulo n, even where n is 1."""
-        return self.word() % n
+        The place moves on by the count in each profile.
+        """
+        place = self.n.place
+        self.n.place += count
+        if self.world.scenario.profile == 3:
+            stream = self.world.own_stream(self.n.me, what)
+            return [stream.word(4 * occasion + i) for i in range(4)]
+        return [self.world.streams[self.n.me].word(place + i) for i in range(count)]
 
-    def time_from_span(self, least: int, greatest: int) -> int:
+    def numbers_below(self, what: Drawn, occasion: int, *bounds: int) -> list[int]:
+        """A number below each bound: of one word each, modulo the bound; in the third profile of two words each."""
+        words = self.words(what, occasion, len(bounds))
+        if self.world.scenario.profile == 3:
+            doubles = [words[0] * 2**32 + words[1], words[2] * 2**32 + words[3]]
+            return [w * n // 2**64 for w, n in zip(doubles, bounds)]
+        return [word % n for word, n in zip(words, bounds)]
+
+    def time_from_span(self, least: int, greatest: int, what: Drawn, occasion: int) -> int:
         """A time drawn from a span: the least plus a number below (greatest - least + 1)."""
-        return least + self.number_below(greatest - least + 1)
+        [number] = self.numbers_below(what, occasion, greatest - least + 1)
+        return least + number
 
     def random_key(self) -> int:
         """A random key: the m low bits of the number that as many words as m bits need write, the highest one first."""
         bits = self.world.circle.bits
+        count = (bits + 31) // 32
         number = 0
-        for _ in range((bits + 31) // 32):
-            number = number * 2**32 + self.word()
+        for word in self.words(Drawn.KEY, self.t, count)[:count]:
+            number = number * 2**32 + word
         return number % (1 << bits)
 
     # 8.1 Call
@@ -118,6 +137,26 @@ class Procedures:
         self.set_timer(self.world.scenario.timeout_us, Timeout(number))
         self.n.calls[number] = Call(number, p, purpose, because)
         return number
+
+    def send_again(self, call: Call) -> None:
+        """Sends a call again: the request is made of what the node knows, and the call moves to the end."""
+        request = REQUEST_OF[call.purpose]
+        self.line(f"again {KINDS[request]} {self.name(call.asked)}")
+        rest: list[object] = []
+        if call.purpose == Purpose.LOOKUP:
+            lookup = self.lookup_of(call)
+            rest = [lookup.key, list(lookup.avoid)]
+        elif call.purpose == Purpose.JOIN_STEP:
+            rest = [self.world.idents[self.n.me], list(known(self.n.join).avoid)]
+        self.send(call.asked, request(call.number, *rest))
+        self.set_timer(self.world.scenario.timeout_us, Timeout(call.number))
+        del self.n.calls[call.number]
+        self.n.calls[call.number] = call
+        call.again += 1
+
+    def lookup_of(self, call: Call) -> Lookup:
+        """The lookup that waits for this call."""
+        return next(lookup for lookup in self.n.lookups if lookup.call == call.number)
 
     # 8.2 Arm and re-arm
 
@@ -133,22 +172,26 @@ class Procedures:
     def arm_stabilize(self) -> None:
         """Sets StabilizeTick, always."""
         s = self.world.scenario
-        self.set_timer(self.time_from_span(s.stabilize_us, s.stabilize_us + s.jitter_us), StabilizeTick(self.n.epoch))
+        delay = self.time_from_span(s.stabilize_us, s.stabilize_us + s.jitter_us, Drawn.STABILIZE_TICK, self.t)
+        self.set_timer(delay, StabilizeTick(self.n.epoch))
 
     def arm_finger(self) -> None:
         """Sets FingerTick, always."""
         s = self.world.scenario
-        self.set_timer(self.time_from_span(s.finger_us, s.finger_us + s.jitter_us), FingerTick(self.n.epoch))
+        delay = self.time_from_span(s.finger_us, s.finger_us + s.jitter_us, Drawn.FINGER_TICK, self.t)
+        self.set_timer(delay, FingerTick(self.n.epoch))
 
     def arm_traffic(self) -> None:
         """Sets TrafficTick, where the scenario has [lookups]."""
         lookups = known(self.world.scenario.lookups)
-        self.set_timer(self.time_from_span(lookups.gap_min_us, lookups.gap_max_us), TrafficTick(self.n.epoch))
+        delay = self.time_from_span(lookups.gap_min_us, lookups.gap_max_us, Drawn.TRAFFIC_TICK, self.t)
+        self.set_timer(delay, TrafficTick(self.n.epoch))
 
     def arm_life(self) -> None:
         """Sets LifeEnd, where the node has churn = true."""
         churn = known(self.world.scenario.churn)
-        self.set_timer(self.time_from_span(churn.life_min_us, churn.life_max_us), LifeEnd(self.n.epoch))
+        delay = self.time_from_span(churn.life_min_us, churn.life_max_us, Drawn.LIFE_END, self.n.epoch)
+        self.set_timer(delay, LifeEnd(self.n.epoch))
 
     def is_churn(self) -> bool:
         """Whether the node has churn = true."""
@@ -271,7 +314,8 @@ class Procedures:
     def set_rise(self) -> None:
         """Sets Rise for n after a time drawn from the span down_min_us to down_max_us."""
         churn = known(self.world.scenario.churn)
-        self.set_timer(self.time_from_span(churn.down_min_us, churn.down_max_us), Rise(self.n.epoch))
+        delay = self.time_from_span(churn.down_min_us, churn.down_max_us, Drawn.RISE, self.n.epoch)
+        self.set_timer(delay, Rise(self.n.epoch))
 
     def strand(self) -> None:
         """Strand."""

@@ -40,7 +40,7 @@ class Report:
             self.times.append(int(fields[7].removeprefix("us=")))
 
     def numbers(self, events: int) -> dict[str, int]:
-        """The 24 numbers, in their order; in the second profile the 25th."""
+        """The 24 numbers, in their order; in the second profile the 25th, and in the third also the 26th."""
         numbers = {"events": events}
         for word, kind in LINES:
             numbers[word] = self.lines[kind]
@@ -53,8 +53,10 @@ class Report:
         numbers["us-greatest"] = max(self.times, default=0)
         for word in ("audits", "ringless", "unordered", "insufficient"):
             numbers[word] = self.audits[word]
-        if self.profile == 2:
+        if self.profile >= 2:
             numbers["losses"] = self.lines["lose"]
+        if self.profile == 3:
+            numbers["again"] = self.lines["again"]
         return numbers
 
     def text(self, events: int) -> str:

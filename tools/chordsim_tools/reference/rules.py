@@ -95,7 +95,11 @@ class Rules(Procedures):
         """Timeout, with the number of a call."""
         if body.call not in self.n.calls:
             return
-        call = self.n.calls.pop(body.call)
+        call = self.n.calls[body.call]
+        if call.again < self.world.scenario.retries:
+            self.send_again(call)
+            return
+        del self.n.calls[body.call]
         self.line(f"timeout {self.name(call.asked)}")
         match call.purpose:
             case Purpose.LOOKUP:
@@ -225,10 +229,6 @@ class Rules(Procedures):
     def has_call(self, purpose: Purpose) -> bool:
         """Whether n has a call out for this purpose."""
         return any(call.purpose == purpose for call in self.n.calls.values())
-
-    def lookup_of(self, call: Call) -> Lookup:
-        """The lookup that waits for this call."""
-        return next(lookup for lookup in self.n.lookups if lookup.call == call.number)
 
     def cut(self, nodes: list[int]) -> list[int]:
         """The list, cut to `list` entries."""

@@ -1,7 +1,7 @@
 """Events with their bodies (docs/rules.md, sections 4 and 9) and the state of a node (section 6)."""
 
 from dataclasses import dataclass, field
-from enum import Enum
+from enum import Enum, IntEnum
 from typing import NamedTuple
 
 
@@ -24,6 +24,18 @@ class Purpose(Enum):
     PING = "Ping"
 
 
+class Drawn(IntEnum):
+    """What is drawn. The values are the purposes p of the third profile (section 5)."""
+
+    STABILIZE_TICK = 1
+    FINGER_TICK = 2
+    TRAFFIC_TICK = 3
+    LIFE_END = 4
+    RISE = 5
+    KEY = 6
+    MESSAGE = 7
+
+
 @dataclass(slots=True)
 class Call:
     """A request that is out."""
@@ -32,6 +44,7 @@ class Call:
     asked: int
     purpose: Purpose
     because: int | None = None  # for a Ping: the node that caused it
+    again: int = 0  # how often it was sent again
 
 
 @dataclass(slots=True, eq=False)
@@ -270,6 +283,16 @@ ASKS_FOR: dict[Purpose, type] = {
     Purpose.PING: Pong,
 }
 """The kind of reply that a call asked for."""
+
+REQUEST_OF: dict[Purpose, type] = {
+    Purpose.LOOKUP: Step,
+    Purpose.JOIN_STEP: Step,
+    Purpose.JOIN_LIST: GetList,
+    Purpose.STATE: GetState,
+    Purpose.LIST: GetList,
+    Purpose.PING: Ping,
+}
+"""The kind of request that a call is made with."""
 
 
 class Event(NamedTuple):

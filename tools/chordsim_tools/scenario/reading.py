@@ -72,6 +72,7 @@ class Scenario:
     max_events: int
     loss_ppm: int
     spread_us: int
+    retries: int
     churn: Churn | None
     lookups: Lookups | None
     nodes: Nodes
@@ -102,6 +103,7 @@ def whole_scenario(document: Document) -> Scenario:
         max_events=top.get("max_events", 50_000_000),
         loss_ppm=top.get("loss_ppm", 0),
         spread_us=top.get("spread_us", 0),
+        retries=top.get("retries", 0),
         churn=Churn(**top["churn"]) if "churn" in top else None,
         lookups=Lookups(**top["lookups"]) if "lookups" in top else None,
         nodes=nodes,

@@ -82,24 +82,26 @@ RUN = [
     Key("stabilize_us", "integer", 1, BILLION),
     Key("finger_us", "integer", 1, BILLION),
     Key("jitter_us", "integer", 0, BILLION, required=False),
-    Key("max_events", "integer", 1, 50_000_000, required=False),
 ]
-"""The plain keys of the top that are the same in both profiles."""
+"""The plain keys of the top that are the same in all profiles."""
 NETWORK = [
     Key("loss_ppm", "integer", 0, 1_000_000, required=False),
     Key("spread_us", "integer", 0, BILLION, required=False),
 ]
-"""The keys that the second profile alone has."""
+"""The keys that the second and third profile have."""
+RETRIES = [Key("retries", "integer", 0, 3, required=False)]
+"""The key that the third profile alone has."""
 CHURN = [Key(f"{word}_us", "integer", 1, BILLION) for word in ("life_min", "life_max", "down_min", "down_max")]
 LOOKUPS = [Key(f"{word}_us", "integer", 1, BILLION) for word in ("gap_min", "gap_max")]
 
 
-def top_keys(bits: int, nodes: int, network: list[Key]) -> list[Key]:
-    """The keys of the top, for these greatest numbers of bits and nodes, and with these keys of the network."""
+def top_keys(bits: int, nodes: int, events: int, network: list[Key]) -> list[Key]:
+    """The keys of the top, for these greatest numbers of bits, nodes and events, and with these keys of the network."""
     return [
-        Key("profile", "integer", 1, 2),
+        Key("profile", "integer", 1, 3),
         Key("bits", "integer", 3, bits),
         *RUN,
+        Key("max_events", "integer", 1, events, required=False),
         *network,
         Key("churn", "table", required=False),
         Key("lookups", "table", required=False),
@@ -132,11 +134,11 @@ def command_keys(digits: int) -> list[Key]:
 class Profile:
     """The keys of all tables in a profile: `tables` has them by the kind of the table."""
 
-    def __init__(self, bits: int, nodes: int, network: list[Key]) -> None:
-        """The profile with these greatest numbers of bits and nodes, and with these keys of its network."""
+    def __init__(self, bits: int, nodes: int, events: int, network: list[Key]) -> None:
+        """The profile with these greatest numbers of bits, nodes and events, and with these keys of its network."""
         digits = bits // 4
         self.tables = {
-            "top": top_keys(bits, nodes, network),
+            "top": top_keys(bits, nodes, events, network),
             "churn": CHURN,
             "lookups": LOOKUPS,
             "node": node_keys(digits),
@@ -144,14 +146,15 @@ class Profile:
         }
 
 
-FIRST = Profile(64, 512, [])
-SECOND = Profile(128, 4096, NETWORK)
+FIRST = Profile(64, 512, 50_000_000, [])
+SECOND = Profile(128, 4096, 50_000_000, NETWORK)
+THIRD = Profile(128, 4096, 700_000_000, [*NETWORK, *RETRIES])
+PROFILES = {1: FIRST, 2: SECOND, 3: THIRD}
 
 
 def profile_of(top: dict[str, Any]) -> Profile:
-    """The profile that a file is held against: the second if `profile` is the whole number 2, else the first."""
-    value = top.get("profile")
-    return SECOND if has_type(value, "integer") and value == 2 else FIRST
+    """The profile that a file is held against: by `profile` if it is the whole number 2 or 3, else the first."""
+    return PROFILES.get(top["profile"], FIRST) if has_type(top.get("profile"), "integer") else FIRST
 
 
 def parse_toml(file: bytes) -> dict[str, Any]:

@@ -76,10 +76,12 @@ Runs `chordsim run --serial` for each setting and seed and writes into FOLDER:
                  wanted           lookups begun or refused, and those that nodes missed which were up but no members;
                                   wanted-1, right-1, wanted-2, right-2: in the two halves of the judged span
                  up-us, member-us time that nodes were up, and members, in the judged span
-                 cost-...         from warmup_us to the end: time as members, and events
+                 cost-...         from warmup_us to the end: time as members, and events; timeouts, those that take a
+                                  member for dead, and of these such that remove it from a successor list; requests sent
+                                  again; members stranded, joins failed
                  messages, sent-STEP ...       messages in that time, about (docs/studies.md)
   series.csv     one line a run and step of window_us: lookups begun, answers found, right ones, members at its end
-  steps.csv      the same for timeouts and lost messages
+  steps.csv      the same for timeouts, lost messages and, in the third profile, requests sent again
   cdf.csv        how times and hops of the judged lookups are distributed: the share found within each value
   manifest.json  what it was made of, with digests and versions; no times and no names of machines, so that the same
                  study gives the same bytes

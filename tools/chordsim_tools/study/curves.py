@@ -1,4 +1,4 @@
-"""What plots take from a trace beside the tables: how lookups' times and hops are distributed, timeouts and losses."""
+"""What plots take from a trace beside the tables: how lookups' times and hops are distributed, and what went wrong."""
 
 import json
 from collections import Counter
@@ -25,7 +25,7 @@ class Curves:
         self.times: list[int] = []
         self.hops: Counter[int] = Counter()
         steps = (duration_us + window_us - 1) // window_us
-        self.counts = {"timeout": [0] * steps, "lose": [0] * steps}
+        self.counts = {word: [0] * steps for word in ("timeout", "lose", "again")}
 
     def read(self, line: str) -> None:
         """Takes one line."""
@@ -52,6 +52,7 @@ class Curves:
             "hops": [self.hops[number] for number in range(max(self.hops, default=-1) + 1)],
             "timeouts": self.counts["timeout"],
             "losses": self.counts["lose"],
+            "again": self.counts["again"],
         }
 
 
@@ -92,10 +93,13 @@ def hop_points(curves: dict[str, Any]) -> list[tuple[int, float]]:
 
 
 def steps_text(study: Study, rows: list[Row]) -> str:
-    """A line for each run and step of time: calls that timed out, and messages lost."""
-    lines: list[list[Any]] = [[*study.vary, "seed", "from_us", "timeouts", "losses"]]
+    """A line for each run and step of time: calls that timed out, messages lost and, as in runs.csv where a run has the
+    third profile, requests sent again."""
+    has_again = any("again" in result["report"] for _, _, result in rows)
+    words = ["timeouts", "losses", *(["again"] if has_again else [])]
+    lines: list[list[Any]] = [[*study.vary, "seed", "from_us", *words]]
     for setting, seed, result in rows:
         head = [*(value for _, value in setting), seed]
-        pairs = zip(result["curves"]["timeouts"], result["curves"]["losses"], strict=True)
-        lines += [[*head, number * study.window_us, *pair] for number, pair in enumerate(pairs)]
+        counts = zip(*(result["curves"][word] for word in words), strict=True)
+        lines += [[*head, number * study.window_us, *count] for number, count in enumerate(counts)]
     return csv_text(lines)

@@ -8,7 +8,7 @@ from typing import Any
 from chordsim_tools.cli import Refused
 from chordsim_tools.generate.command import OPTIONS
 from chordsim_tools.quantities import time_of
-from chordsim_tools.scenario.tables import CHURN, GREATEST_INTEGER, LOOKUPS, SECOND, Key
+from chordsim_tools.scenario.tables import CHURN, GREATEST_INTEGER, LOOKUPS, THIRD, Key
 from chordsim_tools.study.messages import KINDS
 
 Value = int | str
@@ -17,14 +17,14 @@ MOST_SEEDS = 10_000
 
 
 def varied_keys() -> set[str]:
-    """The keys of a scenario that can be varied, in either profile."""
+    """The keys of a scenario that can be varied, in any profile."""
 
     def names(keys: list[Key]) -> list[str]:
         """The integers among these keys."""
         return [key.name for key in keys if key.kind == "integer"]
 
     tables = {f"{table}.{name}" for table, keys in (("churn", CHURN), ("lookups", LOOKUPS)) for name in names(keys)}
-    return (set(names(SECOND.tables["top"])) | tables) - {"seed"}
+    return (set(names(THIRD.tables["top"])) | tables) - {"seed"}
 
 
 def parsed(path: Path, content: bytes) -> dict[str, Any]:

@@ -39,9 +39,11 @@ class Traffic:
         """How many requests of a kind had no reply: they were dropped, or lost, or their replies were."""
         return self.lines[f"drop {kind}"] + self.sum_of("lose", (kind, REPLIES[kind]))
 
-    def lookups(self) -> int:
-        """Messages of the lookups that ended: a request and a reply for each hop, a request for each timeout."""
-        return 2 * self.hops + self.timeouts
+    def lookups(self, retries: int) -> int:
+        """Messages of the lookups that ended: a request and a reply for each hop, and all requests of each timeout.
+
+        No line says whose requests were sent again and then answered: these are left out."""
+        return 2 * self.hops + (1 + retries) * self.timeouts
 
 
 @dataclass(frozen=True)
@@ -101,8 +103,9 @@ class Span:
 def estimate(traffic: Traffic, span: Span) -> dict[str, int]:
     """About how many messages of each kind were sent in the span, the lost ones with them.
 
-    Each call makes a request, a timeout and, unless a line says otherwise, a reply. So the events that are neither
-    timers nor commands say how many calls there were, once the notifies, one a stabilization, are known."""
+    Each call makes a request, a timeout and, unless a line says otherwise, a reply, and so does each time that it is
+    sent again. So the events that are neither timers nor commands say how many of these there were, once the notifies,
+    one a stabilization, are known."""
     lost, dropped = traffic.sum_of("lose", CALLS), traffic.sum_of("drop", CALLS)
     notifies = span.stabilizations(traffic)
     rest = span.events - span.timers(traffic) - notifies + traffic.lines["lose notify"]
@@ -126,6 +129,6 @@ def message_numbers(traffic: Traffic, span: Span) -> dict[str, int | str | None]
     return {
         "cost-events": span.events,
         "messages": sum(kinds.values()),
-        "messages-lookups": min(traffic.lookups(), sum(kinds.values())),
+        "messages-lookups": min(traffic.lookups(span.top.get("retries", 0)), sum(kinds.values())),
         **{f"sent-{kind}": count for kind, count in kinds.items()},
     }

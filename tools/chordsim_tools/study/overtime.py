@@ -15,6 +15,8 @@ NODES = -1.0
 """Stands for the number of nodes, which bands of members are cut at."""
 MOST_ACROSS = 6
 Take = Callable[[Cells], float | None]
+Quantity = tuple[str, Take, float]
+"""A label, the number of a line, and the greatest value that it may have."""
 Point = tuple[float, float, float, float, int]
 """A place, the mean, the ends of its interval, and how many seeds have the number."""
 
@@ -31,9 +33,20 @@ def count_of(name: str) -> Take:
 
 RIGHT = (("right answers,\n% of all found", share_right, 100.0), ("members", count_of("members"), NODES))
 NETWORK = (
-    ("timeouts\nin a step", count_of("timeouts"), float("inf")),
-    ("messages lost\nin a step", count_of("losses"), float("inf")),
+    ("timeouts", "timeouts", "timeouts\nin a step"),
+    ("losses", "lost messages", "messages lost\nin a step"),
+    ("again", "requests sent again", "sent again\nin a step"),
 )
+"""Columns of steps.csv: what they count, in a title, and their labels."""
+
+
+def network_of(lines: list[Cells]) -> tuple[str, list[Quantity]]:
+    """The title, and the counts to draw: timeouts, and what else is not 0 in all steps."""
+    drawn = [one for one in NETWORK if one is NETWORK[0] or any(line.get(one[0], "0") != "0" for line in lines)]
+    *words, last = [words for _, words, _ in drawn]
+    title = f"{', '.join(words)} and {last}".capitalize() if words else "Timeouts"
+    title += " over time" if any(one[0] == "losses" for one in drawn) else " over time (no message is lost)"
+    return title, [(label, count_of(name), float("inf")) for name, _, label in drawn]
 
 
 def points_of(lines: list[Cells], take: Take, most: float) -> list[Point]:

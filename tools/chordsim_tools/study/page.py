@@ -12,6 +12,7 @@ from chordsim_tools.study.layout import worlds_of
 from chordsim_tools.study.messages import KINDS
 from chordsim_tools.study.numbers import Cells, Summary, setting_label, summaries
 from chordsim_tools.study.tables import Tables
+from chordsim_tools.study.taken import taken_table
 
 PLOTS = (
     ("times", "Right answers and lookup time, by setting"),
@@ -198,7 +199,7 @@ def page(tables: Tables) -> str:
         + answers(tables, found, goal)
         + (f"{manifest['note'].strip()}\n\n" if manifest.get("note") else "")
         + f"{head(manifest, found)}{table(tables, found)}\n"
-        f"{MEANINGS.format(least=LEAST_SEEDS, off=ERROR)}{guard(tables, found)}\n"
+        f"{MEANINGS.format(least=LEAST_SEEDS, off=ERROR)}{guard(tables, found)}\n{taken_table(found)}"
         f"## Plots\n\n{links}"
         f"## Made by\n\n```\n{commands(tables)}```\n\n{made_for_each_seed(manifest)}{sums(tables)}"
     )

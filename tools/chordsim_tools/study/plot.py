@@ -14,7 +14,7 @@ from chordsim_tools.study.layout import layout_of
 from chordsim_tools.study.lines import Rows, lines_figure
 from chordsim_tools.study.looks import Layout
 from chordsim_tools.study.numbers import groups
-from chordsim_tools.study.overtime import NETWORK, RIGHT, cdf_figure, time_figure
+from chordsim_tools.study.overtime import RIGHT, cdf_figure, network_of, time_figure
 from chordsim_tools.study.so_far import Drawn, tables_of
 
 TIMES = ("us-p50", "us-p99")
@@ -72,8 +72,7 @@ def all_figures(pyplot: Any, drawn: Drawn, layout: Layout, most_lost: float) -> 
     yield "right", time_figure(pyplot, drawn, layout, RIGHT, drawn.tables.series, "Right answers and members over time")
     yield "cost", front_figure(pyplot, drawn, layout, [Plane(cost, gain), Plane(cost, times[1])], rows, most_lost)
     if drawn.steps:
-        lossy = any(line["losses"] != "0" for line in drawn.steps)
-        title = "Timeouts and lost messages over time" if lossy else "Timeouts over time (no message is lost)"
-        yield "network", time_figure(pyplot, drawn, layout, NETWORK[: 1 + lossy], drawn.steps, title)
+        title, quantities = network_of(drawn.steps)
+        yield "network", time_figure(pyplot, drawn, layout, quantities, drawn.steps, title)
     if drawn.cdf:
         yield "cdf", cdf_figure(pyplot, drawn, layout)

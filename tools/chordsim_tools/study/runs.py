@@ -22,7 +22,7 @@ from chordsim_tools.study.setting_traps import tell_traps
 from chordsim_tools.study.task import Task, result_of
 from chordsim_tools.study.worlds import latency_of, scenario_of
 
-READING = 3
+READING = 4
 """Goes up if a trace is read in another way, so that no older result is taken for a new one."""
 Share = tuple[int, int]
 """The part of a study that is done here, from 1, and how many parts there are."""

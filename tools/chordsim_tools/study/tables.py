@@ -15,6 +15,8 @@ from chordsim_tools.program import TOP
 from chordsim_tools.study.plan import Setting, Study
 
 VERSION = 2
+LATER = ("losses", "again")
+"""The numbers that only reports of later profiles have, in their order."""
 OWN_FILES = ("tools/study", "tools/chordsim_tools/study")
 Row = tuple[Setting, int, dict[str, Any]]
 
@@ -37,13 +39,16 @@ def csv_text(lines: list[list[Any]]) -> str:
 
 
 def runs_text(rows: list[Row]) -> str:
-    """One line a run: the setting, the seed, the report, the numbers of the trace. No message of profile 1 is lost."""
+    """One line a run: the setting, the seed, the report, the numbers of the trace.
+
+    A number that only later profiles report (`losses`, `again`) is 0 in runs of the others.
+    """
     lines: list[list[Any]] = []
-    has_losses = any("losses" in result["report"] for _, _, result in rows)
+    later = [word for word in LATER if any(word in result["report"] for _, _, result in rows)]
     for setting, seed, result in rows:
         report = dict(result["report"])
-        if has_losses:
-            report.setdefault("losses", 0)
+        for word in later:
+            report.setdefault(word, 0)
         varied: dict[str, Any] = dict(setting)
         numbers = {**varied, "seed": seed, **report, **result["numbers"]}
         if not lines:

@@ -14,6 +14,7 @@ from chordsim_tools.study.messages import Span, message_numbers
 from chordsim_tools.study.program import Program
 from chordsim_tools.study.served import scope_of
 from chordsim_tools.study.trace import TraceReader
+from chordsim_tools.study.trouble import Trouble
 
 
 @dataclass(frozen=True)
@@ -29,12 +30,13 @@ class Task:
     made_of: str
 
 
-def readers_of(task: Task, top: dict[str, Any], idents: dict[str, int]) -> tuple[TraceReader, Curves]:
+def readers_of(task: Task, top: dict[str, Any], idents: dict[str, int]) -> tuple[TraceReader, Curves, Trouble]:
     """The readers of the run's trace."""
     initial = [node["name"] for node in top["node"] if node.get("initial") is True]
     scope = scope_of(top, task.window_us, task.warmup_us, task.cooldown_us)
     curves = Curves(top["duration_us"], task.window_us, task.warmup_us, task.cooldown_us)
-    return TraceReader(Members(idents, initial), scope), curves
+    reader = TraceReader(Members(idents, initial), scope)
+    return reader, curves, Trouble(reader.members, top, task.warmup_us)
 
 
 def events_before(top: dict[str, Any], time: int, program: Path, latency: Path | None) -> int:
@@ -53,12 +55,13 @@ def result_of(task: Task, program: Path, scenario: Path, latency: Path | None) -
     """Runs the program with the task's two files, and gives the result as `done/` keeps it."""
     caller = Program(program, scenario, latency)
     top = tomllib.loads(task.scenario)
-    reader, curves = readers_of(task, top, caller.idents())
+    reader, curves, trouble = readers_of(task, top, caller.idents())
 
     def read(line: str) -> None:
-        """Both readers take a line."""
+        """Each reader takes a line."""
         reader.read(line)
         curves.read(line)
+        trouble.read(line)
 
     report = caller.run(read)
     if (reader.all_lookups, reader.all_found) != (report.get("lookups"), report.get("found")):
@@ -68,7 +71,7 @@ def result_of(task: Task, program: Path, scenario: Path, latency: Path | None) -
     return {
         "made_of": task.made_of,
         "report": report,
-        "numbers": {**numbers, **message_numbers(reader.traffic, span)},
+        "numbers": {**numbers, **message_numbers(reader.traffic, span), **trouble.numbers()},
         "curves": curves.numbers(),
         "series": [[step.lookups, step.found, step.right, step.members] for step in reader.steps],
     }

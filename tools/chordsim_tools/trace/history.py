@@ -68,7 +68,7 @@ class History:
                     raise ValueError("it has other words than such a line")
             case "timeout":
                 self.keep(time, node, kind, fields, 4)
-            case "drop" | "late" | "lose":
+            case "drop" | "late" | "lose" | "again":
                 self.keep(time, node, f"{kind} {fields[3]}", fields, 5)
             case "busy":
                 self.lines.append(time, node, CODES[kind], len(self.lines.busy_keys))

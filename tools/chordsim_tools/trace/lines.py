@@ -10,7 +10,11 @@ PLAIN = (
     "join", "member", "join-failed", "crash", "stranded", "timeout", "lookup", "found", "lost", "busy",
     "ignored join", "ignored crash", "ignored lookup", "audit",
 )
-KINDS = (*PLAIN, *(f"{word} {message}" for word in ("drop", "late", "lose") for message in MESSAGES))
+KINDS = (
+    *PLAIN,
+    *(f"{word} {message}" for word in ("drop", "late", "lose") for message in MESSAGES),
+    *(f"again {message}" for message in MESSAGES[:4]),
+)
 """All kinds of lines. Its place here is the code of a kind."""
 CODES = {kind: code for code, kind in enumerate(KINDS)}
 JOIN, MEMBER, JOIN_FAILED, CRASH, STRANDED, TIMEOUT, LOOKUP, FOUND, LOST, BUSY = range(10)

@@ -92,6 +92,7 @@ REPORT_WORDS = {
     "members": "member", "join-failed": "join-failed", "crashes": "crash", "stranded": "stranded", "drops": "drop",
     "late": "late", "timeouts": "timeout", "lookups": "lookup", "found": "found", "lost": "lost", "busy": "busy",
     "ignored": "ignored", "audits": "audit", "losses": "lose",
+    "again": "again",
 }
 """The numbers of the report that count lines, with the first word of these."""
 

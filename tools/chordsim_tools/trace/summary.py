@@ -38,7 +38,8 @@ def summary(run: Run) -> Facts:
         "audits": audit_facts(run),
         "drops": lines["drop"],
         "late": lines["late"],
-        "losses": lines["lose"] if history.scenario.profile == 2 else None,
+        "losses": lines["lose"] if history.scenario.profile >= 2 else None,
+        "again": lines["again"] if history.scenario.profile == 3 else None,
         "report": dict(run.report) or None,
     }
 

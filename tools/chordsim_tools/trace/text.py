@@ -86,6 +86,8 @@ def join_text(facts: Facts) -> Iterator[str]:
     yield line("drops, late replies", f"{counted(facts['drops'])} and {counted(facts['late'])}")
     if facts["losses"] is not None:
         yield line("messages lost", counted(facts["losses"]))
+    if facts["again"] is not None:
+        yield line("requests sent again", counted(facts["again"]))
     yield line("crashes", counted(facts["crashes"]))
     for key, head in (("joins", "joins begun"), ("stranded", "stranded, join again")):
         joins = facts[key]
@@ -123,6 +125,7 @@ def first_text(head: str, first: Facts) -> Iterator[str]:
 MEANS = {
     "members": "joins that succeeded", "join-failed": "joins abandoned after eight failures",
     "drops": "messages that were not handled", "late": "replies for which no call was out",
+    "again": "requests sent again",
     "hops-greatest": "most hops of a found lookup", "us-least": "least time of a found lookup",
     "us-median": "median time of found lookups", "us-greatest": "greatest time of a found lookup",
     "unordered": "audits whose ring is out of order", "ringless": "audits without a ring",

@@ -6,7 +6,7 @@ from dataclasses import dataclass
 VALUES = ("0", "-1", "1.5", "1e3", '"3"', '"n0"', "true", "[1]", "{}", "2000000000", "9223372036854775807", '"7f"')
 WORDS = (
     "at_us", "seed", "stabilise_us", "nam", "x", "via", "key", "churn", "id", "lookups", "command", "node",
-    "loss_ppm", "spread_us",
+    "loss_ppm", "spread_us", "retries",
 )
 HEADINGS = ("[node]", "[[churn]]", "[churn]", "[[node]]", "[command]", "[[command]]", "[[nod]]", "[lookups]")
 CHANGES = (
@@ -14,8 +14,9 @@ CHANGES = (
     "bits = 3", "bits = 65", "at_us = 2000", "at_us = 1999", "life_max_us = 99", "gap_min_us = 51", 'do = "leave"',
     "duration_us = 200000001", 'id = "ff"', 'id = "100"', 'id = "FF"', "id = 256", 'via = "n4"', 'node = "n2"',
     "latency_us = 9", 'do = "join"', "seed = 9223372036854775808", "jitter_us = 1_000_000_001", "key = 0x100",
-    "profile = 2", "profile = 3", "profile = 1", "profile = 2.0", "bits = 128", "bits = 129", "loss_ppm = 1000001",
-    "spread_us = 1_000_000_001", 'id = "00000000000000028"', 'id = "000000000000000000000000000000028"',
+    "profile = 2", "profile = 3", "profile = 1", "profile = 2.0", "profile = 4", "retries = 4", "bits = 128",
+    "bits = 129", "loss_ppm = 1000001", "spread_us = 1_000_000_001", 'id = "00000000000000028"',
+    'id = "000000000000000000000000000000028"',
 )
 FIELDS = ("n0", "n9", "", " n1", "0", "12", "0012", "+5", "1.5", "99999999999", "1000000001", '"n2"', "n3")
 BREAKS = ("a,b,us", "n0;n1;5", "n0,n1", "n0,n1,5,6", '"n0,n1,5', "n0,n0,20", "\tn0,n1,20", "", "n0,n1,20\rn1,n0,20")
@@ -44,7 +45,8 @@ def good_world(profile: int) -> World:
     """A world without a fault: five nodes, four commands, four rows."""
     top = [f"profile = {profile}", "bits = 8", "list = 2", "seed = 1", "duration_us = 2000", "window_us = 10"]
     top += ["latency_us = 10", "timeout_us = 40", "audit_us = 200", "stabilize_us = 100", "finger_us = 100"]
-    top += ["loss_ppm = 50000", "spread_us = 7"] if profile == 2 else []
+    top += ["loss_ppm = 50000", "spread_us = 7"] if profile >= 2 else []
+    top += ["retries = 2"] if profile == 3 else []
     churn = [f"{word}_us = 100" for word in ("life_min", "life_max", "down_min", "down_max")]
     nodes = [[f'name = "n{i}"', f"id = {40 * i}", "initial = true"] for i in range(4)]
     nodes.append(['name = "n4"', "churn = true"])
@@ -98,9 +100,9 @@ def spoil(world: World, draw: random.Random) -> None:
 
 
 def spoiled(seed: int) -> tuple[bytes, bytes]:
-    """The two files of a world with one to four changes: of the first profile for an even seed, else of the second."""
+    """The two files of a world with one to four changes, of the three profiles by turns."""
     draw = random.Random(seed)
-    world = good_world(1 + seed % 2)
+    world = good_world(1 + seed % 3)
     for _ in range(draw.randint(1, 4)):
         spoil(world, draw)
     return world.scenario().encode(), world.latency().encode()

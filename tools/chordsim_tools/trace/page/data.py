@@ -69,7 +69,7 @@ def kept_kinds(codes: Iterable[int]) -> tuple[frozenset[int], list[str]]:
     if used > MOST_CHANGES:
         raise Failure(3, f"the trace has {used} changes of nodes, and a page holds {MOST_CHANGES} at most")
     kept, left_out = set(CHANGES), []
-    words = ("busy", "ignored", "timeout", "drop", "late", "lose")
+    words = ("busy", "ignored", "timeout", "drop", "late", "lose", "again")
     others = [[code for code, kind in enumerate(KINDS) if kind.split(" ")[0] == word] for word in words]
     for group in ([LOOKUP, FOUND, LOST], *others):
         size = sum(counts[code] for code in group)

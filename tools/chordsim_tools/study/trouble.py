@@ -1,0 +1,52 @@
+"""What timeouts do: members that are taken for dead, successors that are removed, and members that strand."""
+
+from collections import Counter
+from typing import Any
+
+from chordsim_tools.members import Members
+
+WORDS = ("timeout", "again", "stranded", "join-failed")
+STATES = ("get-state", "state-reply")
+
+
+class Trouble:
+    """Counts from `warmup_us` to the end. Each line is read here after the members have changed by it."""
+
+    def __init__(self, members: Members, top: dict[str, Any], warmup_us: int) -> None:
+        """No lines yet; the members are those of a reader of the same trace."""
+        self.members = members
+        self.timeout_us = int(top["timeout_us"])
+        self.warmup_us = warmup_us
+        self.lines: Counter[str] = Counter()
+        self.of_members = self.removed = 0
+        self.states_lost: dict[tuple[str, str], int] = {}
+
+    def read(self, line: str) -> None:
+        """Takes one line."""
+        fields = line.split(" ", 5)
+        time, name, word = int(fields[0]), fields[1], fields[2]
+        if word == "lose" and fields[3] in STATES:
+            asker, asked = (name, fields[4]) if fields[3] == STATES[0] else (fields[4], name)
+            self.states_lost[asker, asked] = time
+        if word in WORDS:
+            self.lines[word] += time >= self.warmup_us
+            if word == "timeout" and self.members.is_member(fields[3]):
+                self.taken_for_dead(time, (name, fields[3]))
+
+    def taken_for_dead(self, time: int, pair: tuple[str, str]) -> None:
+        """A member is taken for dead. It leaves a list if it was asked for its state and that or the reply was lost."""
+        lost_at = self.states_lost.pop(pair, None)
+        if time >= self.warmup_us:
+            self.of_members += 1
+            self.removed += lost_at is not None and lost_at >= time - self.timeout_us
+
+    def numbers(self) -> dict[str, int | str | None]:
+        """What a row of runs.csv has of it."""
+        return {
+            "cost-timeouts": self.lines["timeout"],
+            "cost-timeouts-of-members": self.of_members,
+            "cost-removed-members": self.removed,
+            "cost-again": self.lines["again"],
+            "cost-stranded": self.lines["stranded"],
+            "cost-join-failed": self.lines["join-failed"],
+        }

@@ -1,0 +1,90 @@
+"""Members that are taken for dead, by hand and as the reference simulator removes them from successor lists."""
+
+import tomllib
+from unittest import TestCase
+
+from chordsim_tools.members import Members
+from chordsim_tools.reference.simulation import Simulation
+from chordsim_tools.reference.state import Event, Purpose, Status, Timeout
+from chordsim_tools.scenario.reading import read_scenario
+from chordsim_tools.study.page import page
+from chordsim_tools.study.trouble import Trouble
+from tests.support.studies import row, tables_of
+from tests.support.worlds import EXAMPLES
+
+NAMES = ("timeouts", "timeouts-of-members", "removed-members", "again", "stranded", "join-failed")
+IDENTS = {"a": 10, "b": 20, "c": 30, "d": 40}
+
+
+def numbers_of(*lines: str, warmup_us: int = 0) -> list[int | str | None]:
+    """What is counted in these lines; a, b and c are members, and a timeout takes 100 us."""
+    trouble = Trouble(Members(IDENTS, ["a", "b", "c"]), {"timeout_us": 100}, warmup_us)
+    for line in lines:
+        trouble.read(line)
+    return [trouble.numbers()[f"cost-{name}"] for name in NAMES]
+
+
+class Removing(Simulation):
+    """A simulation that counts the members that leave a successor list after a timeout."""
+
+    removed = 0
+
+    def take(self, event: Event) -> list[str]:
+        """Takes an event."""
+        call = self.nodes[event.target].calls.get(event.body.call) if isinstance(event.body, Timeout) else None
+        asked = None if call is None or call.purpose is not Purpose.STATE else self.nodes[call.asked]
+        lines = super().take(event)
+        if asked is not None and asked.status == Status.MEMBER and any(" timeout " in line for line in lines):
+            self.removed += 1
+        return lines
+
+
+class TroubleTest(TestCase):
+    """What is counted."""
+
+    def test_members_and_others(self) -> None:
+        """b is a member and d is none; a node may be called as a word is."""
+        assert numbers_of("100 a timeout b", "100 a timeout d", "105 timeout timeout c") == [3, 2, 0, 0, 0, 0]
+        assert numbers_of("100 a again step b", "100 a stranded c", "101 d join-failed") == [0, 0, 0, 1, 1, 1]
+        audit = "100 audit members=3 dead=0 ring=3 ordered=yes principals=3 sufficient=yes"
+        assert numbers_of("99 a timeout b", audit, "100 a timeout b", warmup_us=100) == [1, 1, 0, 0, 0, 0]
+
+    def test_removed(self) -> None:
+        """A request for the state or its reply was lost within a timeout; each loss removes one node at most."""
+        assert numbers_of("50 a lose get-state b", "150 a timeout b", "150 a timeout b") == [2, 2, 1, 0, 0, 0]
+        assert numbers_of("60 b lose state-reply a", "150 a timeout b") == [1, 1, 1, 0, 0, 0]
+        for lost in ("50 a lose step b", "60 a lose state-reply b", "50 a lose get-state c", "49 a lose get-state b"):
+            assert numbers_of(lost, "150 a timeout b") == [1, 1, 0, 0, 0, 0]
+        again = ("50 a lose get-state b", "150 a again get-state b", "160 b lose state-reply a", "250 a timeout b")
+        assert numbers_of(*again) == [1, 1, 1, 1, 0, 0]
+
+    def test_as_the_reference_simulator_removes_them(self) -> None:
+        """A tenth of the messages lost: the members that leave lists, with and without requests sent again."""
+        text = (EXAMPLES / "lossy64.toml").read_text().replace("duration_us = 120000000", "duration_us = 20000000")
+        text = text.replace("loss_ppm = 20000", "loss_ppm = 100000").replace("profile = 2", "profile = 3")
+        counts = []
+        for retries in (0, 1):
+            changed = text.replace("profile = 3", f"profile = 3\nretries = {retries}")
+            scenario, top = read_scenario(changed.encode(), b""), tomllib.loads(changed)
+            idents = {node.name: node.ident for node in scenario.nodes}
+            members = Members(idents, [node.name for node in scenario.nodes if node.initial])
+            trouble, simulation = Trouble(members, top, 0), Removing(scenario)
+            for line in simulation.lines():
+                _, name, word, *_ = line.split(" ")
+                if word == "member":
+                    members.add(name)
+                elif word in ("crash", "stranded"):
+                    members.remove(name)
+                trouble.read(line)
+            assert trouble.removed == simulation.removed
+            counts.append(simulation.removed)
+        assert counts[0] > 3 * counts[1] > 0
+
+    def test_table(self) -> None:
+        """A second table, for each member and hour: the rows have 1,000 seconds of members."""
+        counts = {f"cost-{name}": 10 * number for number, name in enumerate(NAMES)}
+        rows = [row(list=2, seed=seed) | {word: str(count) for word, count in counts.items()} for seed in range(1, 6)]
+        text = page(tables_of(rows, vary={"list": [2]}))
+        line = text.split("## Who was taken for dead")[1].split("\n")[4]
+        assert line == "| list=2 | 0 | 36 | 72 | 108 | 144 | 180 |"
+        assert "taken for dead" not in page(tables_of([row(list=2, seed=1)], vary={"list": [2]}))
