@@ -41,13 +41,18 @@ impl Turn<'_> {
         self.node.attempt = Some(Attempt::default());
     }
 
+    /// The request for the owner of the node's own identifier.
+    pub fn place_request(&self) -> Request {
+        let attempt = self.node.attempt.as_ref();
+        Request::Step {
+            key: self.scenario.ident(self.node.me),
+            avoid: attempt.map_or_else(Vec::new, |attempt| attempt.avoid.clone()),
+        }
+    }
+
     /// Asks a node for the owner of the node's own identifier.
     fn ask_for_place(&mut self, to: u32) {
-        let request = Request::Step {
-            key: self.scenario.ident(self.node.me),
-            avoid: self.attempt().avoid.clone(),
-        };
-        self.call(to, request, Purpose::JoinStep);
+        self.call(to, self.place_request(), Purpose::JoinStep);
     }
 
     /// A try of the attempt has failed. The node tries again, or goes down after the last try.

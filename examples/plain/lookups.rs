@@ -1,7 +1,7 @@
 //! Lookups: the search for the next node, and how a lookup starts, goes on and ends.
 
 use crate::circle::{between, in_half_open, Ident};
-use crate::events::{Answer, Request};
+use crate::events::Answer;
 use crate::scenario::Scenario;
 use crate::state::{Aim, Lookup, Node, Purpose};
 use crate::trace::Line;
@@ -86,10 +86,7 @@ impl Turn<'_> {
             return self.fail_lookup(index);
         }
         lookup.steps += 1;
-        let request = Request::Step {
-            key: lookup.key,
-            avoid: lookup.avoid.clone(),
-        };
+        let request = lookup.request();
         self.node.lookups[index].call = self.call(next, request, Purpose::Lookup);
     }
 

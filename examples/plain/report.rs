@@ -30,8 +30,11 @@ pub struct Report {
     unordered: u64,
     insufficient: u64,
     losses: u64,
-    /// Whether the losses are printed, as they are in the second profile.
+    again: u64,
+    /// Whether the losses are printed, as they are in the second and third profile.
     pub has_losses: bool,
+    /// Whether the requests that were sent again are printed, as they are in the third profile.
+    pub has_again: bool,
 }
 
 impl Report {
@@ -47,6 +50,7 @@ impl Report {
             Line::Late { .. } => self.late += 1,
             Line::Timeout { .. } => self.timeouts += 1,
             Line::Lose { .. } => self.losses += 1,
+            Line::Again { .. } => self.again += 1,
             Line::Lookup { .. } => self.lookups += 1,
             Line::Found { hops, us, .. } => self.count_found(u64::from(*hops), *us),
             Line::Lost { .. } => self.lost += 1,
@@ -108,6 +112,7 @@ impl Report {
             ("insufficient", self.insufficient),
         ];
         rows.extend(self.has_losses.then_some(("losses", self.losses)));
+        rows.extend(self.has_again.then_some(("again", self.again)));
         rows
     }
 }

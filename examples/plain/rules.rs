@@ -111,7 +111,7 @@ impl Turn<'_> {
         }
         self.arm_traffic();
         if self.node.is_member() {
-            let key = self.node.draws.key(self.scenario.circle);
+            let key = self.node.draws.key(self.scenario.circle, self.time);
             self.look_up(key);
         }
     }
@@ -134,11 +134,14 @@ impl Turn<'_> {
         }
     }
 
-    /// The time for the reply to a call is over.
+    /// The time for the reply to a request is over. It is sent again, or its call has failed.
     fn on_timeout(&mut self, number: u64) {
         let Some(call) = self.take_call(|call| call.number == number) else {
             return;
         };
+        if call.again < self.scenario.retries {
+            return self.send_again(call);
+        }
         let asked = call.to;
         self.note(Line::Timeout {
             asked: self.name(asked),

@@ -5,12 +5,15 @@ use std::str::{FromStr, SplitAsciiWhitespace};
 use crate::circle::{Circle, Ident};
 use crate::draws::Span;
 
-/// What may happen to a message between different nodes.
+/// Which of the three sets of rules a scenario follows.
+#[derive(Clone, Copy, PartialEq)]
 pub enum Profile {
-    /// It arrives after the latency.
+    /// A message arrives after the latency.
     First,
-    /// It may be lost, or arrive later by a part of the spread.
-    Second { loss_ppm: u32, spread_us: u32 },
+    /// A message between different nodes may be lost, or arrive later by a part of the spread.
+    Second,
+    /// So it may here. A request may be sent again, and each draw has words of its own.
+    Third,
 }
 
 /// How long a churn node is up, and then down.
@@ -37,6 +40,9 @@ pub struct Command {
 /// its place in the order of the identifiers.
 pub struct Scenario {
     pub profile: Profile,
+    pub loss_ppm: u32,
+    pub spread_us: u32,
+    pub retries: u32,
     pub circle: Circle,
     pub list: usize,
     pub seed: u64,
@@ -62,6 +68,7 @@ impl Scenario {
     pub fn read(text: &str) -> Self {
         let mut words = Words(text.split_ascii_whitespace());
         let profile = words.profile();
+        let (loss_ppm, spread_us, retries) = (words.next(), words.next(), words.next());
         let circle = Circle::new(words.next());
         let (list, seed) = (words.next(), words.next());
         let (duration_us, timeout_us, audit_us) = (words.next(), words.next(), words.next());
@@ -78,6 +85,9 @@ impl Scenario {
         let idents: Vec<Ident> = nodes.iter().map(|node| node.ident).collect();
         Self {
             profile,
+            loss_ppm,
+            spread_us,
+            retries,
             circle,
             list,
             seed,
@@ -195,17 +205,12 @@ impl<'a> Words<'a> {
         Span::new(self.next(), self.next())
     }
 
-    /// The profile, with the loss and the spread of the second one.
+    /// The profile.
     fn profile(&mut self) -> Profile {
-        let number: u32 = self.next();
-        let (loss_ppm, spread_us) = (self.next(), self.next());
-        if number == 1 {
-            Profile::First
-        } else {
-            Profile::Second {
-                loss_ppm,
-                spread_us,
-            }
+        match self.word() {
+            "1" => Profile::First,
+            "2" => Profile::Second,
+            _ => Profile::Third,
         }
     }
 

@@ -41,7 +41,8 @@ pub struct Simulation<'a> {
 impl<'a> Simulation<'a> {
     /// The run at its start. The trace is empty.
     pub fn new(scenario: &'a Scenario, mut trace: Trace) -> Self {
-        trace.report.has_losses = matches!(scenario.profile, Profile::Second { .. });
+        trace.report.has_losses = scenario.profile != Profile::First;
+        trace.report.has_again = scenario.profile == Profile::Third;
         let mut simulation = Self {
             scenario,
             nodes: first_states(scenario),

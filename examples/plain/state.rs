@@ -2,7 +2,7 @@
 
 use crate::circle::Ident;
 use crate::draws::Draws;
-use crate::events::MessageKind;
+use crate::events::{MessageKind, Request};
 use crate::scenario::Scenario;
 
 /// Whether a node takes part in the ring.
@@ -36,11 +36,13 @@ impl Purpose {
     }
 }
 
-/// A request that is out. Its number is that of its event.
+/// A request that is out. Its number is that of its event. `again` counts how often it was sent
+/// again.
 pub struct Call {
     pub number: u64,
     pub to: u32,
     pub purpose: Purpose,
+    pub again: u32,
 }
 
 /// Who a lookup is for.
@@ -78,6 +80,14 @@ impl Lookup {
             avoid: Vec::new(),
         }
     }
+
+    /// The request that it sends to the next node.
+    pub fn request(&self) -> Request {
+        Request::Step {
+            key: self.key,
+            avoid: self.avoid.clone(),
+        }
+    }
 }
 
 /// An attempt to join: its failures, its requests after the first, and the nodes that it avoids.
@@ -108,7 +118,7 @@ pub struct Node {
 
 impl Node {
     /// A node that has never been up.
-    fn never_up(me: u32, seed: u64) -> Self {
+    fn never_up(me: u32, scenario: &Scenario) -> Self {
         Self {
             me,
             status: Status::Down,
@@ -121,7 +131,7 @@ impl Node {
             calls: Vec::new(),
             lookups: Vec::new(),
             attempt: None,
-            draws: Draws::new(seed, me),
+            draws: Draws::new(scenario.profile, scenario.seed, me),
             count: 0,
         }
     }
@@ -186,7 +196,7 @@ impl Node {
 /// The states at the start: each initial node knows the whole ring, and the others are down.
 pub fn first_states(scenario: &Scenario) -> Vec<Node> {
     let nodes = scenario.nodes();
-    let mut nodes: Vec<Node> = nodes.map(|me| Node::never_up(me, scenario.seed)).collect();
+    let mut nodes: Vec<Node> = nodes.map(|me| Node::never_up(me, scenario)).collect();
     let is_initial = |node: &u32| scenario.initial[*node as usize];
     let initial: Vec<u32> = scenario.nodes().filter(is_initial).collect();
     let mut ring = initial.clone();

@@ -40,6 +40,10 @@ pub enum Line<'a> {
         kind: MessageKind,
         receiver: &'a str,
     },
+    Again {
+        kind: MessageKind,
+        asked: &'a str,
+    },
     Lookup {
         key: Ident,
     },
@@ -76,6 +80,7 @@ impl fmt::Display for Line<'_> {
             Line::Late { kind, sender } => write!(out, "late {kind} {sender}"),
             Line::Timeout { asked } => write!(out, "timeout {asked}"),
             Line::Lose { kind, receiver } => write!(out, "lose {kind} {receiver}"),
+            Line::Again { kind, asked } => write!(out, "again {kind} {asked}"),
             Line::Lookup { key } => write!(out, "lookup {key}"),
             Line::Found {
                 key,

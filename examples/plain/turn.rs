@@ -1,6 +1,6 @@
 //! A node's turn: what it may do while it acts on an event.
 
-use crate::draws::Span;
+use crate::draws::{Span, Subject};
 use crate::events::{Body, Event, MessageKind, Request, FIRST_NODE};
 use crate::queue::Queue;
 use crate::scenario::{Profile, Scenario};
@@ -9,9 +9,6 @@ use crate::trace::{Line, Trace};
 
 /// The latency from a node to itself, in microseconds.
 const OWN_LATENCY: u64 = 1;
-
-/// The chance of a loss is given in parts of this.
-const MILLION: u32 = 1_000_000;
 
 /// A node that acts on an event at this time.
 pub struct Turn<'a> {
@@ -50,7 +47,7 @@ impl<'a> Turn<'a> {
         self.queue.push(self.time + delay, self.node.count, event);
     }
 
-    /// Sends a message, which may be lost.
+    /// Sends a message, which has the node's next number and may be lost.
     pub fn send(&mut self, kind: MessageKind, to: u32, body: Body) {
         self.node.count += 1;
         match self.transit(to) {
@@ -68,31 +65,55 @@ impl<'a> Turn<'a> {
             return Some(OWN_LATENCY);
         }
         let latency = self.scenario.latencies.of(self.node.me, to);
-        match self.scenario.profile {
-            Profile::First => Some(latency),
-            Profile::Second {
-                loss_ppm,
-                spread_us,
-            } => {
-                let chance = self.node.draws.below(MILLION);
-                let spread = self.node.draws.below(spread_us + 1);
-                (chance >= loss_ppm).then_some(latency + u64::from(spread))
-            }
+        if self.scenario.profile == Profile::First {
+            return Some(latency);
         }
+        let (number, limit) = (self.node.count, self.scenario.spread_us + 1);
+        let (chance, spread) = self.node.draws.message(number, limit);
+        (chance >= self.scenario.loss_ppm).then_some(latency + u64::from(spread))
     }
 
     /// Sends a request with its timeout, and returns the number of the call.
     pub fn call(&mut self, to: u32, request: Request, purpose: Purpose) -> u64 {
         let number = self.node.count + 1;
         let (kind, body) = request.numbered(number);
-        self.send(kind, to, body);
-        self.make(self.scenario.timeout_us, Body::Timeout { call: number });
+        self.send_with_timeout(kind, to, body, number);
         self.node.calls.push(Call {
             number,
             to,
             purpose,
+            again: 0,
         });
         number
+    }
+
+    /// Sends a request of a call, and then the timeout of this sending.
+    fn send_with_timeout(&mut self, kind: MessageKind, to: u32, body: Body, call: u64) {
+        self.send(kind, to, body);
+        self.make(self.scenario.timeout_us, Body::Timeout { call });
+    }
+
+    /// Sends the request of a call again. The call is put behind all others.
+    pub fn send_again(&mut self, mut call: Call) {
+        let (kind, body) = self.request_of(&call).numbered(call.number);
+        self.note(Line::Again {
+            kind,
+            asked: self.name(call.to),
+        });
+        self.send_with_timeout(kind, call.to, body, call.number);
+        call.again += 1;
+        self.node.calls.push(call);
+    }
+
+    /// The request of a call, as it was made.
+    fn request_of(&self, call: &Call) -> Request {
+        match call.purpose {
+            Purpose::Lookup => self.node.lookups[self.node.lookup_of(call.number)].request(),
+            Purpose::JoinStep => self.place_request(),
+            Purpose::JoinList | Purpose::List => Request::GetList,
+            Purpose::State => Request::GetState,
+            Purpose::Ping { .. } => Request::Ping,
+        }
     }
 
     /// Sends a notify to the head of the successor list.
@@ -100,10 +121,16 @@ impl<'a> Turn<'a> {
         self.send(MessageKind::Notify, self.node.head(), Body::Notify);
     }
 
-    /// Sets a timer of this epoch, after a time of the span.
-    fn set_timer(&mut self, span: Span, timer: impl FnOnce(u64) -> Body) {
-        let delay = self.node.draws.time(span);
-        self.make(delay, timer(self.node.epoch));
+    /// Sets a timer of this epoch, after a time of the span. The occasion of the draw is the epoch for
+    /// a life and for a time down, and otherwise the time.
+    fn set_timer(&mut self, span: Span, subject: Subject, timer: impl FnOnce(u64) -> Body) {
+        let epoch = self.node.epoch;
+        let occasion = match subject {
+            Subject::LifeEnd | Subject::Rise => epoch,
+            _ => self.time,
+        };
+        let delay = self.node.draws.time(span, subject, occasion);
+        self.make(delay, timer(epoch));
     }
 
     /// Sets the timers of a node that comes up.
@@ -118,34 +145,37 @@ impl<'a> Turn<'a> {
 
     /// Sets the timer to stabilize.
     pub fn arm_stabilize(&mut self) {
-        self.set_timer(self.scenario.stabilize, |epoch| Body::StabilizeTick {
-            epoch,
-        });
+        let timer = |epoch| Body::StabilizeTick { epoch };
+        self.set_timer(self.scenario.stabilize, Subject::StabilizeTick, timer);
     }
 
     /// Sets the timer to refresh a finger.
     pub fn arm_finger(&mut self) {
-        self.set_timer(self.scenario.finger, |epoch| Body::FingerTick { epoch });
+        let timer = |epoch| Body::FingerTick { epoch };
+        self.set_timer(self.scenario.finger, Subject::FingerTick, timer);
     }
 
     /// Sets the timer to look up a random key, if the scenario has such lookups.
     pub fn arm_traffic(&mut self) {
         if let Some(gap) = self.scenario.lookup_gap {
-            self.set_timer(gap, |epoch| Body::TrafficTick { epoch });
+            let timer = |epoch| Body::TrafficTick { epoch };
+            self.set_timer(gap, Subject::TrafficTick, timer);
         }
     }
 
     /// Sets the end of a churn node's life.
     fn arm_life(&mut self) {
         if let Some(churn) = &self.scenario.churn {
-            self.set_timer(churn.life, |epoch| Body::LifeEnd { epoch });
+            let timer = |epoch| Body::LifeEnd { epoch };
+            self.set_timer(churn.life, Subject::LifeEnd, timer);
         }
     }
 
     /// Sets the time at which a churn node comes up again.
     pub fn arm_rise(&mut self) {
         if let Some(churn) = &self.scenario.churn {
-            self.set_timer(churn.down, |epoch| Body::Rise { epoch });
+            let timer = |epoch| Body::Rise { epoch };
+            self.set_timer(churn.down, Subject::Rise, timer);
         }
     }
 
