@@ -9,14 +9,18 @@ The seed of the ring is 1. Some of its words that are used below, with the strea
 """
 
 import tempfile
+from collections import Counter
+from contextlib import suppress
+from copy import deepcopy
 from pathlib import Path
 from unittest import TestCase
 from unittest.mock import patch
 
+from chordsim_tools.generate.random_scenario import scenario_files
 from chordsim_tools.reference.chacha import Stream
 from chordsim_tools.reference.command import main
 from chordsim_tools.reference.procedures import Procedures, World
-from chordsim_tools.reference.simulation import initial_states
+from chordsim_tools.reference.simulation import Simulation, TooManyEvents, initial_states
 from chordsim_tools.reference.state import (
     Attempt, Body, CmdCrash, CmdJoin, CmdLookup, Drawn, FingerTick, GetList, GetState, LifeEnd, ListReply, Node, Notify,
     Owner, Ping, Pong, Purpose, Rise, StabilizeTick, StateReply, Status, Step, StepReply, Timeout, TrafficTick,
@@ -429,3 +433,32 @@ class LimitsTest(TestCase):
         assert fault(PLAIN.replace("profile = 2", "profile = 3.0")) == "S4 WrongType top profile"
         window = third("spread_us = 5").replace("window_us = 10", "window_us = 11")
         assert fault(window) == "S15 LatencyBelowWindow n0 n1"
+
+
+class SameRequestTest(TestCase):
+    """What docs/promises.md says of requests that are sent again: each is the request that was sent first."""
+
+    def test_random_scenarios(self) -> None:
+        """Random scenarios of the third profile, with all four kinds among what is sent again."""
+        first: dict[tuple[int, int], tuple[int, Body]] = {}
+        again: Counter[type] = Counter()
+        send = Procedures.send
+
+        def watched(self: Procedures, p: int, body: Body) -> None:
+            """Sends, and compares a request with the first sending of its call."""
+            if isinstance(body, (Step, GetState, GetList, Ping)):
+                call = (self.n.me, body.call)
+                again[type(body)] += call in first
+                assert first.setdefault(call, (p, deepcopy(body))) == (p, body), body
+            send(self, p, body)
+
+        with patch.object(Procedures, "send", watched):
+            for seed in range(4, 60, 6):
+                first.clear()
+                toml, csv = scenario_files(seed)
+                simulation = Simulation(read_scenario(toml.encode(), csv.encode()))
+                with suppress(TooManyEvents):
+                    for _ in simulation.lines():
+                        pass
+        assert set(again) == {Step, GetState, GetList, Ping}, again
+        assert min(again.values()) > 0 and again.total() > 500, again
