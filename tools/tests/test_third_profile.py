@@ -22,8 +22,9 @@ from chordsim_tools.reference.command import main
 from chordsim_tools.reference.procedures import Procedures, World
 from chordsim_tools.reference.simulation import Simulation, TooManyEvents, initial_states
 from chordsim_tools.reference.state import (
-    Attempt, Body, CmdCrash, CmdJoin, CmdLookup, Drawn, FingerTick, GetList, GetState, LifeEnd, ListReply, Node, Notify,
-    Owner, Ping, Pong, Purpose, Rise, StabilizeTick, StateReply, Status, Step, StepReply, Timeout, TrafficTick,
+    Attempt, Body, CmdCrash, CmdJoin, CmdLookup, Drawn, FingerTick, GetList, GetState, LifeEnd, ListReply, Message,
+    Node, Notify, Owner, Ping, Pong, Purpose, Rise, StabilizeTick, StateReply, Status, Step, StepReply, Timeout,
+    TrafficTick,
 )
 from chordsim_tools.scenario.reading import read_scenario
 from tests.support.programs import ended
@@ -440,11 +441,11 @@ class SameRequestTest(TestCase):
 
     def test_random_scenarios(self) -> None:
         """Random scenarios of the third profile, with all four kinds among what is sent again."""
-        first: dict[tuple[int, int], tuple[int, Body]] = {}
+        first: dict[tuple[int, int], tuple[int, Message]] = {}
         again: Counter[type] = Counter()
         send = Procedures.send
 
-        def watched(self: Procedures, p: int, body: Body) -> None:
+        def watched(self: Procedures, p: int, body: Message) -> None:
             """Sends, and compares a request with the first sending of its call."""
             if isinstance(body, (Step, GetState, GetList, Ping)):
                 call = (self.n.me, body.call)
