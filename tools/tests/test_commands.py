@@ -5,6 +5,7 @@ import subprocess
 import tempfile
 import unittest
 from pathlib import Path
+from typing import IO
 
 from tests.support.programs import program
 
@@ -92,7 +93,7 @@ class Commands(unittest.TestCase):
         """The status, and what was printed on the two streams. A closed output takes nothing."""
         command = [self.program, *line.split()]
         with open("/dev/full", "wb") as full:
-            output = full if closed else subprocess.PIPE
+            output: int | IO[bytes] = full if closed else subprocess.PIPE
             done = subprocess.run(
                 command, cwd=self.folder, stdout=output, stderr=subprocess.PIPE, text=True, check=False, timeout=60
             )
