@@ -178,7 +178,7 @@ class ExplainTest(TestCase):
         assert faults(changed(("profile = 1", "profile = 2\nloss_ppm = 5\nspread_us = 5"))) == []
 
     def test_keys_of_the_third_profile(self) -> None:
-        """Its own key in the other profiles, misspelled, below a heading, out of range; other ranges are the second's."""
+        """Its own key in other profiles, misspelled, below a heading, out of range; other ranges are the second's."""
         hint = "profile 3 has `retries`: write profile = 3"
         for profile in (1, 2):
             (found,) = faults(changed(("profile = 1", f"profile = {profile}\nretries = 1")))
