@@ -12,7 +12,7 @@ use std::marker::Model;
 /// that arena is cleared.
 #[derive(Clone, Copy, Debug, PartialEq, Eq, PartialOrd, Ord)]
 pub struct Ticket {
-    index: u32,
+    index: usize,
 }
 
 impl Model for Ticket {
@@ -27,7 +27,7 @@ impl Model for Ticket {
 
 impl Ticket {
     /// How many records were placed before this one.
-    pub fn index(&self) -> u32
+    pub fn index(&self) -> usize
         ensures { result ≡ self.now }
     {
         self.index
@@ -74,7 +74,7 @@ impl<T> RecordArena<T> {
     /// Makes room for `additional` more records, in whole chunks. The room so far stays, also if an
     /// allocation fails. Some of the new room may then be there too.
     pub fn reserve(&mut self, additional: usize) -> Result<(), Memory>
-        requires { length self.old.items + additional ≤ 2 ^ 32 }
+        requires { length self.old.items + additional ≤ 2 ^ 40 }
         ensures items { self.new.items ≡ self.old.items }
         ensures ok { OnOk result (self.new.room ≡ max self.old.room (room_for (length self.old.items + additional))) }
         ensures err { OnErr result (self.old.room ≤ self.new.room) }
@@ -87,7 +87,7 @@ impl<T> RecordArena<T> {
     }
 
     fn add_chunk(&mut self) -> Result<(), Memory>
-        requires { self.old.room + 256 ≤ 2 ^ 32 }
+        requires { self.old.room + 256 ≤ 2 ^ 40 }
         ensures ok { OnOk result (self.new ≡ arena self.old.items (self.old.room + 256)) }
         ensures err { OnErr result (self.new ≡ self.old) }
     {
@@ -114,7 +114,7 @@ impl<T> RecordArena<T> {
         let chunk = &mut self.chunks[len / CHUNK_PLACES];
         chunk.push(value);
         self.len = len + 1;
-        Ok(Ticket { index: len as u32 })
+        Ok(Ticket { index: len })
     }
 
     /// The record at a ticket. No contract distinguishes the tickets of two arenas: it is the
@@ -123,7 +123,7 @@ impl<T> RecordArena<T> {
         requires { ticket.now < length self.now.items }
         ensures { slice_get self.now.items ticket.now ≡ Some result.now }
     {
-        let index = ticket.index as usize;
+        let index = ticket.index;
         self.chunks[index / CHUNK_PLACES].get(index % CHUNK_PLACES)
     }
 

@@ -25,7 +25,7 @@ fn records_are_placed_up_to_the_room(rt: HostRuntime) -> Result<(), Memory> {
     for number in 0..512u64 {
         match arena.place(number) {
             Ok(ticket) => {
-                assert!(&rt; u64::from(ticket.index()) == number);
+                assert!(&rt; ticket.index() as u64 == number);
                 assert!(&rt; *arena.get(&ticket) == number);
             }
             Err(_) => assert!(&rt; false),

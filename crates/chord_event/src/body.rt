@@ -40,6 +40,13 @@ pub enum Body {
     Rise {
         epoch: u64,
     },
+    CheckTick {
+        epoch: u64,
+    },
+    /// The end of a pause between two attempts to join.
+    Rejoin {
+        epoch: u64,
+    },
     Timeout {
         call: u64,
     },
@@ -64,7 +71,7 @@ pub enum Body {
     },
     StateReply {
         call: u64,
-        prdc: u32,
+        prdc: Option<u32>,
         list: Listed<u32>,
     },
     ListReply {
@@ -90,6 +97,8 @@ impl Body {
             Body::TrafficTick { epoch } => Body::TrafficTick { epoch: *epoch },
             Body::LifeEnd { epoch } => Body::LifeEnd { epoch: *epoch },
             Body::Rise { epoch } => Body::Rise { epoch: *epoch },
+            Body::CheckTick { epoch } => Body::CheckTick { epoch: *epoch },
+            Body::Rejoin { epoch } => Body::Rejoin { epoch: *epoch },
             Body::Timeout { call } => Body::Timeout { call: *call },
             Body::Step { call, key, avoid } => Body::Step {
                 call: *call,

@@ -58,6 +58,29 @@ pub enum Line {
         kind: MessageKind,
         receiver: u32,
     },
+    /// A predecessor that did not reply to a check, and that this node forgets.
+    Forget {
+        predecessor: u32,
+    },
+    /// With detail: a request that this node sends for another purpose than a lookup, under the
+    /// number of its call.
+    Ask {
+        kind: MessageKind,
+        receiver: u32,
+        call: u64,
+    },
+    /// With detail: a request of a lookup, with the lookup's key and the time at which it started.
+    Seek {
+        receiver: u32,
+        call: u64,
+        key: Ident,
+        since: u64,
+    },
+    /// With detail: a reply or a notify that this node sends and the network does not lose.
+    Send {
+        kind: MessageKind,
+        receiver: u32,
+    },
     Lookup {
         key: Ident,
     },

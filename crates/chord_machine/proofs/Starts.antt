@@ -169,7 +169,6 @@ member-sound sc n ranges known =
       };
       status = record {
         has_successor = omega (arith, taken, long, some);
-        has_predecessor = is_there (clockwise sc n) (length (clockwise sc n) - 1) (omega (arith, long, some));
         has_via = is_there (others sc n) 0 (omega (arith, others-many sc n ranges, some));
         has_fingers = omega (arith, length-map-range_with_len (finger sc n) 2 (sc.bits - 1), ranges.numbers.bits_least);
       };

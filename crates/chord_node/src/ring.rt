@@ -161,7 +161,8 @@ fn fingers(
 }
 
 /// The number of timers of a member at the start: two, one more for its generated lookups if the
-/// scenario has these, and one more for the end of its life if it is a churn node.
+/// scenario has these, one more for the end of its life if it is a churn node, and one more for the
+/// checks of its predecessor if the scenario has these.
 #[tactic(auto, unfolding(chord_scenario::specs::Start::timers))]
 fn timer_count(scenario: &Scenario, node: u32) -> u64
     requires { node < node_count scenario.now }
@@ -172,6 +173,9 @@ fn timer_count(scenario: &Scenario, node: u32) -> u64
         count += 1;
     }
     if scenario.churn(node) && scenario.churn_times().is_some() {
+        count += 1;
+    }
+    if scenario.check() > 0 {
         count += 1;
     }
     count

@@ -6,11 +6,11 @@ use Rattle.chord_event.specs.declared.event.Event.{Event}
 use Rattle.chord_scenario.specs.declared.scenario.Scenario.{Scenario}
 use Rattle.chord_scenario.specs.declared.setting.Span.{Span}
 use Rattle.chord_scenario.specs.Draws.{delay}
-use Rattle.chord_scenario.specs.Start.{first_timers, life_timer, timer_event, timer_table, timers, traffic_timer}
+use Rattle.chord_scenario.specs.Start.{check_timer, first_timers, life_timer, timer_event, timer_table, timers, traffic_timer}
 use Rattle.chord_node.specs.declared.state.NodeState.{NodeState}
 use Rattle.chord_ops.specs.declared.turn.Turn.{Turn}
 use Rattle.chord_ops.specs.FirstTurns.{IsNew, first_turn}
-use Rattle.chord_ops.specs.Procedures.{armed, finger_armed, life_armed, row_armed, rows_armed, stabilize_armed, traffic_armed}
+use Rattle.chord_ops.specs.Procedures.{armed, check_armed, finger_armed, life_armed, row_armed, rows_armed, stabilize_armed, traffic_armed}
 use Rattle.chord_ops.specs.Turns.{timer_made}
 use Rattle.chord_ops.proofs.KeptJoins.{same_row_armed}
 
@@ -48,11 +48,18 @@ timers_armed sc s is =
 
 -- the table is armed timer by timer
 pub armed_in_order : (sc : Scenario) (turn : Turn)
-    → life_armed sc (traffic_armed sc (finger_armed sc (stabilize_armed sc turn))) ≡ armed sc turn
-unfolding armed life_armed traffic_armed finger_armed stabilize_armed timer_made
+    → check_armed sc (life_armed sc (traffic_armed sc (finger_armed sc (stabilize_armed sc turn)))) ≡ armed sc turn
+unfolding armed check_armed life_armed traffic_armed finger_armed stabilize_armed timer_made
 armed_in_order sc turn =
     let two : Turn = finger_armed sc (stabilize_armed sc turn) in
-    let row : Option (Span × Body) = traffic_timer sc turn.state.epoch in
-    let three : Turn = row_armed sc row two in
-    ap (λ (epoch : ℕ). row_armed sc (life_timer sc three.state.me epoch) three) (same_row_armed (λ s. s.epoch) sc row two (λ s count place. refl))
-    ∙ ap (λ (me : ℕ). row_armed sc (life_timer sc me turn.state.epoch) three) (same_row_armed (λ s. s.me) sc row two (λ s count place. refl))
+    let traffic : Option (Span × Body) = traffic_timer sc turn.state.epoch in
+    let three : Turn = row_armed sc traffic two in
+    let life : ℕ → ℕ → Turn = λ me epoch. row_armed sc (life_timer sc me epoch) three in
+    let check : ℕ → Turn → Turn = λ epoch before. row_armed sc (check_timer sc epoch) before in
+    let epoch_is : three.state.epoch ≡ turn.state.epoch = same_row_armed (λ s. s.epoch) sc traffic two (λ s count place. refl) in
+    let me_is : three.state.me ≡ turn.state.me = same_row_armed (λ s. s.me) sc traffic two (λ s count place. refl) in
+    let four : Turn = life three.state.me three.state.epoch in
+    ap (λ (epoch : ℕ). check epoch four)
+    (same_row_armed (λ s. s.epoch) sc (life_timer sc three.state.me three.state.epoch) three (λ s count place. refl) ∙ epoch_is)
+    ∙ ap (λ (epoch : ℕ). check turn.state.epoch (life three.state.me epoch)) epoch_is
+    ∙ ap (λ (me : ℕ). check turn.state.epoch (life me turn.state.epoch)) me_is

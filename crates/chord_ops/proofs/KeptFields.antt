@@ -14,29 +14,21 @@ use Rattle.chord_ops.proofs.Kept.{calls_more}
 
 -- What a status allows
 
-fits_prdc : (sc : Scenario) (s : Status) (via prdc : Option ℕ) (succ fingers : List ℕ) (join : Option Attempt) (x : ℕ)
-    → FitsStatus sc s via prdc succ fingers join → FitsStatus sc s via (Some x) succ fingers join
-fits_prdc sc status.Down via prdc succ fingers join x h = tt
-fits_prdc sc status.Joining via prdc succ fingers join x h = h
-fits_prdc sc status.Member via prdc succ fingers join x h =
-    record { has_successor = h.has_successor; has_predecessor = refl; has_via = h.has_via; has_fingers = h.has_fingers }
-
-fits_succ : (sc : Scenario) (s : Status) (via prdc : Option ℕ) (succ new fingers : List ℕ) (join : Option Attempt)
-    → 1 ≤ length new → FitsStatus sc s via prdc succ fingers join → FitsStatus sc s via prdc new fingers join
-fits_succ sc status.Down via prdc succ new fingers join some h = tt
-fits_succ sc status.Joining via prdc succ new fingers join some h = h
-fits_succ sc status.Member via prdc succ new fingers join some h =
-    record { has_successor = some; has_predecessor = h.has_predecessor; has_via = h.has_via; has_fingers = h.has_fingers }
+fits_succ : (sc : Scenario) (s : Status) (via : Option ℕ) (succ new fingers : List ℕ) (join : Option Attempt)
+    → 1 ≤ length new → FitsStatus sc s via succ fingers join → FitsStatus sc s via new fingers join
+fits_succ sc status.Down via succ new fingers join some h = tt
+fits_succ sc status.Joining via succ new fingers join some h = h
+fits_succ sc status.Member via succ new fingers join some h =
+    record { has_successor = some; has_via = h.has_via; has_fingers = h.has_fingers }
 
 -- fingers that are as many fit the status too
-fits_fingers : (sc : Scenario) (s : Status) (via prdc : Option ℕ) (succ old new : List ℕ) (join : Option Attempt)
-    → length new ≡ length old → FitsStatus sc s via prdc succ old join → FitsStatus sc s via prdc succ new join
-fits_fingers sc status.Down via prdc succ old new join same h = tt
-fits_fingers sc status.Joining via prdc succ old new join same h = h
-fits_fingers sc status.Member via prdc succ old new join same h =
+fits_fingers : (sc : Scenario) (s : Status) (via : Option ℕ) (succ old new : List ℕ) (join : Option Attempt)
+    → length new ≡ length old → FitsStatus sc s via succ old join → FitsStatus sc s via succ new join
+fits_fingers sc status.Down via succ old new join same h = tt
+fits_fingers sc status.Joining via succ old new join same h = h
+fits_fingers sc status.Member via succ old new join same h =
     record {
       has_successor = h.has_successor;
-      has_predecessor = h.has_predecessor;
       has_via = h.has_via;
       has_fingers = omega (arith, same, h.has_fingers);
     }
@@ -74,9 +66,9 @@ with_next_finger sc s index is h =
       matched = h.matched;
     }
 
-pub with_prdc : (sc : Scenario) (s : NodeState) (x : ℕ)
-    → x < node_count sc → IsNodeState sc s → IsNodeState sc (record s { prdc = Some x })
-with_prdc sc s x known h =
+pub with_prdc : (sc : Scenario) (s : NodeState) (prdc : Option ℕ)
+    → IfSome prdc (λ node. node < node_count sc) → IsNodeState sc s → IsNodeState sc (record s { prdc = prdc })
+with_prdc sc s prdc known h =
     record {
       me = h.me;
       epoch = h.epoch;
@@ -89,7 +81,7 @@ with_prdc sc s x known h =
             fingers_known = h.neighbours.fingers_known;
             list = h.neighbours.list;
           };
-      status = fits_prdc sc s.status s.via s.prdc s.succ s.fingers s.join x h.status;
+      status = h.status;
       attempt = h.attempt;
       calls = h.calls;
       lookups = h.lookups;
@@ -112,7 +104,7 @@ with_succ sc s new known few some h =
             fingers_known = h.neighbours.fingers_known;
             list = few;
           };
-      status = fits_succ sc s.status s.via s.prdc s.succ new s.fingers s.join some h.status;
+      status = fits_succ sc s.status s.via s.succ new s.fingers s.join some h.status;
       attempt = h.attempt;
       calls = h.calls;
       lookups = h.lookups;
@@ -135,7 +127,7 @@ with_fingers sc s new known same h =
             fingers_known = known;
             list = h.neighbours.list;
           };
-      status = fits_fingers sc s.status s.via s.prdc s.succ s.fingers new s.join same h.status;
+      status = fits_fingers sc s.status s.via s.succ s.fingers new s.join same h.status;
       attempt = h.attempt;
       calls = h.calls;
       lookups = subst (λ (n : ℕ). AreLookups sc n s.lookups) (sym same) h.lookups;
@@ -143,7 +135,7 @@ with_fingers sc s new known same h =
     }
 
 pub with_join : (sc : Scenario) (s : NodeState) (join : Option Attempt)
-    → FitsStatus sc s.status s.via s.prdc s.succ s.fingers join → IfSome join IsAttempt
+    → FitsStatus sc s.status s.via s.succ s.fingers join → IfSome join IsAttempt
     → IsNodeState sc s → IsNodeState sc (record s { join = join })
 with_join sc s join fits is h =
     record {

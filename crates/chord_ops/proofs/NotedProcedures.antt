@@ -1,5 +1,5 @@
 -- Each procedure of the rule table leaves lines of the scenario's nodes, and few of them.
-use Rattle.std.proofs.Common.{◌==◌, ℕ, ◌+◌, ◌<◌, List, [], ◌∷◌, ◌++◌, Option, length, nat_lt, arith, length-append}
+use Rattle.std.proofs.Common.{◌==◌, ℕ, ◌+◌, ◌<◌, List, [], ◌∷◌, ◌++◌, Option, length, nat_lt, arith, length-append, ◌*◌}
 use Rattle.std.proofs.lemmas.List.Elements.{All-append, All-cons}
 use Rattle.std.specs.List.{count_by, filter_map}
 use Rattle.std.specs.Prelude.{position, slice_get}
@@ -9,7 +9,7 @@ use Rattle.chord_event.specs.declared.body.Body.{Body}
 use Rattle.chord_event.specs.declared.line.Line.TheVariants as line
 use Rattle.chord_scenario.specs.declared.scenario.Scenario.{Scenario}
 use Rattle.chord_scenario.specs.declared.setting.Span.{Span}
-use Rattle.chord_scenario.specs.Start.{timer_table, traffic_timer}
+use Rattle.chord_scenario.specs.Start.{timer_table, traffic_timer, check_timer}
 use Rattle.chord_node.specs.declared.state.Aim.{Aim}
 use Rattle.chord_node.specs.declared.state.Aim.TheVariants as aim
 use Rattle.chord_node.specs.declared.state.Attempt.{Attempt}
@@ -33,7 +33,10 @@ use Rattle.chord_ops.specs.Procedures.{
   lookup_followed,
   for_attempt,
   fresh_lookup,
+  fresh_attempt,
+  join_ended,
   join_failed,
+  join_paused,
   join_retried,
   row_armed,
   rows_armed,
@@ -51,6 +54,7 @@ use Rattle.chord_ops.specs.Procedures.{
   with_lookup,
   without_attempt,
   without_lookup,
+  check_armed,
 }
 use Rattle.chord_ops.specs.Search.{NamesNode, step_answer}
 use Rattle.chord_ops.specs.Turns.{called, noted, timer_made}
@@ -93,6 +97,14 @@ noted_traffic_armed sc n turn h = noted_row_armed sc n (traffic_timer sc turn.st
 pub knows_traffic_armed : (sc : Scenario) (turn : Turn) → KnowsNodes sc turn.state → KnowsNodes sc (traffic_armed sc turn).state
 unfolding traffic_armed timer_made
 knows_traffic_armed sc turn h = knows_when_some sc (traffic_timer sc turn.state.epoch) _ turn h (λ timer. h)
+
+pub noted_check_armed : (sc : Scenario) (n : ℕ) (turn : Turn) → HasNoted sc n turn → HasNoted sc n (check_armed sc turn)
+unfolding check_armed
+noted_check_armed sc n turn h = noted_row_armed sc n (check_timer sc turn.state.epoch) turn h
+
+pub knows_check_armed : (sc : Scenario) (turn : Turn) → KnowsNodes sc turn.state → KnowsNodes sc (check_armed sc turn).state
+unfolding check_armed timer_made
+knows_check_armed sc turn h = knows_when_some sc (check_timer sc turn.state.epoch) _ turn h (λ timer. h)
 
 pub noted_rise_armed : (sc : Scenario) (n : ℕ) (turn : Turn) → HasNoted sc n turn → HasNoted sc n (rise_armed sc turn)
 unfolding rise_armed timer_made
@@ -183,7 +195,7 @@ noted_came_up sc n via turn at h =
 pub noted_gone_down : (sc : Scenario) (n : ℕ) (turn : Turn) → HasNoted sc n turn → HasNoted sc n (gone_down turn)
 noted_gone_down sc n turn h = notes_cleared sc n turn.lines turn.state.lookups h
 
-noted_join_retried : (sc : Scenario) (n : ℕ) (attempt : Attempt) (turn : Turn) → KnowsNodes sc turn.state → HasNoted sc n turn
+pub noted_join_retried : (sc : Scenario) (n : ℕ) (attempt : Attempt) (turn : Turn) → KnowsNodes sc turn.state → HasNoted sc n turn
     → HasNoted sc (n + 1) (join_retried sc attempt turn)
 unfolding join_retried
 noted_join_retried sc n attempt turn knows h =
@@ -191,22 +203,37 @@ noted_join_retried sc n attempt turn knows h =
     noted_when_some sc (n + 1) (λ via. via < node_count sc) turn.state.via _ kept knows.via_known (one_more sc n h)
     (λ via at. noted_called sc n via (own_step sc attempt.avoid turn.state) purpose.JoinStep kept at h)
 
+noted_join_paused : (sc : Scenario) (n pause : ℕ) (attempt : Attempt) (turn : Turn) → KnowsNodes sc turn.state → HasNoted sc n turn
+    → HasNoted sc (n + 1) (join_paused sc pause attempt turn)
+unfolding join_paused
+noted_join_paused sc n pause attempt turn knows h =
+    noted_if sc (n + 1) (pause == 0) _ _ (noted_join_retried sc n attempt turn knows h) (one_more sc n h)
+
+noted_join_ended : (sc : Scenario) (n : ℕ) (turn : Turn) → KnowsNodes sc turn.state → HasNoted sc n turn → HasNoted sc (n + 1 + 1) (join_ended sc turn)
+unfolding join_ended
+noted_join_ended sc n turn knows h =
+    let ended : HasNoted sc (n + 1) (noted line.JoinFailed turn) = noted_line sc n line.JoinFailed turn (no_node sc) h in
+    noted_if sc (n + 1 + 1) sc.join_forever _ _
+    (noted_join_paused sc (n + 1) ((most_failures + 1) * sc.join_pause) fresh_attempt (noted line.JoinFailed turn) knows ended)
+    (one_more sc (n + 1) (noted_rise_armed sc (n + 1) (gone_down (noted line.JoinFailed turn))
+    (noted_gone_down sc (n + 1) (noted line.JoinFailed turn) ended)))
+
 pub noted_join_failed : (sc : Scenario) (n : ℕ) (attempt : Attempt) (turn : Turn) → KnowsNodes sc turn.state → HasNoted sc n turn
-    → HasNoted sc (n + 1) (join_failed sc attempt turn)
+    → HasNoted sc (n + 1 + 1) (join_failed sc attempt turn)
 unfolding join_failed
 noted_join_failed sc n attempt turn knows h =
-    noted_if sc (n + 1) (nat_lt attempt.failures most_failures) _ _
-    (noted_join_retried sc n (record attempt { failures = attempt.failures + 1 }) turn knows h)
-    (noted_rise_armed sc (n + 1) (gone_down (noted line.JoinFailed turn))
-    (noted_gone_down sc (n + 1) (noted line.JoinFailed turn) (noted_line sc n line.JoinFailed turn (no_node sc) h)))
+    noted_if sc (n + 1 + 1) (nat_lt attempt.failures most_failures) _ _
+    (one_more sc (n + 1) (noted_join_paused sc n sc.join_pause (record attempt { failures = attempt.failures + 1 }) turn knows h))
+    (noted_join_ended sc n turn knows h)
 
 -- the step with the attempt to join, which was taken out
 pub noted_for_attempt : (sc : Scenario) (n : ℕ) (step : Attempt → Turn → Turn) (turn : Turn)
-    → ((attempt : Attempt) → HasNoted sc (n + 1) (step attempt (without_attempt turn))) → HasNoted sc n turn → HasNoted sc (n + 1) (for_attempt step turn)
+    → ((attempt : Attempt) → HasNoted sc (n + 1 + 1) (step attempt (without_attempt turn))) → HasNoted sc n turn
+    → HasNoted sc (n + 1 + 1) (for_attempt step turn)
 unfolding for_attempt
 noted_for_attempt sc n step turn noted h =
-    noted_when_some sc (n + 1) (λ _. Unit {0}) turn.state.join _ turn (known turn.state.join)
-    (one_more sc n h) (λ attempt _. noted attempt)
+    noted_when_some sc (n + 1 + 1) (λ _. Unit {0}) turn.state.join _ turn (known turn.state.join)
+    (two_more sc n h) (λ attempt _. noted attempt)
 
 -- each abandoned lookup leaves its line
 pub noted_stranded : (sc : Scenario) (n via : ℕ) (turn : Turn) → via < node_count sc → HasNoted sc n turn → HasNoted sc (n + 1 + 1) (stranded sc via turn)

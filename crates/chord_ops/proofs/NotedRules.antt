@@ -1,5 +1,5 @@
 -- Each row of the rule table leaves lines of the scenario's nodes, and no more than a block has room for.
-use Rattle.std.proofs.Common.{◌==◌, ℕ, ◌+◌, ◌-◌, ◌<◌, ◌≤◌, ◌&&◌, ◌||◌, not, List, [], ◌∷◌, drop, length, nat_lt, Option, Some, None, refl, arith}
+use Rattle.std.proofs.Common.{◌==◌, ℕ, ◌+◌, ◌-◌, ◌<◌, ◌≤◌, ◌&&◌, ◌||◌, not, List, [], ◌∷◌, drop, length, nat_lt, Option, Some, None, refl, arith, ap, ◌≡◌}
 use Rattle.std.proofs.lemmas.List.Elements.{All-cons, All-drop, All-take}
 use Rattle.std.proofs.lemmas.List.Filters.{length-filter_both}
 use Rattle.std.proofs.lemmas.List.Sums.{length-filter}
@@ -25,7 +25,13 @@ use Rattle.chord_node.specs.declared.state.Purpose.TheVariants as purpose
 use Rattle.chord_node.specs.Invariant.{AllNodes, AreLookups, IsCall, IsNodeState, is_user}
 use Rattle.chord_scenario.specs.Blocks.{IsBlockOf, IsLineOf, most_lines}
 use Rattle.chord_node.specs.Limits.{most_steps, most_timeouts}
+use Rattle.chord_scenario.specs.Range.{IsInRange}
 use Rattle.chord_scenario.specs.World.{ident_of, is_churn_node, node_count}
+use Rattle.chord_ops.proofs.Telling.{HasDetail, noted_detailed}
+use Rattle.chord_ops.proofs.KeptTable.{kept_acts}
+use Rattle.chord_ops.proofs.GrowingRules.{grows_acted}
+use Rattle.chord_ops.specs.Limits.{most_drawn, most_made}
+use Rattle.chord_ops.specs.Growth.{Grows}
 use Rattle.chord_ops.specs.Asked.{IsBody}
 use Rattle.chord_ops.specs.declared.turn.Request.TheVariants as request
 use Rattle.chord_ops.specs.declared.turn.Turn.{Turn}
@@ -42,6 +48,9 @@ use Rattle.chord_ops.specs.Procedures.{
   without_attempt,
   without_call,
   without_lookup,
+  check_armed,
+  join_retried,
+  for_attempt,
 }
 use Rattle.chord_ops.specs.Rules.{
   acted,
@@ -57,6 +66,9 @@ use Rattle.chord_ops.specs.Rules.{
   finger_tick,
   finger_turned,
   has_finger_lookup,
+  check_tick,
+  check_timed_out,
+  has_join_call,
   has_ping_call,
   has_repair_call,
   head,
@@ -83,7 +95,10 @@ use Rattle.chord_ops.specs.Rules.{
   lookup_answered,
   lookup_timed_out,
   notified,
+  notifier_met,
+  predecessor_told,
   predecessor_weighed,
+  rejoin,
   once_more,
   opening,
   past,
@@ -134,13 +149,16 @@ use Rattle.chord_ops.proofs.Noted.{
   three_more,
 }
 use Rattle.chord_ops.proofs.NotedProcedures.{
+  knows_check_armed,
   knows_traffic_armed,
   noted_lookup_begun,
   noted_gone_down,
   noted_lookup_failed,
   noted_lookup_followed,
   noted_for_attempt,
+  noted_check_armed,
   noted_join_failed,
+  noted_join_retried,
   noted_rise_armed,
   noted_stranded,
   noted_traffic_armed,
@@ -197,6 +215,23 @@ noted_stabilize_tick sc n epoch turn knows h =
     (first_known sc turn.state.succ knows.succ_known) still
     (λ first at. noted_called sc n first request.GetState purpose.State (stabilize_armed sc turn) at h)))
 
+noted_check_tick : (sc : Scenario) (n epoch : ℕ) (turn : Turn) → KnowsNodes sc turn.state → HasNoted sc n turn
+    → HasNoted sc (n + 1) (check_tick sc epoch turn)
+unfolding check_tick
+noted_check_tick sc n epoch turn knows h =
+    let armed : HasNoted sc n (check_armed sc turn) = noted_check_armed sc n turn h in
+    noted_if sc (n + 1) (is_void epoch turn.state) turn _ (one_more sc n h)
+    (noted_if sc (n + 1) (is_joining turn.state || has_ping_call turn.state) _ _ (one_more sc n armed)
+    (noted_when_some sc (n + 1) (λ node. node < node_count sc) (check_armed sc turn).state.prdc _ (check_armed sc turn)
+    (knows_check_armed sc turn knows).prdc_known (one_more sc n armed)
+    (λ prdc at. noted_called sc n prdc request.Ping purpose.Check (check_armed sc turn) at armed)))
+
+noted_rejoin : (sc : Scenario) (n epoch : ℕ) (turn : Turn) → KnowsNodes sc turn.state → HasNoted sc n turn → HasNoted sc (n + 1 + 1) (rejoin sc epoch turn)
+unfolding rejoin
+noted_rejoin sc n epoch turn knows h =
+    noted_if sc (n + 1 + 1) (not (turn.state.epoch == epoch) || not (is_joining turn.state) || has_join_call turn.state) turn _ (two_more sc n h)
+    (noted_for_attempt sc n (join_retried sc) turn (λ attempt. one_more sc (n + 1) (noted_join_retried sc n attempt (without_attempt turn) knows h)) h)
+
 noted_finger_turned : (sc : Scenario) (n index : ℕ) (turn : Turn) → KnowsNodes sc turn.state → HasNoted sc n turn
     → HasNoted sc (n + 1 + 1) (finger_turned sc index turn)
 unfolding finger_turned
@@ -249,7 +284,7 @@ noted_lookup_timed_out sc n silent place lookup turn knows h =
     (one_more sc (n + 1) (noted_lookup_failed sc n (once_more lookup) turn h))
 
 noted_join_timed_out : (sc : Scenario) (n silent : ℕ) (turn : Turn) → KnowsNodes sc turn.state → HasNoted sc n turn
-    → HasNoted sc (n + 1) (join_timed_out sc silent turn)
+    → HasNoted sc (n + 1 + 1) (join_timed_out sc silent turn)
 unfolding join_timed_out
 noted_join_timed_out sc n silent turn knows h =
     noted_for_attempt sc n _ turn
@@ -281,17 +316,25 @@ noted_ping_timed_out : (sc : Scenario) (n silent notifier : ℕ) (turn : Turn) �
 unfolding ping_timed_out
 noted_ping_timed_out sc n silent notifier turn h = noted_if sc n (holds turn.state.prdc silent) _ turn h h
 
-noted_timed_out : (sc : Scenario) (n number silent : ℕ) (wanted : Purpose) (turn : Turn) → KnowsNodes sc turn.state
+noted_check_timed_out : (sc : Scenario) (n silent : ℕ) (turn : Turn) → silent < node_count sc → HasNoted sc n turn
+    → HasNoted sc (n + 1) (check_timed_out silent turn)
+unfolding check_timed_out
+noted_check_timed_out sc n silent turn at h =
+    noted_if sc (n + 1) (holds turn.state.prdc silent) _ turn
+    (noted_line sc n (line.Forget silent) (record turn { state = record turn.state { prdc = None } }) (one_node sc silent at) h) (one_more sc n h)
+
+noted_timed_out : (sc : Scenario) (n number silent : ℕ) (wanted : Purpose) (turn : Turn) → silent < node_count sc → KnowsNodes sc turn.state
     → HasNoted sc n turn → HasNoted sc (n + 1 + 1) (timed_out sc number silent wanted turn)
-noted_timed_out sc n number silent purpose.Lookup turn knows h =
+noted_timed_out sc n number silent purpose.Lookup turn at knows h =
     noted_with_lookup sc n number (lookup_timed_out sc silent) turn
     (λ place lookup g. noted_lookup_timed_out sc n silent place lookup (without_lookup place turn) knows g) h
-noted_timed_out sc n number silent purpose.JoinStep turn knows h = one_more sc (n + 1) (noted_join_timed_out sc n silent turn knows h)
-noted_timed_out sc n number silent purpose.JoinList turn knows h = one_more sc (n + 1) (noted_join_timed_out sc n silent turn knows h)
-noted_timed_out sc n number silent purpose.State turn knows h = noted_state_timed_out sc n turn knows h
-noted_timed_out sc n number silent purpose.List turn knows h =
+noted_timed_out sc n number silent purpose.JoinStep turn at knows h = noted_join_timed_out sc n silent turn knows h
+noted_timed_out sc n number silent purpose.JoinList turn at knows h = noted_join_timed_out sc n silent turn knows h
+noted_timed_out sc n number silent purpose.State turn at knows h = noted_state_timed_out sc n turn knows h
+noted_timed_out sc n number silent purpose.List turn at knows h =
     one_more sc (n + 1) (noted_head_notified sc n turn knows h)
-noted_timed_out sc n number silent (purpose.Ping notifier) turn knows h =
+noted_timed_out sc n number silent purpose.Check turn at knows h = one_more sc (n + 1) (noted_check_timed_out sc n silent turn at h)
+noted_timed_out sc n number silent (purpose.Ping notifier) turn at knows h =
     two_more sc n (noted_ping_timed_out sc n silent notifier turn h)
 
 noted_call_repeated : (sc : Scenario) (n number : ℕ) (call : Call) (turn : Turn) → call.to < node_count sc → HasNoted sc n turn
@@ -306,7 +349,7 @@ noted_call_given_up : (sc : Scenario) (n number : ℕ) (call : Call) (turn : Tur
     → HasNoted sc n turn → HasNoted sc (n + 1 + 1 + 1) (call_given_up sc number call turn)
 unfolding call_given_up
 noted_call_given_up sc n number call turn at knows h =
-    noted_timed_out sc (n + 1) number call.to call.purpose (noted (line.Timeout call.to) (without_call number turn)) knows
+    noted_timed_out sc (n + 1) number call.to call.purpose (noted (line.Timeout call.to) (without_call number turn)) at knows
     (noted_line sc n (line.Timeout call.to) (without_call number turn) (one_node sc call.to at) h)
 
 noted_timeout : (sc : Scenario) (n number : ℕ) (turn : Turn) → IsNodeState sc turn.state → KnowsNodes sc turn.state → HasNoted sc n turn
@@ -339,8 +382,7 @@ noted_state_asked : (sc : Scenario) (n sender number : ℕ) (turn : Turn) → se
 unfolding state_asked
 noted_state_asked sc n sender number turn at h =
     noted_at_member sc n kind.GetState sender turn _ at h
-    (noted_when_some sc (n + 1) (λ _. Unit {0}) turn.state.prdc _ turn (known turn.state.prdc) (one_more sc n h)
-    (λ prdc _. noted_sent sc n kind.StateReply sender _ turn at h))
+    (noted_sent sc n kind.StateReply sender _ turn at h)
 
 noted_list_asked : (sc : Scenario) (n sender number : ℕ) (turn : Turn) → sender < node_count sc → HasNoted sc n turn
     → HasNoted sc (n + 1) (list_asked sc sender number turn)
@@ -361,13 +403,17 @@ noted_predecessor_weighed sc n sender prdc turn at h =
     (noted_if sc (n + 1) (not (sender == prdc) && not (has_ping_call turn.state)) _ turn
     (noted_called sc n prdc request.Ping (purpose.Ping sender) turn at h) (one_more sc n h))
 
+noted_notifier_met : (sc : Scenario) (n sender : ℕ) (o : Option ℕ) (turn : Turn) → IfSome o (λ node. node < node_count sc) → HasNoted sc n turn
+    → HasNoted sc (n + 1) (notifier_met sc sender o turn)
+noted_notifier_met sc n sender None turn known h = one_more sc n h
+noted_notifier_met sc n sender (Some prdc) turn known h = noted_predecessor_weighed sc n sender prdc turn known h
+
 noted_notified : (sc : Scenario) (n sender : ℕ) (turn : Turn) → sender < node_count sc → KnowsNodes sc turn.state → HasNoted sc n turn
     → HasNoted sc (n + 1) (notified sc sender turn)
 unfolding notified
 noted_notified sc n sender turn at knows h =
     noted_at_member sc n kind.Notify sender turn _ at h
-    (noted_when_some sc (n + 1) (λ node. node < node_count sc) turn.state.prdc _ turn knows.prdc_known (one_more sc n h)
-    (λ prdc known. noted_predecessor_weighed sc n sender prdc turn known h))
+    (noted_notifier_met sc n sender turn.state.prdc turn knows.prdc_known h)
 
 -- Replies
 
@@ -385,24 +431,24 @@ call_answered : (sc : Scenario) (k : MessageKind) (number : ℕ) (s : NodeState)
 call_answered sc k number s is = IfSome-answered_call (IsCall sc) k number s is.calls.each
 
 noted_join_asked : (sc : Scenario) (n next : ℕ) (attempt : Attempt) (turn : Turn) → next < node_count sc → KnowsNodes sc turn.state
-    → HasNoted sc n turn → HasNoted sc (n + 1) (join_asked sc next attempt turn)
+    → HasNoted sc n turn → HasNoted sc (n + 1 + 1) (join_asked sc next attempt turn)
 unfolding join_asked
 noted_join_asked sc n next attempt turn at knows h =
-    noted_if sc (n + 1) (nat_lt attempt.steps most_steps) _ _
-    (noted_called sc n next (own_step sc attempt.avoid turn.state) purpose.JoinStep
-    (with_attempt (record attempt { steps = attempt.steps + 1 }) turn) at h)
+    noted_if sc (n + 1 + 1) (nat_lt attempt.steps most_steps) _ _
+    (one_more sc (n + 1) (noted_called sc n next (own_step sc attempt.avoid turn.state) purpose.JoinStep
+    (with_attempt (record attempt { steps = attempt.steps + 1 }) turn) at h))
     (noted_join_failed sc n attempt turn knows h)
 
 noted_join_followed : (sc : Scenario) (n to : ℕ) (a : Answer) (attempt : Attempt) (turn : Turn) → to < node_count sc → NamesNode sc a
-    → KnowsNodes sc turn.state → HasNoted sc n turn → HasNoted sc (n + 1) (join_followed sc to a attempt turn)
+    → KnowsNodes sc turn.state → HasNoted sc n turn → HasNoted sc (n + 1 + 1) (join_followed sc to a attempt turn)
 unfolding join_followed
 noted_join_followed sc n to (answer.Owner owner) attempt turn at names knows h =
-    noted_called sc n to request.GetList purpose.JoinList (with_attempt attempt turn) at h
+    one_more sc (n + 1) (noted_called sc n to request.GetList purpose.JoinList (with_attempt attempt turn) at h)
 noted_join_followed sc n to (answer.Next next) attempt turn at names knows h = noted_join_asked sc n next attempt turn names knows h
 noted_join_followed sc n to answer.Stuck attempt turn at names knows h = noted_join_failed sc n attempt turn knows h
 
 noted_join_answered : (sc : Scenario) (n to : ℕ) (a : Answer) (turn : Turn) → to < node_count sc → NamesNode sc a → KnowsNodes sc turn.state
-    → HasNoted sc n turn → HasNoted sc (n + 1) (join_answered sc to a turn)
+    → HasNoted sc n turn → HasNoted sc (n + 1 + 1) (join_answered sc to a turn)
 unfolding join_answered
 noted_join_answered sc n to a turn at names knows h =
     noted_for_attempt sc n (join_followed sc to a) turn
@@ -420,7 +466,7 @@ noted_answered_for sc n a call purpose.Lookup turn at names knows h =
     noted_with_lookup sc n call.number (lookup_answered sc a) turn
     (λ place lookup g. noted_lookup_answered sc n a place lookup (without_lookup place turn) names g) h
 noted_answered_for sc n a call purpose.JoinStep turn at names knows h =
-    one_more sc (n + 1) (noted_join_answered sc n call.to a turn at names knows h)
+    noted_join_answered sc n call.to a turn at names knows h
 noted_answered_for sc n a call _ turn at names knows h = two_more sc n h
 
 noted_step_replied : (sc : Scenario) (n sender number : ℕ) (a : Answer) (turn : Turn) → sender < node_count sc → NamesNode sc a
@@ -444,16 +490,25 @@ knows_successors_taken sc to list turn at all knows =
       fingers_known = knows.fingers_known;
     }
 
-noted_state_answered : (sc : Scenario) (n prdc : ℕ) (list : List ℕ) (call : Call) (turn : Turn) → prdc < node_count sc → AllNodes sc list
-    → call.to < node_count sc → KnowsNodes sc turn.state → HasNoted sc n turn → HasNoted sc (n + 1) (state_answered sc prdc list call turn)
-unfolding state_answered
-noted_state_answered sc n prdc list call turn at all to_known knows h =
+noted_predecessor_told : (sc : Scenario) (n prdc : ℕ) (list : List ℕ) (call : Call) (turn : Turn) → prdc < node_count sc → AllNodes sc list
+    → call.to < node_count sc → KnowsNodes sc turn.state → HasNoted sc n turn → HasNoted sc (n + 1) (predecessor_told sc prdc list call turn)
+unfolding predecessor_told
+noted_predecessor_told sc n prdc list call turn at all to_known knows h =
     let taken : Turn = successors_taken sc call.to list turn in
     noted_if sc (n + 1) (between sc.bits (ident_of sc turn.state.me) (ident_of sc prdc) (ident_of sc call.to)) _ _
     (noted_called sc n prdc request.GetList purpose.List taken at h)
     (noted_head_notified sc n taken (knows_successors_taken sc call.to list turn to_known all knows) h)
 
-noted_state_replied : (sc : Scenario) (n sender number prdc : ℕ) (list : List ℕ) (turn : Turn) → sender < node_count sc → prdc < node_count sc
+noted_state_answered : (sc : Scenario) (n : ℕ) (prdc : Option ℕ) (list : List ℕ) (call : Call) (turn : Turn)
+    → IfSome prdc (λ node. node < node_count sc) → AllNodes sc list → call.to < node_count sc → KnowsNodes sc turn.state → HasNoted sc n turn
+    → HasNoted sc (n + 1) (state_answered sc prdc list call turn)
+unfolding state_answered
+noted_state_answered sc n None list call turn at all to_known knows h =
+    noted_head_notified sc n (successors_taken sc call.to list turn) (knows_successors_taken sc call.to list turn to_known all knows) h
+noted_state_answered sc n (Some prdc) list call turn at all to_known knows h = noted_predecessor_told sc n prdc list call turn at all to_known knows h
+
+noted_state_replied : (sc : Scenario) (n sender number : ℕ) (prdc : Option ℕ) (list : List ℕ) (turn : Turn) → sender < node_count sc
+    → IfSome prdc (λ node. node < node_count sc)
     → AllNodes sc list → IsNodeState sc turn.state → KnowsNodes sc turn.state → HasNoted sc n turn
     → HasNoted sc (n + 1) (state_replied sc sender number prdc list turn)
 unfolding state_replied
@@ -469,33 +524,33 @@ noted_list_answered sc n to list turn at all knows h =
     noted_head_notified sc n (successors_taken sc to list turn) (knows_successors_taken sc to list turn at all knows) h
 
 noted_join_list_taken : (sc : Scenario) (n to : ℕ) (list : List ℕ) (attempt : Attempt) (turn : Turn) → to < node_count sc → KnowsNodes sc turn.state
-    → HasNoted sc n turn → HasNoted sc (n + 1) (join_list_taken sc to list attempt turn)
+    → HasNoted sc n turn → HasNoted sc (n + 1 + 1) (join_list_taken sc to list attempt turn)
 unfolding join_list_taken
 noted_join_list_taken sc n to [] attempt turn at knows h = noted_join_failed sc n attempt turn knows h
 noted_join_list_taken sc n to (first ∷ rest) attempt turn at knows h =
-    noted_if sc (n + 1) (between sc.bits (ident_of sc to) (ident_of sc turn.state.me) (ident_of sc first)) (joined sc to first (first ∷ rest) turn) _
-    (noted_line sc n (line.Member to) turn (one_node sc to at) h)
+    noted_if sc (n + 1 + 1) (between sc.bits (ident_of sc to) (ident_of sc turn.state.me) (ident_of sc first)) (joined sc to first (first ∷ rest) turn) _
+    (one_more sc (n + 1) (noted_line sc n (line.Member to) turn (one_node sc to at) h))
     (noted_join_failed sc n attempt turn knows h)
 
 noted_join_list_answered : (sc : Scenario) (n to : ℕ) (list : List ℕ) (turn : Turn) → to < node_count sc → KnowsNodes sc turn.state → HasNoted sc n turn
-    → HasNoted sc (n + 1) (join_list_answered sc to list turn)
+    → HasNoted sc (n + 1 + 1) (join_list_answered sc to list turn)
 unfolding join_list_answered
 noted_join_list_answered sc n to list turn at knows h =
     noted_for_attempt sc n (join_list_taken sc to list) turn
     (λ attempt. noted_join_list_taken sc n to list attempt (without_attempt turn) at knows h) h
 
 noted_list_answered_for : (sc : Scenario) (n : ℕ) (list : List ℕ) (to : ℕ) (wanted : Purpose) (turn : Turn) → to < node_count sc → AllNodes sc list
-    → KnowsNodes sc turn.state → HasNoted sc n turn → HasNoted sc (n + 1) (list_answered_for sc list to wanted turn)
-noted_list_answered_for sc n list to purpose.List turn at all knows h = noted_list_answered sc n to list turn at all knows h
+    → KnowsNodes sc turn.state → HasNoted sc n turn → HasNoted sc (n + 1 + 1) (list_answered_for sc list to wanted turn)
+noted_list_answered_for sc n list to purpose.List turn at all knows h = one_more sc (n + 1) (noted_list_answered sc n to list turn at all knows h)
 noted_list_answered_for sc n list to purpose.JoinList turn at all knows h = noted_join_list_answered sc n to list turn at knows h
-noted_list_answered_for sc n list to _ turn at all knows h = one_more sc n h
+noted_list_answered_for sc n list to _ turn at all knows h = two_more sc n h
 
 noted_list_replied : (sc : Scenario) (n sender number : ℕ) (list : List ℕ) (turn : Turn) → sender < node_count sc → AllNodes sc list
-    → IsNodeState sc turn.state → KnowsNodes sc turn.state → HasNoted sc n turn → HasNoted sc (n + 1) (list_replied sc sender number list turn)
+    → IsNodeState sc turn.state → KnowsNodes sc turn.state → HasNoted sc n turn → HasNoted sc (n + 1 + 1) (list_replied sc sender number list turn)
 unfolding list_replied
 noted_list_replied sc n sender number list turn at all is knows h =
-    noted_replied sc n kind.ListReply sender (λ call. list_answered_for sc list call.to call.purpose) (answered_call kind.ListReply number turn.state) turn
-    at (call_answered sc kind.ListReply number turn.state is) h
+    noted_replied sc (n + 1) kind.ListReply sender (λ call. list_answered_for sc list call.to call.purpose) (answered_call kind.ListReply number turn.state)
+    turn at (call_answered sc kind.ListReply number turn.state is) (one_more sc n h)
     (λ call out. noted_list_answered_for sc n list call.to call.purpose (without_call call.number turn) out.to all knows h)
 
 noted_ponged : (sc : Scenario) (n sender number : ℕ) (turn : Turn) → sender < node_count sc → IsNodeState sc turn.state → HasNoted sc n turn
@@ -524,6 +579,10 @@ noted_acted sc n sender (body.LifeEnd epoch) turn at names is knows h =
     two_more sc (n + 1) (noted_life_end sc n epoch turn h)
 noted_acted sc n sender (body.Rise epoch) turn at names is knows h =
     one_more sc (n + 1 + 1) (noted_rise sc n epoch turn knows.via_known h)
+noted_acted sc n sender (body.CheckTick epoch) turn at names is knows h =
+    two_more sc (n + 1) (noted_check_tick sc n epoch turn knows h)
+noted_acted sc n sender (body.Rejoin epoch) turn at names is knows h =
+    one_more sc (n + 1 + 1) (noted_rejoin sc n epoch turn knows h)
 noted_acted sc n sender (body.Timeout number) turn at names is knows h = noted_timeout sc n number turn is knows h
 noted_acted sc n sender (body.Step number key avoid) turn at names is knows h =
     two_more sc (n + 1) (noted_step_asked sc n sender number key avoid turn at h)
@@ -540,7 +599,7 @@ noted_acted sc n sender (body.StepReply number a) turn at names is knows h =
 noted_acted sc n sender (body.StateReply number prdc list) turn at names is knows h =
     two_more sc (n + 1) (noted_state_replied sc n sender number prdc list turn at names.0 names.1 is knows h)
 noted_acted sc n sender (body.ListReply number list) turn at names is knows h =
-    two_more sc (n + 1) (noted_list_replied sc n sender number list turn at names is knows h)
+    one_more sc (n + 1 + 1) (noted_list_replied sc n sender number list turn at names is knows h)
 noted_acted sc n sender (body.Pong number) turn at names is knows h =
     two_more sc (n + 1) (noted_ponged sc n sender number turn at is h)
 
@@ -556,9 +615,10 @@ lookups_few sc fingers lookups h =
       length-filter_both is_user (λ lookup. not (is_user lookup)) (λ _. refl) lookups,
     )
 
-noted_effect : (sc : Scenario) (s : NodeState) (e : Event Body) → IsNodeState sc s → IsSoundEvent sc e → HasNoted sc (61 + 1 + 1 + 1) (effect sc s e)
-unfolding effect
-noted_effect sc s e h is =
+-- what an event leaves by the rules
+noted_acts : (sc : Scenario) (s : NodeState) (e : Event Body) → IsNodeState sc s → IsSoundEvent sc e
+    → HasNoted sc (61 + 1 + 1 + 1) (acted sc (e.key.origin - 2) e.body (opening s e))
+noted_acts sc s e h is =
     noted_acted sc 61 (e.key.origin - 2) e.body (opening s e) (omega (arith, is.origin, h.me)) is.body h
     (record {
       own = h.me;
@@ -569,8 +629,19 @@ noted_effect sc s e h is =
     })
     (record { named = none_of (IsLineOf sc); few = omega (arith, lookups_few sc (length s.fingers) s.lookups h.lookups) })
 
-pub block_known : (sc : Scenario) (s : NodeState) (e : Event Body) → IsNodeState sc s → IsSoundEvent sc e → IsBlockOf sc (block_of sc s e)
-block_known sc s e h is = record { target = is.target; lines = (noted_effect sc s e h is).named }
+noted_effect : (sc : Scenario) (s : NodeState) (e : Event Body) → IsInRange sc → IsNodeState sc s → IsSoundEvent sc e
+    → HasDetail sc (61 + 1 + 1 + 1) (effect sc s e)
+unfolding effect
+noted_effect sc s e ranges h is =
+    let turn : Turn = opening s e in
+    let done : Turn = acted sc (e.key.origin - 2) e.body turn in
+    let g : Grows sc most_made most_drawn turn done = grows_acted sc (e.key.origin - 2) e.body turn ranges in
+    let few : length done.events ≤ most_made = omega (arith, ap length g.appended, g.at_most) in
+    noted_detailed sc (61 + 1 + 1 + 1) done few (kept_acts sc s e ranges h is) (noted_acts sc s e h is)
 
-pub block_few : (sc : Scenario) (s : NodeState) (e : Event Body) → IsNodeState sc s → IsSoundEvent sc e → length (block_of sc s e).lines ≤ most_lines
-block_few sc s e h is = omega (arith, (noted_effect sc s e h is).few)
+pub block_known : (sc : Scenario) (s : NodeState) (e : Event Body) → IsInRange sc → IsNodeState sc s → IsSoundEvent sc e → IsBlockOf sc (block_of sc s e)
+block_known sc s e ranges h is = record { target = is.target; lines = (noted_effect sc s e ranges h is).named }
+
+pub block_few : (sc : Scenario) (s : NodeState) (e : Event Body) → IsInRange sc → IsNodeState sc s → IsSoundEvent sc e
+    → length (block_of sc s e).lines ≤ most_lines
+block_few sc s e ranges h is = omega (arith, (noted_effect sc s e ranges h is).few)

@@ -1,5 +1,6 @@
 -- What the rows of the table of timers have. A new row is one more case here.
-use Rattle.std.proofs.Common.{◌≤◌, ℕ, Bool, true, false, Option, Some, None}
+use Rattle.std.proofs.Common.{◌≡◌, ◌==◌, ◌≤◌, ℕ, arith, refl, Bool, true, false, Option, Some, None}
+use Rattle.std.proofs.lemmas.Bool.Decides.{nat_tests}
 use Rattle.std.specs.List.{AllByRecursion}
 use Rattle.std.specs.Prelude.{IfSome, option_map, if◌then◌else◌}
 use Rattle.chord_event.specs.declared.body.Body.{Body}
@@ -7,7 +8,7 @@ use Rattle.chord_event.specs.declared.body.Body.TheVariants as body
 use Rattle.chord_scenario.specs.declared.scenario.Scenario.{Scenario}
 use Rattle.chord_scenario.specs.declared.setting.Span.{Span}
 use Rattle.chord_scenario.specs.Range.{IsChurn, IsInRange, IsSpan}
-use Rattle.chord_scenario.specs.Start.{life_timer, timer_table, traffic_timer}
+use Rattle.chord_scenario.specs.Start.{check_timer, jittered, life_timer, timer_table, traffic_timer}
 use Rattle.chord_scenario.specs.World.{is_churn_node}
 use Rattle.chord_ops.specs.Asked.{IsBody}
 use Rattle.chord_ops.proofs.Growing.{known}
@@ -47,9 +48,23 @@ life_end_is sc n epoch =
     IfSome-if (λ timer. IsBody sc timer.1) (is_churn_node sc n) _
     (IfSome-map (λ _. Unit {0}) (λ timer. IsBody sc timer.1) (λ churn. (churn.life, body.LifeEnd epoch)) sc.churn (known sc.churn) (λ churn _. tt))
 
+pub check_later : (sc : Scenario) (epoch : ℕ) → IsLater (check_timer sc epoch)
+check_later sc epoch = at (sc.check == 0) refl
+  where
+    at : (b : Bool) → (sc.check == 0) ≡ b → IsLater (if b then None else Some (jittered sc sc.check, body.CheckTick epoch))
+    at true none = tt
+    at false some = grind (arith, nat_tests)
+
+pub check_tick_is : (sc : Scenario) (epoch : ℕ) → IsTick sc (check_timer sc epoch)
+check_tick_is sc epoch = at (sc.check == 0)
+  where
+    at : (b : Bool) → IsTick sc (if b then None else Some (jittered sc sc.check, body.CheckTick epoch))
+    at true = tt
+    at false = tt
+
 pub table_later : (sc : Scenario) (n epoch : ℕ) → IsInRange sc → AllByRecursion IsLater (timer_table sc n epoch)
 table_later sc n epoch h =
-    (h.numbers.stabilize.least, (h.numbers.finger.least, (traffic_later sc epoch h, (life_later sc n epoch h, tt))))
+    (h.numbers.stabilize.least, (h.numbers.finger.least, (traffic_later sc epoch h, (life_later sc n epoch h, (check_later sc epoch, tt)))))
 
 pub table_ticks : (sc : Scenario) (n epoch : ℕ) → AllByRecursion (IsTick sc) (timer_table sc n epoch)
-table_ticks sc n epoch = (tt, (tt, (traffic_tick_is sc epoch, (life_end_is sc n epoch, tt))))
+table_ticks sc n epoch = (tt, (tt, (traffic_tick_is sc epoch, (life_end_is sc n epoch, (check_tick_is sc epoch, tt)))))

@@ -2,12 +2,12 @@
 ghost use Rattle.std.specs.Prelude.{◌≡◌, ◌==◌, ℕ, not, filter, OnOk};
 ghost use Rattle.chord_node.specs.Invariant.{AllNodes};
 ghost use Rattle.chord_ops.specs.Procedures.{call_of, without_call};
-ghost use Rattle.chord_ops.specs.Rules.{head, head_notified};
+ghost use Rattle.chord_ops.specs.Rules.{has_ping_call, head, head_notified};
 ghost use Rattle.chord_ops.specs.Turns.{CanAct};
 
 use crate::turn::Turn;
 use chord_event::{Body, Listed, Memory, MessageKind};
-use chord_node::{Call, NodeState};
+use chord_node::{Call, NodeState, Purpose};
 use chord_scenario::Scenario;
 
 /// The outstanding call with this number.
@@ -34,6 +34,16 @@ pub fn head_of(state: &NodeState) -> Option<u32>
     ensures { result ≡ head state.now }
 {
     state.succ.as_slice().first().copied()
+}
+
+/// Whether a Ping or Check call is outstanding.
+pub fn is_ping_out(state: &NodeState) -> bool
+    ensures { result ≡ has_ping_call state.now }
+{
+    state.calls.as_slice().iter().any(|call| matches!(
+        call.purpose,
+        Purpose::Ping { .. } | Purpose::Check
+    ))
 }
 
 impl Turn {

@@ -4,7 +4,7 @@ ghost use Rattle.std.specs.List.{All, filter};
 ghost use Rattle.chord_audit.specs.Audit.{AreStates};
 ghost use Rattle.chord_node.specs.declared.state.NodeState.{NodeState as AState};
 ghost use Rattle.chord_node.specs.Invariant.{AllNodes};
-ghost use Rattle.chord_scenario.specs.Blocks.{IsBlockOf};
+ghost use Rattle.chord_scenario.specs.Blocks.{IsBlockOf, most_lines};
 ghost use Rattle.chord_scenario.specs.World.{node_count};
 ghost use Rattle.chord_output.specs.Output.{Adds, audits_at, due};
 ghost use Rattle.chord_trace.specs.declared.piece.Piece.TheVariants as piece;
@@ -31,7 +31,7 @@ pub fn put_block<W: Write>(
     writer: &mut Watched<W>,
 ) -> Result<(), RunError>
     requires block { IsBlockOf scenario.now block.now }
-    requires short { length block.now.lines ≤ 64 }
+    requires short { length block.now.lines ≤ most_lines }
     requires room { taken tally.old < 2 ^ 40 }
     requires sound { has_failed writer.old ≡ false }
     ensures adds { OnOk result (Adds scenario.now (W.contents (wrapped writer.old)) (W.contents (wrapped writer.new)) tally.old tally.new (piece.OfEvent block.now ∷ [])) }

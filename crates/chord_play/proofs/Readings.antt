@@ -25,6 +25,7 @@ use Rattle.chord_scenario.specs.declared.fault.ScenarioFault.TheVariants.{
   SelfLink,
   SameLinkTwice,
   LatencyBelowWindow,
+  RowsAndCoordinates,
   Memory,
 }
 
@@ -60,6 +61,7 @@ memory_or_fault (BadLatencyRow at) = inr (λ is. cc, refl)
 memory_or_fault (SelfLink at) = inr (λ is. cc, refl)
 memory_or_fault (SameLinkTwice at) = inr (λ is. cc, refl)
 memory_or_fault (LatencyBelowWindow a b) = inr (λ is. cc, refl)
+memory_or_fault RowsAndCoordinates = inr (λ is. cc, refl)
 
 -- a fault of the reader, after both texts were read
 pub reader_fault : {A R Q : Type 0} (s : Reading R) (l : Reading Q) (f : ScenarioFault) (result : Result A PlayFault) → WasRead s → WasRead l

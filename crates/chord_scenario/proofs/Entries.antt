@@ -1,19 +1,21 @@
 -- What a sound table holds at its keys: each fact is found by its key, wherever that is among the keys of the table.
-use Rattle.std.proofs.Common.{◌≡◌, subst, ap, ℕ, ◌==◌, Bool, true, false, List, [], ◌∷◌, bytes_eq, find, Option, Some, unwrap_or, inl, inr, ◌⊎◌}
+use Rattle.std.proofs.Common.{◌≡◌, subst, ap, ℕ, ◌≤◌, ◌==◌, arith, Bool, true, false, List, [], ◌∷◌, bytes_eq, find, Option, Some, unwrap_or, inl, inr, ◌⊎◌}
 use Rattle.std.specs.List.{AllByRecursion}
 use Rattle.std.specs.Option.{option_and_then}
 use Rattle.std.proofs.lemmas.Bool.{cases_Bool}
 use Rattle.std.proofs.lemmas.Option.{same_Some}
-use Rattle.toml.specs.Data.{Data}
+use Rattle.toml.specs.Data.{Data, as_bool}
 use Rattle.chord_scenario.specs.declared.key.FileKey.{FileKey}
 use Rattle.chord_scenario.specs.declared.key.Entry.{Entry}
+use Rattle.chord_scenario.specs.declared.key.Presence.{Presence}
+use Rattle.chord_scenario.specs.declared.keys_check.Needs.{Needs}
 use Rattle.chord_scenario.specs.declared.key.Form.TheVariants.{Whole}
 use Rattle.chord_scenario.specs.FileKeys.{key_name, required, optional, keys_at}
 use Rattle.chord_scenario.specs.declared.key.Place.TheVariants as place
 use Rattle.chord_scenario.specs.KeyFaults.{is_listed, is_required, is_missing, has_wrong_type, is_out_of_range}
 use Rattle.chord_scenario.specs.Sections.{Section}
 use Rattle.chord_scenario.specs.Settings.{number_or}
-use Rattle.chord_scenario.specs.Values.{data_at, number_at, as_whole, has_type, is_in_range, agrees}
+use Rattle.chord_scenario.specs.Values.{data_at, number_at, truth_at, as_whole, has_type, is_in_range, agrees}
 use Rattle.chord_scenario.proofs.KeyFaults.{unlisted-none}
 use Rattle.chord_scenario.proofs.SoundSections.{IsSound, Fits, number_fits, default_fits, number_agrees, there_typed}
 
@@ -63,13 +65,13 @@ of_found P test (x ∷ xs) e is all =
       | inr other ↦ of_found P test xs e (rw other at is) all.1
     ]
 
-module _ {profile bits : ℕ} {churns : Bool} {s : Section} (sound : IsSound profile bits churns s) where
+module _ {profile bits : ℕ} {needs : Needs} {s : Section} (sound : IsSound profile bits needs s) where
   -- the table has this entry
   abbrev pub Lists : Entry → Type 0
   Lists e = entry_of e.0 (keys_at profile s.at) ≡ Some e
 
-  not_missing : (e : Entry) → Lists e → is_missing churns s e ≡ false
-  not_missing e is = of_found (λ x. is_missing churns s x ≡ false) (λ x. bytes_eq (key_name e.0) (key_name x.0)) (keys_at profile s.at) e is sound.present
+  not_missing : (e : Entry) → Lists e → is_missing needs s e ≡ false
+  not_missing e is = of_found (λ x. is_missing needs s x ≡ false) (λ x. bytes_eq (key_name e.0) (key_name x.0)) (keys_at profile s.at) e is sound.present
 
   not_wrong : (e : Entry) → Lists e → has_wrong_type s e ≡ false
   not_wrong e is = of_found (λ x. has_wrong_type s x ≡ false) (λ x. bytes_eq (key_name e.0) (key_name x.0)) (keys_at profile s.at) e is sound.typed
@@ -95,8 +97,16 @@ module _ {profile bits : ℕ} {churns : Bool} {s : Section} (sound : IsSound pro
       default_fits bits least greatest default (λ d. agrees s.members k (unwrap_or (as_whole d) 0)) (data_at k s.members) own
       (not_out (optional k (Whole least greatest)) is)
 
+  -- a number at a listed key is at most its greatest
+  pub listed_fits : (k : FileKey) (greatest : ℕ) (presence : Presence) → Lists (record { 0 = k; 1 = Whole 0 greatest; 2 = presence })
+      → number_at k s.members ≤ greatest
+  listed_fits k greatest presence is =
+      (default_fits bits 0 greatest 0 (λ d. agrees s.members k (unwrap_or (as_whole d) 0)) (data_at k s.members)
+      (record { low = omega arith; high = omega arith })
+      (not_out (record { 0 = k; 1 = Whole 0 greatest; 2 = presence }) is)).high
+
   -- a required value is there, and has its type
-  pub has_typed : (e : Entry) → Lists e → is_required churns s e.2 ≡ true → (d : Data) × (data_at e.0 s.members ≡ Some d) × (has_type e.1 d ≡ true)
+  pub has_typed : (e : Entry) → Lists e → is_required needs s e.2 ≡ true → (d : Data) × (data_at e.0 s.members ≡ Some d) × (has_type e.1 d ≡ true)
   has_typed e is must = there_typed (has_type e.1) (data_at e.0 s.members) (rw must at (not_missing e is)) (not_wrong e is)
 
   -- a number at a key that the table does not list is its default
@@ -104,3 +114,8 @@ module _ {profile bits : ℕ} {churns : Bool} {s : Section} (sound : IsSound pro
   unfolding data_at
   unlisted_default k default other =
       ap (λ o. unwrap_or (option_and_then as_whole o) default) (unlisted-none profile s.at (key_name k) s.members other sound.known)
+
+  -- a boolean at a key that the table does not list is false
+  pub unlisted_false : (k : FileKey) → is_listed profile s.at (key_name k) ≡ false → truth_at k s.members ≡ false
+  unfolding data_at
+  unlisted_false k other = ap (λ o. unwrap_or (option_and_then as_bool o) false) (unlisted-none profile s.at (key_name k) s.members other sound.known)

@@ -1,6 +1,6 @@
 -- A scenario of a file without faults is in range.
 use Rattle.std.proofs.Common.{◌≡◌, ◌∙◌, sym, ℕ, ◌<◌, ◌≤◌, ◌^◌, List, [], ◌∷◌, length, map, get_or, ◌==◌, Option, None, arith, refl, eq-eqb}
-use Rattle.std.specs.List.{All, AllByRecursion, list_any}
+use Rattle.std.specs.List.{All, AllByRecursion}
 use Rattle.std.proofs.lemmas.Bool.{false≢true}
 use Rattle.std.proofs.lemmas.List.Elements.{All-from_recursion, All-get_or}
 use Rattle.std.proofs.lemmas.List.{get_or-map}
@@ -12,17 +12,19 @@ use Rattle.chord_scenario.specs.declared.fault.ScenarioFault.TheVariants.{SameId
 use Rattle.chord_scenario.specs.declared.key.FileKey.TheVariants as key
 use Rattle.chord_scenario.specs.declared.setting.Node.{Node}
 use Rattle.chord_scenario.specs.Accepted.{setup_with, nodes_in, commands_in}
-use Rattle.chord_scenario.specs.Faults.{first_answer, same_name, same_id, too_few_initial, time_after_end, bad_latency_row, latency_below_window}
+use Rattle.chord_scenario.specs.Faults.{first_answer, same_name, same_id, too_few_initial, time_after_end, bad_latency_row, below_window}
 use Rattle.chord_scenario.specs.Groups.{key_questions, node_questions, late_questions}
-use Rattle.chord_scenario.specs.KeyFaults.{is_churn_section}
+use Rattle.chord_scenario.specs.KeyFaults.{needs_of}
 use Rattle.chord_scenario.specs.Latencies.{HasLatencies}
 use Rattle.chord_scenario.specs.Range.{IsCommandOf, IsInRange}
 use Rattle.chord_scenario.specs.Rows.{Row}
 use Rattle.chord_scenario.specs.Search.{first_repeat}
 use Rattle.chord_scenario.specs.Sections.{sections}
+use Rattle.chord_scenario.specs.Settings.{coordinates_of}
 use Rattle.chord_scenario.specs.Setup.{Setup}
 use Rattle.chord_scenario.specs.Values.{number_at}
 use Rattle.chord_scenario.specs.World.{node_count, ident_of}
+use Rattle.chord_scenario.proofs.CoordinateFacts.{coordinates_fit}
 use Rattle.chord_scenario.proofs.DistinctNames.{or_none}
 use Rattle.chord_scenario.proofs.FirstRepeat.{mapped_none}
 use Rattle.chord_scenario.proofs.LatencyFacts.{first_of, latencies_fit}
@@ -42,7 +44,7 @@ record IsFaultless (top : Members) (rows : List Row) : Type 0 where
   initial : too_few_initial (number_at key.List top) (nodes_in top) ≡ None
   in_time : time_after_end (number_at key.DurationUs top) (sections top) ≡ None
   good_rows : bad_latency_row rows ≡ None
-  far : latency_below_window (number_at key.WindowUs top) (number_at key.LatencyUs top) (nodes_in top) rows ≡ None
+  far : below_window (number_at key.WindowUs top) (number_at key.LatencyUs top) (nodes_in top) (coordinates_of (sections top)) rows ≡ None
 
 faultless : (top : Members) (rows : List Row) → first_answer (node_questions (sections top) (nodes_in top)) ≡ None
     → first_answer (late_questions top (sections top) (nodes_in top) rows) ≡ None → IsFaultless top rows
@@ -58,17 +60,17 @@ pub record KeysFit (top : Members) : Type 0 where
   pub profile : number_at key.Profile top ≤ 3
   pub least : 3 ≤ number_at key.Bits top
   pub greatest : number_at key.Bits top ≤ 128
-  pub nodes : length (nodes_in top) ≤ 4096
+  pub nodes : length (nodes_in top) ≤ 65536
 
 pub keys_fit : (profile bits : ℕ) (top : Members) → first_answer (key_questions profile bits (sections top)) ≡ None → KeysFit top
 keys_fit profile bits top h =
-    let churns = list_any is_churn_section (sections top) in
-    let s = (holds_in_file (IsSound profile bits churns) top (sound_sections profile bits (sections top) h)).top in
+    let needs = needs_of (sections top) in
+    let s = (holds_in_file (IsSound profile bits needs) top (sound_sections profile bits (sections top) h)).top in
     record {
-      profile = (profile_fits profile bits churns top s).high;
-      least = (bits_fit profile bits churns top s).low;
-      greatest = (bits_fit profile bits churns top s).high;
-      nodes = few_nodes profile bits churns top s (number_at key.Bits top);
+      profile = (profile_fits profile bits needs top s).high;
+      least = (bits_fit profile bits needs top s).low;
+      greatest = (bits_fit profile bits needs top s).high;
+      nodes = few_nodes profile bits needs top s (number_at key.Bits top);
     }
 
 -- nodes of other numbers are at other places
@@ -113,25 +115,27 @@ module _ (profile : ℕ) (top : Members) (rows : List Row) (cells : List ℕ) (i
   pub in_range : IsInRange sc
   in_range =
       let bits = number_at key.Bits top in
-      let churns = list_any is_churn_section (sections top) in
-      let sound = holds_in_file (IsSound profile bits churns) top (sound_sections profile bits (sections top) keys) in
+      let needs = needs_of (sections top) in
+      let sound = holds_in_file (IsSound profile bits needs) top (sound_sections profile bits (sections top) keys) in
       let none = faultless top rows own late in
-      let numbers = numbers_fit profile bits churns top sound.top is_profile (nodes_in top) (commands_in top) cells in
+      let numbers = numbers_fit profile bits needs top sound.top is_profile (nodes_in top) (commands_in top) cells in
+      let coordinates = coordinates_fit profile bits needs sc bits (sections top) refl refl (sound_sections profile bits (sections top) keys) in
       let initial = enough_initial sc.list sc.nodes none.initial in
       let enough : 2 ≤ node_count sc = omega (arith, initial, count_by-le-length (λ n. n.initial) sc.nodes, numbers.list_least) in
       record {
         numbers = numbers;
         nodes = record {
           least = enough;
-          greatest = few_nodes profile bits churns top sound.top bits;
+          greatest = few_nodes profile bits needs top sound.top bits;
           on_circle = idents_on_circle sc on_circle;
           apart = idents_apart sc none.idents;
           initial = initial;
         };
-        latencies = latencies_fit sc rows has none.good_rows none.names none.far numbers.latency.least numbers.latency.greatest;
-        churn = churn_in_range profile bits churns top sound;
-        churn_is_set = λ i h. churn_there profile bits churns top sound.top (a_node_churns sc bits (sections top) i refl h);
-        lookups = lookups_in_range profile bits churns top sound;
-        few_commands = few_commands profile bits churns top sound.top bits (nodes_in top);
+        latencies = latencies_fit sc rows has none.good_rows none.names none.far numbers.window.least numbers.latency.least numbers.latency.greatest coordinates;
+        coordinates = coordinates;
+        churn = churn_in_range profile bits needs top sound;
+        churn_is_set = λ i h. churn_there profile bits needs top sound.top (a_node_churns sc bits (sections top) i refl h);
+        lookups = lookups_in_range profile bits needs top sound;
+        few_commands = few_commands profile bits needs top sound.top bits (nodes_in top);
         commands = All-from_recursion (IsCommandOf sc) sc.commands (commands_fit sc (omega arith) (sections top) none.in_time);
       }

@@ -2,6 +2,8 @@
 use Rattle.std.proofs.Common.{
   ◌≡◌,
   ◌≢◌,
+  ◌∙◌,
+  sym,
   ap,
   refl,
   ℕ,
@@ -20,7 +22,9 @@ use Rattle.std.proofs.Common.{
   length,
   find,
   get_or,
+  slice_get,
   nat_lt,
+  ne_eqb,
   ◌==◌,
   Option,
   Some,
@@ -31,22 +35,28 @@ use Rattle.std.proofs.Common.{
   inr,
   arith,
 }
+use Rattle.std.specs.List.{All}
 use Rattle.std.specs.Option.{option_and_then}
 use Rattle.std.proofs.lemmas.Bool.{cases_Bool, eqb-false}
 use Rattle.std.proofs.lemmas.Bool.Decides.{nat_tests}
-use Rattle.std.proofs.lemmas.Option.{slice_get-get_or}
-use native.Mathlib.Decide.{dec_lt}
+use Rattle.std.proofs.lemmas.List.Elements.{All-get_or}
+use Rattle.std.proofs.lemmas.Option.{same_Some, slice_get-get_or, slice_get_within}
+use native.Mathlib.Decide.{dec_lt, ℕ_discrete as dec_eq}
+use Rattle.chord_scenario.specs.declared.setting.Coordinates.{Coordinates}
 use Rattle.chord_scenario.specs.declared.setting.Node.{Node}
 use Rattle.chord_scenario.specs.declared.fault.ScenarioFault.TheVariants.{LatencyBelowWindow}
 use Rattle.chord_scenario.specs.Search.{first_meeting}
 use Rattle.chord_scenario.specs.Rows.{Row, Link, link_of, names_pair, row_latency}
 use Rattle.chord_scenario.specs.Latencies.{HasLatencies}
-use Rattle.chord_scenario.specs.Faults.{latency_by_rows, latency_below_window, bad_latency_row, same_name}
-use Rattle.chord_scenario.specs.Range.{LatenciesInRange}
+use Rattle.chord_scenario.specs.Distances.{IsPlace, apart, squared_distance, latency_by_coordinates}
+use Rattle.chord_scenario.specs.Faults.{latency_by_rows, latency_below_window, low_pair, heights_below_window, below_window, bad_latency_row, same_name}
+use Rattle.chord_scenario.specs.Range.{LatenciesInRange, CoordinatesInRange}
 use Rattle.chord_scenario.specs.Setup.{Setup}
-use Rattle.chord_scenario.specs.World.{node_count, latency}
+use Rattle.chord_scenario.specs.World.{node_count, latency, latency_between}
 use Rattle.chord_scenario.proofs.DistinctNames.{or_none}
 use Rattle.chord_scenario.proofs.FirstRepeat.{mapped_none}
+use Rattle.chord_scenario.proofs.Heights.{lowest-least}
+use Rattle.chord_scenario.proofs.Roots.{root_below, square_below}
 use Rattle.chord_scenario.proofs.LatencyLemmas.{AreGood, find-good, find-swap, row_latency-none, row_latency-found}
 use Rattle.chord_scenario.proofs.RowScans.{bad_latency_row-none}
 use Rattle.chord_scenario.proofs.Scenarios.{latency-between}
@@ -95,13 +105,19 @@ row_latency-bounded default rows x y good most = by_case (find (names_pair x.nam
         let g = find-good (names_pair x.name y.name) rows r good e in
         rw (row_latency-found x.name y.name rows r g e) g.bounded
 
+itself : (sc : Setup) (i j : ℕ) → (i == j) ≡ true → latency sc i j ≡ 1
+unfolding latency
+itself sc i j same = rw same
+
+-- The latencies of nodes without coordinates.
+
 module _ (sc : Setup) (rows : List Row) (has : HasLatencies sc.nodes rows sc.latencies) (good : bad_latency_row rows ≡ None)
-    (distinct : same_name sc.nodes ≡ None)
+    (distinct : same_name sc.nodes ≡ None) (none : sc.coordinates ≡ [])
     (near : latency_below_window sc.window sc.latency sc.nodes rows ≡ None) (least : 1 ≤ sc.latency) (most : sc.latency ≤ 1000000000) where
   between : (i j : ℕ) (d : Node) → i ≢ j → i < node_count sc → j < node_count sc
       → latency sc i j ≡ latency_by_rows sc.latency rows (get_or sc.nodes i d) (get_or sc.nodes j d)
   between i j d apart hi hj =
-      latency-between rows sc i j (get_or sc.nodes i d) (get_or sc.nodes j d) has good distinct apart (slice_get-get_or sc.nodes i d hi)
+      latency-between rows sc i j (get_or sc.nodes i d) (get_or sc.nodes j d) has good distinct none apart (slice_get-get_or sc.nodes i d hi)
       (slice_get-get_or sc.nodes j d hj)
 
   far_from : (i j : ℕ) (d : Node) → i < j → j < node_count sc → sc.window ≤ latency_by_rows sc.latency rows (get_or sc.nodes i d) (get_or sc.nodes j d)
@@ -124,35 +140,144 @@ module _ (sc : Setup) (rows : List Row) (has : HasLatencies sc.nodes rows sc.lat
             rw (between i j d apart hi hj, swapped) (far_from j i d more hi)
       ]
 
-  to_itself : (i j : ℕ) → (i == j) ≡ true → latency sc i j ≡ 1
-  unfolding latency
-  to_itself i j same = rw same
-
   bounded : (i j : ℕ) (d : Node) → i < node_count sc → j < node_count sc → latency sc i j ≤ 1000000000
   bounded i j d hi hj =
       elim (cases_Bool (i == j)) [
-        | inl same ↦ rw (to_itself i j same) (omega arith)
+        | inl same ↦ rw (itself sc i j same) (omega arith)
         | inr apart ↦
             rw (between i j d (eqb-false i j apart) hi hj) (row_latency-bounded sc.latency rows (get_or sc.nodes i d) (get_or sc.nodes j d)
             (bad_latency_row-none rows good) most)
       ]
 
-  positive : (i j : ℕ) → 1 ≤ latency sc i j
+-- The latencies of nodes with coordinates.
+
+origin : Coordinates
+origin = record { x = 0; y = 0; height = 0 }
+
+-- the latency of two different nodes with coordinates is that by coordinates
+pub placed : (sc : Setup) (i j : ℕ) (a b : Coordinates) → i ≢ j → slice_get sc.coordinates i ≡ Some a → slice_get sc.coordinates j ≡ Some b
+    → latency sc i j ≡ latency_by_coordinates a b
+unfolding latency
+placed sc i j a b apart ia jb = rw (ne_eqb i j apart, ia, jb) refl
+
+-- two lowest nodes are as high as the window is long
+low_pair-none : (window : ℕ) (nodes : List Node) (one other : ℕ × ℕ) → low_pair window nodes one other ≡ None → window ≤ one.1 + other.1
+low_pair-none window nodes one other h =
+    elim (cases_Bool (nat_lt (one.1 + other.1) window)) [
+      | inl less ↦ absurd (cc (rw less at h))
+      | inr not_less ↦ grind (arith, nat_tests)
+    ]
+
+heights_far : (window : ℕ) (nodes : List Node) (cs : List Coordinates) → heights_below_window window nodes cs ≡ None → (i j : ℕ) → i < length cs → j < length cs
+    → i ≢ j → window ≤ (get_or cs i origin).height + (get_or cs j origin).height
+unfolding heights_below_window
+heights_far window nodes cs h i j hi hj apart =
+    let (one, is_one, least_i) = lowest-least (length cs) 0 cs i origin hi (λ same. omega arith) in
+    let (again, is_again, least_j) = lowest-least (length cs) 0 cs j origin hj (λ same. omega arith) in
+    let same : again ≡ one = same_Some _ _ (sym is_again ∙ is_one) in
+    let height_j : one.1 ≤ (get_or cs j origin).height = rw (← same) least_j in
+    elim (dec_eq i one.0) [
+      | yes here ↦
+          let (other, is_other, least) = lowest-least one.0 0 cs j origin hj (λ same. apart (omega arith)) in
+          omega (arith, low_pair-none window nodes one other (rw (is_one, is_other) at h), least_i, least)
+      | no elsewhere ↦
+          let (other, is_other, least) = lowest-least one.0 0 cs i origin hi (λ same. elsewhere (omega arith)) in
+          omega (arith, low_pair-none window nodes one other (rw (is_one, is_other) at h), height_j, least)
+    ]
+
+place_bounded : (a b : Coordinates) → IsPlace a → IsPlace b → latency_by_coordinates a b ≤ 1000000000
+unfolding latency_by_coordinates
+place_bounded a b pa pb =
+    let x : apart a.x b.x ≤ 500000000 = omega (arith, pa.x, pb.x) in
+    let y : apart a.y b.y ≤ 500000000 = omega (arith, pa.y, pb.y) in
+    let squares : squared_distance a b ≤ 500000000000000000 = omega (arith, square_below (apart a.x b.x) 500000000 x, square_below (apart a.y b.y) 500000000 y) in
+    omega (arith, root_below (squared_distance a b) squares, pa.height, pb.height)
+
+at_least_heights : (a b : Coordinates) → a.height + b.height ≤ latency_by_coordinates a b
+unfolding latency_by_coordinates
+at_least_heights a b = omega arith
+
+module _ (sc : Setup) (rows : List Row) (near : below_window sc.window sc.latency sc.nodes sc.coordinates rows ≡ None) where
+  high : (i : ℕ) → i < length sc.coordinates → heights_below_window sc.window sc.nodes sc.coordinates ≡ None
+  unfolding below_window
+  high i hi = let some : (length sc.coordinates == 0) ≡ false = ne_eqb (length sc.coordinates) 0 (λ same. omega arith) in rw some at near
+
+  place_far : (i j : ℕ) (a b : Coordinates) → i ≢ j → slice_get sc.coordinates i ≡ Some a → slice_get sc.coordinates j ≡ Some b
+      → sc.window ≤ latency_by_coordinates a b
+  place_far i j a b apart ia jb =
+      let hi = slice_get_within sc.coordinates i a ia in
+      let hj = slice_get_within sc.coordinates j b jb in
+      let is_a : get_or sc.coordinates i origin ≡ a = same_Some _ _ (sym (slice_get-get_or sc.coordinates i origin hi) ∙ ia) in
+      let is_b : get_or sc.coordinates j origin ≡ b = same_Some _ _ (sym (slice_get-get_or sc.coordinates j origin hj) ∙ jb) in
+      let far = heights_far sc.window sc.nodes sc.coordinates (high i hi) i j hi hj apart in
+      omega (arith, rw (is_a, is_b) at far, at_least_heights a b)
+
+  positive : 1 ≤ sc.window → 1 ≤ sc.latency → (i j : ℕ) → 1 ≤ latency sc i j
   unfolding latency
-  positive i j =
+  positive long least i j =
       elim (cases_Bool (i == j)) [
         | inl same ↦ rw same (omega arith)
-        | inr apart ↦
-            elim (cases_Bool (get_or sc.latencies (i * length sc.nodes + j) 0 == 0)) [
-              | inl none ↦ rw (apart, none) least
-              | inr given ↦ rw (apart, given) (grind (arith, nat_tests))
-            ]
+        | inr apart ↦ rw apart (by_places (slice_get sc.coordinates i) (slice_get sc.coordinates j) refl refl (eqb-false i j apart))
       ]
+    where
+      between : 1 ≤ latency_between sc i j
+      between =
+          elim (cases_Bool (get_or sc.latencies (i * length sc.nodes + j) 0 == 0)) [
+            | inl none ↦ rw none least
+            | inr given ↦ rw given (grind (arith, nat_tests))
+          ]
 
-  pub latencies_fit : LatenciesInRange sc
-  latencies_fit = record {
+      by_places : (o p : Option Coordinates) → slice_get sc.coordinates i ≡ o → slice_get sc.coordinates j ≡ p → i ≢ j
+          → 1 ≤ unwrap_or (option_and_then (λ here. option_map (latency_by_coordinates here) p) o) (latency_between sc i j)
+      by_places None p ia jb apart = between
+      by_places (Some a) None ia jb apart = between
+      by_places (Some a) (Some b) ia jb apart = omega (arith, place_far i j a b apart ia jb, long)
+
+module _ (sc : Setup) (rows : List Row) (has : HasLatencies sc.nodes rows sc.latencies) (good : bad_latency_row rows ≡ None)
+    (distinct : same_name sc.nodes ≡ None)
+    (near : below_window sc.window sc.latency sc.nodes sc.coordinates rows ≡ None) (long : 1 ≤ sc.window) (least : 1 ≤ sc.latency)
+    (most : sc.latency ≤ 1000000000) where
+  by_rows : sc.coordinates ≡ [] → latency_below_window sc.window sc.latency sc.nodes rows ≡ None
+  unfolding below_window
+  by_rows none = rw none at near
+
+  without : sc.coordinates ≡ [] → LatenciesInRange sc
+  without none = record {
     square = has.size;
-    positive = positive;
-    bounded = λ i j hi hj. bounded i j (first_of sc.nodes i hi) hi hj;
-    window = λ i j hi hj apart. windows i j (first_of sc.nodes i hi) hi hj apart;
+    positive = positive sc rows near long least;
+    bounded = λ i j hi hj. bounded sc rows has good distinct none (by_rows none) least most i j (first_of sc.nodes i hi) hi hj;
+    window = λ i j hi hj apart. windows sc rows has good distinct none (by_rows none) least most i j (first_of sc.nodes i hi) hi hj apart;
   }
+
+  module _ (all : length sc.coordinates ≡ node_count sc) (places : All IsPlace sc.coordinates) where
+    there : (i : ℕ) → i < node_count sc → slice_get sc.coordinates i ≡ Some (get_or sc.coordinates i origin)
+    there i hi = slice_get-get_or sc.coordinates i origin (rw all hi)
+
+    place : (i : ℕ) → i < node_count sc → IsPlace (get_or sc.coordinates i origin)
+    place i hi = All-get_or IsPlace sc.coordinates i origin (rw all hi) places
+
+    place_latency-bounded : (i j : ℕ) → i < node_count sc → j < node_count sc → latency sc i j ≤ 1000000000
+    place_latency-bounded i j hi hj =
+        elim (cases_Bool (i == j)) [
+          | inl same ↦ rw (itself sc i j same) (omega arith)
+          | inr apart ↦
+              rw (placed sc i j (get_or sc.coordinates i origin) (get_or sc.coordinates j origin) (eqb-false i j apart) (there i hi) (there j hj))
+              (place_bounded (get_or sc.coordinates i origin) (get_or sc.coordinates j origin) (place i hi) (place j hj))
+        ]
+
+    with_places : LatenciesInRange sc
+    with_places = record {
+      square = has.size;
+      positive = positive sc rows near long least;
+      bounded = place_latency-bounded;
+      window = λ i j hi hj apart.
+          rw (placed sc i j (get_or sc.coordinates i origin) (get_or sc.coordinates j origin) apart (there i hi) (there j hj))
+          (place_far sc rows near i j (get_or sc.coordinates i origin) (get_or sc.coordinates j origin) apart (there i hi) (there j hj));
+    }
+
+  pub latencies_fit : CoordinatesInRange sc → LatenciesInRange sc
+  latencies_fit coordinates =
+      elim coordinates.all_or_none [
+        | inl none ↦ without none
+        | inr all ↦ with_places all coordinates.places
+      ]

@@ -4,6 +4,10 @@ pub mod KeyFaults
 pub mod FirstSome
 pub mod Documents
 pub mod FirstRepeat
+pub mod Heights
+pub mod Lent
+pub mod Roots
+pub mod FirstNumber
 pub mod Records
 pub mod Links
 pub mod Indexes
@@ -19,6 +23,7 @@ pub mod SoundSections
 pub mod Entries
 pub mod TopFacts
 pub mod NodeFacts
+pub mod CoordinateFacts
 pub mod LatencyFacts
 pub mod InRange
 pub mod Starts

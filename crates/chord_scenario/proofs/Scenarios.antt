@@ -1,5 +1,5 @@
 -- When a scenario is that of a file, and the fault of two texts.
-use Rattle.std.proofs.Common.{◌≡◌, ◌≢◌, slice_get, ap, ℕ, List, Some, None, ne_eqb}
+use Rattle.std.proofs.Common.{◌≡◌, ◌≢◌, slice_get, ap, ℕ, List, [], Some, None, ne_eqb}
 use Rattle.std.specs.Option.{option_or, option_map_or}
 use Rattle.std.proofs.lemmas.Option.{slice_get_within}
 use Rattle.toml.specs.Data.{Members}
@@ -20,15 +20,15 @@ node_questions-distinct ss nodes h =
     let rest = (or_none (bad_name ss) (option_or (same_name nodes) (option_or (same_id nodes) None)) h).1 in
     (or_none (same_name nodes) (option_or (same_id nodes) None) rest).0
 
--- the latency of two different nodes is that of the rows
+-- the latency of two different nodes without coordinates is that of the rows
 pub latency-between : (rows : List Row) (sc : Setup) (i j : ℕ) (x y : Node) → HasLatencies sc.nodes rows sc.latencies → bad_latency_row rows ≡ None
-    → same_name sc.nodes ≡ None
+    → same_name sc.nodes ≡ None → sc.coordinates ≡ []
     → i ≢ j → slice_get sc.nodes i ≡ Some x → slice_get sc.nodes j ≡ Some y → latency sc i j ≡ latency_by_rows sc.latency rows x y
 unfolding latency
-latency-between rows sc i j x y has good distinct apart hx hy =
+latency-between rows sc i j x y has good distinct none apart hx hy =
     let wi = slice_get_within sc.nodes i x hx in
     let wj = slice_get_within sc.nodes j y hy in
-    rw (ne_eqb i j apart) (latency_in-between sc.nodes rows sc.latencies sc.latency i j x y has good distinct wi wj (at_place sc.nodes i x hx wi)
+    rw (ne_eqb i j apart, none) (latency_in-between sc.nodes rows sc.latencies sc.latency i j x y has good distinct wi wj (at_place sc.nodes i x hx wi)
     (at_place sc.nodes j y hy wj))
 
 pub scenario_fault-not : (toml csv : List ℕ) → document toml ≡ None → scenario_fault toml csv ≡ Some NotToml

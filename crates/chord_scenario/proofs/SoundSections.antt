@@ -1,13 +1,14 @@
 -- What a file without faults of keys has in its tables.
 use Rattle.std.proofs.Common.{◌≡◌, sym, refl, ℕ, ◌≤◌, Bool, true, false, not, ◌&&◌, List, [], ◌∷◌, ◌++◌, find, nat_le, Option, Some, None, unwrap_or, inl, inr}
 use Rattle.std.specs.Option.{option_or, option_map_or, option_and_then, is_none}
-use Rattle.std.specs.List.{AllByRecursion, list_any}
+use Rattle.std.specs.List.{AllByRecursion}
 use Rattle.std.proofs.lemmas.Bool.{cases_Bool, and_parts, false≢true, leb-true}
 use Rattle.toml.specs.Data.{Data, Members}
 use Rattle.chord_scenario.specs.declared.key.Place.TheVariants as place
 use Rattle.chord_scenario.specs.declared.key.FileKey.TheVariants as key
 use Rattle.chord_scenario.specs.declared.key.Group.TheVariants.{Nodes, Commands}
 use Rattle.chord_scenario.specs.declared.key.Entry.{Entry}
+use Rattle.chord_scenario.specs.declared.keys_check.Needs.{Needs}
 use Rattle.chord_scenario.specs.declared.key.Form.TheVariants.{Whole}
 use Rattle.chord_scenario.specs.declared.fault.ScenarioFault.TheVariants.{UnknownKey, MissingKey, WrongType, OutOfRange}
 use Rattle.chord_scenario.specs.FileKeys.{keys_at}
@@ -16,7 +17,7 @@ use Rattle.chord_scenario.specs.Sections.{Section, table_at, tables_of, sections
 use Rattle.chord_scenario.specs.Search.{first_some}
 use Rattle.chord_scenario.specs.KeyFaults.{
   key_fault_in,
-  is_churn_section,
+  needs_of,
   is_missing,
   has_unlisted,
   unknown_key,
@@ -32,9 +33,9 @@ use Rattle.chord_scenario.proofs.FirstRepeat.{mapped_none}
 use Rattle.chord_scenario.proofs.DistinctNames.{or_none}
 
 -- no key of the table is unlisted, missing, of another type or out of range
-pub record IsSound (profile bits : ℕ) (churns : Bool) (s : Section) : Type 0 where
+pub record IsSound (profile bits : ℕ) (needs : Needs) (s : Section) : Type 0 where
   pub known : has_unlisted profile s.at s.members ≡ false
-  pub present : AllByRecursion (λ e. is_missing churns s e ≡ false) (keys_at profile s.at)
+  pub present : AllByRecursion (λ e. is_missing needs s e ≡ false) (keys_at profile s.at)
   pub typed : AllByRecursion (λ e. has_wrong_type s e ≡ false) (keys_at profile s.at)
   pub fitting : AllByRecursion (λ e. is_out_of_range bits s e ≡ false) (keys_at profile s.at)
 
@@ -55,34 +56,34 @@ known_each profile (s ∷ ss) h =
       | inr other ↦ (other, known_each profile ss (rw other at h))
     ]
 
-sound_each : (profile bits : ℕ) (churns : Bool) (ss : List Section)
+sound_each : (profile bits : ℕ) (needs : Needs) (ss : List Section)
     → AllByRecursion (λ s. has_unlisted profile s.at s.members ≡ false) ss
-    → first_some (key_fault_in profile MissingKey (is_missing churns)) ss ≡ None
+    → first_some (key_fault_in profile MissingKey (is_missing needs)) ss ≡ None
     → first_some (key_fault_in profile WrongType has_wrong_type) ss ≡ None
     → first_some (key_fault_in profile OutOfRange (is_out_of_range bits)) ss ≡ None
-    → AllByRecursion (IsSound profile bits churns) ss
-sound_each profile bits churns [] known missing wrong out = tt
-sound_each profile bits churns (s ∷ ss) known missing wrong out =
-    let (m, ms) = or_none (key_fault_in profile MissingKey (is_missing churns) s)
-    (first_some (key_fault_in profile MissingKey (is_missing churns)) ss) missing in
+    → AllByRecursion (IsSound profile bits needs) ss
+sound_each profile bits needs [] known missing wrong out = tt
+sound_each profile bits needs (s ∷ ss) known missing wrong out =
+    let (m, ms) = or_none (key_fault_in profile MissingKey (is_missing needs) s)
+    (first_some (key_fault_in profile MissingKey (is_missing needs)) ss) missing in
     let (w, ws) = or_none (key_fault_in profile WrongType has_wrong_type s) (first_some (key_fault_in profile WrongType has_wrong_type) ss) wrong in
     let (o, os) = or_none (key_fault_in profile OutOfRange (is_out_of_range bits) s)
     (first_some (key_fault_in profile OutOfRange (is_out_of_range bits)) ss) out in (
       record {
         known = known.0;
-        present = find-none-each (is_missing churns s) (keys_at profile s.at)
-            (mapped_none (λ (e : Entry). MissingKey s.at e.0) (find (is_missing churns s) (keys_at profile s.at)) m);
+        present = find-none-each (is_missing needs s) (keys_at profile s.at)
+            (mapped_none (λ (e : Entry). MissingKey s.at e.0) (find (is_missing needs s) (keys_at profile s.at)) m);
         typed = find-none-each (has_wrong_type s) (keys_at profile s.at)
             (mapped_none (λ (e : Entry). WrongType s.at e.0) (find (has_wrong_type s) (keys_at profile s.at)) w);
         fitting = find-none-each (is_out_of_range bits s) (keys_at profile s.at)
             (mapped_none (λ (e : Entry). OutOfRange s.at e.0) (find (is_out_of_range bits s) (keys_at profile s.at)) o);
       },
-      sound_each profile bits churns ss known.1 ms ws os,
+      sound_each profile bits needs ss known.1 ms ws os,
     )
 
 -- no question of keys finds a fault, so each table is sound
 pub sound_sections : (profile bits : ℕ) (ss : List Section) → first_answer (key_questions profile bits ss) ≡ None
-    → AllByRecursion (IsSound profile bits (list_any is_churn_section ss)) ss
+    → AllByRecursion (IsSound profile bits (needs_of ss)) ss
 unfolding unknown_key missing_key wrong_type out_of_range
 sound_sections profile bits ss h =
     let (listed, known) = or_none (unknown_key profile ss)
@@ -91,7 +92,7 @@ sound_sections profile bits ss h =
     let (wrong, last) = or_none (wrong_type profile ss) (option_or (out_of_range profile bits ss) None) rest in
     let (out, end) = or_none (out_of_range profile bits ss) None last in
     let each = known_each profile ss (mapped_none (λ (s : Section). UnknownKey s.at) (find (λ s. has_unlisted profile s.at s.members) ss) listed) in
-    sound_each profile bits (list_any is_churn_section ss) ss each missing wrong out
+    sound_each profile bits (needs_of ss) ss each missing wrong out
 
 pub all-append : {A : Type 0} (P : A → Type 0) (xs ys : List A) → AllByRecursion P (xs ++ ys) → AllByRecursion P xs × AllByRecursion P ys
 all-append P [] ys h = (tt, h)

@@ -14,6 +14,8 @@ use Rattle.std.proofs.Common.{
   false,
   not,
   ◌&&◌,
+  ◌==◌,
+  ◌⊎◌,
   List,
   [],
   ◌∷◌,
@@ -40,27 +42,29 @@ use Rattle.std.proofs.lemmas.List.Elements.{filter-append}
 use Rattle.toml.specs.Data.{Data, string, integer, float, boolean, datetime, array, table, Items, no_items, item, Members, as_table}
 use Rattle.chord_scenario.specs.declared.key.Place.{Place}
 use Rattle.chord_scenario.specs.declared.key.Place.TheVariants as place
+use Rattle.chord_scenario.specs.declared.key.FileKey.{FileKey}
 use Rattle.chord_scenario.specs.declared.key.FileKey.TheVariants as key
-use Rattle.chord_scenario.specs.declared.key.Form.TheVariants.{Table, Tables}
+use Rattle.chord_scenario.specs.declared.keys_check.Needs.{Needs}
+use Rattle.chord_scenario.specs.declared.key.Form.TheVariants.{Table, Tables, Whole}
 use Rattle.chord_scenario.specs.declared.key.Presence.TheVariants.{ForChurn}
 use Rattle.chord_scenario.specs.declared.key.Group.{Group}
 use Rattle.chord_scenario.specs.declared.key.Group.TheVariants.{Nodes, Commands}
 use Rattle.chord_scenario.specs.declared.setting.Command.{Command}
 use Rattle.chord_scenario.specs.declared.setting.Node.{Node}
 use Rattle.chord_scenario.specs.FileKeys.{required, optional}
-use Rattle.chord_scenario.specs.Values.{data_at, number_at, has_type, is_within, item_count, is_in_range}
+use Rattle.chord_scenario.specs.Values.{data_at, number_at, truth_at, has_type, is_within, item_count, is_in_range}
 use Rattle.chord_scenario.specs.Sections.{Section, place_in, table_at, tables_among, tables_of, sections}
 use Rattle.chord_scenario.specs.Settings.{number_or, is_node, is_command, node_of, nodes_of, command_of, commands_of, churn_of, lookups_of}
 use Rattle.chord_scenario.specs.Accepted.{setup_with}
 use Rattle.chord_scenario.specs.Range.{IsSpan, IsChurn, IsInterval, NumbersInRange, most_events}
 use Rattle.chord_scenario.proofs.SoundSections.{IsSound, Fits, HoldsInFile}
-use Rattle.chord_scenario.proofs.Entries.{Lists, in_each, profile_cases, required_fits, required_agrees, optional_fits, unlisted_default, has_typed, not_out}
+use Rattle.chord_scenario.proofs.Entries.{Lists, in_each, profile_cases, required_fits, required_agrees, optional_fits, unlisted_default, unlisted_false, has_typed, not_out}
 
 -- a number of microseconds that is at least 1
 interval : {n : ℕ} → Fits 1 1000000000 n → IsInterval n
 interval f = record { least = f.low; greatest = f.high }
 
-module _ (profile bits : ℕ) (churns : Bool) (top : Members) (s : IsSound profile bits churns (record { at = place.Top; members = top })) where
+module _ (profile bits : ℕ) (needs : Needs) (top : Members) (s : IsSound profile bits needs (record { at = place.Top; members = top })) where
   pub profile_fits : Fits 1 3 (number_at key.Profile top)
   profile_fits = required_fits s key.Profile 1 3 (in_each profile refl refl refl)
 
@@ -121,20 +125,58 @@ module _ (profile bits : ℕ) (churns : Bool) (top : Members) (s : IsSound profi
         | inr (inr is) ↦ omega (arith, unlisted_default s key.SpreadUs 0 (rw (is.not_third, is.not_second) refl))
       ]
 
-  retries_fit : number_or 0 key.Retries top ≤ 3
-  retries_fit =
+  -- a number that the third profile alone has is in its range, and 0 in the others
+  record IsOwnOfThird (most number : ℕ) : Type 0 where
+    within : number ≤ most
+    absent : profile ≤ 2 → number ≡ 0
+
+  third_number : (k : FileKey) (most : ℕ) → (profile == 3 ≡ true → Lists s (optional k (Whole 0 most)))
+      → (profile == 3 ≡ false → (profile == 2 ≡ true) ⊎ (profile == 2 ≡ false) → number_or 0 k top ≡ 0) → IsOwnOfThird most (number_or 0 k top)
+  third_number k most listed unlisted =
       elim (profile_cases profile) [
-        | inl third ↦ (optional_fits s key.Retries 0 3 0 (rw third refl) zero_fits).high
-        | inr (inl is) ↦ omega (arith, unlisted_default s key.Retries 0 (rw (is.not_third, is.second) refl))
-        | inr (inr is) ↦ omega (arith, unlisted_default s key.Retries 0 (rw (is.not_third, is.not_second) refl))
+        | inl third ↦ record {
+          within = (optional_fits s k 0 most 0 (listed third) zero_fits).high;
+          absent = λ early. let is : profile ≡ 3 = eqb-true profile 3 third in absurd (omega (arith, early, is));
+        }
+        | inr (inl is) ↦ let zero = unlisted is.not_third (inl is.second) in record { within = omega (arith, zero); absent = λ early. zero }
+        | inr (inr is) ↦ let zero = unlisted is.not_third (inr is.not_second) in record { within = omega (arith, zero); absent = λ early. zero }
       ]
 
-  no_retries : profile ≤ 2 → number_or 0 key.Retries top ≡ 0
-  no_retries early =
+  retries_fit : IsOwnOfThird 3 (number_or 0 key.Retries top)
+  retries_fit =
+      third_number key.Retries 3 (λ third. rw third refl) (λ not_third second. elim second [
+        | inl is ↦ unlisted_default s key.Retries 0 (rw (not_third, is) refl)
+        | inr is ↦ unlisted_default s key.Retries 0 (rw (not_third, is) refl)
+      ])
+
+  pause_fits : IsOwnOfThird 1000000000 (number_or 0 key.JoinPauseUs top)
+  pause_fits =
+      third_number key.JoinPauseUs 1000000000 (λ third. rw third refl) (λ not_third second. elim second [
+        | inl is ↦ unlisted_default s key.JoinPauseUs 0 (rw (not_third, is) refl)
+        | inr is ↦ unlisted_default s key.JoinPauseUs 0 (rw (not_third, is) refl)
+      ])
+
+  check_fits : IsOwnOfThird 1000000000 (number_or 0 key.CheckUs top)
+  check_fits =
+      third_number key.CheckUs 1000000000 (λ third. rw third refl) (λ not_third second. elim second [
+        | inl is ↦ unlisted_default s key.CheckUs 0 (rw (not_third, is) refl)
+        | inr is ↦ unlisted_default s key.CheckUs 0 (rw (not_third, is) refl)
+      ])
+
+  gives_up : profile ≤ 2 → truth_at key.JoinForever top ≡ false
+  gives_up early =
       elim (profile_cases profile) [
         | inl third ↦ let is : profile ≡ 3 = eqb-true profile 3 third in absurd (omega (arith, early, is))
-        | inr (inl is) ↦ unlisted_default s key.Retries 0 (rw (is.not_third, is.second) refl)
-        | inr (inr is) ↦ unlisted_default s key.Retries 0 (rw (is.not_third, is.not_second) refl)
+        | inr (inl is) ↦ unlisted_false s key.JoinForever (rw (is.not_third, is.second) refl)
+        | inr (inr is) ↦ unlisted_false s key.JoinForever (rw (is.not_third, is.not_second) refl)
+      ]
+
+  tells_nothing : profile ≤ 2 → truth_at key.Detail top ≡ false
+  tells_nothing early =
+      elim (profile_cases profile) [
+        | inl third ↦ let is : profile ≡ 3 = eqb-true profile 3 third in absurd (omega (arith, early, is))
+        | inr (inl is) ↦ unlisted_false s key.Detail (rw (is.not_third, is.second) refl)
+        | inr (inr is) ↦ unlisted_false s key.Detail (rw (is.not_third, is.not_second) refl)
       ]
 
   no_loss : profile ≡ 1 → (number_or 0 key.LossPpm top ≡ 0) × (number_or 0 key.SpreadUs top ≡ 0)
@@ -161,15 +203,20 @@ module _ (profile bits : ℕ) (churns : Bool) (top : Members) (s : IsSound profi
     max_events_greatest = max_events_fits.high;
     loss = loss_fits;
     spread = spread_fits;
-    retries = retries_fit;
+    retries = retries_fit.within;
+    join_pause = pause_fits.within;
+    check = check_fits.within;
     profile_least = profile_fits.low;
     profile_greatest = profile_fits.high;
     lossless = λ is_first. no_loss (is_profile ∙ is_first);
-    asked_once = λ early. no_retries (omega (arith, is_profile, early));
+    asked_once = λ early. retries_fit.absent (omega (arith, is_profile, early));
+    joined_at_once = λ early. (pause_fits.absent (omega (arith, is_profile, early)), gives_up (omega (arith, is_profile, early)));
+    unchecked = λ early. check_fits.absent (omega (arith, is_profile, early));
+    undetailed = λ early. tells_nothing (omega (arith, is_profile, early));
   }
 
   -- the file has a churn table if a node churns
-  pub churn_there : churns ≡ true → IsSome (churn_of top)
+  pub churn_there : needs.churn ≡ true → IsSome (churn_of top)
   unfolding churn_of has_type
   churn_there some =
       let (d, is, typed) = has_typed s (record { 0 = key.Churn; 1 = Table; 2 = ForChurn }) (in_each profile refl refl refl) some in
@@ -179,9 +226,9 @@ module _ (profile bits : ℕ) (churns : Bool) (top : Members) (s : IsSound profi
       mapped f None h = absurd (false≢true h)
       mapped f (Some x) h = refl
 
-module _ (profile bits : ℕ) (churns : Bool) where
+module _ (profile bits : ℕ) (needs : Needs) where
   -- the spans of a churn table and of a lookups table
-  churn_fits : (o : Option Data) → AllByRecursion (IsSound profile bits churns) (table_at place.Churn o)
+  churn_fits : (o : Option Data) → AllByRecursion (IsSound profile bits needs) (table_at place.Churn o)
       → IfSome (option_map (λ ms. record {
         life = record { least = number_at key.LifeMinUs ms; greatest = number_at key.LifeMaxUs ms };
         down = record { least = number_at key.DownMinUs ms; greatest = number_at key.DownMaxUs ms };
@@ -206,7 +253,7 @@ module _ (profile bits : ℕ) (churns : Bool) where
         down = record { positive = down_least.low; ordered = leb-true _ _ down; bounded = down_most.high };
       }
 
-  lookups_fit : (o : Option Data) → AllByRecursion (IsSound profile bits churns) (table_at place.Lookups o)
+  lookups_fit : (o : Option Data) → AllByRecursion (IsSound profile bits needs) (table_at place.Lookups o)
       → IfSome (option_map (λ ms. record { least = number_at key.GapMinUs ms; greatest = number_at key.GapMaxUs ms }) (option_and_then as_table o)) IsSpan
   lookups_fit None h = tt
   lookups_fit (Some (string s)) h = tt
@@ -222,11 +269,11 @@ module _ (profile bits : ℕ) (churns : Bool) where
       let gap = required_agrees s key.GapMaxUs 1 1000000000 refl in
       record { positive = least.low; ordered = leb-true _ _ gap; bounded = most.high }
 
-  pub churn_in_range : (file : Members) → HoldsInFile (IsSound profile bits churns) file → IfSome (churn_of file) IsChurn
+  pub churn_in_range : (file : Members) → HoldsInFile (IsSound profile bits needs) file → IfSome (churn_of file) IsChurn
   unfolding churn_of
   churn_in_range file h = churn_fits (data_at key.Churn file) h.churn
 
-  pub lookups_in_range : (file : Members) → HoldsInFile (IsSound profile bits churns) file → IfSome (lookups_of file) IsSpan
+  pub lookups_in_range : (file : Members) → HoldsInFile (IsSound profile bits needs) file → IfSome (lookups_of file) IsSpan
   unfolding lookups_of
   lookups_in_range file h = lookups_fit (data_at key.Lookups file) h.lookups
 
@@ -340,19 +387,19 @@ module _ (test : Place → Bool) where
         chosen-no_table place.Lookups not_lookups (data_at key.Lookups top),
       )
 
-module _ (profile bits : ℕ) (churns : Bool) (top : Members) (s : IsSound profile bits churns (record { at = place.Top; members = top })) where
-  nodes_fit : length (filter (λ s. is_node s.at) (tables_of Nodes (data_at key.Node top))) ≤ 4096
+module _ (profile bits : ℕ) (needs : Needs) (top : Members) (s : IsSound profile bits needs (record { at = place.Top; members = top })) where
+  nodes_fit : length (filter (λ s. is_node s.at) (tables_of Nodes (data_at key.Node top))) ≤ 65536
   nodes_fit =
       elim (profile_cases profile) [
-        | inl third ↦ most_nodes 4096 (rw third refl)
-        | inr (inl is) ↦ most_nodes 4096 (rw (is.not_third, is.second) refl)
+        | inl third ↦ most_nodes 65536 (rw third refl)
+        | inr (inl is) ↦ omega (arith, most_nodes 4096 (rw (is.not_third, is.second) refl))
         | inr (inr is) ↦ omega (arith, most_nodes 512 (rw (is.not_third, is.not_second) refl))
       ]
     where
       most_nodes : (most : ℕ) → Lists s (required key.Node (Tables 2 most)) → length (filter (λ s. is_node s.at) (tables_of Nodes (data_at key.Node top))) ≤ most
       most_nodes most is = chosen-most_of is_node Nodes bits 2 most _ (data_at key.Node top) (not_out s (required key.Node (Tables 2 most)) is)
 
-  pub few_nodes : (circle : ℕ) → length (nodes_of circle (sections top)) ≤ 4096
+  pub few_nodes : (circle : ℕ) → length (nodes_of circle (sections top)) ≤ 65536
   unfolding nodes_of
   few_nodes circle =
       let ss = filter (λ s. is_node s.at) (sections top) in

@@ -1,15 +1,17 @@
 -- When a scenario is that of two texts.
-use Rattle.std.specs.Prelude.{◌≡◌, ◌≢◌, ℕ, List, flat_map, map, slice_get, Some, None}
+use Rattle.std.specs.Prelude.{◌≡◌, ◌≢◌, ℕ, List, [], flat_map, map, slice_get, Some, None}
 use Rattle.toml.specs.Data.{Members}
 use Rattle.chord_scenario.specs.declared.key.FileKey.TheVariants as key
 use Rattle.chord_scenario.specs.declared.setting.Command.{Command}
+use Rattle.chord_scenario.specs.declared.setting.Coordinates.{Coordinates}
 use Rattle.chord_scenario.specs.declared.setting.Node.{Node}
+use Rattle.chord_scenario.specs.Distances.{latency_by_coordinates}
 use Rattle.chord_scenario.specs.Faults.{latency_by_rows, document, scenario_fault}
 use Rattle.chord_scenario.specs.Rows.{Row, rows_of}
 use Rattle.chord_scenario.specs.Sections.{sections}
-use Rattle.chord_scenario.specs.Settings.{number_or, nodes_of, commands_of, churn_of, lookups_of}
+use Rattle.chord_scenario.specs.Settings.{number_or, nodes_of, commands_of, coordinates_of, churn_of, lookups_of}
 use Rattle.chord_scenario.specs.Setup.{Setup}
-use Rattle.chord_scenario.specs.Values.{number_at}
+use Rattle.chord_scenario.specs.Values.{number_at, truth_at}
 use Rattle.chord_scenario.specs.World.{latency}
 
 -- what the numbers and spans of a table set, or their defaults, with these nodes, commands and latencies
@@ -31,11 +33,16 @@ setup_with top nodes commands latencies = record {
   loss = number_or 0 key.LossPpm top;
   spread = number_or 0 key.SpreadUs top;
   retries = number_or 0 key.Retries top;
+  join_pause = number_or 0 key.JoinPauseUs top;
+  join_forever = truth_at key.JoinForever top;
+  check = number_or 0 key.CheckUs top;
+  detail = truth_at key.Detail top;
   churn = churn_of top;
   lookups = lookups_of top;
   nodes = nodes;
   commands = commands;
   latencies = latencies;
+  coordinates = coordinates_of (sections top);
 }
 
 -- the nodes and the commands of a file
@@ -53,12 +60,14 @@ square_by_rows rows nodes = flat_map (λ x. map (latency_by_rows 0 rows x) nodes
 abbrev pub setup_in : Members → List Row → Setup
 setup_in top rows = setup_with top (nodes_in top) (commands_in top) (square_by_rows rows (nodes_in top))
 
--- the scenario is that of the file and the rows, and so the latency of two different nodes is that of the row that names
--- the pair, or the file's
+-- the scenario is that of the file and the rows, and so the latency of two different nodes without coordinates is that of the
+-- row that names the pair, or the file's, and that of nodes with coordinates follows from these
 pub record IsSetupOf (top : Members) (rows : List Row) (sc : Setup) : Type 0 where
   pub values : sc ≡ setup_in top rows
-  pub latencies : (i j : ℕ) (x y : Node) → i ≢ j → slice_get sc.nodes i ≡ Some x → slice_get sc.nodes j ≡ Some y
+  pub latencies : sc.coordinates ≡ [] → (i j : ℕ) (x y : Node) → i ≢ j → slice_get sc.nodes i ≡ Some x → slice_get sc.nodes j ≡ Some y
       → latency sc i j ≡ latency_by_rows (number_at key.LatencyUs top) rows x y
+  pub distances : (i j : ℕ) (here there : Coordinates) → i ≢ j → slice_get sc.coordinates i ≡ Some here → slice_get sc.coordinates j ≡ Some there
+      → latency sc i j ≡ latency_by_coordinates here there
 
 -- the scenario of two texts, which have no fault
 pub record Accepts (toml csv : List ℕ) (sc : Setup) : Type 0 where

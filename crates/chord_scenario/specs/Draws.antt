@@ -15,6 +15,7 @@ timer_purpose (body.FingerTick epoch) = 2
 timer_purpose (body.TrafficTick epoch) = 3
 timer_purpose (body.LifeEnd epoch) = 4
 timer_purpose (body.Rise epoch) = 5
+timer_purpose (body.CheckTick epoch) = 8
 timer_purpose _ = 0
 
 abbrev pub key_purpose : ℕ

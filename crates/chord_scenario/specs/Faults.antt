@@ -1,4 +1,4 @@
--- The fifteen faults of a scenario: each is one question about both texts as a whole, and the first fault counts.
+-- The sixteen faults of a scenario: each is one question about both texts as a whole, and the first fault counts.
 use Rattle.std.specs.Prelude.{
   ℕ,
   ◌+◌,
@@ -22,6 +22,8 @@ use Rattle.std.specs.Prelude.{
   None,
   is_none,
   option_map,
+  option_and_then,
+  slice_get,
   unwrap_or,
   if◌then◌else◌,
 }
@@ -32,6 +34,7 @@ use Rattle.std.specs.Str.{is_utf8}
 use Rattle.toml.specs.Data.{Members}
 use Rattle.toml.specs.Parse.{parse_document}
 use Rattle.chord_scenario.specs.declared.key.FileKey.TheVariants as key
+use Rattle.chord_scenario.specs.declared.setting.Coordinates.{Coordinates}
 use Rattle.chord_scenario.specs.declared.setting.Node.{Node}
 use Rattle.chord_scenario.specs.declared.fault.ScenarioFault.{ScenarioFault}
 use Rattle.chord_scenario.specs.declared.fault.ScenarioFault.TheVariants.{
@@ -46,12 +49,13 @@ use Rattle.chord_scenario.specs.declared.fault.ScenarioFault.TheVariants.{
   SelfLink,
   SameLinkTwice,
   LatencyBelowWindow,
+  RowsAndCoordinates,
 }
 use Rattle.chord_scenario.specs.declared.key.Place.TheVariants as place
 use Rattle.chord_scenario.specs.Operations.{is_join}
 use Rattle.chord_scenario.specs.Values.{number_at, text_at}
 use Rattle.chord_scenario.specs.Sections.{Section, sections}
-use Rattle.chord_scenario.specs.Settings.{is_node, is_command, operation_at, name_at, index_of, nodes_of}
+use Rattle.chord_scenario.specs.Settings.{is_node, is_command, operation_at, name_at, index_of, nodes_of, coordinates_of}
 use Rattle.chord_scenario.specs.Rows.{Row, link_of, is_bad_row, name_one_pair, row_latency, rows_of}
 use Rattle.chord_scenario.specs.Search.{first_some, first_repeat, first_meeting, section_fault, row_fault}
 use Rattle.chord_scenario.specs.KeyFaults.{unknown_key, missing_key, wrong_type, out_of_range}
@@ -125,6 +129,45 @@ latency_below_window window default nodes rows =
     option_map (λ p. LatencyBelowWindow p.0.name p.1.name)
     (first_meeting (λ x y. nat_lt (latency_by_rows default rows x y) window) nodes)
 
+-- the number and the height of a node and of a later one: those of the lower one, and of the first at the same height
+abbrev pub lower : ℕ × ℕ → Option (ℕ × ℕ) → ℕ × ℕ
+lower one None = one
+lower one (Some other) = if nat_lt other.1 one.1 then other else one
+
+-- the number, from n, and the height of the first of the lowest nodes, without the node `left_out`
+abbrev pub lowest_from : (left_out n : ℕ) → List Coordinates → Option (ℕ × ℕ)
+lowest_from left_out n [] = None
+lowest_from left_out n (c ∷ cs) =
+    let later = lowest_from left_out (n + 1) cs in if n == left_out then later else Some (lower (n, c.height) later)
+
+-- the first of the lowest nodes, and the first of the lowest of the others
+abbrev pub lowest : List Coordinates → Option (ℕ × ℕ)
+lowest coordinates = lowest_from (length coordinates) 0 coordinates
+
+abbrev pub next_lowest : ℕ × ℕ → List Coordinates → Option (ℕ × ℕ)
+next_lowest one coordinates = lowest_from one.0 0 coordinates
+
+abbrev pub name_in : List Node → ℕ → List ℕ
+name_in nodes i = unwrap_or (option_map (λ n. n.name) (slice_get nodes i)) []
+
+-- the sum of the two least heights is below the window
+abbrev pub low_pair : ℕ → List Node → ℕ × ℕ → ℕ × ℕ → Option ScenarioFault
+low_pair window nodes one other =
+    if nat_lt (one.1 + other.1) window then Some (LatencyBelowWindow (name_in nodes one.0) (name_in nodes other.0)) else None
+
+unfoldable pub heights_below_window : ℕ → List Node → List Coordinates → Option ScenarioFault
+heights_below_window window nodes coordinates =
+    option_and_then (λ one. option_and_then (low_pair window nodes one) (next_lowest one coordinates)) (lowest coordinates)
+
+-- two nodes are nearer than the window is long, by their heights or by the rows
+unfoldable pub below_window : ℕ → ℕ → List Node → List Coordinates → List Row → Option ScenarioFault
+below_window window default nodes coordinates rows =
+    if length coordinates == 0 then latency_below_window window default nodes rows else heights_below_window window nodes coordinates
+
+-- there are coordinates and rows
+unfoldable pub rows_and_coordinates : List Coordinates → List Row → Option ScenarioFault
+rows_and_coordinates coordinates rows = if length coordinates == 0 || length rows == 0 then None else Some RowsAndCoordinates
+
 -- the questions of a file and of the rows of a latency file, in their order
 abbrev pub questions : Members → List Row → List (Option ScenarioFault)
 questions top rows =
@@ -145,7 +188,8 @@ questions top rows =
     ∷ bad_latency_row rows
     ∷ self_link ss rows
     ∷ same_link_twice rows
-    ∷ latency_below_window (number_at key.WindowUs top) (number_at key.LatencyUs top) nodes rows
+    ∷ below_window (number_at key.WindowUs top) (number_at key.LatencyUs top) nodes (coordinates_of ss) rows
+    ∷ rows_and_coordinates (coordinates_of ss) rows
     ∷ []
 
 -- the first fault

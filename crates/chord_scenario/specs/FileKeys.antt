@@ -6,7 +6,7 @@ use Rattle.chord_scenario.specs.declared.key.FileKey.{FileKey}
 use Rattle.chord_scenario.specs.declared.key.FileKey.TheVariants as key
 use Rattle.chord_scenario.specs.declared.key.Form.{Form}
 use Rattle.chord_scenario.specs.declared.key.Form.TheVariants.{Whole, Text, Operation, Boolean, Identifier, Table, Tables}
-use Rattle.chord_scenario.specs.declared.key.Presence.TheVariants.{Required, Optional, ForChurn, ForJoin, ForLookup}
+use Rattle.chord_scenario.specs.declared.key.Presence.TheVariants.{Required, Optional, ForChurn, ForCoordinates, ForJoin, ForLookup}
 use Rattle.chord_scenario.specs.declared.key.Entry.{Entry}
 
 -- a key as the file writes it
@@ -27,6 +27,10 @@ key_name key.MaxEvents = codes "max_events"
 key_name key.LossPpm = codes "loss_ppm"
 key_name key.SpreadUs = codes "spread_us"
 key_name key.Retries = codes "retries"
+key_name key.JoinPauseUs = codes "join_pause_us"
+key_name key.JoinForever = codes "join_forever"
+key_name key.CheckUs = codes "check_us"
+key_name key.Detail = codes "detail"
 key_name key.Churn = codes "churn"
 key_name key.Lookups = codes "lookups"
 key_name key.Node = codes "node"
@@ -40,6 +44,9 @@ key_name key.GapMaxUs = codes "gap_max_us"
 key_name key.Name = codes "name"
 key_name key.Id = codes "id"
 key_name key.Initial = codes "initial"
+key_name key.XUs = codes "x_us"
+key_name key.YUs = codes "y_us"
+key_name key.HeightUs = codes "height_us"
 key_name key.AtUs = codes "at_us"
 key_name key.Do = codes "do"
 key_name key.Via = codes "via"
@@ -84,12 +91,18 @@ abbrev pub network_keys_and : List Entry → List Entry
 network_keys_and more = optional key.LossPpm (Whole 0 1000000) ∷ optional key.SpreadUs (Whole 0 1000000000) ∷ more
 
 -- the keys that the third profile adds to these
-abbrev pub retry_keys : List Entry
-retry_keys = optional key.Retries (Whole 0 3) ∷ []
+abbrev pub deployed_keys : List Entry
+deployed_keys =
+    optional key.Retries (Whole 0 3)
+    ∷ optional key.JoinPauseUs (Whole 0 1000000000)
+    ∷ optional key.JoinForever Boolean
+    ∷ optional key.CheckUs (Whole 0 1000000000)
+    ∷ optional key.Detail Boolean
+    ∷ []
 
 abbrev pub top_keys : (profile : ℕ) → List Entry
 top_keys profile =
-    if profile == 3 then top_keys_of 128 4096 700000000 (network_keys_and retry_keys)
+    if profile == 3 then top_keys_of 128 65536 100000000000 (network_keys_and deployed_keys)
     else if profile == 2 then top_keys_of 128 4096 50000000 (network_keys_and [])
     else top_keys_of 64 512 50000000 []
 
@@ -112,13 +125,21 @@ is_wide profile = profile == 2 || profile == 3
 abbrev pub most_digits : (profile : ℕ) → ℕ
 most_digits profile = if is_wide profile then 32 else 16
 
+-- the keys of coordinates: if one node has one of them, all nodes have the first two
+abbrev pub coordinate_keys : List Entry
+coordinate_keys =
+    record { 0 = key.XUs; 1 = Whole 0 500000000; 2 = ForCoordinates }
+    ∷ record { 0 = key.YUs; 1 = Whole 0 500000000; 2 = ForCoordinates }
+    ∷ optional key.HeightUs (Whole 0 100000000)
+    ∷ []
+
 abbrev pub node_keys : (profile : ℕ) → List Entry
 node_keys profile =
     required key.Name Text
     ∷ optional key.Id (Identifier (most_digits profile))
     ∷ optional key.Initial Boolean
     ∷ optional key.Churn Boolean
-    ∷ []
+    ∷ (if profile == 3 then coordinate_keys else [])
 
 abbrev pub command_keys : (profile : ℕ) → List Entry
 command_keys profile =

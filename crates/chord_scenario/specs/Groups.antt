@@ -2,6 +2,7 @@
 use Rattle.std.specs.Prelude.{ℕ, List, [], ◌∷◌, ◌++◌, Option}
 use Rattle.toml.specs.Data.{Members}
 use Rattle.chord_scenario.specs.declared.key.FileKey.TheVariants as key
+use Rattle.chord_scenario.specs.declared.setting.Coordinates.{Coordinates}
 use Rattle.chord_scenario.specs.declared.setting.Node.{Node}
 use Rattle.chord_scenario.specs.declared.fault.ScenarioFault.{ScenarioFault}
 use Rattle.chord_scenario.specs.Faults.{
@@ -14,11 +15,13 @@ use Rattle.chord_scenario.specs.Faults.{
   bad_latency_row,
   self_link,
   same_link_twice,
-  latency_below_window,
+  below_window,
+  rows_and_coordinates,
 }
 use Rattle.chord_scenario.specs.KeyFaults.{unknown_key, missing_key, wrong_type, out_of_range}
 use Rattle.chord_scenario.specs.Rows.{Row}
 use Rattle.chord_scenario.specs.Sections.{Section}
+use Rattle.chord_scenario.specs.Settings.{coordinates_of}
 use Rattle.chord_scenario.specs.Values.{number_at}
 
 -- of the keys
@@ -39,12 +42,13 @@ link_questions list duration ss nodes rows =
     ∷ self_link ss rows
     ∷ []
 
--- of the pairs that rows link
-abbrev pub pair_questions : ℕ → ℕ → List Node → List Row → List (Option ScenarioFault)
-pair_questions window default nodes rows = same_link_twice rows ∷ latency_below_window window default nodes rows ∷ []
+-- of the pairs that rows or coordinates link
+abbrev pub pair_questions : ℕ → ℕ → List Node → List Coordinates → List Row → List (Option ScenarioFault)
+pair_questions window default nodes coordinates rows =
+    same_link_twice rows ∷ below_window window default nodes coordinates rows ∷ rows_and_coordinates coordinates rows ∷ []
 
 -- of all that links nodes
 abbrev pub late_questions : Members → List Section → List Node → List Row → List (Option ScenarioFault)
 late_questions top ss nodes rows =
     link_questions (number_at key.List top) (number_at key.DurationUs top) ss nodes rows
-    ++ pair_questions (number_at key.WindowUs top) (number_at key.LatencyUs top) nodes rows
+    ++ pair_questions (number_at key.WindowUs top) (number_at key.LatencyUs top) nodes (coordinates_of ss) rows

@@ -22,9 +22,14 @@ setup_of s = record {
   loss = s.loss;
   spread = s.spread;
   retries = s.retries;
+  join_pause = s.join_pause;
+  join_forever = s.join_forever;
+  check = s.check;
+  detail = s.detail;
   churn = s.churn;
   lookups = s.lookups;
   nodes = s.nodes.items;
   commands = s.commands.items;
   latencies = square_or_zeros (length s.nodes.items) s.latencies.items;
+  coordinates = s.coordinates.items;
 }

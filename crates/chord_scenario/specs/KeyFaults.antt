@@ -7,8 +7,9 @@ use Rattle.chord_scenario.specs.declared.key.Place.{Place}
 use Rattle.chord_scenario.specs.declared.key.FileKey.{FileKey}
 use Rattle.chord_scenario.specs.declared.key.FileKey.TheVariants as key
 use Rattle.chord_scenario.specs.declared.key.Presence.{Presence}
-use Rattle.chord_scenario.specs.declared.key.Presence.TheVariants.{Required, Optional, ForChurn, ForJoin, ForLookup}
+use Rattle.chord_scenario.specs.declared.key.Presence.TheVariants.{Required, Optional, ForChurn, ForCoordinates, ForJoin, ForLookup}
 use Rattle.chord_scenario.specs.declared.key.Entry.{Entry}
+use Rattle.chord_scenario.specs.declared.keys_check.Needs.{Needs}
 use Rattle.chord_scenario.specs.declared.fault.ScenarioFault.{ScenarioFault}
 use Rattle.chord_scenario.specs.declared.fault.ScenarioFault.TheVariants.{UnknownKey, MissingKey, WrongType, OutOfRange}
 use Rattle.chord_scenario.specs.FileKeys.{key_name, keys_at}
@@ -16,7 +17,7 @@ use Rattle.chord_scenario.specs.Operations.{is_join, is_lookup}
 use Rattle.chord_scenario.specs.Values.{data_at, truth_at, as_whole, has_type, is_in_range, agrees}
 use Rattle.chord_scenario.specs.Sections.{Section}
 use Rattle.chord_scenario.specs.Search.{first_some, section_fault}
-use Rattle.chord_scenario.specs.Settings.{is_node, operation_at}
+use Rattle.chord_scenario.specs.Settings.{is_node, is_placed_section, operation_at}
 
 -- the first key of a section of which the test holds, and that of the first section with one
 abbrev pub key_fault_in : ℕ → (Place → FileKey → ScenarioFault) → (Section → Entry → Bool) → Section → Option ScenarioFault
@@ -40,18 +41,23 @@ unknown_key profile ss = section_fault UnknownKey (λ s. has_unlisted profile s.
 abbrev pub is_churn_section : Section → Bool
 is_churn_section s = is_node s.at && truth_at key.Churn s.members
 
-abbrev pub is_required : Bool → Section → Presence → Bool
-is_required churns s Required = true
-is_required churns s Optional = false
-is_required churns s ForChurn = churns
-is_required churns s ForJoin = is_join (operation_at s.members)
-is_required churns s ForLookup = is_lookup (operation_at s.members)
+-- what the nodes of a file ask of its tables
+abbrev pub needs_of : List Section → Needs
+needs_of ss = record { churn = list_any is_churn_section ss; coordinates = list_any is_placed_section ss }
 
-abbrev pub is_missing : Bool → Section → Entry → Bool
-is_missing churns s e = is_required churns s e.2 && is_none (data_at e.0 s.members)
+abbrev pub is_required : Needs → Section → Presence → Bool
+is_required needs s Required = true
+is_required needs s Optional = false
+is_required needs s ForChurn = needs.churn
+is_required needs s ForCoordinates = needs.coordinates
+is_required needs s ForJoin = is_join (operation_at s.members)
+is_required needs s ForLookup = is_lookup (operation_at s.members)
+
+abbrev pub is_missing : Needs → Section → Entry → Bool
+is_missing needs s e = is_required needs s e.2 && is_none (data_at e.0 s.members)
 
 unfoldable pub missing_key : ℕ → List Section → Option ScenarioFault
-missing_key profile ss = key_fault profile MissingKey (is_missing (list_any is_churn_section ss)) ss
+missing_key profile ss = key_fault profile MissingKey (is_missing (needs_of ss)) ss
 
 -- a value has another type
 abbrev pub has_wrong_type : Section → Entry → Bool

@@ -1,5 +1,6 @@
 pub mod Accepted
 pub mod Blocks
+pub mod Distances
 pub mod Draws
 pub mod Faults
 pub mod FileKeys

@@ -1,12 +1,13 @@
 -- What holds of every scenario. The greatest numbers are those of the third profile: no engine has a use for the
 -- tighter ones of the others.
-use Rattle.std.specs.Prelude.{ℕ, ◌≡◌, ◌≢◌, ◌+◌, ◌*◌, ◌<◌, ◌≤◌, ◌^◌, true, length, count_by, IfSome, IsSome}
+use Rattle.std.specs.Prelude.{ℕ, ◌≡◌, ◌≢◌, ◌⊎◌, ◌+◌, ◌*◌, ◌<◌, ◌≤◌, ◌^◌, true, false, [], length, count_by, IfSome, IsSome}
 use Rattle.std.specs.List.{All}
 use Rattle.chord_scenario.specs.declared.setting.Action.{Action}
 use Rattle.chord_scenario.specs.declared.setting.Action.TheVariants as action
 use Rattle.chord_scenario.specs.declared.setting.Churn.{Churn}
 use Rattle.chord_scenario.specs.declared.setting.Command.{Command}
 use Rattle.chord_scenario.specs.declared.setting.Span.{Span}
+use Rattle.chord_scenario.specs.Distances.{IsPlace}
 use Rattle.chord_scenario.specs.Setup.{Setup}
 use Rattle.chord_scenario.specs.World.{node_count, ident_of, is_churn_node, latency}
 
@@ -40,12 +41,14 @@ pub record IsCommandOf (sc : Setup) (command : Command) : Type 0 where
   pub node : command.node < node_count sc
   pub action : IsActionOf sc command.action
 
--- the most events of a run: they make fewer than 2 ^ 32 others, which is as many as a window's queue can number
+-- the most events of a run: an event makes at most seven others, and these are fewer than 2 ^ 40, below which a node numbers
+-- its events
 abbrev pub most_events : ℕ
-most_events = 700000000
+most_events = 100000000000
 
 -- the numbers of a scenario are in the ranges of the file format; in the first profile messages are neither lost nor
--- delayed at random, and in the third alone are requests sent again
+-- delayed at random, and in the third alone are requests sent again, joins paused, predecessors checked
+-- and messages told of
 pub record NumbersInRange (sc : Setup) : Type 0 where
   pub bits_least : 3 ≤ sc.bits
   pub bits_greatest : sc.bits ≤ 128
@@ -66,15 +69,20 @@ pub record NumbersInRange (sc : Setup) : Type 0 where
   pub loss : sc.loss ≤ 1000000
   pub spread : sc.spread ≤ 1000000000
   pub retries : sc.retries ≤ 3
+  pub join_pause : sc.join_pause ≤ 1000000000
+  pub check : sc.check ≤ 1000000000
   pub profile_least : 1 ≤ sc.profile
   pub profile_greatest : sc.profile ≤ 3
   pub lossless : sc.profile ≡ 1 → (sc.loss ≡ 0) × (sc.spread ≡ 0)
   pub asked_once : sc.profile ≤ 2 → sc.retries ≡ 0
+  pub joined_at_once : sc.profile ≤ 2 → (sc.join_pause ≡ 0) × (sc.join_forever ≡ false)
+  pub unchecked : sc.profile ≤ 2 → sc.check ≡ 0
+  pub undetailed : sc.profile ≤ 2 → sc.detail ≡ false
 
 -- no two nodes are at one place of the circle
 pub record NodesInRange (sc : Setup) : Type 0 where
   pub least : 2 ≤ node_count sc
-  pub greatest : node_count sc ≤ 4096
+  pub greatest : node_count sc ≤ 65536
   pub on_circle : (i : ℕ) → i < node_count sc → ident_of sc i < 2 ^ sc.bits
   pub apart : (i j : ℕ) → i < node_count sc → j < node_count sc → ident_of sc i ≡ ident_of sc j → i ≡ j
   pub initial : sc.list + 1 ≤ count_by (λ n. n.initial) sc.nodes
@@ -86,11 +94,17 @@ pub record LatenciesInRange (sc : Setup) : Type 0 where
   pub bounded : (from to : ℕ) → from < node_count sc → to < node_count sc → latency sc from to ≤ 1000000000
   pub window : (from to : ℕ) → from < node_count sc → to < node_count sc → from ≢ to → sc.window ≤ latency sc from to
 
+-- all nodes have coordinates that the file format allows, or none has
+pub record CoordinatesInRange (sc : Setup) : Type 0 where
+  pub all_or_none : (sc.coordinates ≡ []) ⊎ (length sc.coordinates ≡ node_count sc)
+  pub places : All IsPlace sc.coordinates
+
 -- every scenario has this
 pub record IsInRange (sc : Setup) : Type 0 where
   pub numbers : NumbersInRange sc
   pub nodes : NodesInRange sc
   pub latencies : LatenciesInRange sc
+  pub coordinates : CoordinatesInRange sc
   pub churn : IfSome sc.churn IsChurn
   pub churn_is_set : (i : ℕ) → is_churn_node sc i ≡ true → IsSome sc.churn
   pub lookups : IfSome sc.lookups IsSpan

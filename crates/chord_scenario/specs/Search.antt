@@ -1,5 +1,5 @@
 -- How the first fault is found among many.
-use Rattle.std.specs.Prelude.{ℕ, ◌+◌, Bool, List, [], ◌∷◌, ◌++◌, length, find, Option, None, option_map}
+use Rattle.std.specs.Prelude.{ℕ, ◌+◌, Bool, List, [], ◌∷◌, ◌++◌, length, find, Option, Some, None, option_map, if◌then◌else◌}
 use Rattle.std.specs.Option.{option_or}
 use Rattle.std.specs.List.{enumerate_from}
 use Rattle.chord_scenario.specs.declared.key.Place.{Place}
@@ -11,6 +11,11 @@ use Rattle.chord_scenario.specs.Sections.{Section}
 abbrev pub first_some : {A B : Type 0} → (A → Option B) → List A → Option B
 first_some ask [] = None
 first_some ask (x ∷ xs) = option_or (ask x) (first_some ask xs)
+
+-- the number, counted from n, of the first item of which the test holds
+abbrev pub first_number : {A : Type 0} → (A → Bool) → (n : ℕ) → List A → Option ℕ
+first_number test n [] = None
+first_number test n (x ∷ xs) = if test x then Some n else first_number test (n + 1) xs
 
 -- two items of a list that are alike, and their numbers, from 1
 pub record Repeat (A : Type 0) : Type 0 where

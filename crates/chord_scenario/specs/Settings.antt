@@ -6,6 +6,8 @@ use Rattle.std.specs.Prelude.{
   Bool,
   true,
   false,
+  ◌&&◌,
+  ◌||◌,
   List,
   [],
   ◌∷◌,
@@ -16,17 +18,20 @@ use Rattle.std.specs.Prelude.{
   Option,
   Some,
   None,
+  is_some,
   option_map,
   option_and_then,
   unwrap_or,
   if◌then◌else◌,
 }
+use Rattle.std.specs.List.{list_any}
 use Rattle.chord_circle.specs.Names.{ident_of_name}
 use Rattle.toml.specs.Data.{Members, as_table}
 use Rattle.chord_scenario.specs.declared.key.Place.{Place}
 use Rattle.chord_scenario.specs.declared.key.Place.TheVariants as place
 use Rattle.chord_scenario.specs.declared.key.FileKey.{FileKey}
 use Rattle.chord_scenario.specs.declared.key.FileKey.TheVariants as key
+use Rattle.chord_scenario.specs.declared.setting.Coordinates.{Coordinates}
 use Rattle.chord_scenario.specs.declared.setting.Node.{Node}
 use Rattle.chord_scenario.specs.declared.setting.Span.{Span}
 use Rattle.chord_scenario.specs.declared.setting.Churn.{Churn}
@@ -73,6 +78,19 @@ is_command _ = false
 -- the nodes of a file, in order
 unfoldable pub nodes_of : (bits : ℕ) → List Section → List Node
 nodes_of bits ss = map (λ s. node_of bits s.members) (filter (λ s. is_node s.at) ss)
+
+-- a node has one of the keys of coordinates
+abbrev pub is_placed_section : Section → Bool
+is_placed_section s =
+    is_node s.at && (is_some (data_at key.XUs s.members) || is_some (data_at key.YUs s.members) || is_some (data_at key.HeightUs s.members))
+
+abbrev pub coordinates_at : Members → Coordinates
+coordinates_at ms = record { x = number_at key.XUs ms; y = number_at key.YUs ms; height = number_at key.HeightUs ms }
+
+-- the coordinates of the nodes of a file, in order, if nodes have them
+unfoldable pub coordinates_of : List Section → List Coordinates
+coordinates_of ss =
+    if list_any is_placed_section ss then map (λ s. coordinates_at s.members) (filter (λ s. is_node s.at) ss) else []
 
 -- the number, from n, of the first node of this name
 abbrev pub index_from : ℕ → List ℕ → List Node → Option ℕ

@@ -1,7 +1,8 @@
 -- All that a scenario sets: what a contract sees of it. Times are in microseconds.
-use Rattle.std.specs.Prelude.{ℕ, List, Option}
+use Rattle.std.specs.Prelude.{ℕ, Bool, List, Option}
 use Rattle.chord_scenario.specs.declared.setting.Churn.{Churn}
 use Rattle.chord_scenario.specs.declared.setting.Command.{Command}
+use Rattle.chord_scenario.specs.declared.setting.Coordinates.{Coordinates}
 use Rattle.chord_scenario.specs.declared.setting.Node.{Node}
 use Rattle.chord_scenario.specs.declared.setting.Span.{Span}
 
@@ -28,9 +29,18 @@ pub record Setup : Type 0 where
   pub spread : ℕ
   -- in the third profile: how often a request without a reply in time is sent again
   pub retries : ℕ
+  -- in the third profile: how long a node waits between its attempts to join, and whether it never gives up
+  pub join_pause : ℕ
+  pub join_forever : Bool
+  -- in the third profile: the time from one check of a node's predecessor to the next, and 0 if there are none
+  pub check : ℕ
+  -- in the third profile: whether the messages that are made leave lines
+  pub detail : Bool
   pub churn : Option Churn
   pub lookups : Option Span
   pub nodes : List Node
   pub commands : List Command
   -- for each node in turn its latency to each node, and 0 if no row names the two
   pub latencies : List ℕ
+  -- the coordinates of each node in turn, and none at all if the nodes have none
+  pub coordinates : List Coordinates

@@ -1,5 +1,5 @@
 -- The events that a run starts with: the commands, and the first timers of the nodes that are members at the start.
-use Rattle.std.specs.Prelude.{ℕ, ◌+◌, List, [], ◌∷◌, ◌++◌, map, filter, flat_map, option_map, Option, Some, None, if◌then◌else◌}
+use Rattle.std.specs.Prelude.{ℕ, ◌+◌, ◌==◌, List, [], ◌∷◌, ◌++◌, map, filter, flat_map, option_map, Option, Some, None, if◌then◌else◌}
 use Rattle.std.specs.List.{enumerate_from, filter_map, range_with_len}
 use Rattle.chord_event.specs.declared.body.Body.{Body}
 use Rattle.chord_event.specs.declared.body.Body.TheVariants as body
@@ -51,6 +51,10 @@ abbrev pub life_timer : Setup → (n epoch : ℕ) → Option (Span × Body)
 life_timer sc n epoch =
     if is_churn_node sc n then option_map (λ churn. (churn.life, body.LifeEnd epoch)) sc.churn else None
 
+-- only if the scenario has checks
+abbrev pub check_timer : Setup → (epoch : ℕ) → Option (Span × Body)
+check_timer sc epoch = if sc.check == 0 then None else Some (jittered sc sc.check, body.CheckTick epoch)
+
 -- The timers that node n sets when it comes up, in order. The only list of them: a run's first timers and those of a
 -- node that rises are both these. A new timer is a new row, and one more in `most_timers`.
 abbrev pub timer_table : Setup → (n epoch : ℕ) → List (Option (Span × Body))
@@ -59,11 +63,12 @@ timer_table sc n epoch =
     ∷ Some (finger_timer sc epoch)
     ∷ traffic_timer sc epoch
     ∷ life_timer sc n epoch
+    ∷ check_timer sc epoch
     ∷ []
 
 -- the number of rows of the table
 abbrev pub most_timers : ℕ
-most_timers = 4
+most_timers = 5
 
 -- the first timers of node n: those of its first life
 unfoldable pub timers : Setup → (n : ℕ) → List (Span × Body)

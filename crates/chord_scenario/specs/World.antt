@@ -1,5 +1,6 @@
 -- What a scenario says of its nodes.
-use Rattle.std.specs.Prelude.{ℕ, ◌==◌, ◌+◌, ◌*◌, Bool, false, List, [], length, map, slice_get, slice_index, option_map, unwrap_or, if◌then◌else◌}
+use Rattle.std.specs.Prelude.{ℕ, ◌==◌, ◌+◌, ◌*◌, Bool, false, List, [], length, map, slice_get, slice_index, Option, option_map, option_and_then, unwrap_or, if◌then◌else◌}
+use Rattle.chord_scenario.specs.Distances.{latency_by_coordinates}
 use Rattle.chord_scenario.specs.Setup.{Setup}
 
 -- the number of nodes
@@ -22,12 +23,17 @@ is_initial sc i = unwrap_or (option_map (λ n. n.initial) (slice_get sc.nodes i)
 unfoldable pub is_churn_node : Setup → ℕ → Bool
 is_churn_node sc i = unwrap_or (option_map (λ n. n.churn) (slice_get sc.nodes i)) false
 
--- the latency of two different nodes: that of the row that names them, or that of the scenario
+-- the latency of two different nodes without coordinates: that of the row that names them, or that of the scenario
 abbrev pub latency_between : Setup → (from to : ℕ) → ℕ
 latency_between sc from to =
     let given = slice_index sc.latencies (from * length sc.nodes + to) in
     if given == 0 then sc.latency else given
 
+-- the latency by the coordinates of two nodes, if nodes have them
+abbrev pub latency_by_place : Setup → (from to : ℕ) → Option ℕ
+latency_by_place sc from to =
+    option_and_then (λ here. option_map (latency_by_coordinates here) (slice_get sc.coordinates to)) (slice_get sc.coordinates from)
+
 -- the latency of a message in microseconds: 1 to the node itself
 unfoldable pub latency : Setup → (from to : ℕ) → ℕ
-latency sc from to = if from == to then 1 else latency_between sc from to
+latency sc from to = if from == to then 1 else unwrap_or (latency_by_place sc from to) (latency_between sc from to)

@@ -34,6 +34,7 @@ fn timer_purpose(timer: &Body) -> u32
         Body::TrafficTick { .. } => 3,
         Body::LifeEnd { .. } => 4,
         Body::Rise { .. } => 5,
+        Body::CheckTick { .. } => 8,
         _ => 0,
     }
 }

@@ -41,6 +41,8 @@ pub enum ScenarioFault {
     SameLinkTwice(Place),
     /// The latency between two nodes is less than a window.
     LatencyBelowWindow(Name, Name),
+    /// The nodes have coordinates, and the latency file has a row.
+    RowsAndCoordinates,
     /// An allocation failed.
     Memory,
 }
@@ -75,6 +77,7 @@ impl fmt::Display for ScenarioFault {
             ScenarioFault::LatencyBelowWindow(a, b) => {
                 write!(f, "S15 LatencyBelowWindow {} {}", a.as_str(), b.as_str())
             }
+            ScenarioFault::RowsAndCoordinates => f.write_str("S16 RowsAndCoordinates"),
             ScenarioFault::Memory => f.write_str("Memory"),
         }
     }

@@ -1,7 +1,7 @@
 //! The tables of a scenario file: their places, their keys, and what each key holds.
 
 ghost use Rattle.std.specs.Prelude.{◌≡◌};
-ghost use Rattle.chord_scenario.specs.FileKeys.{is_wide, keys_at, key_name, top_keys};
+ghost use Rattle.chord_scenario.specs.FileKeys.{is_wide, keys_at, key_name, node_keys, top_keys};
 ghost use Rattle.chord_scenario.specs.Sections.{key_of, place_in};
 
 use std::fmt;
@@ -50,6 +50,10 @@ pub enum FileKey {
     LossPpm,
     SpreadUs,
     Retries,
+    JoinPauseUs,
+    JoinForever,
+    CheckUs,
+    Detail,
     Churn,
     Lookups,
     Node,
@@ -63,6 +67,9 @@ pub enum FileKey {
     Name,
     Id,
     Initial,
+    XUs,
+    YUs,
+    HeightUs,
     AtUs,
     Do,
     Via,
@@ -91,6 +98,10 @@ impl FileKey {
             FileKey::LossPpm => "loss_ppm",
             FileKey::SpreadUs => "spread_us",
             FileKey::Retries => "retries",
+            FileKey::JoinPauseUs => "join_pause_us",
+            FileKey::JoinForever => "join_forever",
+            FileKey::CheckUs => "check_us",
+            FileKey::Detail => "detail",
             FileKey::Churn => "churn",
             FileKey::Lookups => "lookups",
             FileKey::Node => "node",
@@ -104,6 +115,9 @@ impl FileKey {
             FileKey::Name => "name",
             FileKey::Id => "id",
             FileKey::Initial => "initial",
+            FileKey::XUs => "x_us",
+            FileKey::YUs => "y_us",
+            FileKey::HeightUs => "height_us",
             FileKey::AtUs => "at_us",
             FileKey::Do => "do",
             FileKey::Via => "via",
@@ -135,6 +149,8 @@ pub(crate) enum Presence {
     Optional,
     /// In a file with a node that has `churn = true`.
     ForChurn,
+    /// In a file with a node that has one of the keys of coordinates.
+    ForCoordinates,
     /// In a command that joins.
     ForJoin,
     /// In a command that looks up.
@@ -221,10 +237,10 @@ const MAX_EVENTS: Entry = Entry(
     Presence::Optional,
 );
 
-/// The most events of a run in the third profile: 4,096 nodes for ten minutes have some 100,000,000.
+/// The most events of a run in the third profile.
 const LONG_RUN: Entry = Entry(
     FileKey::MaxEvents,
-    Form::Whole(1, 700_000_000),
+    Form::Whole(1, 100_000_000_000),
     Presence::Optional,
 );
 
@@ -242,6 +258,22 @@ const SPREAD: Entry = Entry(
 
 const RETRIES: Entry = Entry(FileKey::Retries, Form::Whole(0, 3), Presence::Optional);
 
+const JOIN_PAUSE: Entry = Entry(
+    FileKey::JoinPauseUs,
+    Form::Whole(0, 1_000_000_000),
+    Presence::Optional,
+);
+
+const JOIN_FOREVER: Entry = Entry(FileKey::JoinForever, Form::Boolean, Presence::Optional);
+
+const CHECK: Entry = Entry(
+    FileKey::CheckUs,
+    Form::Whole(0, 1_000_000_000),
+    Presence::Optional,
+);
+
+const DETAIL: Entry = Entry(FileKey::Detail, Form::Boolean, Presence::Optional);
+
 const CHURN: Entry = Entry(FileKey::Churn, Form::Table, Presence::ForChurn);
 
 const LOOKUPS: Entry = Entry(FileKey::Lookups, Form::Table, Presence::Optional);
@@ -249,6 +281,8 @@ const LOOKUPS: Entry = Entry(FileKey::Lookups, Form::Table, Presence::Optional);
 const NODES: Entry = Entry(FileKey::Node, Form::Tables(2, 512), Presence::Required);
 
 const MANY_NODES: Entry = Entry(FileKey::Node, Form::Tables(2, 4096), Presence::Required);
+
+const MOST_NODES: Entry = Entry(FileKey::Node, Form::Tables(2, 65536), Presence::Required);
 
 const COMMANDS: Entry = Entry(
     FileKey::Command,
@@ -270,9 +304,31 @@ static NETWORK_TOP_KEYS: [Entry; 19] = [
 ];
 
 /// The keys at top in the third profile.
-static RETRY_TOP_KEYS: [Entry; 20] = [
-    PROFILE, WIDE_BITS, LIST, SEED, DURATION, WINDOW, LATENCY, TIMEOUT, AUDIT, STABILIZE, FINGER,
-    JITTER, LONG_RUN, LOSS, SPREAD, RETRIES, CHURN, LOOKUPS, MANY_NODES, COMMANDS,
+static DEPLOYED_TOP_KEYS: [Entry; 24] = [
+    PROFILE,
+    WIDE_BITS,
+    LIST,
+    SEED,
+    DURATION,
+    WINDOW,
+    LATENCY,
+    TIMEOUT,
+    AUDIT,
+    STABILIZE,
+    FINGER,
+    JITTER,
+    LONG_RUN,
+    LOSS,
+    SPREAD,
+    RETRIES,
+    JOIN_PAUSE,
+    JOIN_FOREVER,
+    CHECK,
+    DETAIL,
+    CHURN,
+    LOOKUPS,
+    MOST_NODES,
+    COMMANDS,
 ];
 
 static CHURN_KEYS: [Entry; 4] = [
@@ -306,8 +362,24 @@ const CHURNS: Entry = Entry(FileKey::Churn, Form::Boolean, Presence::Optional);
 /// The keys of a node in the first profile.
 static NODE_KEYS: [Entry; 4] = [NAME, ID, INITIAL, CHURNS];
 
-/// The keys of a node in the second and third profile.
+/// The keys of a node in the second profile.
 static LONG_NODE_KEYS: [Entry; 4] = [NAME, LONG_ID, INITIAL, CHURNS];
+
+/// A number of microseconds along an axis of the plane of coordinates.
+const ALONG_AXIS: Form = Form::Whole(0, 500_000_000);
+
+const X: Entry = Entry(FileKey::XUs, ALONG_AXIS, Presence::ForCoordinates);
+
+const Y: Entry = Entry(FileKey::YUs, ALONG_AXIS, Presence::ForCoordinates);
+
+const HEIGHT: Entry = Entry(
+    FileKey::HeightUs,
+    Form::Whole(0, 100_000_000),
+    Presence::Optional,
+);
+
+/// The keys of a node in the third profile.
+static PLACED_NODE_KEYS: [Entry; 7] = [NAME, LONG_ID, INITIAL, CHURNS, X, Y, HEIGHT];
 
 const AT: Entry = Entry(
     FileKey::AtUs,
@@ -343,9 +415,20 @@ fn top_keys(profile: u64) -> &'static [Entry]
     ensures { result.now ≡ top_keys profile }
 {
     match profile {
-        3 => &RETRY_TOP_KEYS,
+        3 => &DEPLOYED_TOP_KEYS,
         2 => &NETWORK_TOP_KEYS,
         _ => &TOP_KEYS,
+    }
+}
+
+/// The keys of a node in a profile.
+fn node_keys(profile: u64) -> &'static [Entry]
+    ensures { result.now ≡ node_keys profile }
+{
+    match profile {
+        3 => &PLACED_NODE_KEYS,
+        2 => &LONG_NODE_KEYS,
+        _ => &NODE_KEYS,
     }
 }
 
@@ -358,8 +441,7 @@ pub(crate) fn keys_at(profile: u64, place: Place) -> &'static [Entry]
         Place::Top => top_keys(profile),
         Place::Churn => &CHURN_KEYS,
         Place::Lookups => &LOOKUPS_KEYS,
-        Place::Node(_) if is_wide(profile) => &LONG_NODE_KEYS,
-        Place::Node(_) => &NODE_KEYS,
+        Place::Node(_) => node_keys(profile),
         Place::Command(_) if is_wide(profile) => &LONG_COMMAND_KEYS,
         Place::Command(_) => &COMMAND_KEYS,
         Place::Row(_) => &[],

@@ -6,7 +6,8 @@ ghost use Rattle.std.specs.BTreeMap.{keys};
 ghost use Rattle.toml.specs.View.{table_view};
 ghost use Rattle.chord_scenario.specs.Sections.{section_of};
 ghost use Rattle.chord_scenario.specs.declared.fault.ScenarioFault.TheVariants.{MissingKey, WrongType, OutOfRange};
-ghost use Rattle.chord_scenario.specs.KeyFaults.{key_fault_in, is_listed, has_unlisted, unknown_key, is_churn_section, is_required, is_missing, missing_key, has_wrong_type, wrong_type, is_out_of_range, out_of_range};
+ghost use Rattle.chord_scenario.specs.Settings.{is_placed_section};
+ghost use Rattle.chord_scenario.specs.KeyFaults.{key_fault_in, is_listed, has_unlisted, unknown_key, is_churn_section, needs_of, is_required, is_missing, missing_key, has_wrong_type, wrong_type, is_out_of_range, out_of_range};
 
 use crate::fault::ScenarioFault;
 use crate::key::{Entry, FileKey, Place, Presence, keys_at};
@@ -72,32 +73,72 @@ fn has_churn_node(tables: &[PlacedTable<'_>]) -> bool
     false
 }
 
+/// Whether a table is a node that has one of the keys of coordinates.
+fn is_placed_section(table: &PlacedTable<'_>) -> bool
+    ensures { result ≡ is_placed_section (section_of table.now) }
+{
+    matches!(table.at, Place::Node(_))
+        && (value_at(table.table, FileKey::XUs).is_some()
+            || value_at(table.table, FileKey::YUs).is_some()
+            || value_at(table.table, FileKey::HeightUs).is_some())
+}
+
+/// Whether some node has one of the keys of coordinates.
+pub(crate) fn has_placed_node(tables: &[PlacedTable<'_>]) -> bool
+    ensures { result ≡ list_any is_placed_section (map section_of tables.now) }
+{
+    for table in tables {
+        if is_placed_section(table) {
+            return true;
+        }
+    }
+    false
+}
+
+/// What the nodes of a file ask of its tables: lifetimes, and coordinates.
+#[derive(Clone, Copy)]
+pub(crate) struct Needs {
+    pub churn: bool,
+    pub coordinates: bool,
+}
+
+/// What the nodes of a file ask of its tables.
+fn needs_of(tables: &[PlacedTable<'_>]) -> Needs
+    ensures { result ≡ needs_of (map section_of tables.now) }
+{
+    Needs {
+        churn: has_churn_node(tables),
+        coordinates: has_placed_node(tables),
+    }
+}
+
 /// Whether a key is required.
-fn is_required(churns: bool, table: &PlacedTable<'_>, presence: Presence) -> bool
-    ensures { result ≡ is_required churns (section_of table.now) presence }
+fn is_required(needs: Needs, table: &PlacedTable<'_>, presence: Presence) -> bool
+    ensures { result ≡ is_required needs (section_of table.now) presence }
 {
     match presence {
         Presence::Required => true,
         Presence::Optional => false,
-        Presence::ForChurn => churns,
+        Presence::ForChurn => needs.churn,
+        Presence::ForCoordinates => needs.coordinates,
         Presence::ForJoin => matches!(operation_at(table.table), Some(Operation::Join)),
         Presence::ForLookup => matches!(operation_at(table.table), Some(Operation::Lookup)),
     }
 }
 
 /// Whether a required key is missing.
-fn is_missing(churns: bool, table: &PlacedTable<'_>, entry: &Entry) -> bool
-    ensures { result ≡ is_missing churns (section_of table.now) entry.now }
+fn is_missing(needs: Needs, table: &PlacedTable<'_>, entry: &Entry) -> bool
+    ensures { result ≡ is_missing needs (section_of table.now) entry.now }
 {
-    is_required(churns, table, entry.2) && value_at(table.table, entry.0).is_none()
+    is_required(needs, table, entry.2) && value_at(table.table, entry.0).is_none()
 }
 
 /// The first required key that a table lacks.
-fn missing_in(profile: u64, churns: bool, table: &PlacedTable<'_>) -> Option<ScenarioFault>
-    ensures { result ≡ key_fault_in profile MissingKey (is_missing churns) (section_of table.now) }
+fn missing_in(profile: u64, needs: Needs, table: &PlacedTable<'_>) -> Option<ScenarioFault>
+    ensures { result ≡ key_fault_in profile MissingKey (is_missing needs) (section_of table.now) }
 {
     let mut keys = keys_at(profile, table.at).iter();
-    match keys.find(|entry| is_missing(churns, table, entry)) {
+    match keys.find(|entry| is_missing(needs, table, entry)) {
         Some(entry) => Some(ScenarioFault::MissingKey(table.at, entry.0)),
         None => None,
     }
@@ -108,9 +149,9 @@ fn missing_in(profile: u64, churns: bool, table: &PlacedTable<'_>) -> Option<Sce
 pub(crate) fn missing_key(profile: u64, tables: &[PlacedTable<'_>]) -> Option<ScenarioFault>
     ensures { result ≡ missing_key profile (map section_of tables.now) }
 {
-    let churns = has_churn_node(tables);
+    let needs = needs_of(tables);
     for table in tables {
-        if let Some(fault) = missing_in(profile, churns, table) {
+        if let Some(fault) = missing_in(profile, needs, table) {
             return Some(fault);
         }
     }

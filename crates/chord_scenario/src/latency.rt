@@ -71,7 +71,7 @@ pub(crate) fn cell_at(cells: &[u32], n: usize, i: usize, j: usize) -> u32
 /// The square of latencies that rows give, which is empty if there are no rows, or the first row
 /// that names the pair of an earlier one.
 pub(crate) fn latencies(alloc: Global, rows: &Rows<'_>) -> Result<Vec<u32>, ScenarioFault>
-    requires few { length rows.now.names.nodes.now ≤ 4096 }
+    requires few { length rows.now.names.nodes.now ≤ 65536 }
     requires known { row_fault UnknownNode (row_names_unknown rows.now.names.nodes.now) (rows_of rows.now.text.now) ≡ None }
     requires good { bad_latency_row (rows_of rows.now.text.now) ≡ None }
     ensures once { IfOk result (λ _. same_link_twice (rows_of rows.now.text.now) ≡ None) }
@@ -79,7 +79,7 @@ pub(crate) fn latencies(alloc: Global, rows: &Rows<'_>) -> Result<Vec<u32>, Scen
     ensures refused { IfErr result (λ e. (e ≡ ScenarioFault.Memory) ⊎ (same_link_twice (rows_of rows.now.text.now) ≡ Some e)) }
 {
     if rows.is_empty() {
-        // No square without rows: for 4,096 nodes it would take 64 MiB.
+        // No square without rows: for 65,536 nodes it would take 16 GiB.
         return Ok(Vec::new(alloc));
     }
     let n = rows.names.nodes.len();

@@ -2,6 +2,7 @@
 #![tactic(auto)]
 
 mod command;
+mod coordinates;
 mod document;
 mod draw;
 mod fault;
@@ -29,4 +30,4 @@ pub use key::{FileKey, Place};
 pub use name::Name;
 pub use reader::read_scenario;
 pub use scenario::Scenario;
-pub use setting::{Action, Churn, Command, Node, Span};
+pub use setting::{Action, Churn, Command, Coordinates, Node, Span};

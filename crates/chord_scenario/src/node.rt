@@ -4,13 +4,14 @@ ghost use Rattle.std.specs.List.{All};
 ghost use Rattle.chord_scenario.specs.Values.{data_at, identifier_of};
 ghost use Rattle.toml.specs.View.{table_view};
 ghost use Rattle.chord_scenario.specs.Sections.{section_of};
-ghost use Rattle.chord_scenario.specs.Settings.{identifier_at, name_at, node_of, nodes_of};
+ghost use Rattle.chord_scenario.specs.Settings.{coordinates_at, coordinates_of, identifier_at, name_at, node_of, nodes_of};
 
 use crate::key::{FileKey, Place};
+use crate::keys_check::has_placed_node;
 use crate::name::Name;
 use crate::section::PlacedTable;
-use crate::setting::Node;
-use crate::value::{identifier_of, truth_at, value_at};
+use crate::setting::{Coordinates, Node};
+use crate::value::{identifier_of, number_at, truth_at, value_at};
 use chord_circle::{Circle, Ident, Raw};
 use std::alloc::{AllocError, Global};
 use toml::Table;
@@ -63,6 +64,37 @@ fn node(alloc: Global, circle: Circle, table: &Table) -> Result<Node, AllocError
         initial: truth_at(table, FileKey::Initial),
         churn: truth_at(table, FileKey::Churn),
     })
+}
+
+/// The coordinates of the node that a table describes.
+fn coordinates_at(table: &Table) -> Coordinates
+    ensures { result ≡ coordinates_at (table_view table.now) }
+{
+    Coordinates {
+        x: number_at(table, FileKey::XUs),
+        y: number_at(table, FileKey::YUs),
+        height: number_at(table, FileKey::HeightUs),
+    }
+}
+
+/// The coordinates of the nodes of a file, in order, if nodes have them.
+#[tactic(auto, unfolding(crate::specs::Settings::coordinates_of))]
+pub(crate) fn coordinates(
+    alloc: Global,
+    tables: &[PlacedTable<'_>],
+) -> Result<Vec<Coordinates>, AllocError>
+    ensures { IfOk result (λ v. v.items ≡ coordinates_of (map section_of tables.now)) }
+{
+    let mut coordinates = Vec::new(alloc);
+    if !has_placed_node(tables) {
+        return Ok(coordinates);
+    }
+    for table in tables {
+        if let Place::Node(_) = table.at {
+            coordinates.push(coordinates_at(table.table))?;
+        }
+    }
+    Ok(coordinates)
 }
 
 /// The nodes of a file, in order.

@@ -1,18 +1,21 @@
 //! The faults of nodes: a bad name, one name twice, one identifier twice, too few that begin as members.
 
-ghost use Rattle.std.specs.Prelude.{◌≡◌, IfOk, map, find, option_map, option_copied, bytes_eq, ◌==◌, count_by};
+ghost use Rattle.std.specs.Prelude.{◌≡◌, IfOk, map, take, find, option_map, option_copied, bytes_eq, ◌==◌, count_by};
 ghost use Rattle.std.specs.List.{list_all, enumerate_from};
 ghost use Rattle.chord_scenario.specs.Sections.{section_of};
+ghost use Rattle.chord_scenario.specs.Index.{NumbersIdents};
 ghost use Rattle.chord_scenario.specs.Faults.{is_name_byte, is_name, bad_name, same_name, same_id, too_few_initial};
 
 use crate::fault::ScenarioFault;
 use crate::key::{FileKey, Place};
 use crate::name::Name;
+use crate::names::Names;
 use crate::node::name_at;
 use crate::section::PlacedTable;
 use crate::setting::Node;
-use chord_circle::Ident;
+use chord_circle::{Ident, Raw};
 use std::alloc::{AllocError, Global};
+use std::collections::BTreeMap;
 
 /// Whether a name may contain this byte.
 fn is_name_byte(byte: u8) -> bool
@@ -50,41 +53,58 @@ pub(crate) fn bad_name(tables: &[PlacedTable<'_>]) -> Option<ScenarioFault>
     None
 }
 
-/// The number, from 1, of the first node of this name.
-fn namesake(nodes: &[Node], name: &Name) -> Option<usize>
-    ensures { result ≡ option_map (λ p. p.0) (find (λ p. bytes_eq p.1.name name.now) (enumerate_from 1 nodes.now)) }
+/// The number, from 1, of the first node of this name, if it is one of the first so many nodes.
+fn namesake(names: &Names<'_>, before: usize, name: &Name) -> Option<usize>
+    ensures { result ≡ option_map (λ p. p.0) (find (λ p. bytes_eq p.1.name name.now) (enumerate_from 1 (take before names.now.nodes.now))) }
 {
-    for (i, node) in nodes.iter().enumerate() {
-        if node.name.as_str() == name.as_str() {
-            return Some(i + 1);
-        }
+    match names.number_of(name.as_str().as_bytes()) {
+        Some(number) if (number as usize) < before => Some(number as usize + 1),
+        _ => None,
     }
-    None
 }
 
 /// The first node that has the name of an earlier one.
 #[tactic(auto, unfolding(crate::specs::Faults::same_name))]
-pub(crate) fn same_name(nodes: &[Node]) -> Option<ScenarioFault>
-    ensures { result ≡ same_name nodes.now }
+pub(crate) fn same_name(names: &Names<'_>) -> Option<ScenarioFault>
+    ensures { result ≡ same_name names.now.nodes.now }
 {
+    let nodes = names.nodes;
     for (j, node) in nodes.iter().enumerate() {
-        if let Some(earlier) = namesake(&nodes[..j], &node.name) {
+        if let Some(earlier) = namesake(names, j, &node.name) {
             return Some(ScenarioFault::SameName(earlier, j + 1));
         }
     }
     None
 }
 
-/// The first node of this identifier.
-fn node_at_ident(nodes: &[Node], ident: Ident) -> Option<&Node>
-    ensures { option_copied result ≡ option_map (λ p. p.1) (find (λ p. p.1.ident == ident) (enumerate_from 1 nodes.now)) }
+/// Maps the identifier of each node to its number. One that several nodes have is mapped to the
+/// first.
+fn numbers_by_ident(alloc: Global, nodes: &[Node]) -> Result<BTreeMap<Raw, usize>, AllocError>
+    ensures { IfOk result (NumbersIdents nodes.now) }
 {
-    for node in nodes {
-        if node.ident == ident {
-            return Some(node);
-        }
+    let mut map = BTreeMap::new(alloc);
+    let mut i = nodes.len();
+    while i > 0 {
+        i -= 1;
+        map.insert(nodes[i].ident.raw(), i)?;
     }
-    None
+    Ok(map)
+}
+
+/// The first node of this identifier, if it is one of the first so many nodes.
+fn node_at_ident<'a>(
+    nodes: &'a [Node],
+    numbers: &BTreeMap<Raw, usize>,
+    before: usize,
+    ident: Ident,
+) -> Option<&'a Node>
+    requires { NumbersIdents nodes.now numbers.now }
+    ensures { option_copied result ≡ option_map (λ p. p.1) (find (λ p. p.1.ident == ident) (enumerate_from 1 (take before nodes.entry.now))) }
+{
+    match numbers.get(&ident.raw()).copied() {
+        Some(number) if number < before => nodes.get(number),
+        _ => None,
+    }
 }
 
 /// The first node that has the identifier of an earlier one.
@@ -92,8 +112,9 @@ fn node_at_ident(nodes: &[Node], ident: Ident) -> Option<&Node>
 pub(crate) fn same_id(alloc: Global, nodes: &[Node]) -> Result<Option<ScenarioFault>, AllocError>
     ensures { IfOk result (λ found. found ≡ same_id nodes.now) }
 {
+    let numbers = numbers_by_ident(alloc, nodes)?;
     for (j, node) in nodes.iter().enumerate() {
-        if let Some(earlier) = node_at_ident(&nodes[..j], node.ident) {
+        if let Some(earlier) = node_at_ident(nodes, &numbers, j, node.ident) {
             let first = Name::new(alloc, earlier.name.as_str())?;
             let second = Name::new(alloc, node.name.as_str())?;
             return Ok(Some(ScenarioFault::SameId(first, second)));

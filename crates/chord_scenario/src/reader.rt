@@ -4,9 +4,9 @@ ghost use Rattle.chord_scenario.specs.declared.key.FileKey.TheVariants as key;
 ghost use Rattle.chord_scenario.specs.Values.{number_at};
 ghost use Rattle.toml.specs.View.{table_view};
 ghost use Rattle.chord_scenario.specs.Rows.{rows_of};
-ghost use Rattle.chord_scenario.specs.Sections.{section_of};
+ghost use Rattle.chord_scenario.specs.Sections.{section_of, sections};
 ghost use Rattle.chord_scenario.specs.Latencies.{HasLatencies, square_or_zeros};
-ghost use Rattle.chord_scenario.specs.Settings.{commands_of};
+ghost use Rattle.chord_scenario.specs.Settings.{commands_of, coordinates_of};
 ghost use Rattle.chord_scenario.specs.Faults.{first_answer, same_name, bad_latency_row, file_fault, scenario_fault};
 ghost use Rattle.chord_scenario.specs.Groups.{key_questions, node_questions, link_questions, late_questions};
 ghost use Rattle.chord_scenario.specs.Range.{IsInRange};
@@ -20,14 +20,14 @@ use crate::keys_check::{missing_key, out_of_range, unknown_key, wrong_type};
 use crate::latency::latencies;
 use crate::link_check::{bad_latency_row, self_link, time_after_end, unknown_node};
 use crate::names::Names;
-use crate::node::nodes;
+use crate::node::{coordinates, nodes};
 use crate::node_check::{bad_name, same_id, same_name, too_few_initial};
 use crate::row::Rows;
 use crate::scenario::Scenario;
 use crate::section::{PlacedTable, tables_in};
-use crate::setting::{Command, Node};
-use crate::value::number_at;
-use crate::window_check::latency_below_window;
+use crate::setting::{Command, Coordinates, Node};
+use crate::value::{number_at, truth_at};
+use crate::window_check::{below_window, rows_and_coordinates};
 use chord_circle::Circle;
 use std::alloc::{AllocError, Global};
 use toml::Table;
@@ -52,17 +52,17 @@ fn key_fault(profile: u64, bits: u64, tables: &[PlacedTable<'_>]) -> Option<Scen
 fn node_fault(
     alloc: Global,
     tables: &[PlacedTable<'_>],
-    nodes: &[Node],
+    names: &Names<'_>,
 ) -> Result<Option<ScenarioFault>, AllocError>
-    ensures { IfOk result (λ found. found ≡ first_answer (node_questions (map section_of tables.now) nodes.now)) }
+    ensures { IfOk result (λ found. found ≡ first_answer (node_questions (map section_of tables.now) names.now.nodes.now)) }
 {
     if let Some(fault) = bad_name(tables) {
         return Ok(Some(fault));
     }
-    if let Some(fault) = same_name(nodes) {
+    if let Some(fault) = same_name(names) {
         return Ok(Some(fault));
     }
-    same_id(alloc, nodes)
+    same_id(alloc, names.nodes)
 }
 
 /// The first fault of commands and rows, each for itself.
@@ -89,32 +89,35 @@ fn link_fault(
     self_link(tables, rows)
 }
 
-/// The commands of a scenario, and the square of its latencies, which has no cells if there are
-/// no rows.
+/// The commands of a scenario, the square of its latencies, which has no cells if there are no
+/// rows, and the coordinates of its nodes, if nodes have them.
 #[derive(Drop)]
 struct Linked {
     commands: Vec<Command>,
     cells: Vec<u32>,
+    coordinates: Vec<Coordinates>,
 }
 
-/// The commands and the square of latencies, or the first fault of commands and rows.
+/// The commands, the square of latencies and the coordinates, or the first fault of what links
+/// nodes.
 fn link_nodes(
     alloc: Global,
     circle: Circle,
     top: &Table,
     tables: &[PlacedTable<'_>],
-    nodes: &[Node],
+    names: Names<'_>,
     csv: &[u8],
 ) -> Result<Linked, ScenarioFault>
-    requires few { length nodes.now ≤ 4096 }
-    requires distinct { same_name nodes.now ≡ None }
-    ensures sound { IfOk result (λ _. first_answer (late_questions (table_view top.now) (map section_of tables.now) nodes.now (rows_of csv.now)) ≡ None) }
+    requires few { length names.nodes.now ≤ 65536 }
+    requires distinct { same_name names.nodes.now ≡ None }
+    ensures sound { IfOk result (λ _. first_answer (late_questions (table_view top.now) (map section_of tables.now) names.entry.nodes.now (rows_of csv.now)) ≡ None) }
     ensures good { IfOk result (λ _. bad_latency_row (rows_of csv.now) ≡ None) }
-    ensures commands { IfOk result (λ l. l.commands.items ≡ commands_of circle nodes.now (map section_of tables.now)) }
-    ensures square { IfOk result (λ l. HasLatencies nodes.now (rows_of csv.now) (square_or_zeros (length nodes.now) l.cells.items)) }
-    ensures refused { IfErr result (λ e. (e ≡ ScenarioFault.Memory) ⊎ (first_answer (late_questions (table_view top.now) (map section_of tables.now) nodes.now (rows_of csv.now)) ≡ Some e)) }
+    ensures commands { IfOk result (λ l. l.commands.items ≡ commands_of circle names.entry.nodes.now (map section_of tables.now)) }
+    ensures coordinates { IfOk result (λ l. l.coordinates.items ≡ coordinates_of (map section_of tables.now)) }
+    ensures square { IfOk result (λ l. HasLatencies names.entry.nodes.now (rows_of csv.now) (square_or_zeros (length names.entry.nodes.now) l.cells.items)) }
+    ensures refused { IfErr result (λ e. (e ≡ ScenarioFault.Memory) ⊎ (first_answer (late_questions (table_view top.now) (map section_of tables.now) names.entry.nodes.now (rows_of csv.now)) ≡ Some e)) }
 {
-    let rows = Rows::read(alloc, Names::new(alloc, nodes)?, csv)?;
+    let rows = Rows::read(alloc, names, csv)?;
     let list = number_at(top, FileKey::List);
     let duration = number_at(top, FileKey::DurationUs);
     if let Some(fault) = link_fault(list, duration, tables, &rows) {
@@ -123,18 +126,19 @@ fn link_nodes(
     let cells = latencies(alloc, &rows)?;
     let window = number_at(top, FileKey::WindowUs);
     let default = number_at(top, FileKey::LatencyUs);
-    if let Some(fault) = latency_below_window(
-        alloc,
-        nodes,
-        &rows,
-        cells.as_slice(),
-        default,
-        window,
-    )? {
+    let coordinates = coordinates(alloc, tables)?;
+    if let Some(fault) = below_window(alloc, &rows, &cells, &coordinates, default, window)? {
+        return Err(fault);
+    }
+    if let Some(fault) = rows_and_coordinates(&coordinates, &rows) {
         return Err(fault);
     }
     let commands = commands(alloc, circle, &rows.names, tables)?;
-    Ok(Linked { commands, cells })
+    Ok(Linked {
+        commands,
+        cells,
+        coordinates,
+    })
 }
 
 /// The circle of a file without faults of keys.
@@ -164,10 +168,11 @@ fn scenario_of(alloc: Global, top: &Table, csv: &[u8]) -> Result<Scenario, Scena
     }
     let circle = circle_of(top);
     let nodes = nodes(alloc, circle, tables.as_slice())?;
-    if let Some(fault) = node_fault(alloc, tables.as_slice(), nodes.as_slice())? {
+    let names = Names::new(alloc, nodes.as_slice())?;
+    if let Some(fault) = node_fault(alloc, tables.as_slice(), &names)? {
         return Err(fault);
     }
-    let linked = link_nodes(alloc, circle, top, tables.as_slice(), nodes.as_slice(), csv)?;
+    let linked = link_nodes(alloc, circle, top, tables.as_slice(), names, csv)?;
     Ok(assembled(circle, top, nodes, linked))
 }
 
@@ -175,6 +180,7 @@ fn scenario_of(alloc: Global, top: &Table, csv: &[u8]) -> Result<Scenario, Scena
 fn assembled(circle: Circle, top: &Table, nodes: Vec<Node>, linked: Linked) -> Scenario
     requires circle { circle ≡ number_at key.Bits (table_view top.now) }
     requires profile { number_at key.Profile (table_view top.now) ≤ 3 }
+    requires coordinates { linked.coordinates.items ≡ coordinates_of (sections (table_view top.now)) }
     requires in_range { IsInRange (setup_with (table_view top.now) nodes.items linked.commands.items (square_or_zeros (length nodes.items) linked.cells.items)) }
     ensures { result ≡ setup_with (table_view top.now) nodes.items linked.commands.items (square_or_zeros (length nodes.items) linked.cells.items) }
 {
@@ -195,11 +201,16 @@ fn assembled(circle: Circle, top: &Table, nodes: Vec<Node>, linked: Linked) -> S
         loss: number_or(top, FileKey::LossPpm, 0),
         spread: number_or(top, FileKey::SpreadUs, 0),
         retries: number_or(top, FileKey::Retries, 0),
+        join_pause: number_or(top, FileKey::JoinPauseUs, 0),
+        join_forever: truth_at(top, FileKey::JoinForever),
+        check: number_or(top, FileKey::CheckUs, 0),
+        detail: truth_at(top, FileKey::Detail),
         churn: churn_of(top),
         lookups: lookups_of(top),
         nodes,
         commands: linked.commands,
         latencies: linked.cells,
+        coordinates: linked.coordinates,
     }
 }
 

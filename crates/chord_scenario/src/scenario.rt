@@ -1,10 +1,10 @@
 //! Scenarios, as a run reads them.
 ghost use Rattle.std.specs.Prelude.{◌≡◌, ◌<◌, ◌≤◌, ◌^◌, length, slice_get, Some};
 ghost use Rattle.chord_scenario.specs.Range.{IsInRange};
-ghost use Rattle.chord_scenario.specs.World.{node_count, name_of, ident_of, is_initial, is_churn_node, latency};
+ghost use Rattle.chord_scenario.specs.World.{node_count, name_of, ident_of, is_initial, is_churn_node, latency, latency_by_place};
 
 use crate::latency::cell_at;
-use crate::setting::{Churn, Command, Node, Span};
+use crate::setting::{Churn, Command, Coordinates, Node, Span};
 use chord_circle::{Circle, Ident};
 use std::marker::Model;
 
@@ -28,6 +28,10 @@ pub struct Scenario {
     pub(crate) loss: u64,
     pub(crate) spread: u64,
     pub(crate) retries: u64,
+    pub(crate) join_pause: u64,
+    pub(crate) join_forever: bool,
+    pub(crate) check: u64,
+    pub(crate) detail: bool,
     pub(crate) churn: Option<Churn>,
     pub(crate) lookups: Option<Span>,
     pub(crate) nodes: Vec<Node>,
@@ -35,6 +39,8 @@ pub struct Scenario {
     /// For each node in turn its latency to each node, and 0 if no row names the two. Empty if
     /// there are no rows.
     pub(crate) latencies: Vec<u32>,
+    /// The coordinates of each node in turn. Empty if the nodes have none.
+    pub(crate) coordinates: Vec<Coordinates>,
 }
 
 impl Model for Scenario {
@@ -175,6 +181,37 @@ impl Scenario {
         self.retries
     }
 
+    /// How long a node waits after a failed attempt to join before the next, in microseconds: 0 in
+    /// the first two profiles.
+    pub fn join_pause(&self) -> u64
+        ensures { result ≡ self.now.join_pause }
+    {
+        self.join_pause
+    }
+
+    /// Whether a node goes on joining after its last failure, in place of going down: not in the
+    /// first two profiles.
+    pub fn join_forever(&self) -> bool
+        ensures { result ≡ self.now.join_forever }
+    {
+        self.join_forever
+    }
+
+    /// The time from one check of a node's predecessor to the next in microseconds, without the
+    /// jitter, and 0 if there are none: 0 in the first two profiles.
+    pub fn check(&self) -> u64
+        ensures { result ≡ self.now.check }
+    {
+        self.check
+    }
+
+    /// Whether the messages that are made leave lines: not in the first two profiles.
+    pub fn detail(&self) -> bool
+        ensures { result ≡ self.now.detail }
+    {
+        self.detail
+    }
+
     /// How long churn nodes live and stay down, if the scenario says so.
     pub fn churn_times(&self) -> Option<Churn>
         ensures { result ≡ self.now.churn }
@@ -256,6 +293,20 @@ impl Scenario {
         self.commands[place]
     }
 
+    /// The latency by the coordinates of two nodes in microseconds, if nodes have them.
+    fn latency_by_place(&self, from: u32, to: u32) -> Option<u64>
+        ensures { result ≡ latency_by_place self.now from to }
+    {
+        self.recall_range();
+        let Some(here) = self.coordinates.get(from as usize) else {
+            return None;
+        };
+        let Some(there) = self.coordinates.get(to as usize) else {
+            return None;
+        };
+        Some(here.latency_to(*there))
+    }
+
     /// The latency of a message from one node to another in microseconds: 1 to the node itself.
     #[tactic(auto, unfolding(crate::specs::World::latency))]
     pub fn latency(&self, from: u32, to: u32) -> u64
@@ -265,6 +316,9 @@ impl Scenario {
     {
         if from == to {
             return 1;
+        }
+        if let Some(latency) = self.latency_by_place(from, to) {
+            return latency;
         }
         let given = cell_at(
             self.latencies.as_slice(),

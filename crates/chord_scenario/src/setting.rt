@@ -14,6 +14,15 @@ pub struct Node {
     pub churn: bool,
 }
 
+/// The coordinates of a node in microseconds: its place in the plane, and what its own link adds to
+/// each of its latencies.
+#[derive(Clone, Copy, Debug, PartialEq, Eq, Drop)]
+pub struct Coordinates {
+    pub x: u64,
+    pub y: u64,
+    pub height: u64,
+}
+
 /// The times from `least` to `greatest`, both included.
 #[derive(Clone, Copy, Debug, PartialEq, Eq, Drop)]
 pub struct Span {

@@ -108,7 +108,12 @@ impl Scenario {
         if self.churn(node) {
             if let Some(churn) = self.churn_times() {
                 self.push_timer(events, node, place, churn.life, Body::LifeEnd { epoch: 1 })?;
+                place += 1;
             }
+        }
+        if self.check() > 0 {
+            let check = self.jittered(self.check());
+            self.push_timer(events, node, place, check, Body::CheckTick { epoch: 1 })?;
         }
         Ok(())
     }

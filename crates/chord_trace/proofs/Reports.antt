@@ -1,11 +1,11 @@
 -- The report of a trace does not depend on the order of its pieces.
-use Rattle.std.proofs.Common.{◌≡◌, ◌∙◌, ℕ, ◌+◌, ◌-◌, ◌==◌, Bool, List, Some, None, if◌then◌else◌, cond, nat_le, nat_lt, arith, count_by, length}
+use Rattle.std.proofs.Common.{◌≡◌, ◌∙◌, ℕ, ◌+◌, ◌-◌, Bool, List, cond, nat_le, nat_lt, arith, count_by, length}
 use Rattle.std.specs.List.Sorted.{IsPermutation}
 use Rattle.chord_audit.specs.declared.audit_line.AuditLine.{AuditLine}
 use Rattle.chord_event.specs.declared.line.Line.{Line}
 use Rattle.chord_trace.specs.AuditCounts.{audit_counts_in}
 use Rattle.chord_trace.specs.Counts.{counts_in}
-use Rattle.chord_trace.specs.Kinds.{is_lookup, is_found, is_lost, is_loss, is_again}
+use Rattle.chord_trace.specs.Kinds.{is_lookup, is_found, is_lost}
 use Rattle.chord_trace.specs.Numbers.{IsMedian, hops_of, times_of}
 use Rattle.chord_trace.specs.Pieces.{lines_of, audits_of}
 use Rattle.chord_trace.specs.Report.{IsReportOf, report_with, found_lookups}
@@ -48,8 +48,7 @@ numbers profile pieces others median moved =
       us_median = median;
       us_greatest = same_greatest (times_of (found_lookups pieces)) (times_of (found_lookups others)) (λ k. times (λ n. cond (nat_lt k n) 1 0)) i;
       audits = audit_counts i;
-      losses = if nat_lt 1 profile then Some (lines is_loss i) else None;
-      again = if profile == 3 then Some (lines is_again i) else None;
+      profile = profile;
     }
 
 pub reordered : (profile : ℕ) (pieces others : List Piece) (report : Report) → IsPermutation pieces others → IsReportOf profile pieces report

@@ -14,6 +14,9 @@ use Rattle.chord_trace.specs.Kinds.{
   is_lost,
   is_busy,
   is_ignored,
+  is_loss,
+  is_again,
+  is_forgotten,
 }
 use Rattle.chord_trace.specs.declared.line_counts.LineCounts.{LineCounts}
 
@@ -32,6 +35,9 @@ counts_in lines = record {
   lost = count_by is_lost lines;
   busy = count_by is_busy lines;
   ignored = count_by is_ignored lines;
+  losses = count_by is_loss lines;
+  again = count_by is_again lines;
+  forgotten = count_by is_forgotten lines;
 }
 
 -- two counts added, kind by kind
@@ -49,6 +55,9 @@ plus a b = record {
   lost = a.lost + b.lost;
   busy = a.busy + b.busy;
   ignored = a.ignored + b.ignored;
+  losses = a.losses + b.losses;
+  again = a.again + b.again;
+  forgotten = a.forgotten + b.forgotten;
 }
 
 -- no count is above the limit
@@ -65,3 +74,6 @@ pub record AreWithin (limit : ℕ) (c : LineCounts) : Type 0 where
   pub lost : c.lost ≤ limit
   pub busy : c.busy ≤ limit
   pub ignored : c.ignored ≤ limit
+  pub losses : c.losses ≤ limit
+  pub again : c.again ≤ limit
+  pub forgotten : c.forgotten ≤ limit

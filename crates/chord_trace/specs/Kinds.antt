@@ -39,6 +39,10 @@ abbrev pub is_again : Line → Bool
 is_again (line.Again kind receiver) = true
 is_again _ = false
 
+abbrev pub is_forgotten : Line → Bool
+is_forgotten (line.Forget predecessor) = true
+is_forgotten _ = false
+
 abbrev pub is_lookup : Line → Bool
 is_lookup (line.Lookup key) = true
 is_lookup _ = false

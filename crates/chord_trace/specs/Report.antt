@@ -1,11 +1,10 @@
 -- The report of a trace.
-use Rattle.std.specs.Prelude.{◌≡◌, ℕ, ◌+◌, ◌-◌, ◌==◌, List, Option, Some, None, count_by, length, nat_lt, sum, if◌then◌else◌}
+use Rattle.std.specs.Prelude.{◌≡◌, ℕ, ◌+◌, ◌-◌, List, count_by, length, sum}
 use Rattle.std.specs.List.{filter_map}
-use Rattle.chord_event.specs.declared.line.Line.{Line}
 use Rattle.chord_trace.specs.AuditCounts.{audit_counts_in}
 use Rattle.chord_trace.specs.Counts.{counts_in}
 use Rattle.chord_trace.specs.Numbers.{IsMedian, greatest, least, hops_of, times_of}
-use Rattle.chord_trace.specs.Kinds.{is_lookup, is_found, is_lost, is_loss, is_again, found_in}
+use Rattle.chord_trace.specs.Kinds.{is_lookup, is_found, is_lost, found_in}
 use Rattle.chord_trace.specs.Pieces.{blocks_of, lines_of, audits_of}
 use Rattle.chord_trace.specs.declared.piece.Piece.{Piece}
 use Rattle.chord_trace.specs.declared.report.Report.{Report}
@@ -13,14 +12,6 @@ use Rattle.chord_trace.specs.declared.report.Report.{Report}
 -- the hops and the time of each lookup that was found
 abbrev pub found_lookups : List Piece → List (ℕ × ℕ)
 found_lookups pieces = filter_map found_in (lines_of pieces)
-
--- the number of lost messages, which the first profile does not report
-abbrev pub losses_in : (profile : ℕ) → List Line → Option ℕ
-losses_in profile lines = if nat_lt 1 profile then Some (count_by is_loss lines) else None
-
--- the number of requests that were sent again, which only the third profile reports
-abbrev pub again_in : (profile : ℕ) → List Line → Option ℕ
-again_in profile lines = if profile == 3 then Some (count_by is_again lines) else None
 
 -- the report of the trace of these pieces in a profile, if its median is this
 abbrev pub report_with : (profile : ℕ) → List Piece → (median : ℕ) → Report
@@ -36,8 +27,7 @@ report_with profile pieces median = record {
   us_median = median;
   us_greatest = greatest (times_of (found_lookups pieces));
   audits = audit_counts_in (audits_of pieces);
-  losses = losses_in profile (lines_of pieces);
-  again = again_in profile (lines_of pieces);
+  profile = profile;
 }
 
 -- the report of the trace of these pieces in a profile

@@ -1,5 +1,5 @@
 -- The text of a report.
-use Rattle.std.specs.Prelude.{ℕ, List, [], ◌∷◌, ◌++◌, Option, Some, None, codes, decimal}
+use Rattle.std.specs.Prelude.{ℕ, ◌==◌, Bool, List, [], ◌∷◌, ◌++◌, codes, decimal, nat_lt, if◌then◌else◌}
 use Rattle.std.specs.List.{flat_map}
 use Rattle.chord_trace.specs.declared.report.Report.{Report}
 
@@ -17,17 +17,19 @@ numbers_of r =
     ∷ (codes "audits", r.audits.audits) ∷ (codes "ringless", r.audits.ringless)
     ∷ (codes "unordered", r.audits.unordered) ∷ (codes "insufficient", r.audits.insufficient) ∷ []
 
--- a name and its number, if there is one
-abbrev pub optional_number : (name : List ℕ) → Option ℕ → List (List ℕ × ℕ)
-optional_number name None = []
-optional_number name (Some number) = (name, number) ∷ []
+-- a name and its number, if the report has this number
+abbrev pub number_if : (has : Bool) → (name : List ℕ) → (number : ℕ) → List (List ℕ × ℕ)
+number_if has name number = if has then (name, number) ∷ [] else []
 
 -- a line for each name and its number
 abbrev pub number_text : List (List ℕ × ℕ) → List ℕ
 number_text = flat_map (λ p. p.0 ++ codes " " ++ decimal p.1 ++ codes "\n")
 
--- the text of a report, a line for each of its numbers
+-- the text of a report, a line for each of its numbers: the first profile has no losses, and only the third has requests
+-- that are sent again and predecessors that are forgotten
 abbrev pub report_text : Report → List ℕ
 report_text r =
-    number_text (numbers_of r) ++ number_text (optional_number (codes "losses") r.losses)
-    ++ number_text (optional_number (codes "again") r.again)
+    number_text (numbers_of r)
+    ++ number_text (number_if (nat_lt 1 r.profile) (codes "losses") r.lines.losses)
+    ++ number_text (number_if (r.profile == 3) (codes "again") r.lines.again)
+    ++ number_text (number_if (r.profile == 3) (codes "forgotten") r.lines.forgotten)

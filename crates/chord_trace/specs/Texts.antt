@@ -48,6 +48,13 @@ line_words sc (line.Lose kind receiver) =
     codes "lose " ++ message_text kind ++ codes " " ++ name_of sc receiver
 line_words sc (line.Again kind receiver) =
     codes "again " ++ message_text kind ++ codes " " ++ name_of sc receiver
+line_words sc (line.Forget predecessor) = codes "forget " ++ name_of sc predecessor
+line_words sc (line.Ask kind receiver call) =
+    codes "ask " ++ message_text kind ++ codes " " ++ name_of sc receiver ++ codes " call=" ++ decimal call
+line_words sc (line.Seek receiver call key since) =
+    codes "ask step " ++ name_of sc receiver ++ codes " call=" ++ decimal call ++ codes " key=" ++ decimal key ++ codes " since=" ++ decimal since
+line_words sc (line.Send kind receiver) =
+    codes "send " ++ message_text kind ++ codes " " ++ name_of sc receiver
 line_words sc (line.Lookup key) = codes "lookup " ++ decimal key
 line_words sc (line.Found key owner hops timeouts us) =
     codes "found " ++ decimal key ++ codes " " ++ name_of sc owner ++ codes " hops=" ++ decimal hops

@@ -104,6 +104,40 @@ fn push_words(text: &mut String, scenario: &Scenario, line: Line) -> Result<(), 
             )
         }
         Line::Timeout { silent } => write!(text, "timeout {}", scenario.name(silent)),
+        Line::Forget { predecessor } => write!(text, "forget {}", scenario.name(predecessor)),
+        Line::Ask {
+            kind,
+            receiver,
+            call,
+        } => {
+            write!(
+                text,
+                "ask {} {} call={call}",
+                message_text(kind),
+                scenario.name(receiver)
+            )
+        }
+        Line::Seek {
+            receiver,
+            call,
+            key,
+            since,
+        } => {
+            write!(
+                text,
+                "ask step {} call={call} key={} since={since}",
+                scenario.name(receiver),
+                key.raw()
+            )
+        }
+        Line::Send { kind, receiver } => {
+            write!(
+                text,
+                "send {} {}",
+                message_text(kind),
+                scenario.name(receiver)
+            )
+        }
         Line::Lookup { key } => write!(text, "lookup {}", key.raw()),
         Line::Found {
             key,

@@ -46,7 +46,7 @@ impl FoundLookups {
 
     /// Adds the lookups that were found according to these lines.
     pub fn add_lines(&mut self, lines: &[Line]) -> Result<(), AllocError>
-        requires { found_len self.old + length lines.now ≤ 2 ^ 46 }
+        requires { found_len self.old + length lines.now ≤ 2 ^ 47 }
         ensures has { OnOk result ((seen : List (ℕ × ℕ)) → HasFound seen self.old → HasFound (seen ++ filter_map found_in lines.now) self.new) }
         ensures at_most { found_len self.new ≤ found_len self.old + length lines.now }
     {
@@ -59,7 +59,7 @@ impl FoundLookups {
     }
 
     fn add(&mut self, hops: u32, us: u64) -> Result<(), AllocError>
-        requires { found_len self.old < 2 ^ 46 }
+        requires { found_len self.old < 2 ^ 47 }
         ensures has { OnOk result ((seen : List (ℕ × ℕ)) → HasFound seen self.old → HasFound (seen ++ (hops, us) ∷ []) self.new) }
         ensures one_more { OnOk result (found_len self.new ≡ found_len self.old + 1) }
         ensures at_most { found_len self.new ≤ found_len self.old + 1 }
@@ -80,7 +80,7 @@ impl FoundLookups {
 
     /// Both together.
     pub fn join(self, other: FoundLookups) -> Result<FoundLookups, AllocError>
-        requires { found_len self + found_len other ≤ 2 ^ 46 }
+        requires { found_len self + found_len other ≤ 2 ^ 47 }
         ensures has { IfOk result (λ joined. (seen more : List (ℕ × ℕ)) → HasFound seen self → HasFound more other → HasFound (seen ++ more) joined) }
         ensures len { IfOk result (λ joined. found_len joined ≡ found_len self + found_len other) }
     {
@@ -128,7 +128,7 @@ fn found_in(line: Line) -> Option<(u32, u64)>
 
 /// Adds to the count of a time.
 fn count_more(counts: &mut BTreeMap<u64, u64>, us: u64, count: u64) -> Result<(), AllocError>
-    requires { counted (λ _. true) counts.old.entries + count ≤ 2 ^ 46 }
+    requires { counted (λ _. true) counts.old.entries + count ≤ 2 ^ 47 }
     ensures more { OnOk result ((test : ℕ → Bool) → counted test counts.new.entries ≡ counted test counts.old.entries + cond (test us) count 0) }
     ensures same { OnErr result (counts.new.entries ≡ counts.old.entries) }
 {
@@ -142,7 +142,7 @@ fn add_counts(
     counts: &mut BTreeMap<u64, u64>,
     others: &BTreeMap<u64, u64>,
 ) -> Result<(), AllocError>
-    requires { counted (λ _. true) counts.old.entries + counted (λ _. true) others.now.entries ≤ 2 ^ 46 }
+    requires { counted (λ _. true) counts.old.entries + counted (λ _. true) others.now.entries ≤ 2 ^ 47 }
     ensures { OnOk result ((test : ℕ → Bool) → counted test counts.new.entries ≡ counted test counts.old.entries + counted test others.now.entries) }
 {
     for (us, count) in others {

@@ -16,6 +16,12 @@ pub struct LineCounts {
     pub lost: u64,
     pub busy: u64,
     pub ignored: u64,
+    /// Lost messages. The first profile has none.
+    pub losses: u64,
+    /// Requests that were sent again. Only the third profile has them.
+    pub again: u64,
+    /// Predecessors that were forgotten. Only the third profile has them.
+    pub forgotten: u64,
 }
 
 impl LineCounts {
@@ -52,6 +58,9 @@ impl LineCounts {
             lost: self.lost + other.lost,
             busy: self.busy + other.busy,
             ignored: self.ignored + other.ignored,
+            losses: self.losses + other.losses,
+            again: self.again + other.again,
+            forgotten: self.forgotten + other.forgotten,
         }
     }
 
@@ -60,7 +69,8 @@ impl LineCounts {
         ensures { self.new ≡ plus self.old (counts_in (line ∷ [])) }
     {
         match line {
-            Line::Join { .. } | Line::Lose { .. } | Line::Again { .. } => {}
+            // A report has no number of what detail tells.
+            Line::Join { .. } | Line::Ask { .. } | Line::Seek { .. } | Line::Send { .. } => {}
             Line::Member { .. } => self.members += 1,
             Line::JoinFailed => self.join_failed += 1,
             Line::Crash => self.crashes += 1,
@@ -73,6 +83,9 @@ impl LineCounts {
             Line::Lost { .. } => self.lost += 1,
             Line::Busy { .. } => self.busy += 1,
             Line::Ignored { .. } => self.ignored += 1,
+            Line::Lose { .. } => self.losses += 1,
+            Line::Again { .. } => self.again += 1,
+            Line::Forget { .. } => self.forgotten += 1,
         }
     }
 }

@@ -3,7 +3,7 @@ ghost use Rattle.std.specs.Prelude.{◌≡◌, ◌⊎◌, ℕ, ◌++◌, false, 
 ghost use Rattle.std.specs.Io.KnownBytes.{Appends};
 ghost use Rattle.std.specs.List.Sorted.{IsPermutation};
 ghost use Rattle.chord_trace.specs.Report.{IsReportOf};
-ghost use Rattle.chord_trace.specs.ReportText.{numbers_of, number_text, optional_number, report_text};
+ghost use Rattle.chord_trace.specs.ReportText.{numbers_of, number_if, number_text, report_text};
 ghost use Rattle.chord_trace.specs.Watched.{wrapped, has_failed};
 ghost use Rattle.chord_trace.specs.Writing.{AppendsFront, is_write};
 ghost use Rattle.chord_trace.specs.declared.piece.Piece.{Piece};
@@ -30,10 +30,8 @@ pub struct Report {
     pub us_median: u64,
     pub us_greatest: u64,
     pub audits: AuditCounts,
-    /// The number of lost messages. `None` in the first profile, which has no such line.
-    pub losses: Option<u64>,
-    /// The number of requests that were sent again. `None` but in the third profile.
-    pub again: Option<u64>,
+    /// The profile of the scenario. It decides which of the numbers are written.
+    pub profile: u32,
 }
 
 impl Report {
@@ -55,8 +53,9 @@ impl Report {
         ensures { OnOk result (string_bytes text.new ≡ string_bytes text.old ++ report_text self.now) }
     {
         push_numbers(text, &self.numbers())?;
-        push_optional(text, "losses", self.losses)?;
-        push_optional(text, "again", self.again)
+        push_if(text, self.profile > 1, "losses", self.lines.losses)?;
+        push_if(text, self.profile == 3, "again", self.lines.again)?;
+        push_if(text, self.profile == 3, "forgotten", self.lines.forgotten)
     }
 
     fn numbers(&self) -> [(&'static str, u128); 24]
@@ -91,12 +90,14 @@ impl Report {
     }
 }
 
-fn push_optional(text: &mut String, word: &str, number: Option<u64>) -> Result<(), AllocError>
-    ensures { OnOk result (string_bytes text.new ≡ string_bytes text.old ++ number_text (optional_number word.now number)) }
+/// Adds a number that not every profile has.
+fn push_if(text: &mut String, has: bool, word: &str, number: u64) -> Result<(), AllocError>
+    ensures { OnOk result (string_bytes text.new ≡ string_bytes text.old ++ number_text (number_if has word.now number)) }
 {
-    match number {
-        Some(number) => push_numbers(text, &[(word, u128::from(number))]),
-        None => Ok(()),
+    if has {
+        push_numbers(text, &[(word, u128::from(number))])
+    } else {
+        Ok(())
     }
 }
 

@@ -1,16 +1,16 @@
 //! The tally from which a report is made.
-ghost use Rattle.std.specs.Prelude.{◌≡◌, ◌+◌, ◌*◌, ◌≤◌, ◌^◌, count_by, length};
+ghost use Rattle.std.specs.Prelude.{◌≡◌, ◌+◌, ◌*◌, ◌≤◌, ◌^◌, length};
+ghost use Rattle.chord_scenario.specs.Blocks.{most_lines};
 ghost use Rattle.chord_trace.specs.AuditCounts.{AreAmong};
 ghost use Rattle.chord_trace.specs.Counts.{AreWithin};
 ghost use Rattle.chord_trace.specs.FoundLookups.{found_len};
-ghost use Rattle.chord_trace.specs.Kinds.{is_again, is_loss};
 
 use crate::audit_counts::AuditCounts;
 use crate::found_lookups::FoundLookups;
 use crate::line_counts::LineCounts;
 use crate::report::Report;
 use chord_audit::AuditLine;
-use chord_event::{Block, Line, Memory};
+use chord_event::{Block, Memory};
 use std::alloc::Global;
 
 /// What the report needs of the blocks and audits so far.
@@ -20,13 +20,9 @@ pub struct Tally {
     events: u64,
     counts: LineCounts,
     founds: FoundLookups,
-    losses: u64,
-    again: u64,
     audits: AuditCounts,
-    ghost counts_fit: { AreWithin (64 * events) counts },
-    ghost founds_fit: { found_len founds ≤ 64 * events },
-    ghost losses_fit: { losses ≤ 64 * events },
-    ghost again_fit: { again ≤ 64 * events },
+    ghost counts_fit: { AreWithin (most_lines * events) counts },
+    ghost founds_fit: { found_len founds ≤ most_lines * events },
     ghost audits_fit: { AreAmong audits },
 }
 
@@ -46,8 +42,6 @@ impl Tally {
             events: 0,
             counts: LineCounts::default(),
             founds: FoundLookups::new(alloc),
-            losses: 0,
-            again: 0,
             audits: AuditCounts::default(),
         }
     }
@@ -55,16 +49,13 @@ impl Tally {
     /// Adds an event's block.
     pub fn add(&mut self, block: &Block) -> Result<(), Memory>
         requires room { taken self.old < 2 ^ 40 }
-        requires short { length block.now.lines ≤ 64 }
+        requires short { length block.now.lines ≤ most_lines }
         ensures piece { OnOk result ((profile : ℕ) (pieces : List Piece) → IsTallyOf profile pieces self.old → IsTallyOf profile (pieces ++ piece.OfEvent block.now ∷ []) self.new) }
         ensures size { OnOk result (taken self.new ≡ taken self.old + 1) }
     {
         let lines = block.lines.as_slice();
         self.events += 1;
         self.counts.add(lines);
-        // Both are counted in every profile, and reported in those that may have such lines.
-        self.losses += count_losses(lines);
-        self.again += count_again(lines);
         self.founds.add_lines(lines)?;
         Ok(())
     }
@@ -91,8 +82,6 @@ impl Tally {
             events: self.events + other.events,
             counts: self.counts.join(other.counts),
             founds: self.founds.join(other.founds)?,
-            losses: self.losses + other.losses,
-            again: self.again + other.again,
             audits: self.audits.join(other.audits),
         })
     }
@@ -119,32 +108,7 @@ impl Tally {
             us_median: self.founds.us_median(),
             us_greatest: self.founds.us_greatest,
             audits: self.audits,
-            losses: (self.profile > 1).then_some(self.losses),
-            again: (self.profile == 3).then_some(self.again),
+            profile: self.profile,
         }
     }
-}
-
-/// The number of lost messages according to these lines.
-fn count_losses(lines: &[Line]) -> u64
-    requires { length lines.now ≤ 64 }
-    ensures { result ≡ count_by is_loss lines.now }
-{
-    let mut losses = 0;
-    for line in lines {
-        losses += u64::from(matches!(line, Line::Lose { .. }));
-    }
-    losses
-}
-
-/// The number of requests that were sent again, according to these lines.
-fn count_again(lines: &[Line]) -> u64
-    requires { length lines.now ≤ 64 }
-    ensures { result ≡ count_by is_again lines.now }
-{
-    let mut again = 0;
-    for line in lines {
-        again += u64::from(matches!(line, Line::Again { .. }));
-    }
-    again
 }

@@ -50,6 +50,7 @@ use Rattle.chord_model.proofs.Runs.{history_is_legal, possible_from_legal}
 use Rattle.chord_node.specs.declared.state.NodeState.{NodeState}
 use Rattle.chord_node.specs.Invariant.{AllNodes}
 use Rattle.chord_scenario.specs.declared.scenario.Scenario.{Scenario}
+use Rattle.chord_scenario.specs.Blocks.{most_lines}
 use Rattle.chord_scenario.specs.Range.{IsInRange, most_events}
 use Rattle.chord_scenario.specs.World.{node_count}
 use Rattle.chord_output.specs.Runs.{IsBeginning}
@@ -166,7 +167,7 @@ list_within sc world horizon k (d ∷ xs) each (suc part) = omega (arith, list_w
 
 -- the blocks of each part are short
 pub lists_short : (sc : Scenario) (world : World) (horizon k : ℕ) (xs : List Done) → AreDoneFrom sc world horizon k xs → (part : ℕ)
-    → All (λ (b : Block). length b.lines ≤ 64) (blocks_at (block_lists xs) part)
+    → All (λ (b : Block). length b.lines ≤ most_lines) (blocks_at (block_lists xs) part)
 lists_short sc world horizon k [] each part = λ i b l. absurd (omega (arith, l))
 lists_short sc world horizon k (d ∷ xs) each zero = λ i b l. ((each.0).blocks_are i b l).short
 lists_short sc world horizon k (d ∷ xs) each (suc part) = lists_short sc world horizon (suc k) xs each.1 part

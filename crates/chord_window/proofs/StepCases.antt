@@ -72,7 +72,7 @@ module _ (sc : Scenario) (ranges : IsInRange sc) (world : World) (is : IsWorldOf
       due_apart = step_apart sc ranges world is horizon win.time win.may_open due run q inside r e [] ys wait_is
           (due_first due q.events run.taken win.ordered ordered t e at) made made_is q.events (suc run.taken) refl
 
-      pub due_few : q.pushes + length made < 2 ^ 32
+      pub due_few : q.pushes + length made < 2 ^ 40
       due_few = step_few sc ranges world is horizon win.time win.may_open due run q inside r e [] ys wait_is
           (due_first due q.events run.taken win.ordered ordered t e at) made made_is q.events (suc run.taken) refl
 
@@ -121,8 +121,8 @@ module _ (sc : Scenario) (ranges : IsInRange sc) (world : World) (is : IsWorldOf
         made_apart = step_apart sc ranges world is horizon win.time win.may_open due run q inside r e (drop run.taken due) (drop 1 q.events) wait_is2
             (made_first due q.events run.taken win.ordered ordered t e (drop 1 q.events) queue_is) made made_is q1.events run.taken rest_is
 
-        pub made_few : q1.pushes + length made < 2 ^ 32
-        made_few = subst (λ (z : Queue). z.pushes + length made < 2 ^ 32) (sym left)
+        pub made_few : q1.pushes + length made < 2 ^ 40
+        made_few = subst (λ (z : Queue). z.pushes + length made < 2 ^ 40) (sym left)
             (step_few sc ranges world is horizon win.time win.may_open due run q inside r e (drop run.taken due) (drop 1 q.events) wait_is2
             (made_first due q.events run.taken win.ordered ordered t e (drop 1 q.events) queue_is) made made_is q1.events run.taken rest_is)
 

@@ -246,7 +246,7 @@ module _ (sc : Scenario) (ranges : IsInRange sc) (world : World) (is : IsWorldOf
         step_apart = AllPairs_append (λ (a b : Event Body). a.key ≢ b.key) left made (apart_end (drop taken due) left rest_apart) alone
             (λ x y c k s. fresh y x k (subst (λ l. Contains l x) rest_is (contains_right (drop taken due) left x c)) (sym s))
 
-        pub step_few : q.pushes + length made < 2 ^ 32
+        pub step_few : q.pushes + length made < 2 ^ 40
         step_few = omega (arith, r.pushes, few, r.within, ranges.numbers.max_events_greatest)
 
         pub step_next : (mid new : PartRun) → HasHandled sc world.division world.states.items e run mid made → (q' : Queue)

@@ -46,7 +46,7 @@ use Rattle.chord_ops.specs.Rules.{block_of, effect}
 use Rattle.chord_ops.specs.Sound.{IsSoundEvent}
 use Rattle.chord_queue.specs.EventKey.{event_key}
 use Rattle.chord_queue.specs.Queue.{Queue}
-use Rattle.chord_scenario.specs.Blocks.{IsBlockOf}
+use Rattle.chord_scenario.specs.Blocks.{IsBlockOf, most_lines}
 use Rattle.chord_scenario.specs.declared.scenario.Scenario.{Scenario}
 use Rattle.chord_scenario.specs.World.{node_count}
 use Rattle.chord_trace.specs.declared.piece.Piece.{Piece}
@@ -77,7 +77,7 @@ pub record IsReady (sc : Scenario) (d : Division) (states : List NodeState) (run
 -- a block of the scenario, of few lines
 pub record IsShortBlock (sc : Scenario) (block : Block) : Type 0 where
   pub known : IsBlockOf sc block
-  pub short : length block.lines ≤ 64
+  pub short : length block.lines ≤ most_lines
 
 -- the event was handled, and these events were made
 pub record HasHandled (sc : Scenario) (d : Division) (states : List NodeState) (event : Event Body) (old new : PartRun)

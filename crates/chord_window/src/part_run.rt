@@ -197,7 +197,7 @@ fn sort_out(
     mail: &mut Vec<Event>,
 ) -> Result<(), Memory>
     requires apart { AllPairs (λ a b. a.key ≢ b.key) (queue.old.events ++ made.items) }
-    requires few { queue.old.pushes + length made.items < 2 ^ 32 }
+    requires few { queue.old.pushes + length made.items < 2 ^ 40 }
     ensures queue { OnOk result ((x : AnEvent ABody) → Contains queue.new.events x ↔ (Contains queue.old.events x ⊎ (Contains made.items x × (x.key.time < horizon)))) }
     ensures ordered { InKeyOrder event_key queue.new.events }
     ensures pushes { OnOk result (queue.new.pushes ≤ queue.old.pushes + length made.items) }

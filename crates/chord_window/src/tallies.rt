@@ -1,6 +1,7 @@
 //! One tally for each part.
 ghost use Rattle.std.specs.Prelude.{◌≡◌, ℕ, ◌+◌, ◌<◌, ◌≤◌, ◌^◌, ◌++◌, List, [], length, map, slice_index_or, IfOk, OnOk};
 ghost use Rattle.std.specs.List.{All};
+ghost use Rattle.chord_scenario.specs.Blocks.{most_lines};
 ghost use Rattle.chord_trace.specs.declared.piece.Piece.{Piece};
 ghost use Rattle.chord_trace.specs.declared.piece.Piece.TheVariants as piece;
 ghost use Rattle.chord_trace.specs.declared.tally.Tally.{Tally as ATally};
@@ -29,7 +30,7 @@ pub(crate) fn add_tallies(
 
 /// Adds blocks to a tally.
 fn tally_blocks(tally: &mut Tally, blocks: &[Block]) -> Result<(), Memory>
-    requires short { All (λ block. length block.lines ≤ 64) blocks.now }
+    requires short { All (λ block. length block.lines ≤ most_lines) blocks.now }
     requires room { taken tally.old + length blocks.now ≤ 2 ^ 40 }
     ensures pieces { OnOk result ((profile : ℕ) (pieces : List Piece) → IsTallyOf profile pieces tally.old → IsTallyOf profile (pieces ++ map piece.OfEvent blocks.now) tally.new) }
 {
@@ -42,7 +43,7 @@ fn tally_blocks(tally: &mut Tally, blocks: &[Block]) -> Result<(), Memory>
 /// Adds the blocks of each part to its tally.
 pub(crate) fn tally_parts(tallies: &mut Vec<Tally>, lists: &[Vec<Block>]) -> Result<(), Memory>
     requires each { length lists.now ≤ length tallies.old.items }
-    requires short { (part : ℕ) → All (λ block. length block.lines ≤ 64) (blocks_at lists.now part) }
+    requires short { (part : ℕ) → All (λ block. length block.lines ≤ most_lines) (blocks_at lists.now part) }
     requires room { (part : ℕ) (t : ATally) → part < length tallies.old.items → taken (slice_index_or tallies.old.items part t) + length (blocks_at lists.now part) ≤ 2 ^ 40 }
     ensures each { OnOk result (length tallies.new.items ≡ length tallies.old.items) }
     ensures pieces { OnOk result ((profile : ℕ) (share : ℕ → List Piece) → AreTalliesOf profile share tallies.old.items → AreTalliesOf profile (λ part. share part ++ map piece.OfEvent (blocks_at lists.now part)) tallies.new.items) }

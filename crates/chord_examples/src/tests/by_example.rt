@@ -65,7 +65,7 @@ fn sixty_lookups_and_one_more(rt: HostRuntime) {
     for (profile, last) in [
         ("profile = 1", ""),
         ("profile = 2", "losses 0\n"),
-        ("profile = 3", "losses 0\nagain 0\n"),
+        ("profile = 3", "losses 0\nagain 0\nforgotten 0\n"),
     ] {
         has_sixty(&rt, text.as_str(), profile, expected.as_str(), last);
     }

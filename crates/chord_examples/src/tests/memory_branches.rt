@@ -180,7 +180,7 @@ fn a_latency_for_each_pair(rt: HostRuntime) {
     }
 }
 
-/// The body of each kind from 0 to 17, with two nodes in each list.
+/// The body of each kind from 0 to 19, with two nodes in each list.
 fn body_of(kind: u32, key: Ident, list: Listed<u32>) -> Body {
     match kind {
         0 => Body::CmdJoin { via: 1 },
@@ -201,6 +201,8 @@ fn body_of(kind: u32, key: Ident, list: Listed<u32>) -> Body {
             answer: Answer::Stuck,
         },
         14 => Body::Pong { call: 1 },
+        15 => Body::CheckTick { epoch: 1 },
+        16 => Body::Rejoin { epoch: 1 },
         _ => body_with(kind, key, list),
     }
 }
@@ -208,14 +210,14 @@ fn body_of(kind: u32, key: Ident, list: Listed<u32>) -> Body {
 /// The bodies that have a list.
 fn body_with(kind: u32, key: Ident, list: Listed<u32>) -> Body {
     match kind {
-        15 => Body::Step {
+        17 => Body::Step {
             call: 1,
             key,
             avoid: list,
         },
-        16 => Body::StateReply {
+        18 => Body::StateReply {
             call: 1,
-            prdc: 1,
+            prdc: Some(1),
             list,
         },
         _ => Body::ListReply { call: 1, list },
@@ -226,7 +228,7 @@ fn body_with(kind: u32, key: Ident, list: Listed<u32>) -> Body {
 fn a_copy_of_each_body(rt: HostRuntime) {
     let key = Circle::new(3).and_then(|circle| circle.ident(5));
     let key = value_of(&rt, key.ok_or("no key"));
-    for kind in 0..18 {
+    for kind in 0..20 {
         let mut list = Listed::new(rt.alloc());
         value_of(&rt, list.push(1));
         value_of(&rt, list.push(2));

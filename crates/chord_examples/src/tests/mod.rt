@@ -4,6 +4,7 @@ mod by_engine;
 mod by_example;
 mod by_plan;
 mod circles;
+mod coordinates;
 mod crews;
 mod dealers;
 mod divisions;

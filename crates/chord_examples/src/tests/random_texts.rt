@@ -84,6 +84,24 @@ fn write_network(text: &mut String, dice: &mut Dice) -> Result<(), AllocError> {
     writeln!(text, "loss_ppm = {loss}\nspread_us = {spread}")?;
     if profile == 3 {
         writeln!(text, "retries = {}", dice.below(4))?;
+        write_repair(text, dice)?;
+    }
+    Ok(())
+}
+
+/// How a random scenario of the third profile joins and checks.
+fn write_repair(text: &mut String, dice: &mut Dice) -> Result<(), AllocError> {
+    if dice.below(2) == 0 {
+        writeln!(text, "join_pause_us = {}", 1 + dice.below(60))?;
+    }
+    if dice.below(2) == 0 {
+        writeln!(text, "join_forever = true")?;
+    }
+    if dice.below(2) == 0 {
+        writeln!(text, "check_us = {}", 40 + dice.below(200))?;
+    }
+    if dice.below(2) == 0 {
+        writeln!(text, "detail = true")?;
     }
     Ok(())
 }

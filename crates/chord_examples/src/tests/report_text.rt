@@ -18,6 +18,9 @@ const REPORT: Report = Report {
         lost: 11,
         busy: 12,
         ignored: 13,
+        losses: 18446744073709551614,
+        again: 26,
+        forgotten: 27,
     },
     unfinished: 14,
     hops_sum: 15,
@@ -32,8 +35,7 @@ const REPORT: Report = Report {
         unordered: 23,
         insufficient: 24,
     },
-    losses: Some(18446744073709551614),
-    again: Some(26),
+    profile: 3,
 };
 
 const TEXT: &str =
@@ -41,7 +43,7 @@ const TEXT: &str =
     lookups 9\nfound 10\nlost 11\nbusy 12\nignored 13\nunfinished 14\nhops-sum 15\n\
     hops-greatest 16\nus-sum 340282366920938463463374607431768211455\nus-least 18\nus-median 19\n\
     us-greatest 18446744073709551615\naudits 21\nringless 22\nunordered 23\ninsufficient 24\n\
-    losses 18446744073709551614\nagain 26\n";
+    losses 18446744073709551614\nagain 26\nforgotten 27\n";
 
 #[test]
 fn each_number_has_its_line(rt: HostRuntime) {

@@ -45,7 +45,7 @@ fn have_no_loss<T: Abort + AllocGlobal + Threads + Wait + Sync>(rt: &T, group: &
             rt,
             example,
             "profile = 3\nretries = 0",
-            "losses 0\nagain 0\n",
+            "losses 0\nagain 0\nforgotten 0\n",
         );
     }
 }

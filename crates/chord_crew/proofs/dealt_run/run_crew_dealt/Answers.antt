@@ -86,3 +86,8 @@ loop-opening-preserved g c =
           c.loop-opening.loads.items _ c.in_ok-dones.ensures.done c.as_slice-in-Some.ensures.value few c.count_events.ensures.counted
           (omega (arith, c.in_ok-put_window.ensures.count, count, c.in_ok-engine-2.ensures.count));
     }
+
+pub returns-in_err-put_window-clause-run : goal.returns-in_err-put_window-clause-run
+returns-in_err-put_window-clause-run g c = run_stopped c.args.scenario.now _ _ _ c.in_err-put_window.field-0.0
+    (search (rules, c.from_residual-in_err-put_window.ensures)) (λ is. c.in_err-put_window.ensures.over (ap Err is))
+    (c.put_window.ensures.front _ (c.in_ok-engine-2.ensures.at _ _ c.loop-opening.invariant.at))

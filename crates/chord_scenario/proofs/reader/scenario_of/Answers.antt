@@ -1,4 +1,4 @@
-use Rattle.std.proofs.Common.{◌≡◌, ◌∙◌, ◌<◌, ◌^◌, List, sym, ap, subst, ℕ, map, length, None}
+use Rattle.std.proofs.Common.{◌≡◌, ◌∙◌, ◌<◌, ◌^◌, List, sym, ap, subst, ℕ, map, length, None, arith}
 use Rattle.std.specs.List.{All}
 use Rattle.chord_scenario.specs.Rows.{rows_of}
 use Rattle.toml.specs.Data.{Members}
@@ -15,6 +15,7 @@ use Rattle.chord_scenario.specs.Sections.{Section, section_of, sections}
 use Rattle.chord_scenario.specs.Settings.{nodes_of, commands_of}
 use Rattle.chord_scenario.specs.Values.{number_at}
 use Rattle.chord_scenario.proofs.InRange.{keys_fit, in_range}
+use Rattle.chord_scenario.proofs.LatencyFacts.{placed}
 use Rattle.chord_scenario.proofs.Scenarios.{node_questions-distinct, latency-between}
 use Rattle.chord_scenario.proofs.Squares.{square_is}
 use Rattle.chord_scenario.proofs.reader.scenario_of.Goals as goal
@@ -57,6 +58,16 @@ circle_of-circle-requires-clause-greatest c =
     (ap (map section_of) c.as_slice.ensures.value ∙ c.in_ok-tables.ensures) c.number_at-bits.ensures (sym c.key_fault.ensures ∙ c.in_default.is) in
     (keys_fit c.number_at-profile.result (number_at key.Bits top) top keys).greatest
 
+pub new-requires : goal.new-requires
+new-requires c =
+    let top = table_view c.args.top.now in
+    let keys = keys_sound top c.number_at-profile.result c.number_at-bits.result (map section_of c.as_slice.result.now)
+    (ap (map section_of) c.as_slice.ensures.value ∙ c.in_ok-tables.ensures) c.number_at-bits.ensures (sym c.key_fault.ensures ∙ c.in_default.is) in
+    let own = own_nodes top c.circle_of-circle.result (map section_of c.as_slice-2.result.now) c.in_ok-nodes.nodes.items c.circle_of-circle.ensures
+    (ap (map section_of) c.as_slice-2.ensures.value ∙ c.in_ok-tables.ensures) c.in_ok-nodes.ensures.value in
+    let same : length c.as_slice-3.result.now ≡ length (nodes_in top) = ap length (c.as_slice-3.ensures.value ∙ own) in
+    omega (arith, same, (keys_fit c.number_at-profile.result (number_at key.Bits top) top keys).nodes)
+
 pub link_nodes-requires-clause-few : goal.link_nodes-requires-clause-few
 link_nodes-requires-clause-few c =
     let top = table_view c.args.top.now in
@@ -64,7 +75,7 @@ link_nodes-requires-clause-few c =
     (ap (map section_of) c.as_slice.ensures.value ∙ c.in_ok-tables.ensures) c.number_at-bits.ensures (sym c.key_fault.ensures ∙ c.in_default.is) in
     let own = own_nodes top c.circle_of-circle.result (map section_of c.as_slice-2.result.now) c.in_ok-nodes.nodes.items c.circle_of-circle.ensures
     (ap (map section_of) c.as_slice-2.ensures.value ∙ c.in_ok-tables.ensures) c.in_ok-nodes.ensures.value in
-    rw (c.as_slice-6.ensures.value, own) (keys_fit c.number_at-profile.result (number_at key.Bits top) top keys).nodes
+    rw (c.in_ok-names.ensures, c.as_slice-3.ensures.value, own) (keys_fit c.number_at-profile.result (number_at key.Bits top) top keys).nodes
 
 pub assembled-requires-clause-profile : goal.assembled-requires-clause-profile
 assembled-requires-clause-profile c =
@@ -83,12 +94,12 @@ assembled-requires-clause-in_range c =
     (ap (map section_of) c.as_slice.ensures.value ∙ tables) c.number_at-bits.ensures (sym c.key_fault.ensures ∙ c.in_default.is) in
     let own = own_nodes top c.circle_of-circle.result (map section_of c.as_slice-2.result.now) c.in_ok-nodes.nodes.items c.circle_of-circle.ensures
     (ap (map section_of) c.as_slice-2.ensures.value ∙ tables) c.in_ok-nodes.ensures.value in
-    let asked = nodes_sound top (map section_of c.as_slice-3.result.now) c.as_slice-4.result.now
-    (ap (map section_of) c.as_slice-3.ensures.value ∙ tables) (c.as_slice-4.ensures.value ∙ own) (sym c.in_ok-fault.ensures ∙ c.in_default-2.is) in
+    let lent = c.in_ok-names.ensures ∙ c.as_slice-3.ensures.value ∙ own in
+    let asked = nodes_sound top (map section_of c.as_slice-4.result.now) c.in_ok-names.names.nodes.now
+    (ap (map section_of) c.as_slice-4.ensures.value ∙ tables) lent (sym c.in_ok-fault.ensures ∙ c.in_default-2.is) in
     let last = ap (map section_of) c.as_slice-5.ensures.value ∙ tables in
-    let lent = c.as_slice-6.ensures.value ∙ own in
-    let late = late_sound top (map section_of c.as_slice-5.result.now) c.as_slice-6.result.now rows last lent linked.sound in
-    let commands = own_commands top c.circle_of-circle.result (map section_of c.as_slice-5.result.now) c.as_slice-6.result.now
+    let late = late_sound top (map section_of c.as_slice-5.result.now) c.in_ok-names.names.nodes.now rows last lent linked.sound in
+    let commands = own_commands top c.circle_of-circle.result (map section_of c.as_slice-5.result.now) c.in_ok-names.names.nodes.now
     c.in_ok-linked.linked.commands.items c.circle_of-circle.ensures last lent linked.commands in
     let cells = square_or_zeros (length (nodes_in top)) c.in_ok-linked.linked.cells.items in
     let square = subst (λ n. HasLatencies n rows (square_or_zeros (length n) c.in_ok-linked.linked.cells.items)) lent linked.square in
@@ -103,11 +114,11 @@ returns-clause-values c =
     let linked = c.in_ok-linked.ensures in
     let own = own_nodes top c.circle_of-circle.result (map section_of c.as_slice-2.result.now) c.in_ok-nodes.nodes.items c.circle_of-circle.ensures
     (ap (map section_of) c.as_slice-2.ensures.value ∙ tables) c.in_ok-nodes.ensures.value in
-    let asked = nodes_sound top (map section_of c.as_slice-3.result.now) c.as_slice-4.result.now
-    (ap (map section_of) c.as_slice-3.ensures.value ∙ tables) (c.as_slice-4.ensures.value ∙ own) (sym c.in_ok-fault.ensures ∙ c.in_default-2.is) in
+    let lent = c.in_ok-names.ensures ∙ c.as_slice-3.ensures.value ∙ own in
+    let asked = nodes_sound top (map section_of c.as_slice-4.result.now) c.in_ok-names.names.nodes.now
+    (ap (map section_of) c.as_slice-4.ensures.value ∙ tables) lent (sym c.in_ok-fault.ensures ∙ c.in_default-2.is) in
     let last = ap (map section_of) c.as_slice-5.ensures.value ∙ tables in
-    let lent = c.as_slice-6.ensures.value ∙ own in
-    let commands = own_commands top c.circle_of-circle.result (map section_of c.as_slice-5.result.now) c.as_slice-6.result.now
+    let commands = own_commands top c.circle_of-circle.result (map section_of c.as_slice-5.result.now) c.in_ok-names.names.nodes.now
     c.in_ok-linked.linked.commands.items c.circle_of-circle.ensures last lent linked.commands in
     let cells = square_or_zeros (length (nodes_in top)) c.in_ok-linked.linked.cells.items in
     let square = subst (λ n. HasLatencies n rows (square_or_zeros (length n) c.in_ok-linked.linked.cells.items)) lent linked.square in
@@ -116,5 +127,6 @@ returns-clause-values c =
     let is : c.assembled.result ≡ sc = c.assembled.ensures ∙ rw (own, commands) in
     rw is (record {
       values = ap (setup_with top (nodes_in top) (commands_in top)) (square_is (nodes_in top) rows cells square distinct);
-      latencies = λ i j x y apart hx hy. latency-between rows sc i j x y square linked.good distinct apart hx hy;
+      latencies = λ none i j x y apart hx hy. latency-between rows sc i j x y square linked.good distinct none apart hx hy;
+      distances = placed sc;
     })

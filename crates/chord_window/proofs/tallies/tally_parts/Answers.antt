@@ -1,6 +1,7 @@
 use Rattle.std.proofs.Common.{◌∙◌, ◌<◌, ◌≤◌, ◌++◌, List, ap, sym, subst, arith, length, map}
 use Rattle.std.specs.List.{All}
 use Rattle.chord_event.specs.declared.block.Block.{Block}
+use Rattle.chord_scenario.specs.Blocks.{most_lines}
 use Rattle.chord_trace.specs.declared.piece.Piece.TheVariants as piece
 use Rattle.chord_trace.specs.Tally.{IsTallyOf, taken}
 use Rattle.chord_window.proofs.Tallied.{all_added, blocks_at_is, one_added}
@@ -10,7 +11,7 @@ pub tally_blocks-requires-clause-short : goal.tally_blocks-requires-clause-short
 tally_blocks-requires-clause-short c =
     let here = blocks_at_is c.args.lists.now c.loop-part.part c.index-lists-part.result c.loop-part-test.true c.index-lists-part.is
     ∙ sym c.as_slice.ensures.value in
-    subst (λ (l : List Block). All (λ (b : Block). length b.lines ≤ 64) l) here (c.requires.short c.loop-part.part)
+    subst (λ (l : List Block). All (λ (b : Block). length b.lines ≤ most_lines) l) here (c.requires.short c.loop-part.part)
 
 pub tally_blocks-requires-clause-room : goal.tally_blocks-requires-clause-room
 tally_blocks-requires-clause-room c =

@@ -8,4 +8,5 @@ returns-clause-value c =
       ← c.in_ok-arm_stabilize.ensures.value,
       ← c.in_ok-arm_finger.ensures.value,
       ← c.in_ok-arm_traffic.ensures.value,
-    ) c.arm_life.ensures.value
+      ← c.in_ok-arm_life.ensures.value,
+    ) c.arm_check.ensures.value

@@ -1,7 +1,6 @@
 -- The tally has the trace with the block at its end.
-use Rattle.std.proofs.Common.{◌∙◌, ◌+◌, ap, count_by, refl}
+use Rattle.std.proofs.Common.{◌∙◌, ap, refl}
 use Rattle.chord_trace.specs.Counts.{counts_in, plus}
-use Rattle.chord_trace.specs.Kinds.{is_again, is_loss}
 use Rattle.chord_trace.proofs.Tallies.{with_block}
 use Rattle.chord_trace.proofs.tally.Tally.add.Goals as goal
 
@@ -9,6 +8,4 @@ pub returns-clause-piece : goal.returns-clause-piece
 returns-clause-piece c = λ profile pieces t. with_block profile pieces c.args.block.now c.args.self.now _ t refl refl
     (c.add.ensures ∙ ap (λ l. plus c.args.self.now.counts (counts_in l)) c.as_slice-lines.ensures)
     (λ seen s. rw c.as_slice-lines.ensures at (c.in_ok-add_lines.ensures.has seen s))
-    (ap (λ n. c.args.self.now.losses + n) (c.count_losses.ensures ∙ ap (count_by is_loss) c.as_slice-lines.ensures))
-    (ap (λ n. c.args.self.now.again + n) (c.count_again.ensures ∙ ap (count_by is_again) c.as_slice-lines.ensures))
     refl

@@ -5,4 +5,4 @@ use Rattle.chord_trace.proofs.tally.Tally.join.Goals as goal
 
 pub returns-clause-pieces : goal.returns-clause-pieces
 returns-clause-pieces c profile mine others t u =
-    joined profile mine others c.args.self c.args.other _ t u refl refl c.join.ensures c.in_ok-join.ensures.has refl refl c.join-3.ensures
+    joined profile mine others c.args.self c.args.other _ t u refl refl c.join.ensures c.in_ok-join.ensures.has c.join-3.ensures

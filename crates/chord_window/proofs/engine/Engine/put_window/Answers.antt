@@ -9,7 +9,7 @@ use Rattle.chord_machine.specs.Chord.{chord}
 use Rattle.chord_model.specs.Histories.{history, state}
 use Rattle.chord_node.specs.declared.state.NodeState.{NodeState}
 use Rattle.chord_node.specs.Invariant.{AllNodes}
-use Rattle.chord_scenario.specs.Blocks.{IsBlockOf}
+use Rattle.chord_scenario.specs.Blocks.{IsBlockOf, most_lines}
 use Rattle.chord_trace.specs.declared.piece.Piece.{Piece}
 use Rattle.chord_trace.specs.declared.piece.Piece.TheVariants as piece
 use Rattle.chord_trace.specs.Merging.{CanMerge, IsMerged}
@@ -96,7 +96,7 @@ returns-in_err-blocks-clause-front g c = λ old t.
 
 pub tally_parts-requires-clause-short : goal.tally_parts-requires-clause-short
 tally_parts-requires-clause-short g c = subst (λ (ls : List (Vec Block Global)). (part : ℕ)
-    → All (λ (b : Block). length b.lines ≤ 64) (blocks_at ls part)) (sym (c.as_slice-3.ensures.value ∙ c.in_ok-lists.ensures.blocks))
+    → All (λ (b : Block). length b.lines ≤ most_lines) (blocks_at ls part)) (sym (c.as_slice-3.ensures.value ∙ c.in_ok-lists.ensures.blocks))
     (lists_short c.args.scenario.now c.args.self.now.world c.args.opening.horizon 0 c.args.dones.items c.requires.done.each)
 
 pub tally_parts-requires-clause-room : goal.tally_parts-requires-clause-room
