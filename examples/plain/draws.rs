@@ -43,6 +43,7 @@ pub enum Subject {
     Rise = 5,
     Key = 6,
     Message = 7,
+    CheckTick = 8,
 }
 
 /// Where a node takes the words of its draws from.

@@ -29,6 +29,14 @@ pub enum MessageKind {
     Pong,
 }
 
+impl MessageKind {
+    /// Whether a message of this kind has a call.
+    pub fn is_request(self) -> bool {
+        use MessageKind::{GetList, GetState, Ping, Step};
+        matches!(self, Step | GetState | GetList | Ping)
+    }
+}
+
 impl fmt::Display for MessageKind {
     fn fmt(&self, out: &mut fmt::Formatter) -> fmt::Result {
         out.write_str(match self {
@@ -70,6 +78,12 @@ pub enum Body {
     Rise {
         epoch: u64,
     },
+    CheckTick {
+        epoch: u64,
+    },
+    Rejoin {
+        epoch: u64,
+    },
     Timeout {
         call: u64,
     },
@@ -94,7 +108,7 @@ pub enum Body {
     },
     StateReply {
         call: u64,
-        predecessor: u32,
+        predecessor: Option<u32>,
         successors: Vec<u32>,
     },
     ListReply {

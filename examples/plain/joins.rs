@@ -1,7 +1,7 @@
 //! Joins: how a node comes up, goes on with an attempt, fails, and becomes a member.
 
 use crate::circle::between;
-use crate::events::{Answer, Request};
+use crate::events::{Answer, Body, Request};
 use crate::lookups::MOST_STEPS;
 use crate::state::{Attempt, Purpose, Status};
 use crate::trace::Line;
@@ -9,6 +9,9 @@ use crate::turn::Turn;
 
 /// The failures that end an attempt.
 const MOST_FAILURES: u32 = 8;
+
+/// The pauses after an attempt, if the next one follows.
+const PAUSES_BETWEEN_ATTEMPTS: u64 = 8;
 
 impl Turn<'_> {
     /// The node through which the node joins. It has one once it has come up.
@@ -55,19 +58,47 @@ impl Turn<'_> {
         self.call(to, self.place_request(), Purpose::JoinStep);
     }
 
-    /// A try of the attempt has failed. The node tries again, or goes down after the last try.
+    /// A try of the attempt has failed. The node tries again after a pause. After the last try it goes
+    /// down, or pauses for longer and begins another attempt.
     fn fail_join(&mut self) {
+        let pause = self.scenario.join_pause_us;
         let attempt = self.attempt();
         attempt.failures += 1;
         if attempt.failures < MOST_FAILURES {
             attempt.steps = 0;
-            return self.ask_for_place(self.via());
+            return self.pause(pause);
         }
         self.note(Line::JoinFailed);
+        if self.scenario.joins_forever {
+            self.start_attempt();
+            return self.pause(PAUSES_BETWEEN_ATTEMPTS * pause);
+        }
         self.node.go_down();
         if self.churns() {
             self.arm_rise();
         }
+    }
+
+    /// Tries again after this time, at once if it is 0.
+    fn pause(&mut self, delay: u64) {
+        if delay == 0 {
+            return self.try_again();
+        }
+        let epoch = self.node.epoch;
+        self.make(delay, Body::Rejoin { epoch });
+    }
+
+    /// The pause after a failed try is over.
+    pub fn on_rejoin(&mut self, epoch: u64) {
+        let is_joining = self.node.status == Status::Joining;
+        if self.node.epoch == epoch && is_joining && self.node.calls.is_empty() {
+            self.try_again();
+        }
+    }
+
+    /// The next try of the attempt.
+    fn try_again(&mut self) {
+        self.ask_for_place(self.via());
     }
 
     /// Joins again, since no successor is left.

@@ -31,17 +31,19 @@ pub struct Report {
     insufficient: u64,
     losses: u64,
     again: u64,
+    forgotten: u64,
     /// Whether the losses are printed, as they are in the second and third profile.
     pub has_losses: bool,
-    /// Whether the requests that were sent again are printed, as they are in the third profile.
-    pub has_again: bool,
+    /// Whether the requests that were sent again and the predecessors that were forgotten are printed,
+    /// as they are in the third profile.
+    pub is_third: bool,
 }
 
 impl Report {
     /// Counts a line of an event.
     pub fn count(&mut self, line: &Line) {
         match line {
-            Line::Join { .. } => {}
+            Line::Join { .. } | Line::Ask { .. } | Line::Send { .. } => {}
             Line::Member { .. } => self.members += 1,
             Line::JoinFailed => self.join_failed += 1,
             Line::Crash => self.crashes += 1,
@@ -51,6 +53,7 @@ impl Report {
             Line::Timeout { .. } => self.timeouts += 1,
             Line::Lose { .. } => self.losses += 1,
             Line::Again { .. } => self.again += 1,
+            Line::Forget { .. } => self.forgotten += 1,
             Line::Lookup { .. } => self.lookups += 1,
             Line::Found { hops, us, .. } => self.count_found(u64::from(*hops), *us),
             Line::Lost { .. } => self.lost += 1,
@@ -112,7 +115,9 @@ impl Report {
             ("insufficient", self.insufficient),
         ];
         rows.extend(self.has_losses.then_some(("losses", self.losses)));
-        rows.extend(self.has_again.then_some(("again", self.again)));
+        if self.is_third {
+            rows.extend([("again", self.again), ("forgotten", self.forgotten)]);
+        }
         rows
     }
 }

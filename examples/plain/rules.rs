@@ -20,6 +20,8 @@ impl Turn<'_> {
             Body::TrafficTick { epoch } => self.on_traffic_tick(epoch),
             Body::LifeEnd { epoch } => self.on_life_end(epoch),
             Body::Rise { epoch } => self.on_rise(epoch),
+            Body::CheckTick { epoch } => self.on_check_tick(epoch),
+            Body::Rejoin { epoch } => self.on_rejoin(epoch),
             Body::Timeout { call } => self.on_timeout(call),
             Body::Step { call, key, avoid } => self.on_step(sender, call, key, &avoid),
             Body::GetState { call } => self.on_get_state(sender, call),
@@ -134,6 +136,20 @@ impl Turn<'_> {
         }
     }
 
+    /// The timer to check the predecessor: pings it.
+    fn on_check_tick(&mut self, epoch: u64) {
+        if self.node.is_void(epoch) {
+            return;
+        }
+        self.arm_check();
+        if !self.node.is_member() || self.node.has_call(Purpose::is_ping) {
+            return;
+        }
+        if let Some(predecessor) = self.node.predecessor {
+            self.call(predecessor, Request::Ping, Purpose::Check);
+        }
+    }
+
     /// The time for the reply to a request is over. It is sent again, or its call has failed.
     fn on_timeout(&mut self, number: u64) {
         let Some(call) = self.take_call(|call| call.number == number) else {
@@ -156,6 +172,17 @@ impl Turn<'_> {
                     self.node.predecessor = Some(notifier);
                 }
             }
+            Purpose::Check => self.forget(asked),
+        }
+    }
+
+    /// The predecessor was checked and is silent. If it still is the predecessor, the node has none now.
+    fn forget(&mut self, checked: u32) {
+        if self.node.predecessor == Some(checked) {
+            self.note(Line::Forget {
+                predecessor: self.name(checked),
+            });
+            self.node.predecessor = None;
         }
     }
 
@@ -201,17 +228,12 @@ impl Turn<'_> {
         }
     }
 
-    /// The predecessor of a member.
-    fn predecessor(&self) -> u32 {
-        self.node.predecessor.expect("a member has a predecessor")
-    }
-
     /// A request for the predecessor and the successor list.
     fn on_get_state(&mut self, sender: u32, call: u64) {
         if self.accepts(MessageKind::GetState, sender) {
             let reply = Body::StateReply {
                 call,
-                predecessor: self.predecessor(),
+                predecessor: self.node.predecessor,
                 successors: self.node.successors.clone(),
             };
             self.send(MessageKind::StateReply, sender, reply);
@@ -239,12 +261,14 @@ impl Turn<'_> {
         if !self.accepts(MessageKind::Notify, sender) {
             return;
         }
-        let predecessor = self.predecessor();
+        let Some(predecessor) = self.node.predecessor else {
+            self.node.predecessor = Some(sender);
+            return;
+        };
         let ident = |node: u32| self.scenario.ident(node);
-        let is_ping = |purpose| matches!(purpose, Purpose::Ping { .. });
         if between(ident(predecessor), ident(sender), ident(self.node.me)) {
             self.node.predecessor = Some(sender);
-        } else if sender != predecessor && !self.node.has_call(is_ping) {
+        } else if sender != predecessor && !self.node.has_call(Purpose::is_ping) {
             let purpose = Purpose::Ping { notifier: sender };
             self.call(predecessor, Request::Ping, purpose);
         }
@@ -281,17 +305,19 @@ impl Turn<'_> {
 
     /// The reply to a request for the state: renews the successor list. A node between this one and
     /// its successor is asked for its list.
-    fn on_state_reply(&mut self, sender: u32, number: u64, predecessor: u32, list: &[u32]) {
+    fn on_state_reply(&mut self, sender: u32, number: u64, predecessor: Option<u32>, list: &[u32]) {
         let Some(call) = self.answered(MessageKind::StateReply, sender, number) else {
             return;
         };
         self.node
             .renew_successors(call.to, list, self.scenario.list);
         let ident = |node: u32| self.scenario.ident(node);
-        if between(ident(self.node.me), ident(predecessor), ident(call.to)) {
-            self.call(predecessor, Request::GetList, Purpose::List);
-        } else {
-            self.notify_head();
+        let is_nearer = |&node: &u32| between(ident(self.node.me), ident(node), ident(call.to));
+        match predecessor.filter(is_nearer) {
+            Some(nearer) => {
+                self.call(nearer, Request::GetList, Purpose::List);
+            }
+            None => self.notify_head(),
         }
     }
 

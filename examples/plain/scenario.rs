@@ -1,9 +1,13 @@
 //! The scenario, as it is read from the flat form that `flatten` writes.
 
+use std::collections::HashMap;
 use std::str::{FromStr, SplitAsciiWhitespace};
 
 use crate::circle::{Circle, Ident};
 use crate::draws::Span;
+
+/// Latencies are in a table of all pairs for at most this many nodes.
+const MOST_IN_TABLE: usize = 4096;
 
 /// Which of the three sets of rules a scenario follows.
 #[derive(Clone, Copy, PartialEq)]
@@ -12,7 +16,8 @@ pub enum Profile {
     First,
     /// A message between different nodes may be lost, or arrive later by a part of the spread.
     Second,
-    /// So it may here. A request may be sent again, and each draw has words of its own.
+    /// So it may here. A request may be sent again, a node may pause between attempts to join and check
+    /// its predecessor, lines may tell of each message, and each draw has words of its own.
     Third,
 }
 
@@ -43,6 +48,9 @@ pub struct Scenario {
     pub loss_ppm: u32,
     pub spread_us: u32,
     pub retries: u32,
+    pub join_pause_us: u64,
+    pub joins_forever: bool,
+    pub has_detail: bool,
     pub circle: Circle,
     pub list: usize,
     pub seed: u64,
@@ -51,6 +59,7 @@ pub struct Scenario {
     pub audit_us: u64,
     pub stabilize: Span,
     pub finger: Span,
+    pub check: Option<Span>,
     pub max_events: u64,
     pub churn: Option<Churn>,
     pub lookup_gap: Option<Span>,
@@ -69,6 +78,9 @@ impl Scenario {
         let mut words = Words(text.split_ascii_whitespace());
         let profile = words.profile();
         let (loss_ppm, spread_us, retries) = (words.next(), words.next(), words.next());
+        let (join_pause_us, joins_forever) = (words.next(), words.flag());
+        let check_us: u64 = words.next();
+        let has_detail = words.flag();
         let circle = Circle::new(words.next());
         let (list, seed) = (words.next(), words.next());
         let (duration_us, timeout_us, audit_us) = (words.next(), words.next(), words.next());
@@ -79,8 +91,7 @@ impl Scenario {
         let churn = words.churn();
         let lookup_gap = words.flag().then(|| words.span());
         let nodes = words.nodes();
-        let mut latencies = Latencies::same_for_all(nodes.len(), latency_us);
-        words.rows(&mut latencies);
+        let latencies = words.latencies(nodes.len(), latency_us);
         let commands = words.commands();
         let idents: Vec<Ident> = nodes.iter().map(|node| node.ident).collect();
         Self {
@@ -88,6 +99,9 @@ impl Scenario {
             loss_ppm,
             spread_us,
             retries,
+            join_pause_us,
+            joins_forever,
+            has_detail,
             circle,
             list,
             seed,
@@ -96,6 +110,7 @@ impl Scenario {
             audit_us,
             stabilize: Span::new(stabilize_us, stabilize_us + jitter_us),
             finger: Span::new(finger_us, finger_us + jitter_us),
+            check: (check_us > 0).then(|| Span::new(check_us, check_us + jitter_us)),
             max_events,
             churn,
             lookup_gap,
@@ -137,37 +152,62 @@ fn ranks_of(idents: &[Ident]) -> Vec<u32> {
 }
 
 /// The latency of each pair of nodes, in microseconds.
-pub struct Latencies {
-    nodes: usize,
-    same: u32,
-    /// Empty if all latencies are the same.
-    table: Vec<u32>,
+pub enum Latencies {
+    /// The same for all pairs.
+    Same(u32),
+    /// That of each pair, if rows of the latency file make them differ.
+    Table { nodes: usize, table: Vec<u32> },
+    /// That of the pairs of rows, and the same for the others, if a table would be too large.
+    Rows {
+        same: u32,
+        rows: HashMap<(u32, u32), u32>,
+    },
+    /// By the coordinates of the nodes.
+    Places(Vec<Place>),
 }
 
 impl Latencies {
-    /// The same latency for all pairs of nodes.
-    fn same_for_all(nodes: usize, same: u32) -> Self {
-        let table = Vec::new();
-        Self { nodes, same, table }
-    }
-
-    /// Sets the latency of a pair, in both directions.
-    fn set(&mut self, a: usize, b: usize, latency_us: u32) {
-        if self.table.is_empty() {
-            self.table = vec![self.same; self.nodes * self.nodes];
+    /// The latencies of so many nodes that these rows say, and the same one for all other pairs.
+    fn of_rows(nodes: usize, same: u32, rows: HashMap<(u32, u32), u32>) -> Self {
+        if rows.is_empty() {
+            return Self::Same(same);
         }
-        self.table[a * self.nodes + b] = latency_us;
-        self.table[b * self.nodes + a] = latency_us;
+        if nodes > MOST_IN_TABLE {
+            return Self::Rows { same, rows };
+        }
+        let mut table = vec![same; nodes * nodes];
+        for ((from, to), latency_us) in rows {
+            table[from as usize * nodes + to as usize] = latency_us;
+        }
+        Self::Table { nodes, table }
     }
 
     /// The latency of two different nodes.
     pub fn of(&self, from: u32, to: u32) -> u64 {
-        let latency_us = if self.table.is_empty() {
-            self.same
-        } else {
-            self.table[from as usize * self.nodes + to as usize]
-        };
-        u64::from(latency_us)
+        match self {
+            Self::Same(same) => u64::from(*same),
+            Self::Table { nodes, table } => u64::from(table[from as usize * nodes + to as usize]),
+            Self::Rows { same, rows } => u64::from(*rows.get(&(from, to)).unwrap_or(same)),
+            Self::Places(places) => places[from as usize].latency_to(&places[to as usize]),
+        }
+    }
+}
+
+/// The coordinates of a node: its place in the plane, and its height above it.
+pub struct Place {
+    x_us: u64,
+    y_us: u64,
+    height_us: u64,
+}
+
+impl Place {
+    /// The latency to another node: the heights of both, and the distance in the plane, rounded down.
+    fn latency_to(&self, other: &Self) -> u64 {
+        let (x, y) = (
+            self.x_us.abs_diff(other.x_us),
+            self.y_us.abs_diff(other.y_us),
+        );
+        self.height_us + other.height_us + (x * x + y * y).isqrt()
     }
 }
 
@@ -234,11 +274,33 @@ impl<'a> Words<'a> {
         (0..count).map(row).collect()
     }
 
-    /// Sets the latencies of the rows, which follow their number.
-    fn rows(&mut self, latencies: &mut Latencies) {
+    /// The latencies of the nodes: the rows, after their number, and the coordinates, if there are any.
+    fn latencies(&mut self, nodes: usize, same: u32) -> Latencies {
+        let rows = self.rows();
+        if self.flag() {
+            return Latencies::Places((0..nodes).map(|_| self.place()).collect());
+        }
+        Latencies::of_rows(nodes, same, rows)
+    }
+
+    /// The latency of each pair of the rows, in both directions.
+    fn rows(&mut self) -> HashMap<(u32, u32), u32> {
         let count: usize = self.next();
+        let mut rows = HashMap::with_capacity(2 * count);
         for _ in 0..count {
-            latencies.set(self.next(), self.next(), self.next());
+            let (a, b, latency_us) = (self.next(), self.next(), self.next());
+            rows.insert((a, b), latency_us);
+            rows.insert((b, a), latency_us);
+        }
+        rows
+    }
+
+    /// The coordinates of a node.
+    fn place(&mut self) -> Place {
+        Place {
+            x_us: self.next(),
+            y_us: self.next(),
+            height_us: self.next(),
         }
     }
 

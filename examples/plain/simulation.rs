@@ -42,7 +42,7 @@ impl<'a> Simulation<'a> {
     /// The run at its start. The trace is empty.
     pub fn new(scenario: &'a Scenario, mut trace: Trace) -> Self {
         trace.report.has_losses = scenario.profile != Profile::First;
-        trace.report.has_again = scenario.profile == Profile::Third;
+        trace.report.is_third = scenario.profile == Profile::Third;
         let mut simulation = Self {
             scenario,
             nodes: first_states(scenario),
@@ -71,6 +71,7 @@ impl<'a> Simulation<'a> {
                 trace: &mut self.trace,
                 node,
                 time: 0,
+                sent: Vec::new(),
             }
             .arm();
         }
@@ -110,8 +111,10 @@ impl<'a> Simulation<'a> {
             trace: &mut self.trace,
             node: &mut self.nodes[event.target as usize],
             time,
+            sent: Vec::new(),
         };
         turn.act(event.origin.wrapping_sub(FIRST_NODE), event.body);
+        turn.tell();
     }
 
     /// Writes the lines that have been collected.

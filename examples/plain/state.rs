@@ -22,6 +22,7 @@ pub enum Purpose {
     State,
     List,
     Ping { notifier: u32 },
+    Check,
 }
 
 impl Purpose {
@@ -31,8 +32,13 @@ impl Purpose {
             Purpose::Lookup | Purpose::JoinStep => MessageKind::StepReply,
             Purpose::JoinList | Purpose::List => MessageKind::ListReply,
             Purpose::State => MessageKind::StateReply,
-            Purpose::Ping { .. } => MessageKind::Pong,
+            Purpose::Ping { .. } | Purpose::Check => MessageKind::Pong,
         }
+    }
+
+    /// Whether a call of this purpose asks the predecessor for a sign of life.
+    pub fn is_ping(self) -> bool {
+        matches!(self, Purpose::Ping { .. } | Purpose::Check)
     }
 }
 

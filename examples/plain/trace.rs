@@ -44,6 +44,20 @@ pub enum Line<'a> {
         kind: MessageKind,
         asked: &'a str,
     },
+    Forget {
+        predecessor: &'a str,
+    },
+    /// The lookup, if one waits for the call: its key, and when it started.
+    Ask {
+        kind: MessageKind,
+        asked: &'a str,
+        call: u64,
+        lookup: Option<(Ident, u64)>,
+    },
+    Send {
+        kind: MessageKind,
+        receiver: &'a str,
+    },
     Lookup {
         key: Ident,
     },
@@ -81,6 +95,20 @@ impl fmt::Display for Line<'_> {
             Line::Timeout { asked } => write!(out, "timeout {asked}"),
             Line::Lose { kind, receiver } => write!(out, "lose {kind} {receiver}"),
             Line::Again { kind, asked } => write!(out, "again {kind} {asked}"),
+            Line::Forget { predecessor } => write!(out, "forget {predecessor}"),
+            Line::Ask {
+                kind,
+                asked,
+                call,
+                lookup,
+            } => {
+                write!(out, "ask {kind} {asked} call={call}")?;
+                match lookup {
+                    Some((key, started)) => write!(out, " key={key} since={started}"),
+                    None => Ok(()),
+                }
+            }
+            Line::Send { kind, receiver } => write!(out, "send {kind} {receiver}"),
             Line::Lookup { key } => write!(out, "lookup {key}"),
             Line::Found {
                 key,

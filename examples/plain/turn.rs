@@ -1,5 +1,7 @@
 //! A node's turn: what it may do while it acts on an event.
 
+use std::mem;
+
 use crate::draws::{Span, Subject};
 use crate::events::{Body, Event, MessageKind, Request, FIRST_NODE};
 use crate::queue::Queue;
@@ -10,13 +12,20 @@ use crate::trace::{Line, Trace};
 /// The latency from a node to itself, in microseconds.
 const OWN_LATENCY: u64 = 1;
 
-/// A node that acts on an event at this time.
+/// A message that a line is to tell of: a request, or another message that is not lost.
+pub enum Sent {
+    Request { kind: MessageKind, call: u64 },
+    Other { kind: MessageKind, to: u32 },
+}
+
+/// A node that acts on an event at this time. `sent` has the messages that lines are to tell of.
 pub struct Turn<'a> {
     pub scenario: &'a Scenario,
     pub queue: &'a mut Queue,
     pub trace: &'a mut Trace,
     pub node: &'a mut Node,
     pub time: u64,
+    pub sent: Vec<Sent>,
 }
 
 impl<'a> Turn<'a> {
@@ -32,7 +41,7 @@ impl<'a> Turn<'a> {
     }
 
     /// Makes an event for the node itself.
-    fn make(&mut self, delay: u64, body: Body) {
+    pub fn make(&mut self, delay: u64, body: Body) {
         self.node.count += 1;
         self.queue_event(delay, self.node.me, body);
     }
@@ -51,7 +60,12 @@ impl<'a> Turn<'a> {
     pub fn send(&mut self, kind: MessageKind, to: u32, body: Body) {
         self.node.count += 1;
         match self.transit(to) {
-            Some(delay) => self.queue_event(delay, to, body),
+            Some(delay) => {
+                self.queue_event(delay, to, body);
+                if self.scenario.has_detail && !kind.is_request() {
+                    self.sent.push(Sent::Other { kind, to });
+                }
+            }
             None => self.note(Line::Lose {
                 kind,
                 receiver: self.name(to),
@@ -91,6 +105,38 @@ impl<'a> Turn<'a> {
     fn send_with_timeout(&mut self, kind: MessageKind, to: u32, body: Body, call: u64) {
         self.send(kind, to, body);
         self.make(self.scenario.timeout_us, Body::Timeout { call });
+        if self.scenario.has_detail {
+            self.sent.push(Sent::Request { kind, call });
+        }
+    }
+
+    /// Adds the lines that tell of the messages, behind all others of the event.
+    pub fn tell(&mut self) {
+        for message in mem::take(&mut self.sent) {
+            match message {
+                Sent::Request { kind, call } => self.tell_of_request(kind, call),
+                Sent::Other { kind, to } => self.note(Line::Send {
+                    kind,
+                    receiver: self.name(to),
+                }),
+            }
+        }
+    }
+
+    /// Adds the line that tells of a request.
+    fn tell_of_request(&mut self, kind: MessageKind, number: u64) {
+        let mut lookups = self.node.lookups.iter();
+        let lookup = lookups.find(|lookup| lookup.call == number);
+        let lookup = lookup.map(|lookup| (lookup.key, lookup.started));
+        let mut calls = self.node.calls.iter();
+        let call = calls.find(|call| call.number == number);
+        let asked = self.name(call.expect("the call is out").to);
+        self.note(Line::Ask {
+            kind,
+            asked,
+            call: number,
+            lookup,
+        });
     }
 
     /// Sends the request of a call again. The call is put behind all others.
@@ -112,7 +158,7 @@ impl<'a> Turn<'a> {
             Purpose::JoinStep => self.place_request(),
             Purpose::JoinList | Purpose::List => Request::GetList,
             Purpose::State => Request::GetState,
-            Purpose::Ping { .. } => Request::Ping,
+            Purpose::Ping { .. } | Purpose::Check => Request::Ping,
         }
     }
 
@@ -141,6 +187,7 @@ impl<'a> Turn<'a> {
         if self.churns() {
             self.arm_life();
         }
+        self.arm_check();
     }
 
     /// Sets the timer to stabilize.
@@ -168,6 +215,14 @@ impl<'a> Turn<'a> {
         if let Some(churn) = &self.scenario.churn {
             let timer = |epoch| Body::LifeEnd { epoch };
             self.set_timer(churn.life, Subject::LifeEnd, timer);
+        }
+    }
+
+    /// Sets the timer to check the predecessor, if the scenario has such checks.
+    pub fn arm_check(&mut self) {
+        if let Some(span) = self.scenario.check {
+            let timer = |epoch| Body::CheckTick { epoch };
+            self.set_timer(span, Subject::CheckTick, timer);
         }
     }
 
