@@ -14,12 +14,13 @@ Writes the flat form of a scenario: its values one after the other, each between
 examples/plain reads this form. The scenario and its latencies are checked as chordsim checks them."""
 EPILOG = """\
 The flat form:
-  profile, loss_ppm, spread_us, retries
+  profile, loss_ppm, spread_us, retries, join_pause_us, join_forever as 1 or 0, check_us, detail as 1 or 0
   bits, list, seed, duration_us, timeout_us, audit_us, stabilize_us, finger_us, jitter_us, max_events, latency_us
   1 and life_min_us, life_max_us, down_min_us, down_max_us, or 0 if there is no [churn]
   1 and gap_min_us, gap_max_us, or 0 if there is no [lookups]
   the number of nodes; for each its name, its identifier, initial and churn as 1 or 0
   the number of latency rows; for each its two nodes by number and its microseconds
+  1 and for each node its x_us, y_us and height_us, or 0 if nodes have no coordinates
   the number of commands; for each its time, its node by number and `join VIA`, `crash` or `lookup KEY`
 Nodes are numbered from 0. Numbers are decimal.
 
@@ -47,7 +48,8 @@ def flat_form(scenario: Scenario) -> str:
 def lines_of(scenario: Scenario) -> Iterator[list[int | str]]:
     """The values of each line."""
     s = scenario
-    yield [s.profile, s.loss_ppm, s.spread_us, s.retries]
+    yield [s.profile, s.loss_ppm, s.spread_us, s.retries, s.join_pause_us, int(s.join_forever), s.check_us,
+           int(s.detail)]
     yield [s.bits, s.list, s.seed, s.duration_us, s.timeout_us, s.audit_us, s.stabilize_us, s.finger_us, s.jitter_us,
            s.max_events, s.latency_us]
     c = s.churn
@@ -60,6 +62,10 @@ def lines_of(scenario: Scenario) -> Iterator[list[int | str]]:
     rows: list[list[int | str]] = [[a, b, micros] for (a, b), micros in s.latencies.items() if a < b]
     yield [len(rows)]
     yield from rows
+    places = [node.coordinates for node in s.nodes if node.coordinates is not None]
+    yield [int(bool(places))]
+    for place in places:
+        yield [place.x_us, place.y_us, place.height_us]
     yield [len(s.commands)]
     for command in s.commands:
         yield [command.at_us, command.node, *action_of(command)]

@@ -31,7 +31,7 @@ class ExplainProgramTest(TestCase):
             assert answer(*files) == answer_of(program(), *files) == "accepted: 5 nodes, 4 commands"
 
     def test_spoiled_files(self) -> None:
-        """The tool's first fault is the program's, and most of the fifteen kinds are among them."""
+        """The tool's first fault is the program's, and most of the sixteen kinds are among them."""
         kinds = set()
         for seed in SEEDS:
             files = spoiled(seed)

@@ -4,6 +4,7 @@ import io
 import tempfile
 from contextlib import redirect_stderr
 from pathlib import Path
+from subprocess import TimeoutExpired
 from unittest import TestCase
 from unittest.mock import patch
 
@@ -79,6 +80,29 @@ class EventsTrapTest(TestCase):
         assert abs(guess / whole - 1) < 0.25, (guess, whole)
         assert events_trap(program(), {**top, "max_events": 2 * whole}, b"") == []
 
+    def test_run_that_takes_too_long(self) -> None:
+        """The timers stand for it: 16 nodes make 8 events a stabilization, and 10 a finger and a lookup, in 20 s.
+
+        Periods are 250 ms and gaps 200 ms on the mean: 16 times 20 s times (8 + 10) / 250 ms + 10 / 200 ms are 39040.
+        """
+        top = parse_toml(BASE.encode()) | {"max_events": 20_000}
+        with patch("chordsim_tools.explain.traps.events_until", side_effect=TimeoutExpired("chordsim", 20)):
+            assert events_trap(Path("/none"), top, b"") == [
+                "max_events = 20000, and the run is likely to need about 39,000 (by its timers alone: its first 6s "
+                "take too long to try): it would end with `3 TooManyEvents`, without a report"
+            ]
+            assert events_trap(Path("/none"), {**top, "max_events": 40_000}, b"") == []
+
+    def test_profile_that_allows_more(self) -> None:
+        """3 s have 10,000,000 events and 6 s 20,000,000: 20 s need 66,666,666. Profiles 1 and 2 allow 50,000,000."""
+        for profile, hint in ((1, "; profile 3 allows up to 100000000000"), (3, "")):
+            top = parse_toml(BASE.encode()) | {"profile": profile, "stabilize_us": 100, "max_events": 50_000_000}
+            with patch("chordsim_tools.explain.traps.events_until", side_effect=(10_000_000, 20_000_000)):
+                lines = events_trap(Path("/none"), top, b"")
+            tried = "tried: its first 3s have 10000000 and its first 6s 20000000, and so on"
+            assert len(lines) == 1 and f"is likely to need about 67,000,000 ({tried})" in lines[0]
+            assert lines[0].endswith(f"without a report{hint}")
+
     def test_no_run_where_the_timers_are_few(self) -> None:
         """A small scenario with the default limit asks no program: that of the test is not there."""
         top = parse_toml(BASE.encode())
@@ -138,6 +162,27 @@ class OtherTrapsTest(TestCase):
             assert line.endswith("(and in 1 more settings)")
             assert (folder / "study" / "manifest.json").exists()
             assert call(folder) == (0, "")
+
+    def test_setting_that_needs_most_events(self) -> None:
+        """Stabilizations are each 250, 25 or 24 ms. The last setting is tried: 1,000 + 2,000 * 17 / 3 = 12,333 events.
+
+        In each microsecond a node of it has 8 / 24000 + 10 / 250000 + 10 / 200000 = 0.000423 events by its timers. The
+        second setting has 0.000410, and the first one 0.000122. In proportion to this they need 11,900 and 3,500.
+        """
+        with study_folder(STUDY.replace("list = [1, 2]", "stabilize_us = [250000, 25000, 24000]")) as folder:
+            base = BASE.replace("seed = 7", "seed = 7\nmax_events = 11000")
+            (folder / "base.toml").write_text(base)
+            with patch("chordsim_tools.explain.traps.events_until", side_effect=(1000, 3000)):
+                status, line = call(folder)
+            assert status == 0 and line == (
+                "warning: stabilize_us=24ms, seed=1: max_events = 11000, and the run is likely to need about 12,000 "
+                "(tried: its first 3s have 1000 and its first 6s 3000, and so on): it would end with "
+                "`3 TooManyEvents`, without a report (and in 1 more settings)"
+            )
+        with study_folder(STUDY.replace("list = [1, 2]", "stabilize_us = [250000, 25000, 24000]")) as folder:
+            (folder / "base.toml").write_text(base.replace("max_events = 11000", "max_events = 12400"))
+            with patch("chordsim_tools.explain.traps.events_until", side_effect=(1000, 3000)):
+                assert call(folder) == (0, "")
 
     def test_study_that_needs_more_events(self) -> None:
         """The estimate comes before the run that fails by it."""

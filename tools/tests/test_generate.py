@@ -12,6 +12,7 @@ from chordsim_tools.generate.command import main
 from chordsim_tools.generate.random_scenario import scenario_files
 from chordsim_tools.known import known
 from chordsim_tools.reference.circle import Circle
+from chordsim_tools.scenario.coordinates import Coordinates
 from chordsim_tools.scenario.reading import Churn, Command, Lookups, Scenario, read_scenario
 from tests.support.programs import checked, ended, program
 
@@ -42,9 +43,24 @@ REFUSED = [
     ("--loss 0", "--loss: only with --profile 2 or 3"),
     ("--profile 1 --spread 1ms", "--spread: only with --profile 2 or 3"),
     ("--profile 3 --bits 129", "--bits: 3 to 128"),
-    ("--profile 3 --nodes 4097", "--nodes: 2 to 4096"),
+    ("--profile 3 --nodes 65537", "--nodes: 2 to 65536"),
     ("--profile 3 --retries 4", "--retries: 0 to 3"),
     ("--profile 2 --retries 0", "--retries: only with --profile 3"),
+    ("--join-pause 0", "--join-pause: only with --profile 3"),
+    ("--profile 2 --join-forever", "--join-forever: only with --profile 3"),
+    ("--profile 2 --check 1s", "--check: only with --profile 3"),
+    ("--profile 2 --detail", "--detail: only with --profile 3"),
+    ("--profile 3 --check 1001s", "--check: a time of 0us to 1000s"),
+    ("--profile 3 --join-pause 1001s", "--join-pause: a time of 0us to 1000s"),
+    ("--profile 3 --max-events 100000000001", "--max-events: 1 to 100000000000"),
+    ("--profile 2 --coordinates square:1s:1us..1us", "--coordinates: only with --profile 3"),
+    ("--profile 3 --coordinates square:501s:1us..1us", "--coordinates: square:SIDE:MIN..MAX (SIDE 0us to 500s"),
+    ("--profile 3 --coordinates square:1s:0us..1us", "--coordinates: square:SIDE:MIN..MAX"),
+    ("--profile 3 --coordinates square:1s:1us..101s", "--coordinates: square:SIDE:MIN..MAX"),
+    ("--profile 3 --coordinates circle:1s:1us..1us", "--coordinates: square:SIDE:MIN..MAX"),
+    ("--profile 3 --coordinates king:1s", "king, or file:NAME, not 'king:1s'"),
+    ("--profile 3 --coordinates file:", "--coordinates: square:SIDE:MIN..MAX"),
+    ("--profile 3 --coordinates square:1s:5ms..5ms --window 10001us", "--window: a time of 1us to 10ms (the sum of"),
     ("--lookup-gap 2s..1s", "--lookup-gap: none or MIN..MAX"),
     ("--lookup-gap 0..1s", "--lookup-gap: none or MIN..MAX"),
     ("--churn-uniform 1s..2s 0..1s", "--churn-uniform: two spans"),
@@ -181,6 +197,55 @@ class GenerateTest(TestCase):
         assert list(ring)[12:16] == ["max_events", "loss_ppm", "spread_us", "retries"]
         second, third = (tomllib.loads(text_of(f"--profile {profile} --seed 1")) for profile in (2, 3))
         assert third == second | {"profile": 3, "retries": 0}
+
+    def test_joins_and_checks(self) -> None:
+        """The keys stand behind `retries` if they are given, and only then."""
+        words = "--profile 3 --check 1s --join-forever --join-pause 5s"
+        ring = tomllib.loads(text_of(words))
+        wanted = [("retries", 0), ("join_pause_us", 5_000_000), ("join_forever", True), ("check_us", 1_000_000)]
+        assert list(ring.items())[15:19] == wanted
+        plain = tomllib.loads(text_of("--profile 3 --check 0"))
+        assert plain["check_us"] == 0 and "join_pause_us" not in plain and "join_forever" not in plain
+        assert text_of(words).splitlines()[2].endswith("--profile 3 --join-pause 5s --join-forever --check 1s")
+
+    def test_detail(self) -> None:
+        """It stands behind the others, in the third profile alone."""
+        ring = tomllib.loads(text_of("--profile 3 --detail --check 1s"))
+        assert list(ring.items())[16:18] == [("check_us", 1_000_000), ("detail", True)]
+        assert "detail" not in tomllib.loads(text_of("--profile 3"))
+
+    def test_coordinates(self) -> None:
+        """Places of the square and heights of the span, both to their ends; the window is the two least heights."""
+        words = "--profile 3 --nodes 300 --coordinates square:9us:3us..7us"
+        ring = made(words)
+        places = [known(node.coordinates) for node in ring.nodes]
+        assert {place.x_us for place in places} == {place.y_us for place in places} == set(range(10))
+        assert {place.height_us for place in places} == set(range(3, 8))
+        assert ring.window_us == 6 and made(f"{words} --window 2us").window_us == 2
+        alike = made("--profile 3 --nodes 2 --coordinates square:0:4ms..4ms")
+        assert [node.coordinates for node in alike.nodes] == [Coordinates(0, 0, 4000)] * 2
+        assert alike.window_us == 8000
+
+    def test_coordinates_of_their_own(self) -> None:
+        """More nodes, churn and lookups leave the coordinates of a node; a seed gives others."""
+        words = "--profile 3 --coordinates square:1s:1ms..9ms"
+        few = [node.coordinates for node in made(f"{words} --nodes 20").nodes]
+        more = made(f"{words} --nodes 30 --lifetime exp:20s --lookups 0.1 --bits 64")
+        assert [node.coordinates for node in more.nodes][:20] == few
+        assert [node.coordinates for node in made(f"{words} --nodes 20 --seed 2").nodes] != few
+        other = made("--profile 3 --nodes 30 --lifetime exp:20s --lookups 0.1 --bits 64")
+        assert other.commands == more.commands
+
+    def test_many_nodes(self) -> None:
+        """65,536 nodes are written. More bytes than the program reads are refused."""
+        text = text_of("--profile 3 --nodes 65536 --coordinates square:60ms:1ms..5ms")
+        assert text.count("[[node]]") == text.count("height_us = ") == 65_536 and len(text) < 16_777_216
+        with mock.patch("chordsim_tools.generate.command.GREATEST_SIZE", len(text_of(""))):
+            assert ended(main)[0] == 0
+            status, out, err = ended(main, "--nodes", "65")
+        size = len(text_of("--nodes 65"))
+        wanted = f"the scenario has {size} bytes, and chordsim reads at most {len(text_of(''))}"
+        assert (status, out, err) == (2, "", f"tools/generate: --nodes: {wanted} (see tools/generate --help)\n")
 
     def test_defaults_that_follow(self) -> None:
         """Timeout and window go with the latency, the audits with the duration, the list with the initial nodes."""

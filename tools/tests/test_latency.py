@@ -170,14 +170,19 @@ class LatencyTest(TestCase):
     def test_refused_words(self) -> None:
         """One line that names the option and its range; status 2."""
         for words, text in [
-            ("", "--plane: either this or a file MEASURED"),
-            ("king --plane 1s", "--plane: either this or a file MEASURED"),
-            ("king --floor 1ms", "--floor: only with --plane"),
+            ("", "--plane: one of this, --fit, --king and a file MEASURED"),
+            ("king --plane 1s", "--plane: one of this, --fit, --king and a file MEASURED"),
+            ("--king --plane 1s", "--plane: one of this, --fit, --king and a file MEASURED"),
+            ("--king --fit rows", "--plane: one of this, --fit, --king and a file MEASURED"),
+            ("king --floor 1ms", "--floor: only with --plane, --fit or --king"),
+            ("--fit rows --nodes 3", "--nodes: only with a file MEASURED, --plane or --king"),
+            ("--king --unit ms", "--unit: only with a file MEASURED"),
+            ("--king --nodes 65537", "--nodes: 2 to 65536"),
             ("--plane 1s --gaps fill", "--gaps: only with a file MEASURED"),
             ("--plane 0", "--plane: a time of 1us to 600s"),
             ("--plane 601s", "--plane: a time of 1us to 600s"),
             ("--plane 1s --floor 101s", "--floor: a time of 1us to 100s"),
-            ("--plane 1s --nodes 4097", "--nodes: 2 to 4096"),
+            ("--plane 1s --nodes 65537", "--nodes: 2 to 65536"),
             ("--plane 1s --nodes 4096", "--nodes: rows for all pairs of 4096 nodes have more than 16777216 bytes"),
             ("--plane 1s --seed -1", "--seed: 0 to 9223372036854775807"),
             ("king --unit ns", "--unit: us or ms or s"),

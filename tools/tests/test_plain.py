@@ -1,5 +1,6 @@
 """The plain program of examples/plain against chordsim: the same traces and reports. Skipped if there is no rustc."""
 
+import re
 import shutil
 import subprocess
 from pathlib import Path
@@ -8,20 +9,25 @@ from typing import ClassVar, NamedTuple
 from unittest import SkipTest, TestCase
 
 from chordsim_tools.flat import flat_form, main
+from chordsim_tools.generate.command import main as generate
 from chordsim_tools.generate.random_scenario import scenario_files
 from chordsim_tools.scenario.reading import read_scenario
 from tests.support.programs import ended, program
-from tests.support.worlds import EXAMPLES, ring
+from tests.support.worlds import EXAMPLES, ring, with_detail
+from tests.test_random import expected
 
 SOURCE = EXAMPLES / "plain" / "main.rs"
 COMMAND = EXAMPLES / "plain" / "flatten"
 NAMES = (
     "ring", "churn64", "lossy64", "retries64", "half_crash", "join_storm", "slow_repair", "ninth_timeout", "join_stuck",
+    "check_predecessor", "deployed64", "coordinates64", "detail16",
 )
 # Of all profiles. Some have commands, some rows of latencies, and some more events than they allow.
 SEEDS = range(12)
+# Of the third profile, with pauses between joins and checks in most of them.
+THIRD_SEEDS = [seed for seed in range(60) if seed // 2 % 3 == 2]
 FLAT_RING = """\
-1 0 0 0
+1 0 0 0 0 0 0 0
 3 2 1 200 40 200 1000 1000 0 50000000 10
 0
 0
@@ -31,6 +37,7 @@ n1 1 1 0
 n3 3 1 0
 1
 0 2 12
+0
 1
 100 0 lookup 1
 """
@@ -51,15 +58,21 @@ def outcome(command: list[str], trace: Path) -> Outcome:
     return Outcome(done.returncode, done.stdout, done.stderr, trace.read_text(encoding="utf-8"))
 
 
-class PlainTest(TestCase):
-    """Both programs on the same scenarios."""
+def generated(words: str) -> str:
+    """What tools/generate writes, whatever it warns of."""
+    status, text, _ = ended(generate, *words.split())
+    assert status == 0
+    return text
+
+
+class Built(TestCase):
+    """Tests that need the plain program."""
 
     folder: ClassVar[Path]
 
     @classmethod
     def setUpClass(cls) -> None:
         """Builds the plain program, which must have no warnings."""
-        program()
         rustc = shutil.which("rustc")
         if rustc is None:
             raise SkipTest("there is no rustc")
@@ -68,16 +81,73 @@ class PlainTest(TestCase):
         done = subprocess.run(command, capture_output=True, text=True, check=False)
         assert done.returncode == 0, done.stderr
 
+    def plain(self, scenario: str, latency: str) -> Outcome:
+        """Runs the plain program on a scenario."""
+        flat, trace = self.folder / "flat", self.folder / "ours"
+        flat.write_text(flat_form(read_scenario(scenario.encode(), latency.encode())), encoding="utf-8")
+        return outcome([str(self.folder / "plain"), str(flat), str(trace)], trace)
+
+
+class ReferenceTest(Built):
+    """The plain program and the reference simulator on the same scenarios."""
+
+    def compare(self, toml: str, csv: str) -> None:
+        """The same bytes; if there are too many events, one trace is the beginning of the other."""
+        plain, (trace, report) = self.plain(toml, csv), expected(toml, csv)
+        self.assertEqual((plain.status, plain.report), (3, "") if report is None else (0, report))
+        longer, shorter = sorted((plain.trace, trace), key=len, reverse=True)
+        self.assertTrue(longer.startswith(shorter) if report is None else longer == shorter, "another trace")
+
+    def test_third_profile(self) -> None:
+        """Random scenarios."""
+        for seed in THIRD_SEEDS:
+            with self.subTest(seed=seed):
+                self.compare(*scenario_files(seed))
+
+    def test_detail(self) -> None:
+        """Random scenarios and an example whose traces tell of each message."""
+        for seed in THIRD_SEEDS[::2]:
+            toml, csv = scenario_files(seed)
+            with self.subTest(seed=seed):
+                self.compare(with_detail(toml), csv)
+        self.compare((EXAMPLES / "detail16.toml").read_text(encoding="utf-8"), "")
+
+    def test_coordinates(self) -> None:
+        """Latencies by coordinates, which are near, or of two nodes so far that 2000^2 + 2000000^2 is 2000001^2 - 1."""
+        places = iter(("x_us = 0\ny_us = 0\nheight_us = 10", "x_us = 2000\ny_us = 2000000\nheight_us = 5"))
+        words = "--profile 3 --nodes 24 --coordinates square:90ms:10us..20ms --window 10us --duration 9s --check 500ms"
+        text = generated(words)
+        far = re.sub("x_us = .*\ny_us = .*\nheight_us = .*", lambda found: next(places, found.group()), text)
+        for scenario in (text, far):
+            plain, (trace, report) = self.plain(scenario, ""), expected(scenario, "")
+            self.assertEqual((plain.report, plain.trace), (report, trace))
+
+    def test_many_rows(self) -> None:
+        """Rows of a latency file for more nodes than are in a table."""
+        text = generated("--profile 3 --nodes 4097 --latency 2s --window 1ms --duration 10ms --lookups 0.5")
+        rows = "".join(f"n{i},n{(7 * i + 1) % 4097},{1000 + i}\n" for i in range(1, 600))
+        plain, (trace, report) = self.plain(text, rows), expected(text, rows)
+        self.assertEqual((plain.report, plain.trace), (report, trace))
+
+
+class PlainTest(Built):
+    """Both programs on the same scenarios."""
+
+    @classmethod
+    def setUpClass(cls) -> None:
+        """Nothing is built if there is nothing to compare with."""
+        program()
+        super().setUpClass()
+
     def compare(self, scenario: str, latency: str) -> int:
         """Runs both programs on a scenario, compares what they write, and returns the status."""
-        files = {"scenario": scenario, "latency": latency}
-        files["flat"] = flat_form(read_scenario(scenario.encode(), latency.encode()))
-        for name, text in files.items():
-            (self.folder / name).write_text(text, encoding="utf-8")
-        path = {name: str(self.folder / name) for name in (*files, "plain", "ours", "theirs")}
-        inputs = ["--scenario", path["scenario"], "--latency", path["latency"]]
-        proved = outcome([str(program()), "run", "--serial", *inputs, "--trace", path["theirs"]], Path(path["theirs"]))
-        plain = outcome([path["plain"], path["flat"], path["ours"]], Path(path["ours"]))
+        plain = self.plain(scenario, latency)
+        path = {name: self.folder / name for name in ("scenario", "latency", "theirs")}
+        path["scenario"].write_text(scenario, encoding="utf-8")
+        path["latency"].write_text(latency, encoding="utf-8")
+        inputs = ["--scenario", str(path["scenario"]), "--latency", str(path["latency"])]
+        command = [str(program()), "run", "--serial", *inputs, "--trace", str(path["theirs"])]
+        proved = outcome(command, path["theirs"])
         self.assertEqual(plain[:3], proved[:3])
         if plain.status == 0:
             self.assertTrue(plain.trace == proved.trace, "another trace")
@@ -121,7 +191,18 @@ class FlattenTest(TestCase):
         commands += '[[command]]\nat_us = 120\ndo = "join"\nnode = "n1"\nvia = "n3"\n'
         flat = flat_form(ring(("[[node]]", f"{tables}[[node]]"), ("[[command]]", f"{commands}[[command]]")))
         self.assertIn("\n1 1 2 3 4\n1 5 6\n3\nn0", flat)
-        self.assertTrue(flat.endswith("\n0\n3\n110 1 crash\n120 1 join 2\n100 0 lookup 1\n"))
+        self.assertTrue(flat.endswith("\n0\n0\n3\n110 1 crash\n120 1 join 2\n100 0 lookup 1\n"))
+
+    def test_coordinates(self) -> None:
+        """The flat form of coordinates, with and without a height, and of the keys of joins and checks."""
+        keys = "retries = 1\njoin_pause_us = 70\njoin_forever = true\ncheck_us = 90\ndetail = true"
+        changes = [("profile = 1", f"profile = 3\n{keys}")]
+        changes += [(f'"{name}"', f'"{name}"\nx_us = {x}\ny_us = 2\n{height}') for name, x, height in (
+            ("n0", 1, "height_us = 9"), ("n1", 3, "height_us = 10"), ("n3", 5, "height_us = 8"),
+        )]
+        flat = flat_form(ring(*changes, ("window_us = 10", "window_us = 8"), ("height_us = 8", "")))
+        self.assertTrue(flat.startswith("3 0 0 1 70 1 90 1\n3 2 1"))
+        self.assertIn("\nn3 3 1 0\n0\n1\n1 2 9\n3 2 10\n5 2 0\n1\n100 0", flat)
 
     def test_command(self) -> None:
         """The command writes the file, or says why a scenario is refused."""

@@ -47,7 +47,9 @@ class RandomTest(TestCase):
                 scenario.write_text(toml, encoding="utf-8")
                 latency.write_text(csv, encoding="utf-8")
                 trace, report = expected(toml, csv)
-                command = [str(path), "run", "--scenario", str(scenario), "--latency", str(latency), *PLANS[seed % 3]]
+                # Profiles come round every six seeds. So each of them meets each plan.
+                plan = PLANS[(seed + seed // 6) % 3]
+                command = [str(path), "run", "--scenario", str(scenario), "--latency", str(latency), *plan]
                 with self.subTest(seed=seed):
                     ran = subprocess.run(command, capture_output=True, text=True, check=False)
                     if report is None:

@@ -7,7 +7,10 @@ from chordsim_tools.reference.simulation import Simulation
 from chordsim_tools.scenario.reading import read_scenario
 from tests.support.worlds import EXAMPLES
 
-QUICK = ("ring", "half_crash", "join_storm", "churn64", "slow_repair", "lossy64", "retries64")
+QUICK = (
+    "ring", "check_predecessor", "half_crash", "join_storm", "churn64", "slow_repair", "lossy64", "retries64",
+    "deployed64", "coordinates64", "detail16",
+)
 
 
 class ReportsTest(TestCase):

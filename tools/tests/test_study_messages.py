@@ -10,7 +10,7 @@ from chordsim_tools.members import Members
 from chordsim_tools.reference.report import Report
 from chordsim_tools.reference.simulation import Simulation
 from chordsim_tools.scenario.reading import read_scenario
-from chordsim_tools.study.messages import KINDS, Span, estimate
+from chordsim_tools.study.messages import KINDS, Span, Traffic, exact, message_numbers
 from chordsim_tools.study.page import ERROR
 from chordsim_tools.study.served import scope_of
 from chordsim_tools.study.task import events_before
@@ -29,7 +29,7 @@ def shortened(name: str, duration_us: int) -> str:
 
 
 def counted(text: str, warmup_us: int = 0) -> tuple[dict[str, int], dict[str, int]]:
-    """The messages of each kind from a time on, by the estimate and as the reference simulator makes them."""
+    """The messages of each kind from a time on, as a study counts them and as the reference simulator makes them."""
     scenario, top = read_scenario(text.encode(), b""), tomllib.loads(text)
     simulation, report = Simulation(scenario), Report(scenario.profile)
     idents = {node.name: node.ident for node in scenario.nodes}
@@ -44,7 +44,8 @@ def counted(text: str, warmup_us: int = 0) -> tuple[dict[str, int], dict[str, in
     reader.numbers()
     made = {kind: count - before[1][kind] for kind, count in sent(simulation, report).items()}
     span = Span(top, simulation.events - before[0], reader.population)
-    return estimate(reader.traffic, span), made
+    numbers = message_numbers(reader.traffic, span)
+    return {kind: int(numbers[f"sent-{kind}"] or 0) for kind in KINDS}, made
 
 
 def sent(simulation: Simulation, report: Report) -> dict[str, int]:
@@ -55,12 +56,12 @@ def sent(simulation: Simulation, report: Report) -> dict[str, int]:
 class StudyMessagesTest(TestCase):
     """The total is near, and so are the kinds that make most of it."""
 
-    def check(self, text: str, warmup_us: int = 0) -> None:
-        """The total within the error that pages print; steps and stabilizations within a twentieth."""
+    def check(self, text: str, warmup_us: int = 0, kinds: tuple[str, ...] = ()) -> None:
+        """The total within the error that pages print; steps, stabilizations and these kinds within a twentieth."""
         about, made = counted(text, warmup_us)
         total, wanted = sum(about.values()), sum(made.values())
         assert abs(total / wanted - 1) < MOST, (total, wanted)
-        for kind in ("step", "step-reply", "get-state", "state-reply", "notify"):
+        for kind in ("step", "step-reply", "get-state", "state-reply", "notify", *kinds):
             assert abs(about[kind] - made[kind]) < max(0.05 * made[kind], 30), (kind, about, made)
 
     def test_examples(self) -> None:
@@ -73,6 +74,34 @@ class StudyMessagesTest(TestCase):
         """A tenth of the messages lost, and each request sent again up to twice."""
         text = shortened("lossy64.toml", 20_000_000).replace("profile = 2", "profile = 3\nretries = 2", 1)
         self.check(text.replace("loss_ppm = 20000", "loss_ppm = 100000", 1))
+
+    def test_joins_that_pause_and_checks(self) -> None:
+        """Nodes live 10 to 30 seconds and join through one that is down from 10 to 25 s. Pings are near, too."""
+        text = shortened("deployed64.toml", 35_000_000)
+        for old, new in (
+            ("at_us = 40", "at_us = 10"), ("at_us = 70", "at_us = 25"), ("life_min_us = 20", "life_min_us = 10"),
+            ("life_max_us = 60", "life_max_us = 30"), ("down_min_us = 5", "down_min_us = 2"),
+        ):
+            text = text.replace(f"{old}000000", f"{new}000000")
+        self.check(text, kinds=("ping", "pong"))
+
+    def test_detail(self) -> None:
+        """The lines of a run with detail give the numbers themselves."""
+        text = shortened("lossy64.toml", 12_000_000).replace("profile = 2", "profile = 3\ndetail = true", 1)
+        found, made = counted(text.replace("life_min_us = 20", "life_min_us = 2"))
+        assert found == made and min(made.values()) > 0, (found, made)
+
+    def test_detail_after_a_warmup(self) -> None:
+        """The lines from 10 on. A lost request has two lines, and another lost message has one."""
+        traffic = Traffic(scope_of({"duration_us": 100, "node": []}, 50, 10, 0))
+        for fields in map(str.split, (
+            "9 a ask step b call=3", "10 a lose step b", "10 a ask step b call=3", "11 a again step b",
+            "11 a ask step b call=3", "12 b send step-reply a", "13 b lose step-reply a", "14 b drop ping a",
+            "15 a send notify b",
+        )):
+            traffic.read(int(fields[0]), fields)
+        assert {kind: count for kind, count in exact(traffic).items() if count} == {
+            "step": 2, "step-reply": 2, "notify": 1}
 
     def test_after_a_warmup(self) -> None:
         """The same from the tenth second on."""

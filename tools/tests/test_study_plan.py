@@ -103,6 +103,13 @@ class StudyPlanTest(TestCase):
         assert study.settings() == [(("stabilize_us", value),) for value in (1_000_000, 250_000, 30)]
         assert [label(one) for one in study.settings()] == [f"stabilize_us={time}" for time in ("1s", "250ms", "30us")]
 
+    def test_booleans(self) -> None:
+        """`join_forever` is varied as a boolean, and named as it is written."""
+        study = in_folder(HEAD + SEEDS + "[vary]\njoin_forever = [false, true]\n", BASE.replace("= 1", "= 3", 1))
+        assert [label(one) for one in study.settings()] == ["join_forever=false", "join_forever=true"]
+        texts = [scenario_of(study, setting, 1) for setting in study.settings()]
+        assert [read_scenario(text.encode(), b"").join_forever for text in texts] == [False, True]
+
     def test_worlds_follow_the_seed(self) -> None:
         """Commands, identifiers and latencies of two seeds differ; those of one seed are the same in all settings."""
         study = in_folder(MADE + PLANE + SEEDS + "[vary]\nlist = [1, 2]\n")
@@ -196,6 +203,10 @@ class StudyPlanTest(TestCase):
             (vary + "'generate.--nodes' = [3]", "[vary] generate.--nodes is no key"),
             (MADE + SEEDS + "[vary]\n'generate.--node' = [3]", "[vary] generate.--node is no key"),
             (vary + "list = ['1s']", "study.toml: [vary] list has to be a list"),
+            (vary + "join_forever = [0, 1]", "study.toml: [vary] join_forever has to be a list of different booleans"),
+            (vary + "join_forever = [true, true]", "study.toml: [vary] join_forever has to be a list of different"),
+            (vary + "join_forever = true", "study.toml: [vary] join_forever has to be a list of different booleans"),
+            (vary + "join_forever = ['true']", "study.toml: [vary] join_forever has to be a list of different"),
             (vary + "jitter_us = ['1 s']", "study.toml: [vary] jitter_us has to be a list"),
             (HEAD + SEEDS + "[goal]\nbest = 1", "study.toml: [goal] best: NUMBER_min or NUMBER_max"),
             (HEAD + SEEDS + "[goal]\nserved_min = 99", "study.toml: [goal] served_min has to be a share"),

@@ -58,10 +58,10 @@ run)
     if grep -qsx "$(cat "$here/fail")" "$3"; then echo '5 n0 loo'; echo 'failed: 3 TooManyEvents' >&2; exit 3; fi
     printf '10 n0 lookup 11\\n30 n0 found 11 n1 hops=1 timeouts=0 us=20\\n'
     if grep -qx 'profile = [23]' "$3"; then echo '40 n0 lose step n1'; fi
-    if grep -qx 'profile = 3' "$3"; then echo '50 n0 again step n1'; fi
+    if grep -qx 'profile = 3' "$3"; then printf '50 n0 again step n1\\n60 n0 forget n1\\n'; fi
     printf 'events 4\\nlookups 1\\nfound 1\\nringless 0\\n'
     if grep -qx 'profile = [23]' "$3"; then echo 'losses 1'; fi
-    if grep -qx 'profile = 3' "$3"; then echo 'again 1'; fi ;;
+    if grep -qx 'profile = 3' "$3"; then printf 'again 1\\nforgotten 2\\n'; fi ;;
 esac
 """
 
@@ -186,8 +186,8 @@ class StudyRunTest(TestCase):
         with study_folder(STUDY.replace("list = [1, 2]", "profile = [1]")) as folder:
             assert call(folder) == (0, "") and "losses" not in table(folder, "runs.csv")[0]
 
-    def test_requests_sent_again_in_the_third_profile(self) -> None:
-        """Columns `losses` and `again` where a run has the third profile; the others send nothing again."""
+    def test_numbers_of_the_third_profile(self) -> None:
+        """Columns `losses`, `again` and `forgotten` where a run has the third profile; 0 in the runs of the others."""
         for study, wanted in (
             (STUDY.replace("list = [1, 2]", "profile = [1, 2, 3]"), ["00", "00", "10", "10", "11", "11"]),
             (STUDY.replace("list = [1, 2]", "profile = [3, 1]"), ["11", "11", "00", "00"]),
@@ -197,13 +197,25 @@ class StudyRunTest(TestCase):
                 assert call(folder) == (0, "")
                 rows = table(folder, "runs.csv")
                 assert [row["losses"] + row["again"] for row in rows] == wanted
+                assert [row["forgotten"] for row in rows] == [str(2 * int(one[1])) for one in wanted]
                 columns = list(rows[0])
-                assert columns[columns.index("ringless") :][:4] == ["ringless", "losses", "again", "judged-lookups"]
+                later = ["ringless", "losses", "again", "forgotten", "judged-lookups"]
+                assert columns[columns.index("ringless") :][:5] == later
                 firsts = [step for step in table(folder, "steps.csv") if step["from_us"] == "0"]
                 assert [step["losses"] + step["again"] for step in firsts] == wanted
         with study_folder(STUDY.replace("list = [1, 2]", "profile = [1, 2]")) as folder:
-            assert call(folder) == (0, "") and "again" not in table(folder, "runs.csv")[0]
+            assert call(folder) == (0, "") and not {"again", "forgotten"} & set(table(folder, "runs.csv")[0])
             assert list(table(folder, "steps.csv")[0])[-2:] == ["timeouts", "losses"]
+
+    def test_boolean_that_is_varied(self) -> None:
+        """Its values are as they are written, in the table and in the names of files."""
+        with study_folder(STUDY.replace("list = [1, 2]", "join_forever = [true, false]")) as folder:
+            (folder / "base.toml").write_text(BASE.replace("profile = 1", "profile = 3"))
+            assert call(folder) == (0, "")
+            rows = table(folder, "runs.csv")
+            assert [row["join_forever"] for row in rows] == ["true", "true", "false", "false"]
+            text = (folder / "study" / "done" / "join_forever=false,seed=2.toml").read_text()
+            assert "\njoin_forever = false\n" in text
 
     def test_what_failed_is_told_and_what_was_done_is_kept(self) -> None:
         """The third run fails; the next call runs what is left, and the one after it nothing."""
@@ -359,9 +371,9 @@ class StudyRunTest(TestCase):
             assert [row["losses"] for row in table(folder, "runs.csv")] == ["0"] * 4
 
     def test_third_profile_with_the_program(self) -> None:
-        """The column `again` counts the lines of requests that are sent again."""
+        """The columns `again` and `forgotten` count lines of their kinds."""
         chordsim = program()
-        base = BASE.replace("profile = 1", "profile = 3\nloss_ppm = 20000\nretries = 2")
+        base = BASE.replace("profile = 1", "profile = 3\nloss_ppm = 20000\nretries = 2\ncheck_us = 1000000")
         with study_folder(STUDY.replace("list = [1, 2]", "retries = [0, 2]")) as folder:
             (folder / "base.toml").write_text(base)
             assert call(folder, chordsim=chordsim) == (0, "")
@@ -371,9 +383,10 @@ class StudyRunTest(TestCase):
                 words = [str(chordsim), "run", "--scenario", str(folder / "one.toml"), "--serial"]
                 lines = subprocess.run(words, capture_output=True, text=True, check=True).stdout.splitlines()
                 report = dict(line.split(" ") for line in lines if not line[0].isdigit())
-                assert len(report) == 26 and {word: row[word] for word in report} == report
-                assert len([line for line in lines if line.split(" ")[2:3] == ["again"]]) == int(row["again"])
-                assert (row["again"] == "0") == (row["retries"] == "0") and row["losses"] != "0"
+                assert len(report) == 27 and {word: row[word] for word in report} == report
+                for column, word in (("again", "again"), ("forgotten", "forget")):
+                    assert len([line for line in lines if line.split(" ")[2:3] == [word]]) == int(row[column])
+                assert (row["again"] == "0") == (row["retries"] == "0") and "0" not in (row["losses"], row["forgotten"])
 
     def test_setting_that_the_program_refuses(self) -> None:
         """Nothing is run, since the settings are checked first."""

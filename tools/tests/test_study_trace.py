@@ -10,9 +10,12 @@ from chordsim_tools.study.trace import Numbers, TraceReader, percentile
 IDENTS = {"a": 10, "b": 20, "c": 30, "d": 40}
 
 
-def reader(*lines: str, warmup_us: int = 0, cooldown_us: int = 0, gap_us: float | None = None) -> TraceReader:
+def reader(
+    *lines: str, warmup_us: int = 0, cooldown_us: int = 0, gap_us: float | None = None, join_forever: bool = False
+) -> TraceReader:
     """A reader of these lines; a, b and c are members at the start; three steps of 100 us."""
-    one = TraceReader(Members(IDENTS, ["a", "b", "c"]), Scope(250, 100, warmup_us, cooldown_us, gap_us))
+    scope = Scope(250, 100, warmup_us, cooldown_us, gap_us, join_forever)
+    one = TraceReader(Members(IDENTS, ["a", "b", "c"]), scope)
     for line in lines:
         one.read(line)
     return one
@@ -183,6 +186,25 @@ class StudyTraceTest(TestCase):
         assert (numbers["up-us"], numbers["member-us"], numbers["wanted"]) == (650, 550, "10.000")
         again = numbers_of("50 b crash", "100 b join a", "150 b join-failed", "200 b join a", "220 b member a")
         assert (again["up-us"], again["member-us"]) == (700, 580)
+
+    def test_timers_of_joins_that_go_on(self) -> None:
+        """Timers of a and c run for 250 us each, those of b until 50 and from 100 on. By failures that end at 150."""
+        lines = ("50 b crash", "100 b join a", "150 b join-failed")
+        for join_forever, alive in ((True, 700), (False, 600)):
+            one = reader(*lines, join_forever=join_forever)
+            one.numbers()
+            assert (sum(one.population.alive.sums), sum(one.population.up.sums)) == (alive, 700)
+        assert scope_of({"duration_us": 100, "join_forever": True}, 10, 0, 0).join_forever
+        assert not scope_of({"duration_us": 100}, 10, 0, 0).join_forever
+
+    def test_failed_attempts(self) -> None:
+        """Timeouts of b while it joins, from 100 on; not those of a member, and none of a join that is over."""
+        lines = ["90 b timeout c", "95 b crash", "100 b join a", "110 b timeout a", "120 b timeout a"]
+        lines.append("130 b join-failed")
+        for join_forever, count in ((True, 3), (False, 2)):
+            one = reader(*lines, "140 b timeout a", "150 b member a", "160 b timeout a", join_forever=join_forever)
+            assert one.traffic.failed_attempts == count
+        assert reader(*lines[:5], warmup_us=115).traffic.failed_attempts == 1
 
     def test_scheduled_lookups(self) -> None:
         """A command to look up counts if its node is up, member or not."""

@@ -38,6 +38,8 @@ SPANS = (
                  "[lookups]\ngap_min_us = 30\ngap_max_us = 60\n[[node]]\nchurn = true"),
 )
 
+ZEROS = ("\nloss_ppm = 0\nspread_us = 0\nretries = 0", "\njoin_pause_us = 0\njoin_forever = false\ncheck_us = 0")
+
 
 def third(*keys: str, changes: tuple[tuple[str, str], ...] = ()) -> str:
     """The ring in the third profile with these keys of the network, where n3 looks up key 1, and other changes."""
@@ -144,7 +146,7 @@ class SendAgainTest(TestCase):
                 AUDIT,
             ]
             assert (numbers["losses"], numbers["again"]) == (1, 0)
-            assert list(numbers)[24:] == ["losses", "again"]
+            assert list(numbers)[24:] == ["losses", "again", "forgotten"]
 
     def test_all_sendings_are_lost(self) -> None:
         """Four steps at 100, 140, 180 and 220, and the timeout at 260. A line `lose` is behind its line `again`."""
@@ -274,7 +276,8 @@ class SendAgainTest(TestCase):
             name.write_text(third("loss_ppm = 20387", "retries = 1"))
             status, out, _ = ended(main, str(name), "--report", "--messages")
             lines = out.splitlines()
-            assert (status, lines[24:27], len(lines)) == (0, ["losses 1", "again 1", "sent step 2"], 26 + 9 + 9)
+            assert (status, len(lines)) == (0, 27 + 9 + 9)
+            assert lines[24:28] == ["losses 1", "again 1", "forgotten 0", "sent step 2"]
             assert "sent step-reply 1" in lines and "lost step 1" in lines
 
 
@@ -397,28 +400,31 @@ class OwnDrawsTest(TestCase):
             assert times[0] == times[1]
 
     def test_without_draws(self) -> None:
-        """No jitter, lookups or loss: the trace is that of the first profile, and two zeros are behind its report."""
+        """No jitter, lookups or loss: the trace is that of the first profile, and three zeros are behind its report."""
         for name in ("ring", "join_stuck", "ninth_timeout"):
             text = (EXAMPLES / f"{name}.toml").read_text()
             lines, numbers = ran(text)
-            for keys in ("", "\nloss_ppm = 0\nspread_us = 0\nretries = 0"):
+            for keys in ("", *ZEROS):
                 changed = text.replace("profile = 1", f"profile = 3{keys}", 1)
-                assert ran(changed) == (lines, numbers | {"losses": 0, "again": 0}), name
+                assert ran(changed) == (lines, numbers | {"losses": 0, "again": 0, "forgotten": 0}), name
 
 
 class LimitsTest(TestCase):
     """Keys and ranges."""
 
     def test_limits(self) -> None:
-        """Bits, nodes, digits and the keys of the network are as in the second profile; retries 0 to 3."""
+        """Bits, digits, loss and spread are as in the second profile. There may be more nodes and events."""
         text = RING.replace("profile = 1", "profile = 3")
         assert fault(text.replace("bits = 3", "bits = 128")) == "accepted"
         assert fault(text.replace("bits = 3", "bits = 129")) == "S5 OutOfRange top bits"
-        assert fault(many(3, 4096)) == "accepted"
-        assert fault(many(3, 4097)) == "S5 OutOfRange top node"
+        assert fault(many(3, 65_536)) == "accepted"
+        assert fault(many(3, 65_537)) == "S5 OutOfRange top node"
+        assert fault(third("max_events = 100_000_000_000")) == "accepted"
+        assert fault(third("max_events = 100_000_000_001")) == "S5 OutOfRange top max_events"
         assert fault(text.replace(N3, f'name = "n3"\nid = "{"3":0>32}"')) == "accepted"
         assert fault(text.replace(N3, f'name = "n3"\nid = "{"3":0>33}"')) == "S5 OutOfRange node 3 id"
-        for key, most in (("loss_ppm", 1_000_000), ("spread_us", 1_000_000_000), ("retries", 3)):
+        times = dict.fromkeys(("spread_us", "join_pause_us", "check_us"), 1_000_000_000)
+        for key, most in {"loss_ppm": 1_000_000, "retries": 3, **times}.items():
             assert fault(third(f"{key} = {most}")) == "accepted"
             assert fault(third(f"{key} = {most + 1}")) == fault(third(f"{key} = -1")) == f"S5 OutOfRange top {key}"
             assert fault(third(f'{key} = "0"')) == f"S4 WrongType top {key}"
@@ -429,11 +435,44 @@ class LimitsTest(TestCase):
         assert fault(PLAIN.replace("profile = 2", "profile = 2\nretries = 1")) == "S2 UnknownKey top"
         assert fault(third("retries = 4")) == "S5 OutOfRange top retries"
         assert fault(third("retries = -1", "spread_us = -1")) == "S5 OutOfRange top spread_us"
+        assert fault(third("check_us = -1", "join_pause_us = -1")) == "S5 OutOfRange top join_pause_us"
+        assert fault(third("join_forever = 1", "check_us = true")) == "S4 WrongType top join_forever"
+        for key in ("join_pause_us = 0", "join_forever = false", "check_us = 0"):
+            assert fault(PLAIN.replace("profile = 2", f"profile = 2\n{key}")) == "S2 UnknownKey top"
         for profile in ("1", "2", "4", "0", '"3"', "3.0", "true", "[3]"):
             assert fault(third("retries = 0").replace("profile = 3", f"profile = {profile}")) == "S2 UnknownKey top"
         assert fault(PLAIN.replace("profile = 2", "profile = 3.0")) == "S4 WrongType top profile"
         window = third("spread_us = 5").replace("window_us = 10", "window_us = 11")
         assert fault(window) == "S15 LatencyBelowWindow n0 n1"
+
+
+class RandomScenariosTest(TestCase):
+    """What the random scenarios of the third profile have."""
+
+    def test_pauses_and_checks(self) -> None:
+        """Pauses, joins that go on, checks, and predecessors that are forgotten are in many of them."""
+        counts: Counter[str] = Counter()
+        for seed in range(4, 120, 6):
+            toml, csv = scenario_files(seed)
+            scenario = read_scenario(toml.encode(), csv.encode())
+            simulation = Simulation(scenario)
+            with suppress(TooManyEvents):
+                for line in simulation.lines():
+                    counts[line.split(" ")[2]] += 1
+                    counts["went on"] += scenario.join_forever and line.endswith("join-failed")
+            counts.update({"pauses": scenario.join_pause_us > 0, "checks": scenario.check_us > 0})
+        assert min(counts[word] for word in ("pauses", "checks", "went on", "forget")) > 5, counts
+
+    def test_coordinates(self) -> None:
+        """Some of them have coordinates, and no latency file then."""
+        count = 0
+        for seed in range(4, 120, 6):
+            toml, csv = scenario_files(seed)
+            scenario = read_scenario(toml.encode(), csv.encode())
+            if "height_us" in toml:
+                count += 1
+                assert all(node.coordinates is not None for node in scenario.nodes) and csv == ""
+        assert 3 < count < 17
 
 
 class SameRequestTest(TestCase):

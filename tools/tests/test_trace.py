@@ -147,8 +147,52 @@ class Nodes(TestCase):
             "10 d join a", "40 d member c", "50 d crash", "60 d join a", "70 d crash", "80 d join a",
             "90 d join-failed", "95 d join a",
         )["joins"]
-        self.assertEqual(joins, {"begun": 4, "done": 1, "failed": 1, "cut_by_crash": 1, "open_at_end": 1,
+        self.assertEqual(joins, {"begun": 4, "done": 1, "failed": 1, "cut_by_crash": 1, "open_at_end": 1, "went_on": 0,
                                  "times_us": {"p50": 30, "p90": 30, "p99": 30}})
+
+    def test_joins_that_go_on(self) -> None:
+        """d fails at 40 and at 70 and is a member after 80; b is stranded, fails once, and crashes."""
+        text = "".join(line + "\n" for line in (
+            "10 d join a", "20 b stranded a", "40 d join-failed", "50 b join-failed", "60 b crash", "70 d join-failed",
+            "90 d member a", audit(500, 3), audit(1000, 3),
+        ))
+        forever = SCENARIO.replace("profile = 1", "profile = 3\njoin_forever = true")
+        run = run_of_text(text, forever)
+        facts = summary(run)
+        self.assertEqual(facts["joins"], {"begun": 1, "done": 1, "failed": 0, "cut_by_crash": 0, "open_at_end": 0,
+                                          "went_on": 2, "times_us": {"p50": 80, "p90": 80, "p99": 80}})
+        words = ("begun", "cut_by_crash", "went_on")
+        self.assertEqual([facts["stranded"][word] for word in words], [1, 1, 1])
+        told = list(summary_text(facts))
+        self.assertIn("  failed, went on       2; after eight failures each", told)
+        lives = [[(life.begin, life.end) for life in lives] for lives in run.history.lives]
+        self.assertEqual(lives, [[(0, None)], [(0, 60)], [(0, None)], [(10, None)]])
+        # Where joins end by failures b is down at 60 already. A member or a node that is down cannot fail.
+        for scenario in (SCENARIO, forever.replace("true", "false", 1)):
+            self.assertRaisesRegex(Refused, "line 5 .*the node was down", run_of_text, text, scenario)
+        for line in ("10 a join-failed\n", "10 d join-failed\n"):
+            self.assertRaises(Refused, run_of_text, line, forever)
+
+    def test_forgotten_predecessors(self) -> None:
+        """They are counted in the third profile, and compared with the report. A line names one node."""
+        text = "50 c timeout b\n50 c forget b\n" + "".join(audit(time, 3) + "\n" for time in (500, 1000))
+        for profile, wanted in ((1, None), (2, None), (3, 1)):
+            run = run_of_text(text, SCENARIO.replace("profile = 1", f"profile = {profile}"))
+            self.assertEqual(summary(run)["forgotten"], wanted)
+        self.assertIn("predecessors forgotten  1", list(summary_text(summary(run))))
+        self.assertEqual([run.history.lines.text(at) for at in range(2)], text.splitlines()[:2])
+        self.assertEqual(run_of_text(text + "forgotten 1\n").report, {"forgotten": 1})
+        self.assertRaisesRegex(Refused, "has `forgotten 0`, and the trace 1", run_of_text, text + "forgotten 0\n")
+        for line in ("50 c forget", "50 c forget x", "50 c forget b a", "50 c forget ping b"):
+            self.assertRaises(Refused, run_of, line)
+
+    def test_many_nodes(self) -> None:
+        """Nodes beyond the first 32,768 keep their names."""
+        more = "".join(f'[[node]]\nname = "n{i}"\n' for i in range(33_000))
+        scenario = SCENARIO.replace("profile = 1", "profile = 3").replace("bits = 6", "bits = 64") + more
+        run = run_of_text("10 n32999 join n32998\n20 n32999 drop step n32998\n", scenario)
+        self.assertEqual([run.history.lines.text(at) for at in range(2)],
+                         ["10 n32999 join n32998", "20 n32999 drop step n32998"])
 
     def test_requests_sent_again(self) -> None:
         """They and the lost ones are counted if the profile has them. Notifies and replies are never sent again."""

@@ -7,11 +7,13 @@ import tempfile
 from pathlib import Path
 from unittest import TestCase
 
+from chordsim_tools.reference.command import main as reference
 from chordsim_tools.trace.command import main
 from chordsim_tools.trace.page.writing import D3
 from chordsim_tools.trace.wording import seconds, share
 from tests.support.programs import ended, program
 from tests.test_trace import SCENARIO, audit
+from tests.test_trace_detail import DETAIL, REMOVAL
 
 TOP = Path(__file__).resolve().parents[2]
 EXAMPLES = TOP / "examples"
@@ -70,6 +72,36 @@ class Commands(TestCase):
         head = "THE TRACE ENDS EARLY    it reaches 0.0005 s, and has no audit at the end. "
         self.assertIn(head + "Its last line is half a line", self.trace())
 
+    def test_report_of_a_cut_trace(self) -> None:
+        """All 23 numbers but `events`, of the lines that are there. Of three lookups one was found and one lost."""
+        self.write("a.trace", "".join(line + "\n" for line in LINES[:-1]) + "600 a cra")
+        head, _, numbers = self.trace().partition(
+            "\nreport of the lines until 0.0005 s. The trace was cut, and no trace says how many events there were\n"
+        )
+        self.assertIn("THE TRACE ENDS EARLY", head)
+        counts = {line.split()[0]: line.split()[1].rstrip(",") for line in numbers.splitlines()}
+        ones = ("members", "crashes", "drops", "timeouts", "found", "lost", "unfinished", "hops-sum", "hops-greatest",
+                "audits")
+        times = ("us-sum", "us-least", "us-median", "us-greatest")
+        wanted = dict.fromkeys(ones, "1") | dict.fromkeys(times, "0.00003") | {"lookups": "3"}
+        self.assertEqual({word: count for word, count in counts.items() if count != "0"}, wanted)
+        self.assertEqual((len(counts), list(counts)[0], list(counts)[-1]), (23, "members", "insufficient"))
+        found = json.loads(self.trace("--json"))
+        self.assertEqual((found["report"], found["report_of_lines"]["us-sum"]), (None, 30))
+        self.assertNotIn("events", found["report_of_lines"])
+
+    def test_no_report_of_a_whole_trace(self) -> None:
+        """Its report is the program's."""
+        self.assertNotIn("report", self.trace().partition("\n")[2])
+        self.assertIsNone(json.loads(self.trace("--json"))["report_of_lines"])
+
+    def test_cut_trace_of_the_third_profile(self) -> None:
+        """The three numbers that it has more."""
+        self.write("a.toml", SCENARIO.replace("profile = 1", "profile = 3"))
+        self.write("a.trace", "10 a lose step b\n50 a again step b\n90 a timeout b\n90 a forget b\n")
+        self.assertIn("\n  losses          1\n  again           1, requests sent again\n"
+                      "  forgotten       1, predecessors that did not reply to a check\n", self.trace())
+
     def test_tables(self) -> None:
         """By steps, by node, and the worst lookups."""
         out = self.trace("--over-time", "500us", "--per-node", "--worst", "2")
@@ -101,6 +133,21 @@ class Commands(TestCase):
         self.assertIn("its asker crashed before it ended", self.trace("--lookup", "2"))
         self.assertIn("it was lost after 0 answers and 9 timeouts", self.trace("--lookup", "3"))
 
+    def test_detail(self) -> None:
+        """The summary has a table of messages behind it. The stories are printed one behind the other."""
+        self.write("a.toml", DETAIL)
+        self.write("a.trace", "".join(line + "\n" for line in REMOVAL))
+        head, _, kinds = self.trace().partition("\nmessages by kind")
+        self.assertIn("it reaches 0.00018 s", head)
+        self.assertRegex(kinds, r"\nget-state +4 +2 +2 +1 +0\n")
+        self.assertRegex(kinds, r"\nall +6 +3 +2 +2 +0\n$")
+        out = self.trace("--removed", "a", "--join", "a")
+        self.assertTrue(out.startswith("a is stranded, and joins again at 0.00017 s, and still joins"))
+        self.assertIn("open when the trace ends\n\nsuccessors that a has removed because they did not reply: 2\n", out)
+        facts = json.loads(self.trace("--json", "--removed", "a"))
+        self.assertEqual(facts["removed"][0], "successors that a has removed because they did not reply: 2")
+        self.assertEqual(facts["messages"]["get-state"], {"made": 4, "lost": 2, "again": 2, "drops": 1, "late": 0})
+
     def test_json(self) -> None:
         """The summary and the tables as one object."""
         facts = json.loads(self.trace("--json", "--over-time", "1ms", "--per-node", "--worst", "1"))
@@ -122,6 +169,9 @@ class Commands(TestCase):
             ([trace, scenario, "--lookup", "4"], 2, "not from 1 to 3"),
             ([trace, scenario, "--lookup", "a@30us"], 2, "the nearest ones are: a@20us, a@80us"),
             ([trace, scenario, "--lookup", "what"], 2, "neither a number nor NODE@TIME"),
+            ([trace, scenario, "--removed", "x"], 2, "--removed: the scenario has no node 'x'"),
+            ([trace, scenario, "--removed", "a"], 2, "has no `detail = true`"),
+            ([trace, scenario, "--join", "a"], 2, "a never joins"),
             ([trace, scenario, "--over-time", "0s"], 2, "no time above 0"),
             ([trace, scenario, "--worst", "0"], 2, "no integer from 1 up"),
             ([trace, scenario, "--html", trace], 2, "is a file that is read"),
@@ -158,6 +208,21 @@ class Page(TestCase):
             self.assertEqual((done.returncode, done.stderr), (0, ""))
             self.assertIn("first torn, and lost    at 220 s", done.stdout)
             self.assertIn("the answer names n20, and the owner when it arrived was n59", done.stdout)
+
+
+    def test_detail(self) -> None:
+        """The second commands are answered with the lines that follow them, and the trace is short."""
+        text = (TOP / "docs" / "trace.md").read_text(encoding="utf-8")
+        blocks = re.findall(r"^```\n(.*?)^```", text, re.MULTILINE | re.DOTALL)
+        name, option = "examples/detail16.toml", "--lookup n3@100ms"
+        self.assertTrue(blocks[1].endswith(f"\ntools/trace detail16.trace {name} {option}\n"))
+        with tempfile.TemporaryDirectory() as folder:
+            trace = f"{folder}/detail16.trace"
+            self.assertEqual(ended(reference, str(TOP / name), "--trace", trace)[0], 0)
+            self.assertLessEqual(len(Path(trace).read_text(encoding="utf-8").splitlines()), 300)
+            status, out, err = ended(main, trace, str(TOP / name), *option.split())
+        self.assertEqual((status, err), (0, ""))
+        self.assertIn(f"\n\n{blocks[2]}\n", out)
 
 
 class Churn64(TestCase):

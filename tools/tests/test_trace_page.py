@@ -60,7 +60,8 @@ class Data(TestCase):
                          ["join", "lookup", "timeout", "drop step", "member", "found", "busy", "crash"])
         self.assertEqual(unpacked(page["lines"]["other"], "i"), [0, 0, 1, 0, 2, 0, 0, -1])
         self.assertEqual(unpacked(page["lookups"]["flags"], "B"), [8 + 16])
-        self.assertEqual(unpacked(page["lookups"]["trueOwner"], "h"), [3])
+        self.assertEqual(unpacked(page["lookups"]["trueOwner"], "i"), [3])
+        self.assertFalse(page["joinForever"])
         self.assertEqual((page["worst"]["wrong"], page["worst"]["counts"]), ([0], {"wrong": 1, "lost": 0}))
         self.assertEqual((page["scenario"], page["leftOut"], len(page["audits"])), ("ring.toml", [], 2))
 

@@ -37,12 +37,13 @@ Without the program the first line is that of this tool.
 Of files that are accepted, a section "accepted, but:" names traps, and the status stays 0: a timeout below the greatest
 round trip, a duration below the periods, and a `max_events` below what the run is likely to need. This last one is
 estimated, where the timers alone come near to it: the program runs the scenario's first seconds (six, or four periods)
-and half of them, and the events of the second half are taken for the rest of the duration."""
+and half of them, and the events of the second half are taken for the rest of the duration. If that takes longer than
+twenty seconds, the timers alone are told."""
 EXAMPLES = """\
 examples:
   tools/explain world.toml                     all faults of a scenario
   tools/explain world.toml links.csv           ... and of its latency file
-  tools/explain world.toml links.csv --most 3  at most three of each of the fifteen kinds
+  tools/explain world.toml links.csv --most 3  at most three of each of the sixteen kinds
   tools/explain world.toml --json              for other programs: `answer`, `traps`, and `faults` with `line`, `hints`
 
 status: 0 the files are accepted; 1 they are refused, or cannot be read; 2 the arguments are wrong; 3 something failed

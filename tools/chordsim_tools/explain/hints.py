@@ -8,7 +8,7 @@ from typing import Any
 
 from chordsim_tools.quantities import time_of
 from chordsim_tools.scenario.tables import (
-    BILLION, FIRST, PROFILES, SECOND, Key, Profile, Row, has_type, is_hexadecimal, is_in_own_range,
+    BILLION, PROFILES, Key, Profile, Row, has_type, is_hexadecimal, is_in_own_range,
 )
 
 HEADINGS = {"top": "the top", "churn": "[churn]", "lookups": "[lookups]", "node": "[[node]]", "command": "[[command]]"}
@@ -40,7 +40,7 @@ def of_unknown_key(name: str, place: str, table: dict[str, Any], profile: Profil
     kind = place.split()[0]
     later = later_keys(profile)
     if name in later:
-        return [of_later_key(name, later[name], kind)]
+        return [of_later_key(name, *later[name], kind)]
     headings = HEADINGS if kind == "top" else {}
     keys = profile.tables[kind]
     meant = close_to(name, (key.name for key in keys if key.name not in table or key.name in headings))
@@ -54,25 +54,26 @@ def of_unknown_key(name: str, place: str, table: dict[str, Any], profile: Profil
     present = close_to(name, (key.name for key in keys))
     if present is not None:
         return [f"`{present}` is there already: take `{name}` away"]
-    meant = close_to(name, later) if kind == "top" else None
-    return [] if meant is None else [f"did you mean `{meant}`? {of_later_key(meant, later[meant], kind)}"]
+    meant = close_to(name, (other for other, (_, owner) in later.items() if owner == kind))
+    return [] if meant is None else [f"did you mean `{meant}`? {of_later_key(meant, *later[meant], kind)}"]
 
 
-def later_keys(profile: Profile) -> dict[str, int]:
-    """The keys of the top that this profile does not have, each with the number of the first one that has it."""
-    present = {key.name for key in profile.tables["top"]}
-    later: dict[str, int] = {}
+def later_keys(profile: Profile) -> dict[str, tuple[int, str]]:
+    """The keys that this profile does not have: the number of the first one that has them, and their table's kind."""
+    later: dict[str, tuple[int, str]] = {}
     for number, other in PROFILES.items():
-        for key in other.tables["top"]:
-            if key.name not in present:
-                later.setdefault(key.name, number)
+        for kind, keys in other.tables.items():
+            present = {key.name for key in profile.tables[kind]}
+            for name in (key.name for key in keys if key.name not in present):
+                later.setdefault(name, (number, kind))
     return later
 
 
-def of_later_key(name: str, number: int, kind: str) -> str:
-    """That the profile of this number has this key, and where."""
-    where = "" if kind == "top" else ", and put it above the first heading"
-    return f"profile {number} has `{name}`: write profile = {number}{where}"
+def of_later_key(name: str, number: int, owner: str, kind: str) -> str:
+    """That the profile of this number has this key, and in which table if it is not the table where it is now."""
+    hint = f"profile {number} has `{name}`: write profile = {number}"
+    place = "above the first heading" if owner == "top" else f"below a heading {HEADINGS[owner]}"
+    return hint if owner == kind else f"{hint}, and put it {place}"
 
 
 def of_missing_key(key: str, place: str, table: dict[str, Any], profile: Profile) -> list[str]:
@@ -84,6 +85,8 @@ def of_missing_key(key: str, place: str, table: dict[str, Any], profile: Profile
         hints.append(f"a {table.get('do')} needs `{key}`")
     if key == "churn":
         hints.append("a node has `churn = true`: write the table [churn], or take that away")
+    if key in ("x_us", "y_us"):
+        hints.append("if one node has `x_us`, `y_us` or `height_us`, each node has `x_us` and `y_us`")
     return hints
 
 
@@ -161,14 +164,16 @@ def of_digits(text: str, bits: int | None, digits: int) -> list[str]:
 
 
 def of_profile(value: Any, key: Key, place: str, profile: Profile) -> list[str]:
-    """That the second profile allows a value that the first one does not."""
-    if profile is not FIRST:
+    """The first later profile that allows a value that this one does not."""
+    if is_in_own_range(value, key):
         return []
-    wider = next(other for other in SECOND.tables[place.split()[0]] if other.name == key.name)
-    if is_in_own_range(value, key) or not is_in_own_range(value, wider):
-        return []
-    unit = {"tables": " tables", "id": " hexadecimal digits, and 128 bits"}.get(key.kind, "")
-    return [f"profile 2 allows up to {wider.greatest}{unit}: write profile = 2"]
+    present = next(number for number, other in PROFILES.items() if other is profile)
+    for number, other in PROFILES.items():
+        wider = next(one for one in other.tables[place.split()[0]] if one.name == key.name) if number > present else key
+        if is_in_own_range(value, wider):
+            unit = {"tables": " tables", "id": " hexadecimal digits, and 128 bits"}.get(key.kind, "")
+            return [f"profile {number} allows up to {wider.greatest}{unit}: write profile = {number}"]
+    return []
 
 
 def of_range(value: int, key: Key) -> list[str]:

@@ -3,12 +3,15 @@
 import math
 import subprocess
 import tempfile
+from dataclasses import dataclass
 from pathlib import Path
 from typing import Any
 
 from chordsim_tools.cli import say
+from chordsim_tools.known import known
 from chordsim_tools.quantities import time_text
-from chordsim_tools.scenario.tables import rows_of
+from chordsim_tools.scenario import coordinates
+from chordsim_tools.scenario.tables import PROFILES, rows_of
 from chordsim_tools.study.document import toml_text
 
 MOST_EVENTS = 50_000_000
@@ -21,6 +24,7 @@ MARGIN = 5
 """By how much the timers alone may be off: where they say less than a fifth of `max_events`, no program is run."""
 PERIODS = (
     ("stabilize_us", "no node stabilizes"), ("finger_us", "no finger is refreshed"), ("audit_us", "there is no audit"),
+    ("check_us", "no predecessor is checked"), ("join_pause_us", "no join is tried again"),
 )
 
 
@@ -32,9 +36,12 @@ def warn(traps: list[str]) -> None:
 
 def greatest_latency(top: dict[str, Any], latency: bytes) -> int:
     """The greatest latency of two nodes, with the spread."""
+    if "x_us" in top["node"][0]:
+        nodes = [known(coordinates.coordinates_of(node)) for node in top["node"]]
+        return coordinates.greatest_latency(nodes) + int(top.get("spread_us", 0))
     rows = rows_of(latency)
-    nodes = len(top["node"])
-    default = top["latency_us"] if len(rows) < nodes * (nodes - 1) // 2 else 0
+    count = len(top["node"])
+    default = top["latency_us"] if len(rows) < count * (count - 1) // 2 else 0
     return int(max([default, *(int(row.fields[2]) for row in rows)]) + top.get("spread_us", 0))
 
 
@@ -58,7 +65,7 @@ def timeout_trap(timeout: int, greatest: int, retries: int = 0) -> list[str]:
 def duration_traps(top: dict[str, Any]) -> list[str]:
     """A duration that is below the periods."""
     duration = top["duration_us"]
-    short = [(key, what) for key, what in PERIODS if duration < top[key]]
+    short = [(key, what) for key, what in PERIODS if duration < top.get(key, 0)]
     if not short:
         return []
     said = ", ".join(f"{key} = {top[key]} ({what})" for key, what in short)
@@ -72,28 +79,57 @@ def timer_events(top: dict[str, Any]) -> float:
     nodes = len(top["node"])
     way = 2 + 2 * math.log2(nodes)
     rate = 8 / top["stabilize_us"] + way / top["finger_us"] + (way / gap if gap else 0)
+    rate += 4 / top["check_us"] if top.get("check_us") else 0
     return float(nodes * top["duration_us"] * rate + (way + 4) * len(top.get("command", [])))
 
 
-def events_trap(program: Path, top: dict[str, Any], latency: bytes) -> list[str]:
-    """A `max_events` below what the run is likely to need, by two runs of its first seconds."""
-    most = int(top.get("max_events", MOST_EVENTS))
+def most_events(top: dict[str, Any]) -> int:
+    """How many events a run may have."""
+    return int(top.get("max_events", MOST_EVENTS))
+
+
+@dataclass(frozen=True)
+class Need:
+    """About how many events a run needs, and how that is known."""
+
+    events: int
+    told: str
+
+
+def events_needed(program: Path, top: dict[str, Any], latency: bytes) -> Need | None:
+    """What a run needs, by two runs of its first seconds, or by its timers if these take too long.
+
+    Nothing if the timers alone come nowhere near to the limit, or if the run itself is not longer than such a run."""
     duration = int(top["duration_us"])
     span = max(LEAST_SPAN, ENOUGH_PERIODS * (max(top["stabilize_us"], top["finger_us"]) + top.get("jitter_us", 0)))
-    if MARGIN * timer_events(top) < most or span >= duration:
-        return []
+    if MARGIN * timer_events(top) < most_events(top) or span >= duration:
+        return None
     # A run begins quietly, so that the second half of what is tried stands for the rest.
-    half, whole = (events_until(program, top, latency, time) for time in (span // 2, span))
+    try:
+        half, whole = (events_until(program, top, latency, time) for time in (span // 2, span))
+    except subprocess.TimeoutExpired:
+        return Need(round(timer_events(top)), f"by its timers alone: its first {time_text(span)} take too long to try")
     if half is None or whole is None:
-        return []
-    needed = half + (whole - half) * (duration - span // 2) // (span - span // 2)
-    if needed <= most:
-        return []
-    return [
-        f"max_events = {most}, and the run is likely to need about {rounded(needed)} (tried: its first "
-        f"{time_text(span // 2)} have {half} and its first {time_text(span)} {whole}, and so on): it would end with "
-        "`3 TooManyEvents`, without a report"
-    ]
+        return None
+    told = f"tried: its first {time_text(span // 2)} have {half} and its first {time_text(span)} {whole}, and so on"
+    return Need(half + (whole - half) * (duration - span // 2) // (span - span // 2), told)
+
+
+def events_trap(program: Path, top: dict[str, Any], latency: bytes) -> list[str]:
+    """A `max_events` below what the run is likely to need."""
+    need = events_needed(program, top, latency)
+    return [] if need is None or need.events <= most_events(top) else [events_told(top, need)]
+
+
+def events_told(top: dict[str, Any], need: Need) -> str:
+    """That a run is likely to need more events than it may have, and that profile 3 allows more, if it alone does."""
+    greatest = PROFILES[3].greatest("max_events")
+    is_beyond = PROFILES[top["profile"]].greatest("max_events") < need.events <= greatest
+    return (
+        f"max_events = {most_events(top)}, and the run is likely to need about {rounded(need.events)} ({need.told}): "
+        "it would end with `3 TooManyEvents`, without a report"
+        + (f"; profile 3 allows up to {greatest}" if is_beyond else "")
+    )
 
 
 def rounded(count: int) -> str:
@@ -102,9 +138,10 @@ def rounded(count: int) -> str:
 
 
 def events_until(program: Path, top: dict[str, Any], latency: bytes, span: int) -> int | None:
-    """The events of a run that ends at this time, if it does not take too long."""
+    """The events of a run that ends at this time, if it does not fail. TimeoutExpired if it takes too long."""
     commands = [command for command in top.get("command", []) if command["at_us"] < span]
-    cut = {**top, "duration_us": span, "audit_us": max(top["audit_us"], span // 10), "max_events": MOST_EVENTS}
+    most = PROFILES[top["profile"]].greatest("max_events")
+    cut = {**top, "duration_us": span, "audit_us": max(top["audit_us"], span // 10), "max_events": most}
     if "command" in top:
         cut["command"] = commands
     with tempfile.TemporaryDirectory() as folder:
@@ -119,7 +156,7 @@ def counted(command: list[str]) -> int | None:
     """The number of events that a run reports."""
     try:
         done = subprocess.run(command, capture_output=True, text=True, timeout=PATIENCE, check=False)
-    except (OSError, subprocess.TimeoutExpired):
+    except OSError:
         return None
     found = dict(line.split(" ", 1) for line in done.stdout.splitlines() if " " in line)
     return int(found["events"]) if done.returncode == 0 and found.get("events", "").isdecimal() else None

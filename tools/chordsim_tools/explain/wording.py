@@ -9,7 +9,7 @@ from chordsim_tools.explain.hints import heading_of, shown
 from chordsim_tools.explain.positions import Position
 from chordsim_tools.known import known
 from chordsim_tools.scenario.faults import Fault
-from chordsim_tools.scenario.tables import ACTIONS, BILLION, Key
+from chordsim_tools.scenario.tables import ACTIONS, BILLION, COORDINATES, Key
 
 Parts = tuple[str, str, str, list[str]]
 """What is wrong, what is there, what is allowed, and what was likely meant."""
@@ -206,8 +206,10 @@ def same_link(fault: Fault, files: Files) -> Parts:
 
 def below_window(fault: Fault, files: Files) -> Parts:
     """S15."""
+    if fault.place.startswith("node "):
+        return low_heights(fault, files)
     top = files.document.top.table
-    pair = " and ".join(f'"{name}"' for name in fault.answer.split())
+    pair = pair_of(fault)
     if fault.place.startswith("row "):
         what, found = f"the latency of {pair} is below `window_us`", shown(",".join(files.row(fault.place).fields))
     else:
@@ -219,6 +221,30 @@ def below_window(fault: Fault, files: Files) -> Parts:
     if top.get("spread_us"):
         likely.append("`spread_us` does not count here: a message may come without it")
     return what, found, allowed, likely
+
+
+def pair_of(fault: Fault) -> str:
+    """The two nodes that S15 names."""
+    return " and ".join(f'"{name}"' for name in fault.answer.split())
+
+
+def low_heights(fault: Fault, files: Files) -> Parts:
+    """S15 of coordinates."""
+    what = f"the sum of the two least heights is below `window_us`: those of {pair_of(fault)}"
+    heights = [files.place(place).table.get("height_us", 0) for place in (fault.place, fault.other)]
+    found = f"height_us = {heights[0]} and height_us = {heights[1]}, together {sum(heights)}"
+    allowed = f"window_us = {files.document.top.table['window_us']} or more together"
+    return what, found, allowed, [f"raise them, or lower `window_us` ({files.line('top', 'window_us')})"]
+
+
+def rows_and_coordinates(_: Fault, files: Files) -> Parts:
+    """S16."""
+    count = len(files.document.rows)
+    names = {key.name for key in COORDINATES}
+    first = next(node for node in files.document.nodes if names & set(node.table))
+    likely = [f"run it without the latency file, or take the coordinates away, from {first.name} on"]
+    what = "nodes have coordinates, and the latency file has a row"
+    return what, f"{count} row{'' if count == 1 else 's'}", "no row: the coordinates give all latencies", likely
 
 
 PARTS: dict[str, Callable[[Fault, Files], Parts]] = {
@@ -236,4 +262,5 @@ PARTS: dict[str, Callable[[Fault, Files], Parts]] = {
     "S13": self_link,
     "S14": same_link,
     "S15": below_window,
+    "S16": rows_and_coordinates,
 }

@@ -10,8 +10,8 @@ SHORT = 1_000
 """The same for times of the network."""
 LIMITS = {
     **dict.fromkeys(("duration", "audit", "stabilize", "finger", "churn-uniform", "lifetime", "down", "arrive"), LONG),
-    **dict.fromkeys(("lookup-gap", "timeout"), LONG),
-    **dict.fromkeys(("window", "latency", "jitter", "spread"), SHORT),
+    **dict.fromkeys(("lookup-gap", "timeout", "join-pause", "check"), LONG),
+    **dict.fromkeys(("window", "latency", "jitter", "spread", "coordinates"), SHORT),
 }
 
 
@@ -30,5 +30,6 @@ def bare_traps(args: Namespace) -> list[str]:
 
 def bare_numbers(text: str, limit: int) -> list[str]:
     """The numbers above 0 and below a limit that have no unit, in a time, a span or the times of a law."""
-    ends = text.rpartition(":")[2].split("..")
+    times = text.replace(":", "..") if text.startswith("square:") else text.rpartition(":")[2]
+    ends = times.split("..")
     return [end for end in ends if end.isdecimal() and 0 < int(end) < limit]

@@ -2,7 +2,7 @@
 
 from argparse import Namespace
 
-from chordsim_tools.cli import Parser, run
+from chordsim_tools.cli import Failure, Parser, run
 from chordsim_tools.draws import distribution_of
 from chordsim_tools.explain.traps import duration_traps, timeout_trap, warn
 from chordsim_tools.files import put
@@ -14,7 +14,10 @@ from chordsim_tools.generate.plan import (
 from chordsim_tools.generate.random_scenario import scenario_files
 from chordsim_tools.generate.text import text_of
 from chordsim_tools.options import GREATEST_SEED, Given, Options, a_time, a_whole, choice, duration, value, whole
+from chordsim_tools.places import LAWS, law_of_places
 from chordsim_tools.quantities import BILLION, span_of
+from chordsim_tools.scenario.coordinates import greatest_latency
+from chordsim_tools.scenario.tables import GREATEST_SIZE
 
 PROG = "tools/generate"
 HELP = """\
@@ -46,9 +49,15 @@ Lookups in two forms, also together:
   by commands  --lookups: each node looks up at the times of a Poisson process, while it is up by the commands. (A node
                that churns by itself gets its lookups also while it is down: the trace has lines `ignored lookup`.)
                --keys zipf:S:COUNT draws COUNT keys once; the one at place k is looked up in proportion to 1/k^S.
-Lives, joins, lookups and identifiers are drawn from streams of their own, for each node: other lookups do not change
-the lives; more nodes do not change what is drawn for the others (but for the nodes that they join through); and a
-longer run begins as the shorter one (if --arrive is given).
+Lives, joins, lookups, identifiers and coordinates are drawn from streams of their own, for each node: other lookups do
+not change the lives; more nodes do not change what is drawn for the others (but for the nodes that they join through);
+and a longer run begins as the shorter one (if --arrive is given).
+
+--coordinates gives each node a place and a height. The latency of two nodes is then the sum of their heights and the
+way between their places; --latency only makes the default of --timeout.
+  square:SIDE:MIN..MAX   all places of a square of this side are alike, and all heights of the span
+  king                   places and heights that tools/latency --king makes, for this seed
+  file:NAME              those of a file that tools/latency --fit or --king has written
 
 A small random scenario, which tries out as much as possible in little time: --random SEED, alone. It has 3 to 16 nodes,
 2 to 8 ms, mostly much churn and calls that time out; of six seeds the first two have profile 1, the next two profile 2
@@ -63,39 +72,52 @@ examples:
   tools/generate --initial 8 --arrive 5s..5055ms --duration 1m  a storm of joins
   tools/generate --profile 2 --loss 20000 --spread 5ms          two messages of a hundred are lost, the others late
   tools/generate --profile 3 --loss 20000 --retries 2           the same loss, and requests that are sent again
+  tools/generate --profile 3 --lifetime exp:10m --join-pause 5s --join-forever --check 1s
+                                                                joins that do not end, and checks of predecessors
+  tools/generate --profile 3 --nodes 4096 --coordinates king --timeout 1s
   tools/generate --lookups 0.5 --keys zipf:0.9:1000 --seed 3
   tools/generate --random 7 --links links.csv -o any.toml
 A scenario that is run with a latency file wants a --window of at most the file's least latency and a --timeout above
 twice its greatest one; tools/latency says both when it writes the file.
 
-status: 0 the scenario is written; 2 the arguments are wrong, or ask for more than 100,000 commands; 3 the file could
-not be written. 130 interrupted. A file is whole or not there."""
+status: 0 the scenario is written; 2 the arguments are wrong, or ask for more than 100,000 commands or for more than the
+16,777,216 bytes that chordsim reads; 3 the file could not be written. 130 interrupted. A file is whole or not there."""
 
 LENGTH = duration(1, BILLION)
 LIFE = value(distribution_of, LIVES)
 OPTIONS = (
     ("profile", "N", whole(1, 3),
-     "the set of rules: 1; 2 for a network with loss and spread, wider identifiers and more nodes; 3 for this and "
-     "requests that are sent again (1)"),
-    ("nodes", "N", a_whole(), "2 to 512 nodes, in profiles 2 and 3 to 4096, and at most 2^BITS (64)"),
+     "the set of rules: 1; 2 for a network with loss and spread, wider identifiers and more nodes; 3 for this, "
+     "requests that are sent again, pauses between joins, checks of predecessors, coordinates and still more nodes "
+     "(1)"),
+    ("nodes", "N", a_whole(), "2 to 512 nodes, in profile 2 to 4096, in profile 3 to 65536, and at most 2^BITS (64)"),
     ("initial", "N", a_whole(), "how many of them, the first ones, are members at the start: 2 to NODES (all)"),
     ("bits", "N", a_whole(), "bits of an identifier: 3 to 64, in profiles 2 and 3 to 128 (32)"),
     ("list", "N", a_whole(),
      "entries of a successor list: 1 to 16, and below the initial nodes (4, or as many as may be)"),
     ("duration", "TIME", duration(1, 1000 * BILLION), "1us to 1000000s (120s)"),
-    ("window", "TIME", a_time(), "1us to 1000s, and at most the latency (the latency)"),
+    ("window", "TIME", a_time(),
+     "1us to 1000s, and at most the latency, or with --coordinates the sum of the two least heights (just this)"),
     ("latency", "TIME", LENGTH, "latency of nodes that no latency file names: 1us to 1000s (20ms)"),
     ("timeout", "TIME", LENGTH, "1us to 1000s (ten latencies)"),
     ("audit", "TIME", a_time(), "time between audits: 1us to 1000s, at most 1,000,000 audits (a 24th of the duration)"),
     ("stabilize", "TIME", LENGTH, "1us to 1000s (500ms)"),
     ("finger", "TIME", LENGTH, "1us to 1000s (250ms)"),
     ("jitter", "TIME", duration(0, BILLION), "0us to 1000s (50ms)"),
-    ("max-events", "N", a_whole(), "1 to 50000000, in profile 3 to 700000000 (50000000)"),
+    ("max-events", "N", a_whole(), "1 to 50000000, in profile 3 to 100000000000 (50000000)"),
     ("loss", "N", whole(0, 1_000_000), "profiles 2 and 3: messages lost of a million, 0 to 1000000 (0)"),
     ("spread", "TIME", duration(0, BILLION),
      "profiles 2 and 3: up to this much is added to each latency, 0us to 1000s (0us)"),
     ("retries", "N", whole(0, 3),
      "profile 3 alone: how often a request is sent again before its node is taken for dead, 0 to 3 (0)"),
+    ("join-pause", "TIME", duration(0, BILLION),
+     "profile 3 alone: how long a node waits after a failed attempt to join, 0us to 1000s (0us)"),
+    ("join-forever", "", None,
+     "profile 3 alone: a node whose join has failed eight times begins again, after eight pauses"),
+    ("check", "TIME", duration(0, BILLION),
+     "profile 3 alone: time between a node's checks of its predecessor, 0us to 1000s, 0us for none (0us)"),
+    ("detail", "", None, "profile 3 alone: the trace has lines that tell of each message"),
+    ("coordinates", "LAW", value(law_of_places, LAWS), f"profile 3 alone: latencies by coordinates: {LAWS} (none)"),
     ("seed", "N", whole(0, GREATEST_SEED),
      "of the simulated streams, and of all that is drawn here: 0 to 9223372036854775807 (1)"),
     ("churn-uniform", "SPAN", value(length_span_of, f"two spans {LENGTHS}"),
@@ -149,7 +171,10 @@ def scenario_of(plan: Plan, arguments: list[str]) -> str:
     """The text of the scenario that a plan asks for."""
     streams = Streams(plan.top["seed"], plan.nodes)
     lives = lives_of(plan, streams)
-    return text_of(plan, streams, commands_of(plan, lives, streams), arguments, initial_nodes(plan, lives))
+    text = text_of(plan, streams, commands_of(plan, lives, streams), arguments, initial_nodes(plan, lives))
+    if len(text) > GREATEST_SIZE:
+        raise Failure(2, f"--nodes: the scenario has {len(text)} bytes, and chordsim reads at most {GREATEST_SIZE}")
+    return text
 
 
 def check_random(args: Namespace, parser: Parser) -> None:
@@ -172,7 +197,8 @@ def write_random(seed: int, file: str | None, links: str | None) -> None:
 def write_planned(plan: Plan, args: Namespace) -> None:
     """Writes the scenario of a plan, and warns of what is hardly meant."""
     put(scenario_of(plan, arguments_again(args)), args.file)
-    slowest = plan.top["latency_us"] + plan.top.get("spread_us", 0)
+    latency = greatest_latency(plan.places) if plan.places else plan.top["latency_us"]
+    slowest = latency + plan.top.get("spread_us", 0)
     traps = timeout_trap(plan.top["timeout_us"], slowest, plan.top.get("retries", 0))
     warn([*bare_traps(args), *traps, *duration_traps(plan.top)])
 
@@ -184,5 +210,4 @@ def main(arguments: list[str]) -> int:
     check_random(args, parser)
     if args.random is not None:
         return run(PROG, lambda: write_random(args.random.value, args.file, args.links))
-    plan = check(args, parser)
-    return run(PROG, lambda: write_planned(plan, args))
+    return run(PROG, lambda: write_planned(check(args, parser), args))

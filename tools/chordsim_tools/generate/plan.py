@@ -8,8 +8,11 @@ from chordsim_tools.cli import Parser
 from chordsim_tools.draws import Distribution, Exponential, Zipf, zipf_of
 from chordsim_tools.generate.equilibrium import mean_of
 from chordsim_tools.options import Given, Options
+from chordsim_tools.places import Law, places_of
 from chordsim_tools.quantities import BILLION, decimal_of, span_of, time_text
+from chordsim_tools.scenario.coordinates import Coordinates, least_latency
 from chordsim_tools.scenario.reading import Churn, Lookups
+from chordsim_tools.scenario.tables import PROFILES
 
 LENGTHS = "MIN..MAX, each 1us to 1000s"
 RATES = "0.000001 to 1000000, with at most nine digits after the point"
@@ -21,7 +24,10 @@ Span = tuple[int, int]
 
 @dataclass(frozen=True)
 class Plan:
-    """A scenario to be made: the keys of its top table, its nodes, and what happens to them."""
+    """A scenario to be made: the keys of its top table, its nodes, and what happens to them.
+
+    The nodes have coordinates, or the list is empty.
+    """
 
     top: dict[str, int]
     nodes: int
@@ -36,19 +42,21 @@ class Plan:
     rate: Decimal | None
     keys: Zipf | None
     stationary: bool = False
+    places: tuple[Coordinates, ...] = ()
 
 
 def check(args: Namespace, parser: Parser) -> Plan:
     """The plan of the arguments. If two of them do not fit together the parser ends with the first such option."""
     options = Options(args, parser)
     profile = options.get("profile", 1)
-    most_bits, most_nodes = (64, 512) if profile == 1 else (128, 4096)
-    bits = options.whole("bits", 32, 3, most_bits, f" (in profile {profile})")
+    most_nodes = PROFILES[profile].greatest("node")
+    bits = options.whole("bits", 32, 3, PROFILES[profile].greatest("bits"), f" (in profile {profile})")
     room = min(most_nodes, 2**bits)
     why = f" (at most {most_nodes} in profile {profile}, and 2^{bits}, by --bits)"
     nodes = options.whole("nodes", min(64, room), 2, room, why)
     initial = options.whole("initial", nodes, 2, nodes, " (at most --nodes)")
-    top = top_of(options, profile, bits, initial) | network_of(options, profile)
+    places = coordinates_of(options, profile, nodes)
+    top = top_of(options, profile, bits, initial, places) | network_of(options, profile)
     check_companions(options, initial < nodes)
     return Plan(
         top=top,
@@ -64,6 +72,7 @@ def check(args: Namespace, parser: Parser) -> Plan:
         rate=options.get("lookups", None),
         keys=keys_of(options, bits),
         stationary=is_stationary(options),
+        places=places,
     )
 
 
@@ -81,21 +90,43 @@ def is_stationary(options: Options) -> bool:
     return True
 
 
-def top_of(options: Options, profile: int, bits: int, initial: int) -> dict[str, int]:
+def coordinates_of(options: Options, profile: int, nodes: int) -> tuple[Coordinates, ...]:
+    """The coordinates of the nodes, if they have any."""
+    options.only_with("coordinates", profile == 3, "--profile 3")
+    law: Law | None = options.get("coordinates", None)
+    return () if law is None else places_of(law, options.get("seed", 1), [name_of(node) for node in range(nodes)])
+
+
+def name_of(node: int) -> str:
+    """The name of a node."""
+    return f"n{node}"
+
+
+def window_of(options: Options, latency: int, places: tuple[Coordinates, ...]) -> int:
+    """The window: by default as long as may be."""
+    if places:
+        least = least_latency(places)
+        return options.time("window", least, 1, least, " (the sum of the two least heights)")
+    return options.time("window", latency, 1, latency, " (at most --latency)")
+
+
+def top_of(
+    options: Options, profile: int, bits: int, initial: int, places: tuple[Coordinates, ...]
+) -> dict[str, int]:
     """The keys of the top table, in the order of docs/formats.md. A default follows what it depends on."""
     why = " (at most 16, and below --initial)"
     duration = options.get("duration", 120_000_000)
     latency = options.get("latency", 20_000)
     audit = min(BILLION, max(1, duration // 24))
     least_audit = -(-duration // 1_000_000)
-    most_events = 700_000_000 if profile == 3 else 50_000_000
+    most_events = PROFILES[profile].greatest("max_events")
     return {
         "profile": profile,
         "bits": bits,
         "list": options.whole("list", min(4, initial - 1), 1, min(16, initial - 1), why),
         "seed": options.get("seed", 1),
         "duration_us": duration,
-        "window_us": options.time("window", latency, 1, latency, " (at most --latency)"),
+        "window_us": window_of(options, latency, places),
         "latency_us": latency,
         "timeout_us": options.get("timeout", min(BILLION, 10 * latency)),
         "audit_us": options.time("audit", audit, least_audit, BILLION, " (at most 1000000 audits in --duration)"),
@@ -107,14 +138,19 @@ def top_of(options: Options, profile: int, bits: int, initial: int) -> dict[str,
 
 
 def network_of(options: Options, profile: int) -> dict[str, int]:
-    """The keys of loss and spread, which profiles 2 and 3 have, and of sending again, which profile 3 alone has."""
+    """The keys of loss and spread, which profiles 2 and 3 have, and those that profile 3 alone has."""
     for name in ("loss", "spread"):
         options.only_with(name, profile >= 2, "--profile 2 or 3")
-    options.only_with("retries", profile == 3, "--profile 3")
+    for name in ("retries", "join-pause", "join-forever", "check", "detail"):
+        options.only_with(name, profile == 3, "--profile 3")
     if profile == 1:
         return {}
     network = {"loss_ppm": options.get("loss", 0), "spread_us": options.get("spread", 0)}
-    return network if profile == 2 else network | {"retries": options.get("retries", 0)}
+    if profile == 2:
+        return network
+    later = {"join-pause": "join_pause_us", "join-forever": "join_forever", "check": "check_us", "detail": "detail"}
+    given = {key: options.get(name, 0) for name, key in later.items() if options.has(name)}
+    return network | {"retries": options.get("retries", 0)} | given
 
 
 def check_companions(options: Options, some_arrive: bool) -> None:

@@ -25,14 +25,22 @@ def scenario_files(seed: int) -> tuple[str, str]:
     initial = set(dice.sample(range(nodes), dice.randint(entries + 1, nodes)))
     network = network_of(dice, latency, profile) if profile >= 2 else {}
     reach = latency + network.get("spread_us", 0)
-    top = {"profile": profile} | settings(dice, bits, entries, window, latency, reach, duration) | network
-    text = "".join(f"{key} = {value}\n" for key, value in top.items())
-    text += tables(dice, is_churning)
-    for i, ident in enumerate(idents):
-        text += node_table(dice, i, ident, i in initial, is_churning)
-    for _ in range(dice.choice([0, 5, 20, 60])):
-        text += command_table(dice, nodes, duration, 2**bits)
-    return text, rows(dice, nodes, window)
+    top: dict[str, int | str] = {"profile": profile}
+    top |= settings(dice, bits, entries, window, latency, reach, duration) | network
+    rest = tables(dice, is_churning)
+    node_tables = [node_table(dice, i, ident, i in initial, is_churning) for i, ident in enumerate(idents)]
+    commands = "".join(command_table(dice, nodes, duration, 2**bits) for _ in range(dice.choice([0, 5, 20, 60])))
+    links = rows(dice, nodes, window)
+    # What came to the third profile later is drawn last, so that all else stays as it was.
+    if profile == 3:
+        top |= patience_of(dice)
+        if dice.random() < 0.4:
+            node_tables = [table + coordinates(dice, window) for table in node_tables]
+            links = ""
+        if seed // 6 % 3 == 0:
+            top["detail"] = "true"
+    head = "".join(f"{key} = {value}\n" for key, value in top.items())
+    return head + rest + "".join(node_tables) + commands, links
 
 
 def distinct(dice: Random, size: int, count: int) -> list[int]:
@@ -75,6 +83,22 @@ def network_of(dice: Random, latency: int, profile: int) -> dict[str, int]:
     if profile == 3:
         keys["retries"] = dice.randint(0, 3)
     return {key: value for key, value in keys.items() if dice.random() < 0.85}
+
+
+def patience_of(dice: Random) -> dict[str, int | str]:
+    """Pauses between attempts to join, joins without an end, and checks of the predecessor, each in some scenarios."""
+    pause = dice.choice([0, 1, dice.randint(1, 60), dice.randint(1, 400)])
+    check = dice.choice([0, dice.randint(1, 40), dice.randint(20, 200), dice.randint(20, 500)])
+    forever = dice.choice(["true", "true", "false"])
+    keys: dict[str, int | str] = {"join_pause_us": pause, "join_forever": forever, "check_us": check}
+    return {key: value for key, value in keys.items() if dice.random() < 0.75}
+
+
+def coordinates(dice: Random, window: int) -> str:
+    """The lines of a node's coordinates, near the others or sometimes far away. Two heights make a window or more."""
+    side = dice.choice([0, 9, 40, 40, 500_000_000 if dice.random() < 0.1 else 40])
+    height = dice.randint(-(-window // 2), window + 20)
+    return f"x_us = {dice.randint(0, side)}\ny_us = {dice.randint(0, side)}\nheight_us = {height}\n"
 
 
 def tables(dice: Random, is_churning: bool) -> str:

@@ -6,7 +6,7 @@ from dataclasses import asdict
 
 from chordsim_tools.draws import Draws
 from chordsim_tools.generate.commands import CRASH, JOIN, LOOKUP, Command, Streams
-from chordsim_tools.generate.plan import Plan
+from chordsim_tools.generate.plan import Plan, name_of
 from chordsim_tools.reference.circle import Circle
 
 DOES = {CRASH: "crash", JOIN: "join", LOOKUP: "lookup"}
@@ -41,8 +41,8 @@ def head(plan: Plan, commands: list[Command], arguments: list[str], initial: int
 
 
 def table(heading: str, keys: dict[str, int]) -> str:
-    """A table of numbers."""
-    return heading + "".join(f"{key} = {value}\n" for key, value in keys.items())
+    """A table of numbers and booleans."""
+    return heading + "".join(f"{key} = {str(value).lower()}\n" for key, value in keys.items())
 
 
 def drawn_idents(plan: Plan, draws: Draws) -> dict[int, int]:
@@ -58,11 +58,6 @@ def drawn_idents(plan: Plan, draws: Draws) -> dict[int, int]:
     return drawn
 
 
-def name_of(node: int) -> str:
-    """The name of a node."""
-    return f"n{node}"
-
-
 def node_table(plan: Plan, node: int, idents: dict[int, int], is_initial: bool) -> str:
     """The table of a node."""
     lines = [f'name = "{name_of(node)}"']
@@ -72,6 +67,8 @@ def node_table(plan: Plan, node: int, idents: dict[int, int], is_initial: bool) 
         lines.append("initial = true")
     if plan.churn is not None and node >= plan.stay:
         lines.append("churn = true")
+    if plan.places:
+        lines += [f"{key} = {value}" for key, value in asdict(plan.places[node]).items()]
     return "[[node]]\n" + "\n".join(lines) + "\n"
 
 

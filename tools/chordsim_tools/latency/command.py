@@ -11,14 +11,18 @@ from chordsim_tools.cli import Failure, Parser, Refused, run, say
 from chordsim_tools.draws import Draws
 from chordsim_tools.explain.traps import timeout_trap, warn
 from chordsim_tools.files import put, read_input
+from chordsim_tools.latency.coordinates import Placed, placed_by_fit, placed_by_king
 from chordsim_tools.latency.measured import UNITS, Latencies, latencies_of, read_lines, read_matrix
 from chordsim_tools.options import GREATEST_SEED, Options, a_whole, choice, duration, whole
-from chordsim_tools.scenario.tables import GREATEST_SIZE, parse_toml
+from chordsim_tools.places import places_text
+from chordsim_tools.scenario.coordinates import greatest_latency
+from chordsim_tools.scenario.tables import GREATEST_SIZE, THIRD, parse_toml
 
 PROG = "tools/latency"
 HELP = """\
 Writes a latency file for chordsim: a row a,b,microseconds for each pair of nodes, from measured round trips or of hosts
-at random places of a square. The nodes are named n0, n1 and so on, as those of tools/generate are, or as --names says.
+at random places of a square. Or writes coordinates, a row name,x,y,height in microseconds for each node: fitted to a
+latency file, or made. The nodes are named n0, n1 and so on, as those of tools/generate are, or as --names says.
 The same arguments and files make the same bytes. What is in round brackets at the end of an option's line is its
 default."""
 EPILOG = """\
@@ -38,6 +42,17 @@ measured round trips with the other chosen hosts (the lower one of two in the mi
 --plane SIDE: hosts at random places of a square. The latency of two of them is --floor and the straight way between
 them, rounded up; SIDE is the way from one corner to the next.
 
+--fit ROWS: coordinates of the nodes of a latency file ROWS, fitted by Vivaldi (Dabek, Cox, Kaashoek, Morris, SIGCOMM
+2004) in a plane with heights. The file may lack pairs. Each node looks 2000 times at a drawn one of those to which it
+has a latency. With --names the nodes of that scenario are written, in its order. At the end the relative errors of all
+rows are told: how far the latency by coordinates is from that of the row, as a share of the latter. No height is below
+half the --floor, so that no latency is below it.
+
+--king: coordinates that are made in the manner of the King data set, and not measured: places in three clusters, and
+heights that are nearly log-normal. docs/tools.md says how they are drawn.
+
+tools/generate --coordinates file:NAME takes such a file. It is for profile 3.
+
 At the end a line on standard error says the number of hosts and of gaps filled, the least, the median and the greatest
 latency, and the greatest window_us that a scenario with these latencies may have (which is the least latency). A spread
 (spread_us, of profiles 2 and 3) only adds to these and does not count for the window.
@@ -52,12 +67,15 @@ examples:
   tools/generate --nodes 128 --window 5ms --timeout 400ms -o ring.toml    a scenario for it: the window is at most the
                                                            least latency, the timeout above twice the greatest one
   chordsim run --scenario ring.toml --latency plane.csv --serial
+  tools/latency --fit king.csv -o places.csv               coordinates in place of the rows of king.csv
+  tools/latency --king --nodes 4096 -o places.csv          coordinates that are made
+  tools/generate --profile 3 --nodes 128 --coordinates file:places.csv --timeout 1s -o ring.toml
 
 status: 0 the file is written; 1 a file is refused; 2 the arguments are wrong; 3 the file could not be written; 130
 interrupted. A file is whole or not there."""
 UNIT_LIMIT = 1000
 """A median latency below this many microseconds is hardly one of the Internet."""
-MOST_NODES = 4096
+MOST_NODES = THIRD.greatest("node")
 """The most nodes of a scenario."""
 
 
@@ -66,7 +84,7 @@ def parser_of() -> Parser:
     parser = Parser(PROG, HELP, EPILOG, strict=True)
     add = parser.add_argument
     add("measured", metavar="MEASURED", nargs="?", help="the file with the round trips")
-    add("--nodes", metavar="N", type=a_whole(), help="2 to 4096 nodes (64, or as many as --names has)")
+    add("--nodes", metavar="N", type=a_whole(), help="2 to 65536 nodes (64, or as many as --names has)")
     add("--names", metavar="FILE", help="a scenario; its nodes' names are taken, in their order")
     add("--seed", metavar="N", type=whole(0, GREATEST_SEED), help="of all that is drawn: 0 to 9223372036854775807 (1)")
     add("--form", metavar="FORM", type=choice("matrix", "lines"), help="the form of MEASURED: matrix or lines (matrix)")
@@ -75,8 +93,11 @@ def parser_of() -> Parser:
         help="fill gaps among the chosen hosts, or refuse them (fill)")
     add("--plane", metavar="SIDE", type=duration(1, 600_000_000),
         help="no MEASURED; a square of this side: a time of 1us to 600s")
+    add("--fit", metavar="ROWS", help="no MEASURED; coordinates that are fitted to this latency file")
+    add("--king", action="store_true", help="no MEASURED; coordinates that are made in the manner of the King data set")
     add("--floor", metavar="TIME", type=duration(1, 100_000_000),
-        help="what each latency of the plane begins with: 1us to 100s (1ms)")
+        help="what each latency of the plane begins with, or what none by coordinates is below: 1us to 100s (1ms; with "
+        "--fit the least latency of the file)")
     add("-o", dest="file", metavar="FILE", help="write to this file, not to standard output")
     return parser
 
@@ -84,9 +105,10 @@ def parser_of() -> Parser:
 def check(args: Namespace, parser: Parser) -> Options:
     """The options. If they do not fit together the parser ends with the first one that does not."""
     options = Options(args, parser)
-    if (args.measured is None) != options.has("plane"):
-        options.refuse("plane", "either this or a file MEASURED")
-    options.only_with("floor", options.has("plane"), "--plane")
+    if [args.measured is not None, options.has("plane"), args.fit is not None, args.king].count(True) != 1:
+        options.refuse("plane", "one of this, --fit, --king and a file MEASURED")
+    options.only_with("floor", args.measured is None, "--plane, --fit or --king")
+    options.only_with("nodes", args.fit is None, "a file MEASURED, --plane or --king")
     for name in ("form", "unit", "gaps"):
         options.only_with(name, args.measured is not None, "a file MEASURED")
     if args.names is None:
@@ -167,8 +189,33 @@ def facts(count: int, result: Latencies) -> str:
     )
 
 
+def placed(options: Options) -> Placed:
+    """The coordinates that the arguments ask for."""
+    floor, seed = options.get("floor", None), options.get("seed", 1)
+    if options.args.king:
+        return placed_by_king(nodes_of(options), floor, seed)
+    names = None if options.args.names is None else names_of(options.args.names)
+    return placed_by_fit(options.args.fit, names, floor, seed)
+
+
+def write_coordinates(options: Options) -> None:
+    """Writes the coordinates that the arguments ask for."""
+    result = placed(options)
+    put(places_text(result.names, result.places), options.args.file)
+    say(result.facts())
+    warn(timeout_traps(options, greatest_latency(result.places)))
+
+
 def write(options: Options) -> None:
     """Writes the file that the arguments ask for."""
+    if options.args.king or options.args.fit is not None:
+        write_coordinates(options)
+    else:
+        write_rows(options)
+
+
+def write_rows(options: Options) -> None:
+    """Writes the latency file that the arguments ask for."""
     names = nodes_of(options)
     # Each row has two names, two commas, a digit or more and a line feed: too many nodes are refused before the work.
     check_size(len(names), (len(names) - 1) * sum(len(name) + 2 for name in names))
@@ -189,12 +236,18 @@ def traps(options: Options, result: Latencies) -> list[str]:
             f"the median latency is {median_low(times)} us, below 1 ms: are the round trips in milliseconds "
             "(--unit ms)? --unit us says that they are not"
         )
-    if options.args.names is not None:
-        top = parse_toml(read_input(options.args.names, GREATEST_SIZE, reasons=False))
-        timeout, spread, retries = (top.get(key, 0) for key in ("timeout_us", "spread_us", "retries"))
-        if all(isinstance(value, int) for value in (timeout, spread, retries)) and timeout > 0 and retries >= 0:
-            found += timeout_trap(timeout, max(times) + spread, retries)
-    return found
+    return found + timeout_traps(options, max(times))
+
+
+def timeout_traps(options: Options, greatest: int) -> list[str]:
+    """That the scenario of --names has too short a timeout for latencies up to this greatest one."""
+    if options.args.names is None:
+        return []
+    top = parse_toml(read_input(options.args.names, GREATEST_SIZE, reasons=False))
+    timeout, spread, retries = (top.get(key, 0) for key in ("timeout_us", "spread_us", "retries"))
+    if not all(isinstance(value, int) for value in (timeout, spread, retries)) or timeout <= 0 or retries < 0:
+        return []
+    return timeout_trap(timeout, greatest + spread, retries)
 
 
 def main(arguments: list[str]) -> int:

@@ -1,5 +1,7 @@
 """The audits (docs/rules.md, section 10)."""
 
+from collections import Counter
+
 from chordsim_tools.known import known
 from chordsim_tools.reference.procedures import World
 from chordsim_tools.reference.state import Node, Status
@@ -15,17 +17,19 @@ def best_successor(node: Node, members: set[int]) -> int | None:
     return next((entry for entry in node.succ if entry in members), None)
 
 
-def comes_back(start: int, best: dict[int, int | None]) -> bool:
-    """Whether a member comes back to itself from best successor to best successor."""
-    here = start
-    for _ in range(len(best)):
-        following = best[here]
-        if following is None:
-            return False
-        if following == start:
-            return True
-        here = following
-    return False
+def ring_members(best: dict[int, int | None]) -> list[int]:
+    """The members that come back to themselves from best successor to best successor.
+
+    They are those that are left if members who are nobody's best successor are taken away until there are none.
+    """
+    counts = Counter(best.values())
+    gone = [n for n in best if counts[n] == 0]
+    for n in gone:
+        following = best[n]
+        counts[following] -= 1
+        if following is not None and counts[following] == 0:
+            gone.append(following)
+    return sorted(set(best) - set(gone))
 
 
 def passed_over(world: World, nodes: list[Node], members: set[int]) -> set[int]:
@@ -52,7 +56,7 @@ def audit_line(world: World, nodes: list[Node], time: int) -> str:
     members = members_of(nodes)
     best = {n: best_successor(nodes[n], members) for n in members}
     dead = len([n for n in members if best[n] is None])
-    ring = [n for n in members if comes_back(n, best)]
+    ring = ring_members(best)
     ordered = is_ordered(world, ring, best)
     principals = len(members) - len(passed_over(world, nodes, members))
     sufficient = principals >= world.scenario.list + 1 and dead == 0

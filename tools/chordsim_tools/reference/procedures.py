@@ -4,8 +4,9 @@ from chordsim_tools.known import known
 from chordsim_tools.reference.chacha import Stream
 from chordsim_tools.reference.circle import Circle
 from chordsim_tools.reference.state import (
-    KINDS, REQUEST_OF, Answer, Attempt, Body, Call, Drawn, Event, FingerTick, LifeEnd, Lookup, Message, Next, Node,
-    Owner, Purpose, Rise, StabilizeTick, Status, Step, Stuck, Timeout, TrafficTick,
+    KINDS, REQUEST_OF, Answer, Attempt, Body, Call, CheckTick, Drawn, Event, FingerTick, LifeEnd, ListReply, Lookup,
+    Message, Next, Node, Notify, Owner, Pong, Purpose, Rejoin, Rise, StabilizeTick, StateReply, Status, Step, StepReply,
+    Stuck, Timeout, TrafficTick,
 )
 from chordsim_tools.scenario.reading import Scenario
 
@@ -13,6 +14,7 @@ USER_LOOKUPS = 60
 LOOKUP_STEPS = 128
 LOOKUP_TIMEOUTS = 8
 JOIN_FAILURES = 8
+PAUSES_AFTER_A_JOIN = 8
 JOIN_STEPS = 128
 
 
@@ -37,9 +39,7 @@ class World:
 
     def latency(self, a: int, b: int) -> int:
         """How long a message from node a to node b takes, without the spread."""
-        if a == b:
-            return 1
-        return self.scenario.latencies.get((a, b), self.scenario.latency_us)
+        return self.scenario.latency(a, b)
 
     def between(self, a: int, x: int, b: int) -> bool:
         """Whether node x lies between the nodes a and b."""
@@ -158,7 +158,27 @@ class Procedures:
         """The lookup that waits for this call."""
         return next(lookup for lookup in self.n.lookups if lookup.call == call.number)
 
-    # 8.2 Arm and re-arm
+    # 8.2 Telling of messages
+
+    def tell(self) -> None:
+        """Tells of the messages that the event made, if `detail = true`: a line for each Timeout, reply and notify."""
+        if not self.world.scenario.detail:
+            return
+        for event in self.events:
+            if isinstance(event.body, Timeout):
+                self.tell_of_request(self.n.calls[event.body.call])
+            elif isinstance(event.body, StepReply | StateReply | ListReply | Pong | Notify):
+                self.line(f"send {KINDS[type(event.body)]} {self.name(event.target)}")
+
+    def tell_of_request(self, call: Call) -> None:
+        """The line of a request, lost or not; if a lookup waits for the call, with its key and its start."""
+        rest = ""
+        if call.purpose == Purpose.LOOKUP:
+            lookup = self.lookup_of(call)
+            rest = f" key={lookup.key} since={lookup.started}"
+        self.line(f"ask {KINDS[REQUEST_OF[call.purpose]]} {self.name(call.asked)} call={call.number}{rest}")
+
+    # 8.3 Arm and re-arm
 
     def arm(self) -> None:
         """Sets the timers of a node, in this order."""
@@ -168,6 +188,8 @@ class Procedures:
             self.arm_traffic()
         if self.is_churn():
             self.arm_life()
+        if self.world.scenario.check_us > 0:
+            self.arm_check()
 
     def arm_stabilize(self) -> None:
         """Sets StabilizeTick, always."""
@@ -193,11 +215,17 @@ class Procedures:
         delay = self.time_from_span(churn.life_min_us, churn.life_max_us, Drawn.LIFE_END, self.n.epoch)
         self.set_timer(delay, LifeEnd(self.n.epoch))
 
+    def arm_check(self) -> None:
+        """Sets CheckTick, where check_us is above 0."""
+        s = self.world.scenario
+        delay = self.time_from_span(s.check_us, s.check_us + s.jitter_us, Drawn.CHECK_TICK, self.t)
+        self.set_timer(delay, CheckTick(self.n.epoch))
+
     def is_churn(self) -> bool:
         """Whether the node has churn = true."""
         return self.world.scenario.nodes[self.n.me].churn
 
-    # 8.3 Step answer
+    # 8.4 Step answer
 
     def step_answer(self, key: int, avoid: list[int]) -> Answer:
         """The step answer of node n for a key and a list of nodes to avoid."""
@@ -213,7 +241,7 @@ class Procedures:
         preceding = [x for x in candidates if x not in avoid and circle.between(me, idents[x], key)]
         return Next(max(preceding, key=lambda x: circle.distance(me, idents[x])))
 
-    # 8.4 Lookups
+    # 8.5 Lookups
 
     def user_lookup(self, key: int) -> None:
         """A user lookup of a key."""
@@ -268,7 +296,7 @@ class Procedures:
         """The end of a line `found` or `lost`."""
         return f"hops={lookup.hops} timeouts={lookup.timeouts} us={self.t - lookup.started}"
 
-    # 8.5 Down
+    # 8.6 Down
 
     def down(self) -> None:
         """The status becomes Down; all but me, epoch, via, place and count is emptied; next_finger becomes 2."""
@@ -281,7 +309,7 @@ class Procedures:
         self.n.lookups = []
         self.n.join = None
 
-    # 8.6 Joins
+    # 8.7 Joins
 
     def up_through(self, v: int) -> None:
         """Up through v."""
@@ -300,15 +328,31 @@ class Procedures:
 
     def join_failure(self) -> None:
         """Join failure."""
+        scenario = self.world.scenario
         attempt = known(self.n.join)
         attempt.failures += 1
-        if attempt.failures == JOIN_FAILURES:
-            self.line("join-failed")
-            self.down()
-            if self.is_churn():
-                self.set_rise()
+        if attempt.failures < JOIN_FAILURES:
+            attempt.steps = 0
+            self.pause(scenario.join_pause_us)
             return
-        attempt.steps = 0
+        self.line("join-failed")
+        if scenario.join_forever:
+            self.n.join = Attempt()
+            self.pause(PAUSES_AFTER_A_JOIN * scenario.join_pause_us)
+            return
+        self.down()
+        if self.is_churn():
+            self.set_rise()
+
+    def pause(self, d: int) -> None:
+        """Pause of d microseconds."""
+        if d == 0:
+            self.try_again()
+        else:
+            self.set_timer(d, Rejoin(self.n.epoch))
+
+    def try_again(self) -> None:
+        """Try again."""
         self.call_join_step(known(self.n.via))
 
     def set_rise(self) -> None:

@@ -6,9 +6,9 @@ from typing import cast
 from chordsim_tools.known import known
 from chordsim_tools.reference.procedures import JOIN_STEPS, LOOKUP_TIMEOUTS, Procedures, World
 from chordsim_tools.reference.state import (
-    ASKS_FOR, KINDS, Body, Call, CmdCrash, CmdJoin, CmdLookup, Event, FingerTick, GetList, GetState, LifeEnd, ListReply,
-    Lookup, Next, Node, Notify, Owner, Ping, Pong, Purpose, Reply, Request, Rise, StabilizeTick, StateReply, Status,
-    Step, StepReply, Timeout, TrafficTick,
+    ASKS_FOR, KINDS, Body, Call, CheckTick, CmdCrash, CmdJoin, CmdLookup, Event, FingerTick, GetList, GetState, LifeEnd,
+    ListReply, Lookup, Next, Node, Notify, Owner, Ping, Pong, Purpose, Rejoin, Reply, Request, Rise, StabilizeTick,
+    StateReply, Status, Step, StepReply, Timeout, TrafficTick,
 )
 
 
@@ -45,7 +45,7 @@ class Rules(Procedures):
         """StabilizeTick."""
         if body.epoch != self.n.epoch or self.n.status == Status.DOWN:
             pass
-        elif self.n.status == Status.JOINING or self.has_call(Purpose.STATE) or self.has_call(Purpose.LIST):
+        elif self.n.status == Status.JOINING or self.has_call(Purpose.STATE, Purpose.LIST):
             self.arm_stabilize()
         else:
             self.arm_stabilize()
@@ -91,6 +91,23 @@ class Rules(Procedures):
         else:
             self.up_through(self.n.via)
 
+    def check_tick(self, body: CheckTick) -> None:
+        """CheckTick."""
+        if body.epoch != self.n.epoch or self.n.status == Status.DOWN:
+            pass
+        elif self.n.status == Status.JOINING or self.has_call(Purpose.PING, Purpose.CHECK) or self.n.prdc is None:
+            self.arm_check()
+        else:
+            self.arm_check()
+            self.call(Ping, self.n.prdc, Purpose.CHECK)
+
+    def rejoin(self, body: Rejoin) -> None:
+        """Rejoin."""
+        if body.epoch != self.n.epoch or self.n.status != Status.JOINING or self.n.calls:
+            pass
+        else:
+            self.try_again()
+
     def timeout(self, body: Timeout) -> None:
         """Timeout, with the number of a call."""
         if body.call not in self.n.calls:
@@ -115,6 +132,10 @@ class Rules(Procedures):
             case Purpose.PING:
                 if self.n.prdc == call.asked:
                     self.n.prdc = call.because
+            case Purpose.CHECK:
+                if self.n.prdc == call.asked:
+                    self.line(f"forget {self.name(call.asked)}")
+                    self.n.prdc = None
 
     def timeout_of_lookup(self, call: Call) -> None:
         """The lookup has one timeout more. At the ninth it fails; otherwise it is walked again from n."""
@@ -149,7 +170,7 @@ class Rules(Procedures):
 
     def get_state(self, body: GetState, q: int) -> None:
         """GetState, with a call number."""
-        self.send(q, StateReply(body.call, known(self.n.prdc), list(self.n.succ)))
+        self.send(q, StateReply(body.call, self.n.prdc, list(self.n.succ)))
 
     def get_list(self, body: GetList, q: int) -> None:
         """GetList, with a call number."""
@@ -161,10 +182,11 @@ class Rules(Procedures):
 
     def notify(self, _: Notify, q: int) -> None:
         """Notify."""
-        if self.world.between(known(self.n.prdc), q, self.n.me):
+        prdc = self.n.prdc
+        if prdc is None or self.world.between(prdc, q, self.n.me):
             self.n.prdc = q
-        elif q != self.n.prdc and not self.has_call(Purpose.PING):
-            self.call(Ping, known(self.n.prdc), Purpose.PING, because=q)
+        elif q != prdc and not self.has_call(Purpose.PING, Purpose.CHECK):
+            self.call(Ping, prdc, Purpose.PING, because=q)
 
     # Replies
 
@@ -197,10 +219,10 @@ class Rules(Procedures):
                 self.join_failure()
 
     def state_reply(self, body: StateReply, call: Call) -> None:
-        """StateReply, with a predecessor and a list."""
+        """StateReply, with a predecessor or none, and a list."""
         p = call.asked
         self.n.succ = self.cut([p, *body.succ])
-        if self.world.between(self.n.me, body.prdc, p):
+        if body.prdc is not None and self.world.between(self.n.me, body.prdc, p):
             self.call(GetList, body.prdc, Purpose.LIST)
         else:
             self.send(self.n.succ[0], Notify())
@@ -226,9 +248,9 @@ class Rules(Procedures):
 
     # What the rules ask of the state
 
-    def has_call(self, purpose: Purpose) -> bool:
-        """Whether n has a call out for this purpose."""
-        return any(call.purpose == purpose for call in self.n.calls.values())
+    def has_call(self, *purposes: Purpose) -> bool:
+        """Whether n has a call out for one of these purposes."""
+        return any(call.purpose in purposes for call in self.n.calls.values())
 
     def cut(self, nodes: list[int]) -> list[int]:
         """The list, cut to `list` entries."""
@@ -244,6 +266,8 @@ COMMANDS_AND_TIMERS: dict[type, Callable[..., None]] = {
     TrafficTick: Rules.traffic_tick,
     LifeEnd: Rules.life_end,
     Rise: Rules.rise,
+    CheckTick: Rules.check_tick,
+    Rejoin: Rules.rejoin,
     Timeout: Rules.timeout,
 }
 REQUESTS: dict[type, Callable[..., None]] = {
@@ -271,4 +295,5 @@ def act(world: World, node: Node, event: Event) -> tuple[list[Event], list[str]]
         rules.request(cast(Request, body), event.origin - 2)
     else:
         rules.reply(cast(Reply, body), event.origin - 2)
+    rules.tell()
     return rules.events, rules.lines

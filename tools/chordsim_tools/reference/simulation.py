@@ -1,6 +1,7 @@
 """The run (docs/rules.md, sections 4, 7, 10 and 12)."""
 
 import heapq
+from bisect import bisect_left
 from collections import Counter
 from collections.abc import Iterator
 
@@ -94,11 +95,11 @@ def make_initial(world: World, node: Node, node_at: dict[int, int], places: list
     """Makes the node a Member with epoch 1 that knows the whole ring: the initial nodes at all these places."""
     circle = world.circle
     me = world.idents[node.me]
-    clockwise = [node_at[place] for place in circle.all_between(me, me, places)]
+    here = bisect_left(places, me)
     node.status = Status.MEMBER
     node.epoch = 1
-    node.prdc = clockwise[-1]
-    node.succ = clockwise[: world.scenario.list]
+    node.prdc = node_at[places[here - 1]]
+    node.succ = [node_at[places[(here + i) % len(places)]] for i in range(1, world.scenario.list + 1)]
     for i in range(2, circle.bits + 1):
         node.fingers[i] = node_at[circle.first_from(circle.finger_start(me, i), places)]
     node.next_finger = 2

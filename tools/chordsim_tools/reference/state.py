@@ -22,10 +22,11 @@ class Purpose(Enum):
     STATE = "State"
     LIST = "List"
     PING = "Ping"
+    CHECK = "Check"
 
 
 class Drawn(IntEnum):
-    """What is drawn. The values are the purposes p of the third profile (section 5)."""
+    """What is drawn. The values are the kinds p of the third profile (section 5)."""
 
     STABILIZE_TICK = 1
     FINGER_TICK = 2
@@ -34,6 +35,7 @@ class Drawn(IntEnum):
     RISE = 5
     KEY = 6
     MESSAGE = 7
+    CHECK_TICK = 8
 
 
 @dataclass(slots=True)
@@ -175,6 +177,20 @@ class Rise:
 
 
 @dataclass(slots=True)
+class CheckTick:
+    """It is time to check the predecessor."""
+
+    epoch: int
+
+
+@dataclass(slots=True)
+class Rejoin:
+    """The pause after a failed attempt to join is over."""
+
+    epoch: int
+
+
+@dataclass(slots=True)
 class Timeout:
     """The time for the answer to a call is over."""
 
@@ -235,7 +251,7 @@ class StateReply:
     """The answer to GetState."""
 
     call: int
-    prdc: int
+    prdc: int | None
     succ: list[int]
 
 
@@ -255,7 +271,7 @@ class Pong:
 
 
 Command = CmdJoin | CmdCrash | CmdLookup
-Timer = StabilizeTick | FingerTick | TrafficTick | LifeEnd | Rise | Timeout
+Timer = StabilizeTick | FingerTick | TrafficTick | LifeEnd | Rise | CheckTick | Rejoin | Timeout
 Request = Step | GetState | GetList | Ping | Notify
 Reply = StepReply | StateReply | ListReply | Pong
 Message = Request | Reply
@@ -281,6 +297,7 @@ ASKS_FOR: dict[Purpose, type] = {
     Purpose.STATE: StateReply,
     Purpose.LIST: ListReply,
     Purpose.PING: Pong,
+    Purpose.CHECK: Pong,
 }
 """The kind of reply that a call asked for."""
 
@@ -291,6 +308,7 @@ REQUEST_OF: dict[Purpose, type] = {
     Purpose.STATE: GetState,
     Purpose.LIST: GetList,
     Purpose.PING: Ping,
+    Purpose.CHECK: Ping,
 }
 """The kind of request that a call is made with."""
 

@@ -1,14 +1,16 @@
-"""The faults of the scenario and latency files (docs/formats.md, section 4): all of them, in the order of S1 to S15."""
+"""The faults of the scenario and latency files (docs/formats.md, section 4): all of them, in the order of S1 to S16."""
 
 import re
 from collections.abc import Iterator
 from dataclasses import dataclass
 from functools import cached_property
+from itertools import combinations
 from typing import Any
 
+from chordsim_tools.known import known
 from chordsim_tools.reference.circle import Circle
 from chordsim_tools.scenario.tables import (
-    BILLION, Key, Place, Row, has_type, is_in_own_range, places_of, profile_of, value_of_id,
+    BILLION, COORDINATES, Key, Place, Row, has_type, is_in_own_range, places_of, profile_of, value_of_id,
 )
 
 
@@ -51,6 +53,12 @@ class Document:
                 numbers.setdefault(place.table["name"], i)
         return numbers
 
+    @cached_property
+    def has_coordinates(self) -> bool:
+        """Whether a node has a key of its coordinates, in a profile that has these keys."""
+        names = {key.name for key in COORDINATES if key in self.profile.tables["node"]}
+        return any(names & node.table.keys() for node in self.nodes)
+
     @property
     def has_nodes(self) -> bool:
         """Whether there is an array of tables of nodes, so that one can say which names are no node's."""
@@ -70,7 +78,7 @@ class Document:
 
 
 def faults_of(document: Document) -> Iterator[Fault]:
-    """All faults of S2 to S15, first the one that chordsim prints. What follows from an earlier fault is left out."""
+    """All faults of S2 to S16, first the one that chordsim prints. What follows from an earlier fault is left out."""
     yield from unknown_keys(document)
     yield from missing_keys(document)
     yield from wrong_types(document)
@@ -84,7 +92,8 @@ def faults_of(document: Document) -> Iterator[Fault]:
     yield from bad_rows(document)
     yield from self_links(document)
     yield from same_links(document)
-    yield from below_window(document)
+    yield from low_heights(document) if document.has_coordinates else below_window(document)
+    yield from rows_and_coordinates(document)
 
 
 def unknown_keys(document: Document) -> Iterator[Fault]:
@@ -107,6 +116,7 @@ def missing_keys(document: Document) -> Iterator[Fault]:
                 or (key.name == "churn" and place.kind == "top" and node_churns)
                 or (key.name == "via" and do == "join")
                 or (key.name == "key" and do == "lookup")
+                or (key.name in ("x_us", "y_us") and document.has_coordinates)
             )
             if wanted and key.name not in place.table:
                 yield Fault("S3 MissingKey", f"{place.name} {key.name}", place.name, key.name)
@@ -251,26 +261,59 @@ def below_window(document: Document) -> Iterator[Fault]:
     """S15, once for each row and once for `latency_us`, with the first pair and how many pairs there are."""
     window = document.top.usable("window_us")
     default = document.top.usable("latency_us")
-    times = [default, *map(micros_of, document.rows)]
-    if window is None or all(time is None or time >= window for time in times):
+    if window is None:
         return
-    faults: dict[str, Fault] = {}
-    for first, second, row in pairs_of(document):
-        micros = default if row is None else micros_of(row)
-        if micros is None or micros >= window:
-            continue
-        place, key = ("top", "latency_us") if row is None else (f"row {row.number}", "field 3")
-        if place in faults:
-            faults[place].count += 1
-        else:
-            faults[place] = Fault("S15 LatencyBelowWindow", f"{first} {second}", place, key)
-    yield from faults.values()
-
-
-def pairs_of(document: Document) -> Iterator[tuple[str, str, Row | None]]:
-    """The names of all pairs of nodes, with the row that names the pair."""
-    rows = {frozenset(row.fields[:2]): row for row in document.rows if len(row.fields) == 3}
     names = list(document.numbers)
-    for a, first in enumerate(names):
-        for second in names[a + 1 :]:
-            yield first, second, rows.get(frozenset((first, second)))
+    rows = rows_of_pairs(document.rows, names)
+    faults: dict[tuple[int, int], Fault] = {}
+    for pair, row in rows.items():
+        micros = micros_of(row)
+        if micros is not None and micros < window:
+            faults[pair] = window_fault(pair, names, f"row {row.number}", "field 3")
+    others = len(names) * (len(names) - 1) // 2 - len(rows)
+    if default is not None and default < window and others > 0:
+        pair = known(next((pair for pair in combinations(range(len(names)), 2) if pair not in rows), None))
+        faults[pair] = window_fault(pair, names, "top", "latency_us")
+        faults[pair].count = others
+    yield from (faults[pair] for pair in sorted(faults))
+
+
+def rows_of_pairs(rows: list[Row], names: list[str]) -> dict[tuple[int, int], Row]:
+    """Of each pair of different nodes that rows name, the last such row. Nodes are by their places among the names."""
+    places = {name: place for place, name in enumerate(names)}
+    named: dict[tuple[int, int], Row] = {}
+    for row in rows:
+        found = sorted(places[name] for name in row.fields[:2] if name in places)
+        if len(row.fields) == 3 and len(set(found)) == 2:
+            named[found[0], found[1]] = row
+    return named
+
+
+def window_fault(pair: tuple[int, int], names: list[str], place: str, key: str) -> Fault:
+    """S15 of a pair, given by the places of its nodes among the names."""
+    return Fault("S15 LatencyBelowWindow", f"{names[pair[0]]} {names[pair[1]]}", place, key)
+
+
+def low_heights(document: Document) -> Iterator[Fault]:
+    """S15 of coordinates: the first node of the least height, and the first other one of the least of the others."""
+    window = document.top.usable("window_us")
+    heights = [(height_of(node), node) for node in document.nodes if node.usable("name") is not None]
+    # Of equal heights a sort leaves the earlier node first.
+    least = sorted(((height, node) for height, node in heights if height is not None), key=lambda one: one[0])[:2]
+    if window is None or len(least) < 2 or least[0][0] + least[1][0] >= window:
+        return
+    first, second = (node for _, node in least)
+    answer = f"{first.table['name']} {second.table['name']}"
+    yield Fault("S15 LatencyBelowWindow", answer, first.name, "height_us", second.name)
+
+
+def height_of(node: Place) -> int | None:
+    """The height of a node, if it is usable."""
+    height: int | None = node.usable("height_us") if "height_us" in node.table else 0
+    return height
+
+
+def rows_and_coordinates(document: Document) -> Iterator[Fault]:
+    """S16."""
+    if document.has_coordinates and document.rows:
+        yield Fault("S16 RowsAndCoordinates", "", "row 1")

@@ -5,18 +5,20 @@ from typing import Any
 
 from chordsim_tools.cli import Refused
 from chordsim_tools.known import known
+from chordsim_tools.scenario.coordinates import Coordinates, coordinates_of
 from chordsim_tools.scenario.faults import Document, faults_of
 from chordsim_tools.scenario.tables import parse_toml, rows_of, value_of_id
 
 
 @dataclass
 class NodeSpec:
-    """A node of the scenario."""
+    """A node of the scenario. All nodes have coordinates, or none has."""
 
     name: str
     ident: int
     initial: bool
     churn: bool
+    coordinates: Coordinates | None
 
 
 @dataclass
@@ -73,15 +75,28 @@ class Scenario:
     loss_ppm: int
     spread_us: int
     retries: int
+    join_pause_us: int
+    join_forever: bool
+    check_us: int
+    detail: bool
     churn: Churn | None
     lookups: Lookups | None
     nodes: Nodes
     commands: Commands
     latencies: dict[tuple[int, int], int]
 
+    def latency(self, a: int, b: int) -> int:
+        """How long a message from node a to node b takes, without the spread."""
+        if a == b:
+            return 1
+        here, there = self.nodes[a].coordinates, self.nodes[b].coordinates
+        if here is None or there is None:
+            return self.latencies.get((a, b), self.latency_us)
+        return here.latency_to(there)
+
 
 def read_scenario(scenario_file: bytes, latency_file: bytes) -> Scenario:
-    """Reads a scenario from the bytes of its two files, or raises Refused with the first fault of S1 to S15."""
+    """Reads a scenario from the bytes of its two files, or raises Refused with the first fault of S1 to S16."""
     document = Document(parse_toml(scenario_file), rows_of(latency_file))
     for fault in faults_of(document):
         raise Refused(fault.text)
@@ -91,10 +106,7 @@ def read_scenario(scenario_file: bytes, latency_file: bytes) -> Scenario:
 def whole_scenario(document: Document) -> Scenario:
     """The scenario, from tables that have no fault."""
     top = document.top.table
-    nodes = [
-        NodeSpec(n.table["name"], known(document.ident(n)), n.table.get("initial", False), n.table.get("churn", False))
-        for n in document.nodes
-    ]
+    nodes = [node_of(place.table, known(document.ident(place))) for place in document.nodes]
     commands = [command_of(place.table, document.numbers) for place in document.commands]
     plain = {key.name: top[key.name] for key in document.top.keys if key.kind == "integer" and key.required}
     return Scenario(
@@ -104,12 +116,22 @@ def whole_scenario(document: Document) -> Scenario:
         loss_ppm=top.get("loss_ppm", 0),
         spread_us=top.get("spread_us", 0),
         retries=top.get("retries", 0),
+        join_pause_us=top.get("join_pause_us", 0),
+        join_forever=top.get("join_forever", False),
+        check_us=top.get("check_us", 0),
+        detail=top.get("detail", False),
         churn=Churn(**top["churn"]) if "churn" in top else None,
         lookups=Lookups(**top["lookups"]) if "lookups" in top else None,
         nodes=nodes,
         commands=commands,
         latencies=latencies_of(document),
     )
+
+
+def node_of(table: dict[str, Any], ident: int) -> NodeSpec:
+    """A node with this identifier."""
+    is_initial, is_churning = table.get("initial", False), table.get("churn", False)
+    return NodeSpec(table["name"], ident, is_initial, is_churning, coordinates_of(table))
 
 
 def command_of(table: dict[str, Any], numbers: dict[str, int]) -> Command:

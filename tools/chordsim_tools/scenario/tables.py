@@ -89,8 +89,20 @@ NETWORK = [
     Key("spread_us", "integer", 0, BILLION, required=False),
 ]
 """The keys that the second and third profile have."""
-RETRIES = [Key("retries", "integer", 0, 3, required=False)]
-"""The key that the third profile alone has."""
+PATIENCE = [
+    Key("retries", "integer", 0, 3, required=False),
+    Key("join_pause_us", "integer", 0, BILLION, required=False),
+    Key("join_forever", "boolean", required=False),
+    Key("check_us", "integer", 0, BILLION, required=False),
+    Key("detail", "boolean", required=False),
+]
+"""The keys of the top that the third profile alone has."""
+COORDINATES = [
+    Key("x_us", "integer", 0, 500_000_000, required=False),
+    Key("y_us", "integer", 0, 500_000_000, required=False),
+    Key("height_us", "integer", 0, 100_000_000, required=False),
+]
+"""The keys of a node that the third profile alone has."""
 CHURN = [Key(f"{word}_us", "integer", 1, BILLION) for word in ("life_min", "life_max", "down_min", "down_max")]
 LOOKUPS = [Key(f"{word}_us", "integer", 1, BILLION) for word in ("gap_min", "gap_max")]
 
@@ -110,13 +122,14 @@ def top_keys(bits: int, nodes: int, events: int, network: list[Key]) -> list[Key
     ]
 
 
-def node_keys(digits: int) -> list[Key]:
-    """The keys of a node, whose identifier has at most this number of hexadecimal digits."""
+def node_keys(digits: int, coordinates: list[Key]) -> list[Key]:
+    """The keys of a node, whose identifier has at most this number of hexadecimal digits, and its coordinates."""
     return [
         Key("name", "text"),
         Key("id", "id", 1, digits, required=False),
         Key("initial", "boolean", required=False),
         Key("churn", "boolean", required=False),
+        *coordinates,
     ]
 
 
@@ -134,21 +147,28 @@ def command_keys(digits: int) -> list[Key]:
 class Profile:
     """The keys of all tables in a profile: `tables` has them by the kind of the table."""
 
-    def __init__(self, bits: int, nodes: int, events: int, network: list[Key]) -> None:
-        """The profile with these greatest numbers of bits, nodes and events, and with these keys of its network."""
+    def __init__(self, bits: int, nodes: int, events: int, network: list[Key], coordinates: list[Key]) -> None:
+        """The profile with these greatest numbers of bits, nodes and events.
+
+        It has these keys of its network at the top, and these of a node's coordinates.
+        """
         digits = bits // 4
         self.tables = {
             "top": top_keys(bits, nodes, events, network),
             "churn": CHURN,
             "lookups": LOOKUPS,
-            "node": node_keys(digits),
+            "node": node_keys(digits, coordinates),
             "command": command_keys(digits),
         }
 
+    def greatest(self, name: str) -> int:
+        """The greatest value of a key of the top; of `node`, how many nodes there may be."""
+        return next(key.greatest for key in self.tables["top"] if key.name == name)
 
-FIRST = Profile(64, 512, 50_000_000, [])
-SECOND = Profile(128, 4096, 50_000_000, NETWORK)
-THIRD = Profile(128, 4096, 700_000_000, [*NETWORK, *RETRIES])
+
+FIRST = Profile(64, 512, 50_000_000, [], [])
+SECOND = Profile(128, 4096, 50_000_000, NETWORK, [])
+THIRD = Profile(128, 65_536, 100_000_000_000, [*NETWORK, *PATIENCE], COORDINATES)
 PROFILES = {1: FIRST, 2: SECOND, 3: THIRD}
 
 

@@ -92,7 +92,8 @@ Runs `chordsim run --serial` for each setting and seed and writes into FOLDER:
 The trace is read from the program while it runs and is kept nowhere. A run that is refused or fails stops the study.
 How far it is, is shown on standard error: on a terminal by a bar, in a log by a line every 30 seconds. A line `warning:`
 is a trap: a timeout below the greatest round trip, a duration below the periods, a max_events below what a run is likely
-to need (`tools/explain --help` says how that is estimated). The study is run all the same.
+to need. This is told with the setting and the number before anything is run. It is estimated as `tools/explain --help`
+says, of the setting that comes nearest to its limit by its timers. The study is run all the same.
 
 --part K/N does every Nth run from the Kth on, and writes no tables: do so on N machines, and put the folders together
 by `tools/study merge`. --dask gives the runs to the workers of a Dask cluster, which have to have the same program.

@@ -12,7 +12,9 @@ from chordsim_tools.scenario.tables import CHURN, GREATEST_INTEGER, LOOKUPS, THI
 from chordsim_tools.study.messages import KINDS
 
 Value = int | str
-"""A value that is varied: an integer, or a text for an option of tools/generate."""
+"""A value that is varied: an integer, or a text: of an option of tools/generate, or `true` or `false`."""
+BOOLEANS = {key.name for key in THIRD.tables["top"] if key.kind == "boolean"}
+"""The keys of a scenario that can be varied and are booleans."""
 MOST_SEEDS = 10_000
 
 
@@ -24,7 +26,7 @@ def varied_keys() -> set[str]:
         return [key.name for key in keys if key.kind == "integer"]
 
     tables = {f"{table}.{name}" for table, keys in (("churn", CHURN), ("lookups", LOOKUPS)) for name in names(keys)}
-    return (set(names(THIRD.tables["top"])) | tables) - {"seed"}
+    return (set(names(THIRD.tables["top"])) | tables | BOOLEANS) - {"seed"}
 
 
 def parsed(path: Path, content: bytes) -> dict[str, Any]:
@@ -109,11 +111,21 @@ def values_of(path: Path, key: str, values: Any, is_generated: bool) -> list[Val
     options = {f"generate.--{name}" for name, *_ in OPTIONS} - {"generate.--seed"}
     if key not in varied_keys() and not (is_generated and key in options):
         raise Refused(f"{path}: [vary] {key} is no key of a scenario that can be varied")
+    if key in BOOLEANS:
+        return booleans_of(path, key, values)
     found = [micros_of(key, value) for value in values] if isinstance(values, list) else []
     well = found and all(is_integer(value) or (key in options and isinstance(value, str)) for value in found)
     if not well or len(set(found)) < len(found):
         raise Refused(f"{path}: [vary] {key} has to be a list of different integers (times may have units, as \"1s\")")
     return found
+
+
+def booleans_of(path: Path, key: str, values: Any) -> list[Value]:
+    """The values of a varied key that is a boolean, as texts."""
+    well = isinstance(values, list) and values and all(isinstance(value, bool) for value in values)
+    if not well or len(set(values)) < len(values):
+        raise Refused(f"{path}: [vary] {key} has to be a list of different booleans")
+    return [str(value).lower() for value in values]
 
 
 def world_of(path: Path, value: Any, vary: dict[str, list[Value]]) -> list[str] | None:

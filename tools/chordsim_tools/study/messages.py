@@ -1,4 +1,4 @@
-"""An estimate of the messages of a run, since a trace has no line for a message that arrives (docs/studies.md)."""
+"""The messages of a run: an estimate, since a trace without detail has no line for most of them (docs/studies.md)."""
 
 from collections import Counter
 from dataclasses import dataclass
@@ -9,7 +9,6 @@ from chordsim_tools.study.served import Population, Scope
 KINDS = ("step", "get-state", "get-list", "ping", "notify", "step-reply", "state-reply", "list-reply", "pong")
 CALLS = KINDS[:4]
 REPLIES = dict(zip(CALLS, KINDS[5:], strict=True))
-ENDS = ("crash", "join-failed")
 
 
 class Traffic:
@@ -20,16 +19,31 @@ class Traffic:
         self.scope = scope
         self.lines: Counter[str] = Counter()
         self.hops = self.timeouts = 0
+        self.joining: set[str] = set()
+        self.failed_attempts = 0
 
     def read(self, time: int, fields: list[str]) -> None:
         """Takes a line that is not of an audit."""
+        word = fields[2]
+        self.follow_joins(fields[1], word)
         if time < self.scope.warmup_us:
             return
-        word = fields[2]
+        self.failed_attempts += word == "timeout" and fields[1] in self.joining
         if word in ("found", "lost"):
             self.hops += int(fields[-3].removeprefix("hops="))
             self.timeouts += int(fields[-2].removeprefix("timeouts="))
-        self.lines[f"{word} {fields[3]}" if word in ("drop", "lose", "late") else word] += 1
+        self.lines[f"{word} {fields[3]}" if word in ("drop", "lose", "late", "ask", "send") else word] += 1
+
+    def follow_joins(self, name: str, word: str) -> None:
+        """Keeps the nodes that join: each of their timeouts is a failed attempt."""
+        if word in ("join", "stranded"):
+            self.joining.add(name)
+        elif word in ("member", *self.ends()):
+            self.joining.discard(name)
+
+    def ends(self) -> tuple[str, ...]:
+        """The words of lines after which a node is down."""
+        return ("crash",) if self.scope.join_forever else ("crash", "join-failed")
 
     def sum_of(self, word: str, kinds: tuple[str, ...]) -> int:
         """How many lines of a word are of these kinds."""
@@ -60,7 +74,7 @@ class Span:
         mean = float(table[least] + greatest) / 2
         variance = float((greatest - table[least] + 1) ** 2 - 1) / 12
         fresh = traffic.lines["join"] + self.at_start(traffic)
-        ends = sum(traffic.lines[word] for word in ENDS)
+        ends = sum(traffic.lines[word] for word in traffic.ends())
         first = (variance / mean**2 - 1) / 2
         return sum(self.population.alive.sums) / mean + fresh * first + ends
 
@@ -72,6 +86,10 @@ class Span:
         """About how many events are timers, and how many commands."""
         top, jitter = self.top, self.top.get("jitter_us", 0)
         total = sum(self.ticks(top, key, top[key] + jitter, traffic) for key in ("stabilize_us", "finger_us"))
+        if top.get("check_us"):
+            total += self.ticks(top, "check_us", top["check_us"] + jitter, traffic)
+        if top.get("join_pause_us"):
+            total += traffic.failed_attempts
         if "lookups" in top:
             total += self.ticks(top["lookups"], "gap_min_us", top["lookups"]["gap_max_us"], traffic)
         commands = [one["do"] for one in top.get("command", []) if one["at_us"] >= traffic.scope.warmup_us]
@@ -79,7 +97,7 @@ class Span:
         if any(node.get("churn") for node in top["node"]):
             # Each life and each down time that the program draws ends with a timer.
             moves = [do for do in commands if do != "lookup"]
-            by_itself = sum(traffic.lines[word] for word in (*ENDS, "join")) - len(moves)
+            by_itself = sum(traffic.lines[word] for word in (*traffic.ends(), "join")) - len(moves)
         return total + max(0, by_itself) + len(commands)
 
     def stabilizations(self, traffic: Traffic) -> float:
@@ -92,6 +110,16 @@ class Span:
         # A chain of calls that is as long as 3.2 delays skips 3, and mostly starts right after one.
         skipped = waits - chains / 2 if waits >= chains else 0.0
         return max(0.0, sum(self.population.members.sums) / mean - self.at_start(traffic) / 2 - skipped)
+
+    def pings(self, traffic: Traffic) -> float:
+        """About how many pings are sent: one for each mean delay of a member that checks its predecessor, and each time
+        that one is sent again. Without checks only those are known that had no reply."""
+        unanswered, retries = traffic.unanswered("ping"), int(self.top.get("retries", 0))
+        if not self.top.get("check_us"):
+            return unanswered
+        mean = float(self.top["check_us"] + self.top.get("jitter_us", 0) / 2)
+        checks = sum(self.population.members.sums) / mean - self.at_start(traffic) / 2
+        return max(0.0, checks) + unanswered * retries / (1 + retries)
 
     def timed_out(self, traffic: Traffic) -> float:
         """The share of calls whose timeouts come in the span. What is called before it balances what comes after."""
@@ -110,10 +138,8 @@ def estimate(traffic: Traffic, span: Span) -> dict[str, int]:
     notifies = span.stabilizations(traffic)
     rest = span.events - span.timers(traffic) - notifies + traffic.lines["lose notify"]
     calls = (rest + 2 * lost + dropped + traffic.sum_of("lose", KINDS[5:])) / (2 + span.timed_out(traffic))
-    requests = {"notify": notifies}
-    for kind, answered in (
-        ("get-state", notifies), ("get-list", 2.0 * traffic.lines["member"]), ("ping", 0.0)
-    ):
+    requests = {"notify": notifies, "ping": span.pings(traffic)}
+    for kind, answered in (("get-state", notifies), ("get-list", 2.0 * traffic.lines["member"])):
         requests[kind] = answered + traffic.unanswered(kind)
     requests["step"] = calls - sum(requests[kind] for kind in CALLS[1:])
     replies = {
@@ -123,9 +149,18 @@ def estimate(traffic: Traffic, span: Span) -> dict[str, int]:
     return {kind: max(0, round({**requests, **replies}[kind])) for kind in KINDS}
 
 
+def exact(traffic: Traffic) -> dict[str, int]:
+    """How many messages of each kind were sent in the span, the lost ones with them, by the lines of a run with detail.
+
+    A request that is lost has a line `ask` too; another message has a line `send` or a line `lose`."""
+    requests = {kind: traffic.lines[f"ask {kind}"] for kind in CALLS}
+    others = {kind: traffic.lines[f"send {kind}"] + traffic.lines[f"lose {kind}"] for kind in KINDS[4:]}
+    return requests | others
+
+
 def message_numbers(traffic: Traffic, span: Span) -> dict[str, int | str | None]:
     """What a row of runs.csv has of cost, from `warmup_us` to the end."""
-    kinds = estimate(traffic, span)
+    kinds = exact(traffic) if span.top.get("detail") else estimate(traffic, span)
     return {
         "cost-events": span.events,
         "messages": sum(kinds.values()),

@@ -17,6 +17,7 @@ class Scope:
     warmup_us: int = 0
     cooldown_us: int = 0
     gap_us: float | None = None
+    join_forever: bool = False
 
     def end(self) -> int:
         """The end of the span of the judged lookups."""
@@ -37,7 +38,7 @@ def scope_of(top: dict[str, Any], window_us: int, warmup_us: int, cooldown_us: i
     """The scope of a run of a scenario."""
     lookups = top.get("lookups")
     gap = (lookups["gap_min_us"] + lookups["gap_max_us"]) / 2 if isinstance(lookups, dict) else None
-    return Scope(top["duration_us"], window_us, warmup_us, cooldown_us, gap)
+    return Scope(top["duration_us"], window_us, warmup_us, cooldown_us, gap, top.get("join_forever") is True)
 
 
 class Integral:
@@ -62,8 +63,10 @@ class Integral:
 class Population:
     """The nodes that are up, those whose timers run (they join or are members), and the members, as a trace goes on."""
 
-    def __init__(self, initial: Iterable[str], bounds: list[int]) -> None:
+    def __init__(self, initial: Iterable[str], scope: Scope) -> None:
         """The nodes at the start."""
+        bounds = scope.bounds()
+        self.join_forever = scope.join_forever
         self.is_up = dict.fromkeys(initial, True)
         self.is_alive = dict(self.is_up)
         self.is_member = dict(self.is_up)
@@ -79,7 +82,7 @@ class Population:
                 set_state(self.is_member, self.members, time, name, True)
             case "stranded":
                 set_state(self.is_member, self.members, time, name, False)
-            case "join-failed":
+            case "join-failed" if not self.join_forever:
                 set_state(self.is_alive, self.alive, time, name, False)
             case "crash":
                 set_state(self.is_up, self.up, time, name, False)

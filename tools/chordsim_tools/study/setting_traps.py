@@ -3,23 +3,27 @@
 import tomllib
 from collections.abc import Iterable
 from pathlib import Path
+from typing import Any
 
-from chordsim_tools.explain.traps import events_trap, greatest_latency, traps_of, warn
+from chordsim_tools.explain.traps import (
+    events_needed, events_told, greatest_latency, most_events, timer_events, traps_of, warn,
+)
 from chordsim_tools.study.task import Task
+
+Settings = list[tuple[Task, dict[str, Any]]]
+"""The first run of each setting, with its scenario."""
 
 
 def tell_traps(tasks: Iterable[Task], program: Path, told: set[str]) -> None:
     """A line for each kind of trap, which begins with its key; those in `told` were told before."""
+    settings = [(task, tomllib.loads(task.scenario)) for task in tasks]
     found: dict[str, list[str]] = {}
-    for task in tasks:
-        top = tomllib.loads(task.scenario)
-        latency = task.latency or b""
-        traps = traps_of(top, greatest_latency(top, latency))
-        # One estimate is enough to look at the limit.
-        if "max_events" not in found and "max_events" not in told:
-            traps += events_trap(program, top, latency)
-        for trap in traps:
+    for task, top in settings:
+        for trap in traps_of(top, greatest_latency(top, task.latency or b"")):
             found.setdefault(trap.partition(" ")[0], []).append(f"{task.name}: {trap}")
+    if settings and "max_events" not in told:
+        beyond = settings_beyond(settings, program)
+        found |= {"max_events": beyond} if beyond else {}
     lines = []
     for kind, traps in found.items():
         if kind not in told:
@@ -27,3 +31,18 @@ def tell_traps(tasks: Iterable[Task], program: Path, told: set[str]) -> None:
             lines.append(traps[0] + (f" (and in {others} more settings)" if others else ""))
     told |= set(found)
     warn(lines)
+
+
+def settings_beyond(settings: Settings, program: Path) -> list[str]:
+    """The settings whose runs are likely to need more events than they may have; the first one with its estimate.
+
+    One setting is tried: the one that comes nearest to its limit by its timers. What the others need is taken to be in
+    proportion to their timers."""
+    by_load = sorted(settings, key=lambda one: timer_events(one[1]) / most_events(one[1]), reverse=True)
+    task, top = by_load[0]
+    need = events_needed(program, top, task.latency or b"")
+    if need is None or need.events <= most_events(top):
+        return []
+    factor = need.events / timer_events(top)
+    others = [other.name for other, top in by_load[1:] if factor * timer_events(top) > most_events(top)]
+    return [f"{task.name}: {events_told(top, need)}", *others]

@@ -15,7 +15,7 @@ from chordsim_tools.program import TOP
 from chordsim_tools.study.plan import Setting, Study
 
 VERSION = 2
-LATER = ("losses", "again")
+LATER = ("losses", "again", "forgotten")
 """The numbers that only reports of later profiles have, in their order."""
 OWN_FILES = ("tools/study", "tools/chordsim_tools/study")
 Row = tuple[Setting, int, dict[str, Any]]
@@ -41,7 +41,7 @@ def csv_text(lines: list[list[Any]]) -> str:
 def runs_text(rows: list[Row]) -> str:
     """One line a run: the setting, the seed, the report, the numbers of the trace.
 
-    A number that only later profiles report (`losses`, `again`) is 0 in runs of the others.
+    A number that only later profiles report (as `losses`) is 0 in runs of the others.
     """
     lines: list[list[Any]] = []
     later = [word for word in LATER if any(word in result["report"] for _, _, result in rows)]

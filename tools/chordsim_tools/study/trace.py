@@ -35,7 +35,7 @@ class TraceReader:
         """A reader that has read nothing; the members are those at the start."""
         self.members = members
         self.scope = scope
-        self.population = Population((members.names[place] for place in members.places), scope.bounds())
+        self.population = Population((members.names[place] for place in members.places), scope)
         self.judged = Judged(members, scope)
         self.traffic = Traffic(scope)
         self.steps = [Step() for _ in range((scope.duration_us + scope.window_us - 1) // scope.window_us)]

@@ -4,7 +4,9 @@ import hashlib
 import io
 from collections.abc import Callable
 from contextlib import redirect_stderr
+from dataclasses import replace
 from functools import lru_cache
+from pathlib import Path
 from typing import Any, TypeVar
 
 from chordsim_tools.cli import Failure, Refused
@@ -12,8 +14,9 @@ from chordsim_tools.generate import command as generate
 from chordsim_tools.generate import plan as generate_plan
 from chordsim_tools.generate.text import key_text
 from chordsim_tools.latency import command as latency
+from chordsim_tools.places import PlacesFile
 from chordsim_tools.study.document import toml_text
-from chordsim_tools.study.keys import parsed
+from chordsim_tools.study.keys import BOOLEANS, parsed
 from chordsim_tools.study.plan import Setting, Study
 
 T = TypeVar("T")
@@ -26,7 +29,7 @@ def scenario_of(study: Study, setting: Setting, seed: int) -> str:
     for key, value in setting:
         table, dot, name = key.partition(".")
         if not dot:
-            top[key] = value
+            top[key] = value == "true" if key in BOOLEANS else value
         elif table != "generate" and isinstance(top.get(table, {}), dict):
             top[table] = {**top.get(table, {}), name: value}
     top["seed"] = seed
@@ -78,6 +81,10 @@ def text_of(path: str, arguments: tuple[str, ...]) -> str:
         """The tool itself."""
         parser = generate.parser_of()
         args = parser.parse_args(list(arguments))
+        if args.coordinates is not None and isinstance(args.coordinates.value, PlacesFile):
+            # A file is named relative to the study file.
+            beside = PlacesFile(str(Path(path).parent / args.coordinates.value.name))
+            args.coordinates = replace(args.coordinates, value=beside)
         return generate.scenario_of(generate_plan.check(args, parser), generate.arguments_again(args))
 
     return called(f"{path}: generate", work)
@@ -128,6 +135,9 @@ def rows_text(path: str, folder: str, arguments: tuple[str, ...]) -> bytes:
         """The tool itself."""
         parser = latency.parser_of()
         args = parser.parse_args(list(arguments))
+        if args.king or args.fit is not None:
+            raise Refused(f"{path}: latency has --{'king' if args.king else 'fit'}, which makes coordinates; give them "
+                          "to tools/generate by --coordinates")
         args.measured = None if args.measured is None else f"{folder}/{args.measured}"
         options = latency.check(args, parser)
         names = latency.nodes_of(options)

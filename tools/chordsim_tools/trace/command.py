@@ -10,6 +10,8 @@ from chordsim_tools.files import read_input
 from chordsim_tools.quantities import time_of
 from chordsim_tools.scenario.reading import Scenario, read_scenario
 from chordsim_tools.scenario.tables import GREATEST_SIZE
+from chordsim_tools.trace.detail import join_story, removal_story
+from chordsim_tools.trace.messages import message_table
 from chordsim_tools.trace.reading import Run, read_report, read_run
 from chordsim_tools.trace.stories import lookup_story, node_story
 from chordsim_tools.trace.summary import Facts, summary
@@ -25,14 +27,19 @@ it prints a summary. docs/trace.md says what each number means.
 
 An answer is right, strictly, if the node that it names is the first member at or after the key, clockwise, when the
 answer arrives. It is defensible if the node was that at some instant while the lookup ran. Members are the initial
-nodes and those with a line `member`, until their line `crash` or `stranded`. A trace that ends early is told as far as
-it goes. A trace that does not fit the scenario is refused, and so is a report of another run."""
+nodes and those with a line `member`, until their line `crash` or `stranded`. A trace that ends early, as that of a run
+that failed, is told as far as it goes, with a report of its lines: all numbers of the report but `events`. A trace that
+does not fit the scenario is refused, and so is a report of another run.
+
+If the scenario has `detail = true`, the summary counts the messages of each kind, and the stories name each request."""
 EXAMPLES = """\
 examples:
   tools/trace ring.trace ring.toml                     a summary
   tools/trace ring.trace ring.toml --over-time 10s     ... and a table by steps of ten seconds
   tools/trace ring.trace ring.toml --node n07          the story of a node
   tools/trace ring.trace ring.toml --lookup n07@12.5s  the story of the lookup that n07 began at 12.5 seconds
+  tools/trace ring.trace ring.toml --join n07          the story of the join of n07, if it has one alone; else n07@12.5s
+  tools/trace ring.trace ring.toml --removed n07       why n07 has removed successors (with `detail = true`)
   tools/trace ring.trace ring.toml --worst 10          the ten slowest and the ten most wrong lookups
   tools/trace ring.trace ring.toml --html ring.html    a page for a browser, in one file
 
@@ -45,13 +52,15 @@ def parsed(arguments: list[str]) -> Namespace:
     parser = Parser(PROG, HELP, EXAMPLES, strict=True)
     parser.add_argument("trace", metavar="TRACE", help="the trace, with or without the report after it")
     parser.add_argument("scenario", metavar="SCENARIO", help="the scenario file (TOML) of the run")
-    parser.add_argument("--latency", metavar="FILE", help="the latency file of the run, which is checked and not used")
+    parser.add_argument("--latency", metavar="FILE", help="the latency file of the run: stories with detail need it")
     parser.add_argument("--report", metavar="FILE", help="what `chordsim run --trace` printed")
     parser.add_argument("--over-time", metavar="STEP", type=step, help="a table by steps of time, such as 10s")
     parser.add_argument("--per-node", action="store_true", help="a table by node")
     parser.add_argument("--worst", metavar="N", type=count, help="the N slowest and the N most wrong lookups")
     parser.add_argument("--node", metavar="NAME", help="all lines of a node, and those that name it")
     parser.add_argument("--lookup", metavar="N|NODE@TIME", help="one lookup: the N-th, or by its asker and begin")
+    parser.add_argument("--join", metavar="NODE[@TIME]", help="one join of a node; by its begin if there are more")
+    parser.add_argument("--removed", metavar="NODE", help="each successor that a node has removed, and why")
     parser.add_argument("--html", metavar="FILE", help="write a page for a browser into FILE")
     parser.add_argument("--json", action="store_true", help="print the summary, and the tables asked for, as JSON")
     return parser.parse_args(arguments)
@@ -94,11 +103,12 @@ def work(args: Namespace) -> None:
     one = read_run(args.trace, scenario_of(args))
     if args.report is not None:
         read_report(args.report, one)
-    if args.node is not None and args.node not in one.history.numbers:
-        raise Failure(2, f"--node: the scenario has no node {args.node!r}")
+    for option, name in (("node", args.node), ("removed", args.removed)):
+        if name is not None and name not in one.history.numbers:
+            raise Failure(2, f"--{option}: the scenario has no node {name!r}")
     if args.html is not None:
         write_page(args.html, one, args.scenario)
-    asked = any((args.over_time, args.per_node, args.worst, args.node, args.lookup))
+    asked = any((args.over_time, args.per_node, args.worst, args.node, args.lookup, args.join, args.removed))
     if args.json:
         show([json.dumps(in_json(one, args), indent=2)])
     elif args.html is None or asked:
@@ -114,28 +124,31 @@ def in_json(one: Run, args: Namespace) -> Facts:
         facts["per_node"] = node_rows(one)
     if args.worst is not None:
         facts["worst"] = worst_rows(one, args.worst)
-    if args.lookup is not None:
-        facts["lookup"] = lookup_story(one, args.lookup)
-    if args.node is not None:
-        facts["node"] = node_story(one, args.node)
-    return facts
+    return facts | stories(one, args)
+
+
+def stories(one: Run, args: Namespace) -> dict[str, list[str]]:
+    """The stories that are asked for, by their options."""
+    tellers = {"node": node_story, "lookup": lookup_story, "join": join_story, "removed": removal_story}
+    asked = {option: getattr(args, option) for option in tellers}
+    return {option: tellers[option](one, spec) for option, spec in asked.items() if spec is not None}
 
 
 def in_text(one: Run, args: Namespace) -> list[str]:
     """What is asked for. The summary is left out if a story is asked for."""
     parts: list[list[str]] = []
-    if args.node is None and args.lookup is None:
-        parts.append([f"run of {args.scenario}", "", *summary_text(summary(one))])
+    told = stories(one, args)
+    if not told:
+        facts = summary(one)
+        parts.append([f"run of {args.scenario}", "", *summary_text(facts)])
+        parts += [message_table(facts["messages"])] if facts["messages"] else []
     if args.over_time is not None:
         parts.append(step_table(step_rows(one, args.over_time)))
     if args.per_node:
         parts.append(node_table(node_rows(one)))
     if args.worst is not None:
         parts.append(worst_table(worst_rows(one, args.worst)))
-    if args.node is not None:
-        parts.append(node_story(one, args.node))
-    if args.lookup is not None:
-        parts.append(lookup_story(one, args.lookup))
+    parts += told.values()
     return [text for number, part in enumerate(parts) for text in ([""] * bool(number) + part)]
 
 

@@ -12,18 +12,21 @@ DOWN, JOINING, MEMBER, STRANDED = range(4)
 
 @dataclass(slots=True)
 class Join:
-    """A node joins, by a line `join`, or again by a line `stranded`. It is done, failed, crash or open."""
+    """A node joins, by a line `join`, or again by a line `stranded`. It is done, failed, crash or open.
+
+    If joins do not end by failures, a line `join-failed` leaves it open, and `went_on` counts these lines."""
 
     node: int
     begin: int
     is_again: bool
     end: int | None = None
     outcome: str = "open"
+    went_on: int = 0
 
 
 @dataclass(slots=True)
 class Life:
-    """A node is up: from the start or a line `join` until a line `crash` or `join-failed`, else until the end."""
+    """A node is up: from the start or a line `join` until a line `crash`, or a `join-failed` that ends the join."""
 
     begin: int
     end: int | None = None
@@ -66,9 +69,13 @@ class History:
                 self.lookup_ends(time, node, fields)
                 if self.lines.text(len(self.lines.times) - 1) != line:
                     raise ValueError("it has other words than such a line")
-            case "timeout":
+            case "timeout" | "forget":
                 self.keep(time, node, kind, fields, 4)
-            case "drop" | "late" | "lose" | "again":
+            case "ask" | "send" if not self.scenario.detail:
+                raise ValueError("the scenario has no `detail = true`")
+            case "ask":
+                self.ask(time, node, fields)
+            case "drop" | "late" | "lose" | "again" | "send":
                 self.keep(time, node, f"{kind} {fields[3]}", fields, 5)
             case "busy":
                 self.lines.append(time, node, CODES[kind], len(self.lines.busy_keys))
@@ -83,6 +90,16 @@ class History:
         if len(fields) != count:
             raise ValueError(f"{count} words are wanted")
         self.lines.append(time, node, CODES[kind], self.numbers[fields[-1]] if other is None else other)
+
+    def ask(self, time: int, node: int, fields: list[str]) -> None:
+        """A request: TIME NODE ask KIND Q call=C, and if it is one of a lookup also key=K since=T."""
+        key, start = None, 0
+        if len(fields) == 8 and fields[3] == "step":
+            key, start = self.key(value_of("key", fields[6])), below(time + 1, value_of("since", fields[7]))
+        elif len(fields) != 6:
+            raise ValueError("6 words are wanted, or 8 of a step")
+        self.lines.asks.append(len(self.lines.times), whole(value_of("call", fields[5])), key, start)
+        self.lines.append(time, node, CODES[f"ask {fields[3]}"], self.numbers[fields[4]])
 
     def change(self, time: int, node: int, kind: str, fields: list[str]) -> None:
         """A line that changes what a node is."""
@@ -102,8 +119,7 @@ class History:
                 self.members.remove(name, time)
                 self.begins_to_join(time, node, STRANDED)
             case "join-failed":
-                self.ends_to_join(time, node, "failed", DOWN)
-                self.lives[node][-1].end = time
+                self.join_failed(time, node)
             case "crash":
                 self.members.remove(name, time)
                 self.ends_to_join(time, node, "crash", DOWN)
@@ -128,6 +144,14 @@ class History:
         join = self.joining.pop(node, None)
         if join is not None:
             join.end, join.outcome = time, outcome
+
+    def join_failed(self, time: int, node: int) -> None:
+        """A join has failed eight times: it is over, or goes on if joins do not end by failures."""
+        if self.scenario.join_forever and self.status[node] in (JOINING, STRANDED):
+            self.joining[node].went_on += 1
+            return
+        self.ends_to_join(time, node, "failed", DOWN)
+        self.lives[node][-1].end = time
 
     def asker_crashes(self, time: int, node: int) -> None:
         """The lookups of a node are cut off."""
@@ -199,6 +223,13 @@ class History:
             raise ValueError(f"the lines before it leave {len(self.members.places)} members")
         self.lines.append(time, NOBODY, CODES["audit"], len(self.lines.audits))
         self.lines.audits.append(one)
+
+
+def value_of(name: str, word: str) -> str:
+    """The value of a word NAME=VALUE."""
+    if not word.startswith(f"{name}="):
+        raise ValueError(f"{word!r} is no {name}=")
+    return word.removeprefix(f"{name}=")
 
 
 def below(limit: int, text: str) -> int:

@@ -1,11 +1,14 @@
 """The lines of a trace, kept in columns of numbers: so a trace of millions of lines fits into memory."""
 
 from array import array
+from bisect import bisect_left
 from dataclasses import dataclass
 
 MESSAGES = (
     "step", "get-state", "get-list", "ping", "notify", "step-reply", "state-reply", "list-reply", "pong",
 )
+REQUESTS = MESSAGES[:4]
+REPLIES = dict(zip(REQUESTS, MESSAGES[5:], strict=True))
 PLAIN = (
     "join", "member", "join-failed", "crash", "stranded", "timeout", "lookup", "found", "lost", "busy",
     "ignored join", "ignored crash", "ignored lookup", "audit",
@@ -13,12 +16,16 @@ PLAIN = (
 KINDS = (
     *PLAIN,
     *(f"{word} {message}" for word in ("drop", "late", "lose") for message in MESSAGES),
-    *(f"again {message}" for message in MESSAGES[:4]),
+    *(f"again {message}" for message in REQUESTS),
+    "forget",
+    *(f"ask {message}" for message in REQUESTS),
+    *(f"send {message}" for message in MESSAGES[4:]),
 )
 """All kinds of lines. Its place here is the code of a kind."""
 CODES = {kind: code for code, kind in enumerate(KINDS)}
 JOIN, MEMBER, JOIN_FAILED, CRASH, STRANDED, TIMEOUT, LOOKUP, FOUND, LOST, BUSY = range(10)
 AUDIT = CODES["audit"]
+ASKS = frozenset(CODES[f"ask {message}"] for message in REQUESTS)
 CHANGES = frozenset((JOIN, MEMBER, JOIN_FAILED, CRASH, STRANDED))
 """The kinds of lines that change what a node is."""
 NOBODY = -1
@@ -91,6 +98,30 @@ def yes_or_no(fact: bool) -> str:
     return "yes" if fact else "no"
 
 
+class Asks:
+    """What the lines `ask` say of their calls: the place of the line, the call, and the key and start of its lookup."""
+
+    def __init__(self) -> None:
+        """No lines yet."""
+        self.lines = array("q")
+        self.calls = array("q")
+        self.keys: list[int | None] = []
+        self.starts = array("q")
+
+    def append(self, line: int, call: int, key: int | None, start: int) -> None:
+        """One more line. A call that is not of a lookup has no key, and no start."""
+        self.lines.append(line)
+        self.calls.append(call)
+        self.keys.append(key)
+        self.starts.append(start)
+
+    def rest(self, line: int) -> str:
+        """What the line at this place says behind the node that was asked."""
+        at = bisect_left(self.lines, line)
+        key = self.keys[at]
+        return f" call={self.calls[at]}" + ("" if key is None else f" key={key} since={self.starts[at]}")
+
+
 class Lines:
     """All lines: time, node, kind, and a number: of another node, a lookup, an audit or a key."""
 
@@ -98,12 +129,13 @@ class Lines:
         """No lines yet, of nodes with these names."""
         self.names = names
         self.times = array("q")
-        self.nodes = array("h")
+        self.nodes = array("i")
         self.kinds = array("B")
         self.others = array("i")
         self.lookups: list[Lookup] = []
         self.audits: list[Audit] = []
         self.busy_keys: list[int] = []
+        self.asks = Asks()
 
     def append(self, time: int, node: int, kind: int, other: int) -> None:
         """One more line."""
@@ -117,7 +149,8 @@ class Lines:
         kind, other = self.kinds[at], self.others[at]
         if kind == AUDIT:
             return self.audits[other].text()
-        return f"{self.times[at]} {self.names[self.nodes[at]]} {KINDS[kind]}{self.rest(kind, other)}"
+        call = self.asks.rest(at) if kind in ASKS else ""
+        return f"{self.times[at]} {self.names[self.nodes[at]]} {KINDS[kind]}{self.rest(kind, other)}{call}"
 
     def rest(self, kind: int, other: int) -> str:
         """What a line says after its kind."""

@@ -6,6 +6,7 @@ from dataclasses import dataclass, field
 
 from chordsim_tools.cli import Progress, Refused
 from chordsim_tools.files import read_input, reason
+from chordsim_tools.reference.report import Report
 from chordsim_tools.scenario.reading import Scenario
 from chordsim_tools.trace.history import History
 from chordsim_tools.trace.lines import KINDS
@@ -92,7 +93,7 @@ REPORT_WORDS = {
     "members": "member", "join-failed": "join-failed", "crashes": "crash", "stranded": "stranded", "drops": "drop",
     "late": "late", "timeouts": "timeout", "lookups": "lookup", "found": "found", "lost": "lost", "busy": "busy",
     "ignored": "ignored", "audits": "audit", "losses": "lose",
-    "again": "again",
+    "again": "again", "forgotten": "forget",
 }
 """The numbers of the report that count lines, with the first word of these."""
 
@@ -103,6 +104,14 @@ def line_counts(run: Run) -> Counter[str]:
     for code, count in Counter(run.history.lines.kinds).items():
         found[KINDS[code].split(" ")[0]] += count
     return found
+
+
+def report_of_lines(run: Run) -> dict[str, int]:
+    """The numbers of the report that the lines of a trace give: all but `events`, which no trace has."""
+    report = Report(run.history.scenario.profile)
+    for at in range(len(run.history.lines.times)):
+        report.read(run.history.lines.text(at))
+    return {word: number for word, number in report.numbers(0).items() if word != "events"}
 
 
 def check_report(name: str, run: Run) -> None:

@@ -5,17 +5,11 @@ from collections.abc import Iterator
 
 from chordsim_tools.cli import Failure
 from chordsim_tools.quantities import time_of
+from chordsim_tools.trace.detail import lookup_requests
 from chordsim_tools.trace.lines import CHANGES, FOUND, LOOKUP, LOST, TIMEOUT, Lookup
 from chordsim_tools.trace.reading import Run
 from chordsim_tools.trace.tables import name_or_nobody, verdict
-from chordsim_tools.trace.wording import counted, seconds
-
-
-def timed(text: str) -> str:
-    """A line of the trace, its time in seconds."""
-    time, _, rest = text.partition(" ")
-    whole, part = divmod(int(time), 1_000_000)
-    return f"{whole:>8}.{part:06d} s  {rest}"
+from chordsim_tools.trace.wording import counted, seconds, timed
 
 
 def node_story(run: Run, name: str) -> list[str]:
@@ -71,7 +65,7 @@ def lookup_story(run: Run, spec: str) -> list[str]:
         f"lookup {one.number + 1}: {name} looked up the key {one.key} {ran}",
         f"verdict: {verdict(one)}",
         "",
-        *lines_meanwhile(run, one),
+        *(lookup_requests(run, one) if run.history.scenario.detail else lines_meanwhile(run, one)),
         "",
         *answer_story(run, one),
         *owner_story(run, one),

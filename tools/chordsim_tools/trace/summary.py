@@ -8,7 +8,8 @@ from chordsim_tools.study.survival import Times
 from chordsim_tools.study.trace import percentile
 from chordsim_tools.trace.history import Join
 from chordsim_tools.trace.lines import Audit, Lookup
-from chordsim_tools.trace.reading import Run, line_counts
+from chordsim_tools.trace.messages import message_counts
+from chordsim_tools.trace.reading import Run, line_counts, report_of_lines
 
 SHARES = (50, 90, 99)
 Facts = dict[str, Any]
@@ -40,7 +41,10 @@ def summary(run: Run) -> Facts:
         "late": lines["late"],
         "losses": lines["lose"] if history.scenario.profile >= 2 else None,
         "again": lines["again"] if history.scenario.profile == 3 else None,
+        "forgotten": lines["forget"] if history.scenario.profile == 3 else None,
+        "messages": message_counts(run),
         "report": dict(run.report) or None,
+        "report_of_lines": None if run.is_whole else report_of_lines(run),
     }
 
 
@@ -89,16 +93,18 @@ def time_facts(lookups: list[Lookup], reached: int) -> Facts:
 
 
 def join_facts(joins: Iterable[Join]) -> Facts:
-    """How joins ended, and how long those took that were done."""
+    """How joins ended, how often one went on after eight failures, and how long those took that were done."""
     by = Counter[str]()
     taken: list[int] = []
+    went_on = 0
     for join in joins:
         by[join.outcome] += 1
+        went_on += join.went_on
         if join.outcome == "done" and join.end is not None:
             taken.append(join.end - join.begin)
     return {
         "begun": sum(by.values()), "done": by["done"], "failed": by["failed"], "cut_by_crash": by["crash"],
-        "open_at_end": by["open"], "times_us": percentiles(taken),
+        "open_at_end": by["open"], "went_on": went_on, "times_us": percentiles(taken),
     }
 
 

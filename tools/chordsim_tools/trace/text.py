@@ -31,7 +31,10 @@ def summary_text(facts: Facts) -> Iterator[str]:
     yield from time_text(facts)
     yield from join_text(facts)
     yield from audit_text(facts)
-    yield from report_text(facts["report"])
+    if facts["report"]:
+        yield from report_text("report", facts["report"])
+    elif facts["report_of_lines"]:
+        yield from report_text(CUT.format(seconds(facts["reached_us"])), facts["report_of_lines"])
 
 
 def early_end(facts: Facts) -> Iterator[str]:
@@ -88,11 +91,15 @@ def join_text(facts: Facts) -> Iterator[str]:
         yield line("messages lost", counted(facts["losses"]))
     if facts["again"] is not None:
         yield line("requests sent again", counted(facts["again"]))
+    if facts["forgotten"] is not None:
+        yield line("predecessors forgotten", counted(facts["forgotten"]))
     yield line("crashes", counted(facts["crashes"]))
     for key, head in (("joins", "joins begun"), ("stranded", "stranded, join again")):
         joins = facts[key]
         told = [f"{counted(joins[word])} {name}" for word, name in JOINED.items() if joins[word] or word == "done"]
         yield line(head, counted(joins["begun"]), ", ".join(told)) if joins["begun"] else line(head, "0")
+        if joins["went_on"]:
+            yield line("  failed, went on", counted(joins["went_on"]), "after eight failures each")
         if joins["done"]:
             yield line("  time to join", ", ".join(f"p{one} {seconds(joins['times_us'][f'p{one}'])}" for one in SHARES))
 
@@ -123,9 +130,9 @@ def first_text(head: str, first: Facts) -> Iterator[str]:
 
 
 MEANS = {
-    "members": "joins that succeeded", "join-failed": "joins abandoned after eight failures",
+    "members": "joins that succeeded", "join-failed": "times that a join had failed eight times",
     "drops": "messages that were not handled", "late": "replies for which no call was out",
-    "again": "requests sent again",
+    "again": "requests sent again", "forgotten": "predecessors that did not reply to a check",
     "hops-greatest": "most hops of a found lookup", "us-least": "least time of a found lookup",
     "us-median": "median time of found lookups", "us-greatest": "greatest time of a found lookup",
     "unordered": "audits whose ring is out of order", "ringless": "audits without a ring",
@@ -134,12 +141,14 @@ MEANS = {
 """What numbers of the report are, if their words do not say it."""
 
 
-def report_text(report: dict[str, int] | None) -> Iterator[str]:
-    """The numbers of the report with their units, and what they are shares of."""
-    if not report:
-        return
+CUT = "report of the lines until {}. The trace was cut, and no trace says how many events there were"
+"""What is above the numbers of a trace that ends early."""
+
+
+def report_text(head: str, report: dict[str, int]) -> Iterator[str]:
+    """The numbers of a report with their units, and what they are shares of."""
     yield ""
-    yield "report"
+    yield head
     of = {"found": "lookups", "lost": "lookups", "unfinished": "lookups", "ringless": "audits", "unordered": "audits"}
     of["insufficient"] = "audits"
     for word, number in report.items():

@@ -14,6 +14,13 @@ def seconds(micros: int | str | None) -> str:
     return f"{whole}.{part:06d}".rstrip("0").rstrip(".") + " s"
 
 
+def timed(text: str) -> str:
+    """A line of the trace, its time in seconds."""
+    time, _, rest = text.partition(" ")
+    whole, part = divmod(int(time), 1_000_000)
+    return f"{whole:>8}.{part:06d} s  {rest}"
+
+
 def share(part: int, of: int) -> str:
     """A share in per cent. What is neither none nor all is not rounded to 0 or 100."""
     if of == 0:

@@ -18,6 +18,15 @@ CHANGES = (
     "bits = 129", "loss_ppm = 1000001", "spread_us = 1_000_000_001", 'id = "00000000000000028"',
     'id = "000000000000000000000000000000028"',
 )
+PATIENCE = (
+    "join_pause_us = 70", "join_pause_us = 1_000_000_001", 'join_pause_us = "1s"', "join_forever = true",
+    "join_forever = 1", "check_us = 90", "check_us = -1", "check_us = 1.5", "detail = true", "detail = 1",
+)
+"""Further lines of the top in the third profile."""
+PLACES = (
+    "x_us = 5", "y_us = 5", "height_us = 5", "x_us = 500_000_001", "height_us = 100_000_001", "y_us = -1", "x_us = 0.0",
+)
+"""Further lines of its nodes."""
 FIELDS = ("n0", "n9", "", " n1", "0", "12", "0012", "+5", "1.5", "99999999999", "1000000001", '"n2"', "n3")
 BREAKS = ("a,b,us", "n0;n1;5", "n0,n1", "n0,n1,5,6", '"n0,n1,5', "n0,n0,20", "\tn0,n1,20", "", "n0,n1,20\rn1,n0,20")
 
@@ -99,10 +108,27 @@ def spoil(world: World, draw: random.Random) -> None:
             draw.choice(having or [pair])[1] = value
 
 
+def spoil_later(world: World, draw: random.Random) -> None:
+    """A line of the top that the third profile alone has; and coordinates of all nodes, or lines of some of them."""
+    world.tables[0][1].append(draw.choice(PATIENCE).split(" = "))
+    kind = draw.randrange(4)
+    nodes = [pairs for heading, pairs in world.tables if heading == "[[node]]"]
+    for pairs in nodes if kind > 0 else []:
+        if kind < 3:
+            pairs += [["x_us", str(draw.randint(0, 99))], ["y_us", "7"], ["height_us", str(draw.randint(4, 99))]]
+        elif draw.random() < 0.5:
+            pairs.append(draw.choice(PLACES).split(" = "))
+    if kind == 1:
+        world.rows.clear()
+
+
 def spoiled(seed: int) -> tuple[bytes, bytes]:
     """The two files of a world with one to four changes, of the three profiles by turns."""
     draw = random.Random(seed)
     world = good_world(1 + seed % 3)
     for _ in range(draw.randint(1, 4)):
         spoil(world, draw)
+    # Drawn last, so that the other changes of a seed stay as they were.
+    if seed % 3 == 2:
+        spoil_later(world, draw)
     return world.scenario().encode(), world.latency().encode()

@@ -19,6 +19,11 @@ def ring(*changes: tuple[str, str], rows: str = "") -> Scenario:
     return read_scenario(text.encode(), rows.encode())
 
 
+def with_detail(toml: str, value: str = "true") -> str:
+    """A scenario of the third profile, with this value of `detail`."""
+    return f"detail = {value}\n" + toml.replace("detail = true\n", "")
+
+
 def five_nodes() -> World:
     """A circle of 8 places with the nodes 0 to 4 at 0, 2, 4, 6 and 7, and lists of two entries."""
     head, _, _ = RING.partition("[[node]]")

@@ -9,7 +9,7 @@ from pathlib import Path
 from typing import Any
 
 from chordsim_tools.cli import Failure
-from chordsim_tools.trace.lines import CHANGES, FOUND, KINDS, LOOKUP, LOST, Audit, Lookup
+from chordsim_tools.trace.lines import ASKS, CHANGES, FOUND, KINDS, LOOKUP, LOST, Audit, Lookup
 from chordsim_tools.trace.page.bins import bins
 from chordsim_tools.trace.reading import Run
 from chordsim_tools.trace.tables import most_wrong, slowest
@@ -47,6 +47,7 @@ def page_data(run: Run, scenario: str) -> Facts:
     return {
         "scenario": Path(scenario).name,
         "duration": spec.duration_us, "reached": run.reached, "isWhole": run.is_whole, "bits": spec.bits,
+        "joinForever": spec.join_forever,
         "names": history.names,
         "idents": [str(node.ident) for node in spec.nodes],
         "initial": packed((node.initial for node in spec.nodes), "B"),
@@ -57,6 +58,7 @@ def page_data(run: Run, scenario: str) -> Facts:
         "lines": line_columns(run, kinds, {one.number: at for at, one in enumerate(lookups)}),
         "lookups": lookup_columns(lookups, (spec.bits + 7) // 8, spec.bits),
         "busyKeys": [str(key) for key in lines.busy_keys],
+        "asks": [lines.asks.rest(at) for at in lines.asks.lines] if ASKS <= kinds else [],
         "worst": worst,
         "leftOut": left_out,
     }
@@ -69,7 +71,7 @@ def kept_kinds(codes: Iterable[int]) -> tuple[frozenset[int], list[str]]:
     if used > MOST_CHANGES:
         raise Failure(3, f"the trace has {used} changes of nodes, and a page holds {MOST_CHANGES} at most")
     kept, left_out = set(CHANGES), []
-    words = ("busy", "ignored", "timeout", "drop", "late", "lose", "again")
+    words = ("busy", "ignored", "forget", "timeout", "drop", "late", "lose", "again", "ask", "send")
     others = [[code for code, kind in enumerate(KINDS) if kind.split(" ")[0] == word] for word in words]
     for group in ([LOOKUP, FOUND, LOST], *others):
         size = sum(counts[code] for code in group)
@@ -116,7 +118,7 @@ def audit_row(audit: Audit) -> tuple[int, int, int, int, int, int, int]:
 def line_columns(run: Run, kinds: frozenset[int], lookups: dict[int, int]) -> Facts:
     """The columns of the embedded lines. A line of a lookup has the place of the lookup in the page."""
     lines = run.history.lines
-    times, nodes, codes, others = array("d"), array("h"), array("B"), array("i")
+    times, nodes, codes, others = array("d"), array("i"), array("B"), array("i")
     for time, node, kind, other in zip(lines.times, lines.nodes, lines.kinds, lines.others, strict=True):
         if kind in LOOKUPS:
             other = lookups.get(other, -1)
@@ -129,7 +131,7 @@ def line_columns(run: Run, kinds: frozenset[int], lookups: dict[int, int]) -> Fa
         codes.append(kind)
         others.append(other)
     return {
-        "time": packed(times, "d"), "node": packed(nodes, "h"),
+        "time": packed(times, "d"), "node": packed(nodes, "i"),
         "kind": packed(codes, "B"), "other": packed(others, "i"),
     }
 
@@ -142,14 +144,14 @@ def lookup_columns(lookups: list[Lookup], size: int, bits: int) -> Facts:
         "key": base64.b64encode(keys).decode("ascii"),
         "place": packed((one.key / 2**bits for one in lookups), "d"),
         "number": packed((one.number + 1 for one in lookups), "i"),
-        "node": packed((one.node for one in lookups), "h"),
-        "owner": packed((one.owner for one in lookups), "h"),
-        "trueOwner": packed((one.true_owner for one in lookups), "h"),
+        "node": packed((one.node for one in lookups), "i"),
+        "owner": packed((one.owner for one in lookups), "i"),
+        "trueOwner": packed((one.true_owner for one in lookups), "i"),
         "begin": packed((one.begin for one in lookups), "d"),
         "end": packed((-1 if one.end is None else one.end for one in lookups), "d"),
         "hops": packed((one.hops for one in lookups), "B"),
         "timeouts": packed((one.timeouts for one in lookups), "B"),
-        "missed": packed((one.missed for one in lookups), "h"),
+        "missed": packed((one.missed for one in lookups), "i"),
         "flags": packed((flags_of(one) for one in lookups), "B"),
     }
 

@@ -1,7 +1,7 @@
 // The run: what the page embeds, decoded, and the state of all nodes at a time.
 const NUMBERS = {
   time: Float64Array, begin: Float64Array, end: Float64Array, place: Float64Array, places: Float64Array,
-  node: Int16Array, owner: Int16Array, trueOwner: Int16Array, missed: Int16Array,
+  node: Int32Array, owner: Int32Array, trueOwner: Int32Array, missed: Int32Array,
   other: Int32Array, number: Int32Array,
 };
 const raw = JSON.parse(document.getElementById("data").textContent);
@@ -28,6 +28,8 @@ const DOWN = 0, JOINING = 1, MEMBER = 2, STRANDED = 3;
 const STATUS_WORDS = ["down", "joining", "member", "stranded, joins again"];
 const CHANGES = new Map([[CODE.join, JOINING], [CODE.member, MEMBER], [CODE["join-failed"], DOWN], [CODE.crash, DOWN],
   [CODE.stranded, STRANDED]]);
+// A node whose join goes on after failures stays as it is.
+if (run.joinForever) CHANGES.delete(CODE["join-failed"]);
 const OUTCOMES = ["found", "lost", "cut off by a crash", "cut off by the end"];
 
 // Short runs are told to the microsecond.
@@ -44,6 +46,12 @@ function keyOf(lookup) {
   return value.toString();
 }
 
+// What lines `ask` say behind the node that was asked, by their places.
+const RESTS = new Map();
+run.lines.kind.forEach((kind, at) => {
+  if (run.kinds[kind].startsWith("ask ")) RESTS.set(at, run.asks[RESTS.size]);
+});
+
 function lineText(at) {
   const kind = run.lines.kind[at], other = run.lines.other[at], all = run.lookups;
   const start = `${run.lines.time[at]} ${run.names[run.lines.node[at]]} ${run.kinds[kind]}`;
@@ -54,7 +62,7 @@ function lineText(at) {
     const ended = `hops=${all.hops[other]} timeouts=${all.timeouts[other]} us=${all.end[other] - all.begin[other]}`;
     return `${start} ${keyOf(other)}${owner} ${ended}`;
   }
-  return other < 0 ? start : `${start} ${run.names[other]}`;
+  return other < 0 ? start : `${start} ${run.names[other]}${RESTS.get(at) ?? ""}`;
 }
 
 function namedBy(at) {
