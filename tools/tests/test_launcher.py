@@ -1,16 +1,19 @@
 """The script ./chordsim, tools/renew_release and tools/check_release, with a stand-in for rt that proves nothing."""
 
-import os
 import shutil
 import subprocess
 import tempfile
-import threading
 import time
 import unittest
 from pathlib import Path
 
 TOP = Path(__file__).resolve().parents[2]
 SCRIPTS = ["chordsim", "tools/program.sh", "tools/renew_release", "tools/check_release"]
+
+# The commands that the scripts use, beside rt.
+COMMANDS = (
+    "awk basename cat chmod cmp cp cut date dirname find flock mkdir mv readlink rm sh sha256sum sleep sort tee uname xargs"
+).split()
 
 CRATES = """# NAME: the libraries that it stands on
 low: sha1
@@ -25,7 +28,7 @@ echo "$* in $(basename "$PWD")" >> "$CALLS"
 case $1 in
 run)
     [ -z "${RT_FAILS:-}" ] || { echo "no proof"; exit 1; }
-    sleep "${RT_TAKES:-0}"
+    while [ -n "${RT_WAITS_FOR:-}" ] && [ ! -e "$RT_WAITS_FOR" ]; do sleep 0.05; done
     echo "crate low: modules loaded=0 checked=1"
     mkdir -p out
     { echo '#!/bin/sh'; echo "echo built of $(cat src/main.rt): \\"\\$@\\""; } > out/chordsim
@@ -39,10 +42,11 @@ class Launcher(unittest.TestCase):
     """A repository of one program and the library below it."""
 
     def setUp(self) -> None:
-        """No program is there, and rt is the stand-in."""
+        """No program is there, and rt is the stand-in. PATH has it and the commands, wherever this machine has its rt."""
         folder = tempfile.TemporaryDirectory()
         self.addCleanup(folder.cleanup)
-        self.top = Path(folder.name) / "a repository"
+        self.folder = Path(folder.name)
+        self.top = self.folder / "a repository"
         for name in SCRIPTS:
             (self.top / name).parent.mkdir(parents=True, exist_ok=True)
             shutil.copy(TOP / name, self.top / name)
@@ -50,24 +54,25 @@ class Launcher(unittest.TestCase):
         for crate, file in (("low", "lib"), ("chordsim", "main"), ("tests_alone", "main")):
             (self.top / "crates" / crate / "src").mkdir(parents=True)
             (self.top / "crates" / crate / "src" / f"{file}.rt").write_text("first\n", encoding="utf-8")
-        self.calls = Path(folder.name) / "calls"
-        self.tools = Path(folder.name) / "bin"
+        self.calls = self.folder / "calls"
+        self.tools = self.folder / "bin"
         self.tools.mkdir()
         (self.tools / "rt").write_text(STAND_IN, encoding="utf-8")
         (self.tools / "rt").chmod(0o755)
-        self.path = f"{self.tools}:{os.environ['PATH']}"
+        for command in COMMANDS:
+            path = shutil.which(command)
+            self.assertIsNotNone(path, command)
+            (self.tools / command).symlink_to(str(path))
 
     def start(self, script: str, *arguments: str, **more: str) -> subprocess.CompletedProcess[str]:
         """Starts a script of the repository."""
-        environment = {"PATH": self.path, "CALLS": str(self.calls), **more}
+        environment = {"PATH": str(self.tools), "CALLS": str(self.calls), **more}
         command = [str(self.top / script), *arguments]
         return subprocess.run(command, env=environment, capture_output=True, text=True, check=False, timeout=60)
 
     def without_rt(self) -> None:
-        """Takes rt away, and whatever else has that name."""
+        """Takes rt away."""
         (self.tools / "rt").unlink()
-        folders = [folder for folder in self.path.split(":") if not (Path(folder) / "rt").exists()]
-        self.path = ":".join(folders)
 
     def builds(self) -> int:
         """How often rt was called."""
@@ -160,17 +165,25 @@ class Launcher(unittest.TestCase):
 
     def test_two_starts(self) -> None:
         """Of two starts at once one builds, and the other waits for it."""
-        outcomes: list[subprocess.CompletedProcess[str]] = []
-        start = lambda: outcomes.append(self.start("chordsim", RT_TAKES="0.5"))  # noqa: E731
-        threads = [threading.Thread(target=start) for _ in range(2)]
-        for thread in threads:
-            thread.start()
-            time.sleep(0.2)
-        for thread in threads:
-            thread.join()
-        self.assertEqual([outcome.stdout for outcome in outcomes], ["built of first:\n"] * 2)
+        go = self.folder / "go"
+        environment = {"PATH": str(self.tools), "CALLS": str(self.calls), "RT_WAITS_FOR": str(go)}
+
+        def begin() -> subprocess.Popen[str]:
+            return subprocess.Popen(
+                [self.top / "chordsim"], env=environment, stdout=subprocess.PIPE, stderr=subprocess.PIPE, text=True
+            )
+
+        with begin() as first:
+            while self.builds() == 0:
+                self.assertIsNone(first.poll())
+                time.sleep(0.01)
+            with begin() as second:
+                assert second.stderr is not None
+                self.assertIn("waiting for another start", second.stderr.readline())
+                go.touch()
+                self.assertEqual(second.communicate(timeout=60)[0], "built of first:\n")
+            self.assertEqual(first.communicate(timeout=60)[0], "built of first:\n")
         self.assertEqual(self.builds(), 1)
-        self.assertTrue(any("waiting for another start" in outcome.stderr for outcome in outcomes))
 
     def test_where(self) -> None:
         """--where builds nothing, --build builds; both print the path alone."""
