@@ -133,14 +133,22 @@ def read_places(file: str) -> dict[str, Coordinates]:
     text = read_input(file, GREATEST_SIZE).decode("utf-8", "replace").removeprefix("\ufeff")
     places: dict[str, Coordinates] = {}
     for number, fields in enumerate(filter(None, csv.reader(io.StringIO(text, newline=""))), start=1):
-        values = [whole_of(field) for field in fields[1:]]
-        well = len(values) == 3 and all(
-            value is not None and value <= key.greatest for value, key in zip(values, COORDINATES, strict=True)
-        )
-        if not well or fields[0] in places:
-            raise Refused(f"{file}: row {number} is no NAME,X,Y,HEIGHT of its own, with whole microseconds")
-        places[fields[0]] = Coordinates(*(value or 0 for value in values))
+        place = place_in(fields[1:])
+        if place is None:
+            raise Refused(f"{file}: row {number} is not NAME,X,Y,HEIGHT in whole microseconds (X and Y at most "
+                          f"{GREATEST_SIDE}, HEIGHT at most {GREATEST_HEIGHT})")
+        if fields[0] in places:
+            raise Refused(f"{file}: row {number} names {fields[0]} again")
+        places[fields[0]] = place
     return places
+
+
+def place_in(fields: list[str]) -> Coordinates | None:
+    """The coordinates that are the fields X, Y and HEIGHT, or nothing."""
+    values = [whole_of(field) for field in fields]
+    pairs = zip(values, COORDINATES, strict=False)
+    good = [value for value, key in pairs if value is not None and value <= key.greatest]
+    return Coordinates(*good) if len(good) == len(fields) == len(COORDINATES) else None
 
 
 def places_text(names: Iterable[str], places: Iterable[Coordinates]) -> str:

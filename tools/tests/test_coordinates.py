@@ -2,10 +2,10 @@
 
 from unittest import TestCase
 
-from chordsim_tools.cli import Refused
 from chordsim_tools.reference.procedures import World
 from chordsim_tools.scenario.coordinates import Coordinates, greatest_latency, least_latency
 from chordsim_tools.scenario.reading import read_scenario
+from tests.support.worlds import fault
 from tests.test_second_profile import AUDIT, ran
 from tests.test_third_profile import third
 
@@ -28,15 +28,6 @@ def at(x: int, y: int, height: int | None = None) -> str:
 def high(*heights: int) -> list[str]:
     """Three nodes at one place, with these heights."""
     return [at(5, 5, height) for height in heights]
-
-
-def fault(text: str, rows: str = "") -> str:
-    """What the two files are refused for."""
-    try:
-        read_scenario(text.encode(), rows.encode())
-    except Refused as refused:
-        return str(refused)
-    return "accepted"
 
 
 class LatencyTest(TestCase):
@@ -112,7 +103,7 @@ class FaultsTest(TestCase):
         """0 to 500,000,000 and 0 to 100,000,000. The type is looked at first, and the keys in their order."""
         for key, most in (("x_us", 500_000_000), ("y_us", 500_000_000), ("height_us", 100_000_000)):
             def with_value(value: object, name: str = key) -> str:
-                """The ring where the second node has this value."""
+                """The ring, whose second node has this value."""
                 keys = {"x_us": 0, "y_us": 0, "height_us": 0, name: value}
                 lines = "\n".join(f"{word} = {number}" for word, number in keys.items())
                 return placed(at(0, 0, 9), lines, at(0, 0, 9))

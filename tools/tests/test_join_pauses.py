@@ -39,7 +39,7 @@ def joining(*keys: str, changes: tuple[tuple[str, str], ...] = ()) -> tuple[Worl
 
 
 def fail(world: World, node: Node, times: int) -> None:
-    """So many attempts end Stuck, each after its pause."""
+    """This number of attempts end Stuck, each after its pause."""
     for _ in range(times):
         happen(world, node, StepReply(next(iter(node.calls)), Stuck()), 4)
         happen(world, node, Rejoin(2), 2)

@@ -12,7 +12,8 @@ SCRIPTS = ["chordsim", "tools/program.sh", "tools/renew_release", "tools/check_r
 
 # The commands that the scripts use, beside rt.
 COMMANDS = (
-    "awk basename cat chmod cmp cp cut date dirname find flock mkdir mv readlink rm sh sha256sum sleep sort tee uname xargs"
+    "awk basename cat chmod cmp cp cut date dirname find flock mkdir mv readlink rm sh sha256sum sleep sort tee uname "
+    "xargs"
 ).split()
 
 CRATES = """# NAME: the libraries that it stands on
@@ -42,7 +43,7 @@ class Launcher(unittest.TestCase):
     """A repository of one program and the library below it."""
 
     def setUp(self) -> None:
-        """No program is there, and rt is the stand-in. PATH has it and the commands, wherever this machine has its rt."""
+        """No program is there, and rt is the stand-in. PATH has it and the commands, not the rt of this machine."""
         folder = tempfile.TemporaryDirectory()
         self.addCleanup(folder.cleanup)
         self.folder = Path(folder.name)
@@ -169,6 +170,7 @@ class Launcher(unittest.TestCase):
         environment = {"PATH": str(self.tools), "CALLS": str(self.calls), "RT_WAITS_FOR": str(go)}
 
         def begin() -> subprocess.Popen[str]:
+            """A start that has begun."""
             return subprocess.Popen(
                 [self.top / "chordsim"], env=environment, stdout=subprocess.PIPE, stderr=subprocess.PIPE, text=True
             )

@@ -2,9 +2,7 @@
 
 from unittest import TestCase
 
-from chordsim_tools.cli import Refused
-from chordsim_tools.scenario.reading import read_scenario
-from tests.support.worlds import RING, ring
+from tests.support.worlds import RING, fault, ring
 
 N0 = 'name = "n0"\nid = 0\ninitial = true'
 N1 = 'name = "n1"\nid = 1'
@@ -41,15 +39,6 @@ ROWS = [
     ("n0,n3,10\nn3,n0,10", "S14 SameLinkTwice row 2"),
     ("n3,n1,9", "S15 LatencyBelowWindow n1 n3"),
 ]
-
-
-def fault(text: str, rows: str = "") -> str:
-    """What the texts are refused for."""
-    try:
-        read_scenario(text.encode(), rows.encode())
-    except Refused as refused:
-        return str(refused)
-    return "accepted"
 
 
 class ScenarioTest(TestCase):

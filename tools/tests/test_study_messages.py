@@ -7,10 +7,11 @@ from unittest import TestCase
 
 from chordsim_tools.generate import command as generate
 from chordsim_tools.members import Members
+from chordsim_tools.messages import MESSAGES
 from chordsim_tools.reference.report import Report
 from chordsim_tools.reference.simulation import Simulation
 from chordsim_tools.scenario.reading import read_scenario
-from chordsim_tools.study.messages import KINDS, Span, Traffic, exact, message_numbers
+from chordsim_tools.study.messages import Span, Traffic, exact, message_numbers
 from chordsim_tools.study.page import ERROR
 from chordsim_tools.study.served import scope_of
 from chordsim_tools.study.task import events_before
@@ -35,7 +36,7 @@ def counted(text: str, warmup_us: int = 0) -> tuple[dict[str, int], dict[str, in
     idents = {node.name: node.ident for node in scenario.nodes}
     initial = [node.name for node in scenario.nodes if node.initial]
     reader = TraceReader(Members(idents, initial), scope_of(top, top["audit_us"], warmup_us, 0))
-    before: tuple[int, dict[str, int]] = 0, dict.fromkeys(KINDS, 0)
+    before: tuple[int, dict[str, int]] = 0, dict.fromkeys(MESSAGES, 0)
     for line in simulation.lines():
         if int(line.split(" ")[0]) < warmup_us:
             before = simulation.events, sent(simulation, report)
@@ -45,12 +46,12 @@ def counted(text: str, warmup_us: int = 0) -> tuple[dict[str, int], dict[str, in
     made = {kind: count - before[1][kind] for kind, count in sent(simulation, report).items()}
     span = Span(top, simulation.events - before[0], reader.population)
     numbers = message_numbers(reader.traffic, span)
-    return {kind: int(numbers[f"sent-{kind}"] or 0) for kind in KINDS}, made
+    return {kind: int(numbers[f"sent-{kind}"] or 0) for kind in MESSAGES}, made
 
 
 def sent(simulation: Simulation, report: Report) -> dict[str, int]:
     """The messages made until now, the lost ones with them."""
-    return {kind: simulation.messages[kind] + report.lost_messages[kind] for kind in KINDS}
+    return {kind: simulation.messages[kind] + report.lost_messages[kind] for kind in MESSAGES}
 
 
 class StudyMessagesTest(TestCase):

@@ -170,7 +170,7 @@ class StudyRunTest(TestCase):
             assert not left_overs(folder)
 
     def test_losses_of_the_second_profile(self) -> None:
-        """A column `losses` behind the report where a run has the second profile; of the others none are lost."""
+        """A column `losses` behind the report if a run has the second profile; of the others none are lost."""
         for study, wanted in (
             (STUDY.replace("list = [1, 2]", "profile = [1, 2]"), ["0", "0", "1", "1"]),
             (STUDY.replace("list = [1, 2]", "profile = [2, 1]"), ["1", "1", "0", "0"]),
@@ -187,7 +187,7 @@ class StudyRunTest(TestCase):
             assert call(folder) == (0, "") and "losses" not in table(folder, "runs.csv")[0]
 
     def test_numbers_of_the_third_profile(self) -> None:
-        """Columns `losses`, `again` and `forgotten` where a run has the third profile; 0 in the runs of the others."""
+        """Columns `losses`, `again` and `forgotten` if a run has the third profile; 0 in the runs of the others."""
         for study, wanted in (
             (STUDY.replace("list = [1, 2]", "profile = [1, 2, 3]"), ["00", "00", "10", "10", "11", "11"]),
             (STUDY.replace("list = [1, 2]", "profile = [3, 1]"), ["11", "11", "00", "00"]),

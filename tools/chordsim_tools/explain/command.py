@@ -36,9 +36,9 @@ Without the program the first line is that of this tool.
 
 Of files that are accepted, a section "accepted, but:" names traps, and the status stays 0: a timeout below the greatest
 round trip, a duration below the periods, and a `max_events` below what the run is likely to need. This last one is
-estimated, where the timers alone come near to it: the program runs the scenario's first seconds (six, or four periods)
-and half of them, and the events of the second half are taken for the rest of the duration. If that takes longer than
-twenty seconds, the timers alone are told."""
+estimated if the timers alone come near to it: the program runs the scenario's first seconds (six, or four periods) and
+half of them, and the events of the second half are taken for the rest of the duration. If such a run takes longer than
+twenty seconds, the estimate is that of the timers alone."""
 EXAMPLES = """\
 examples:
   tools/explain world.toml                     all faults of a scenario

@@ -47,15 +47,20 @@ def of_unknown_key(name: str, place: str, table: dict[str, Any], profile: Profil
     if meant is not None:
         return [f"did you mean {headings.get(meant, f'`{meant}`')}?"]
     owners = [other for other, keys in profile.tables.items() if other != kind and name in {key.name for key in keys}]
-    if "top" in owners:
-        return [f"`{name}` is a key of the top: put it above the first heading"]
     if owners:
-        return [f"`{name}` is a key of " + " and of ".join(HEADINGS[owner] for owner in owners)]
+        return [of_other_table(name, owners)]
     present = close_to(name, (key.name for key in keys))
     if present is not None:
         return [f"`{present}` is there already: take `{name}` away"]
     meant = close_to(name, (other for other, (_, owner) in later.items() if owner == kind))
     return [] if meant is None else [f"did you mean `{meant}`? {of_later_key(meant, *later[meant], kind)}"]
+
+
+def of_other_table(name: str, owners: list[str]) -> str:
+    """That tables of these kinds have this key."""
+    if "top" in owners:
+        return f"`{name}` is a key of the top: put it above the first heading"
+    return f"`{name}` is a key of " + " and of ".join(HEADINGS[owner] for owner in owners)
 
 
 def later_keys(profile: Profile) -> dict[str, tuple[int, str]]:
@@ -163,13 +168,13 @@ def of_digits(text: str, bits: int | None, digits: int) -> list[str]:
     return ["write small letters"] if is_hexadecimal(text.lower(), digits) else []
 
 
-def of_profile(value: Any, key: Key, place: str, profile: Profile) -> list[str]:
+def of_profile(value: Any, key: Key, place: str) -> list[str]:
     """The first later profile that allows a value that this one does not."""
     if is_in_own_range(value, key):
         return []
-    present = next(number for number, other in PROFILES.items() if other is profile)
+    # Each profile has all keys of the earlier ones, with ranges that are no narrower.
     for number, other in PROFILES.items():
-        wider = next(one for one in other.tables[place.split()[0]] if one.name == key.name) if number > present else key
+        wider = next((one for one in other.tables[place.split()[0]] if one.name == key.name), key)
         if is_in_own_range(value, wider):
             unit = {"tables": " tables", "id": " hexadecimal digits, and 128 bits"}.get(key.kind, "")
             return [f"profile {number} allows up to {wider.greatest}{unit}: write profile = {number}"]

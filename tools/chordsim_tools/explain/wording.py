@@ -84,7 +84,7 @@ def out_of_range(fault: Fault, files: Files) -> Parts:
     """S5."""
     value, key, written, allowed = value_and_key(fault, files)
     table = files.place(fault.place).table
-    wider = hints.of_profile(value, key, fault.place, files.document.profile)
+    wider = hints.of_profile(value, key, fault.place)
     if key.kind == "tables":
         return f"there are too {'few' if len(value) < key.least else 'many'}", f"{len(value)} tables", allowed, wider
     if key.name == "do":

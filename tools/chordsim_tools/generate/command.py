@@ -55,7 +55,7 @@ and a longer run begins as the shorter one (if --arrive is given).
 
 --coordinates gives each node a place and a height. The latency of two nodes is then the sum of their heights and the
 way between their places; --latency only makes the default of --timeout.
-  square:SIDE:MIN..MAX   all places of a square of this side are alike, and all heights of the span
+  square:SIDE:MIN..MAX   places that are equally likely in a square of this side, and heights in the span
   king                   places and heights that tools/latency --king makes, for this seed
   file:NAME              those of a file that tools/latency --fit or --king has written
 

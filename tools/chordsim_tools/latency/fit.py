@@ -47,7 +47,7 @@ class Spring:
 
 
 def fitted(pairs: Sequence[Pair], count: int, least: int, draws: Draws) -> list[Coordinates]:
-    """Coordinates of so many nodes, each of which is in a pair. No height is below the least one."""
+    """Coordinates of the nodes below `count`, each of which is in a pair. No height is below the least one."""
     others: list[list[tuple[int, int]]] = [[] for _ in range(count)]
     for a, b, micros in pairs:
         others[a].append((b, micros))

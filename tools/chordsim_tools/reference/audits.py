@@ -23,13 +23,15 @@ def ring_members(best: dict[int, int | None]) -> list[int]:
     They are those that are left if members who are nobody's best successor are taken away until there are none.
     """
     counts = Counter(best.values())
-    gone = [n for n in best if counts[n] == 0]
-    for n in gone:
+    left, going = set(best), [n for n in best if counts[n] == 0]
+    while going:
+        n = going.pop()
+        left.remove(n)
         following = best[n]
         counts[following] -= 1
         if following is not None and counts[following] == 0:
-            gone.append(following)
-    return sorted(set(best) - set(gone))
+            going.append(following)
+    return sorted(left)
 
 
 def passed_over(world: World, nodes: list[Node], members: set[int]) -> set[int]:

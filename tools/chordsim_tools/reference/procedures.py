@@ -204,19 +204,19 @@ class Procedures:
         self.set_timer(delay, FingerTick(self.n.epoch))
 
     def arm_traffic(self) -> None:
-        """Sets TrafficTick, where the scenario has [lookups]."""
+        """Sets TrafficTick, if the scenario has [lookups]."""
         lookups = known(self.world.scenario.lookups)
         delay = self.time_from_span(lookups.gap_min_us, lookups.gap_max_us, Drawn.TRAFFIC_TICK, self.t)
         self.set_timer(delay, TrafficTick(self.n.epoch))
 
     def arm_life(self) -> None:
-        """Sets LifeEnd, where the node has churn = true."""
+        """Sets LifeEnd, if the node has churn = true."""
         churn = known(self.world.scenario.churn)
         delay = self.time_from_span(churn.life_min_us, churn.life_max_us, Drawn.LIFE_END, self.n.epoch)
         self.set_timer(delay, LifeEnd(self.n.epoch))
 
     def arm_check(self) -> None:
-        """Sets CheckTick, where check_us is above 0."""
+        """Sets CheckTick, if check_us is above 0."""
         s = self.world.scenario
         delay = self.time_from_span(s.check_us, s.check_us + s.jitter_us, Drawn.CHECK_TICK, self.t)
         self.set_timer(delay, CheckTick(self.n.epoch))

@@ -158,7 +158,7 @@ class Rules(Procedures):
     # Requests
 
     def request(self, body: Request, q: int) -> None:
-        """A request or notify: dropped where n is not a Member."""
+        """A request or notify: dropped if n is not a Member."""
         if self.n.status != Status.MEMBER:
             self.line(f"drop {KINDS[type(body)]} {self.name(q)}")
         else:
@@ -191,7 +191,7 @@ class Rules(Procedures):
     # Replies
 
     def reply(self, body: Reply, q: int) -> None:
-        """A reply: dropped where n is Down, late where no call is out for it."""
+        """A reply: dropped if n is Down, late if no call is out for it."""
         if self.n.status == Status.DOWN:
             self.line(f"drop {KINDS[type(body)]} {self.name(q)}")
             return

@@ -10,8 +10,9 @@ from chordsim_tools.study.numbers import TAKES, Summary
 
 NAMES = {
     "served": "served", "right_of_begun": "right of begun", "defensible": "defensible", "given_up": "given up",
-    "members": "members of the nodes up", "p50_ms": "p50", "p99_ms": "p99", "messages": "messages per member and second",
-    "upkeep": "messages of upkeep per member and second", "events": "events per member and second",
+    "members": "members of the nodes up", "p50_ms": "p50", "p99_ms": "p99",
+    "messages": "messages per member and second", "upkeep": "messages of upkeep per member and second",
+    "events": "events per member and second",
 }
 
 
@@ -24,7 +25,8 @@ def value_told(number: str, value: float) -> str:
 
 def limit_told(limit: Limit) -> str:
     """A limit as the answer names it."""
-    return f"{NAMES[limit.number]} of at {'least' if limit.is_least else 'most'} {value_told(limit.number, limit.value)}"
+    bound = "least" if limit.is_least else "most"
+    return f"{NAMES[limit.number]} of at {bound} {value_told(limit.number, limit.value)}"
 
 
 def goal_told(goal: Goal) -> str:
@@ -45,7 +47,8 @@ def slack(one: Summary, limit: Limit, level: float) -> float:
 def bound_of_mixed(one: Summary, level: float) -> float:
     """A lower bound of the share served if rings were lost: a lost one counts 0.
 
-    It is the bound of the chance that a ring is kept, times that of the mean of those that were, each at half the risk."""
+    It is the bound of the chance that a ring is kept, times that of the mean of those that were kept, each at half the
+    risk."""
     each = (1 + level) / 2
     return share_interval(one.kept, one.seeds, 2 * each - 1)[0] * one.of(TAKES["served"]).bound(each, -1)
 

@@ -90,10 +90,10 @@ Runs `chordsim run --serial` for each setting and seed and writes into FOLDER:
   runs.json      which study the folder is of, by digests
 
 The trace is read from the program while it runs and is kept nowhere. A run that is refused or fails stops the study.
-How far it is, is shown on standard error: on a terminal by a bar, in a log by a line every 30 seconds. A line `warning:`
-is a trap: a timeout below the greatest round trip, a duration below the periods, a max_events below what a run is likely
-to need. This is told with the setting and the number before anything is run. It is estimated as `tools/explain --help`
-says, of the setting that comes nearest to its limit by its timers. The study is run all the same.
+How far it is, is shown on standard error: on a terminal by a bar, in a log by a line every 30 seconds. A line
+`warning:` is a trap: a timeout below the greatest round trip, a duration below the periods, a max_events below what a
+run is likely to need. The latter names the setting and the number before anything is run. The number is estimated as
+`tools/explain --help` says, for the setting whose timers come nearest to its limit. The study is run all the same.
 
 --part K/N does every Nth run from the Kth on, and writes no tables: do so on N machines, and put the folders together
 by `tools/study merge`. --dask gives the runs to the workers of a Dask cluster, which have to have the same program.
@@ -120,10 +120,11 @@ lines.
 Means over seeds with 95% intervals (cut at 0 and 100%); a seed counts if it has the number. Over time a step in which
 fewer than three seeds have it has a dashed line and no band. Settings in which a seed's ring was lost (an audit with
 ring=0) are hollow, and not on the front: a dead ring is cheap. With many seeds nearly every setting has such a seed:
---most-lost 0.05 lets settings on the front that lost their ring with at most 5 of 100 seeds. A setting off the front is "dominated" if one on it
-costs less and gives more by paired differences of the same seeds, at 5% for all settings together, else "not told
-apart". cost is messages per member and second if the table has them, else all events of the run per node of the file
-and second. The same tables give the same bytes. A study that is not done yet is drawn as far as it is, with a mark.
+--most-lost 0.05 lets settings on the front that lost their ring with at most 5 of 100 seeds. A setting off the front is
+"dominated" if one on it costs less and gives more by paired differences of the same seeds, at 5% for all settings
+together, else "not told apart". cost is messages per member and second if the table has them, else all events of the
+run per node of the file and second. The same tables give the same bytes. A study that is not done yet is drawn as far
+as it is, with a mark.
 
 examples:
   tools/study plot out --x stabilize_us --by list --panels loss_ppm --y right-of-begun

@@ -7,9 +7,9 @@ from typing import Any
 
 from chordsim_tools.cli import Refused
 from chordsim_tools.generate.command import OPTIONS
+from chordsim_tools.messages import MESSAGES
 from chordsim_tools.quantities import time_of
 from chordsim_tools.scenario.tables import CHURN, GREATEST_INTEGER, LOOKUPS, THIRD, Key
-from chordsim_tools.study.messages import KINDS
 
 Value = int | str
 """A value that is varied: an integer, or a text: of an option of tools/generate, or `true` or `false`."""
@@ -138,6 +138,6 @@ def world_of(path: Path, value: Any, vary: dict[str, list[Value]]) -> list[str] 
 def sizes_of(path: Path, table: Any) -> dict[str, int]:
     """The table [sizes]: bytes of a message of each kind, or none."""
     well = isinstance(table, dict) and all(is_integer(size) and size >= 0 for size in table.values())
-    if not well or (table and set(table) != set(KINDS)):
-        raise Refused(f"{path}: [sizes] has to give the bytes of a message of each kind: {', '.join(KINDS)}")
+    if not well or (table and set(table) != set(MESSAGES)):
+        raise Refused(f"{path}: [sizes] has to give the bytes of a message of each kind: {', '.join(MESSAGES)}")
     return dict(table)

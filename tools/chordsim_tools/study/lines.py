@@ -1,5 +1,6 @@
 """A column of the table against a varied key: a line for each value of others, a panel for each world."""
 
+from dataclasses import dataclass
 from typing import Any
 
 from chordsim_tools.known import known
@@ -75,25 +76,41 @@ def draw_line(
     axes: Any, axis: Axis, layout: Layout, line: list[tuple[str, ...]], column: Column, rows: Rows, scale: float,
     shift: float,
 ) -> None:
-    """A line with its bars. The marker is hollow where a seed lost its ring."""
-    points = []
-    for one in sorted(line, key=lambda one: axis.places[place_of(layout, one)]):
-        found = interval(column.averaged(rows[one]))
-        if found.mean is not None:
-            # Over rings that were kept and rings that were lost no interval holds.
-            is_mixed = column.name == "served" and ring_lost(rows[one])
-            half = 0.0 if is_mixed else scale * (found.half or 0)
-            points.append((axis.place(place_of(layout, one), shift), scale * found.mean, half, ring_lost(rows[one])))
-    if not points:
+    """A line with its bars. The marker is hollow if a seed lost its ring."""
+    points = {one: point_of(column, rows[one], scale) for one in line}
+    drawn = [(axis.place(place_of(layout, one), shift), point) for one, point in points.items() if point is not None]
+    if not drawn:
         return
+    drawn.sort(key=lambda pair: pair[0])
     look = layout.look(line[0])
-    places, means = [point[0] for point in points], [point[1] for point in points]
+    places, means = [place for place, _ in drawn], [point.mean for _, point in drawn]
     axes.plot(places, means, color=look.colour, linestyle=look.line, linewidth=1.4, zorder=2)
-    bars = cut_bars(means, [point[2] for point in points], column)
+    bars = cut_bars(means, [point.half for _, point in drawn], column)
     axes.errorbar(places, means, yerr=bars, fmt="none", ecolor=look.colour, elinewidth=1, capsize=2, zorder=1)
-    for place, mean, _, lost in points:
-        face = "white" if lost else look.colour
-        axes.plot([place], [mean], marker=look.marker, color=look.colour, markerfacecolor=face, markersize=5, zorder=3)
+    for place, point in drawn:
+        face = "white" if point.is_hollow else look.colour
+        axes.plot(
+            [place], [point.mean], marker=look.marker, color=look.colour, markerfacecolor=face, markersize=5, zorder=3
+        )
+
+
+@dataclass(frozen=True)
+class Point:
+    """A mean as it is drawn, half its interval, and whether a seed lost its ring."""
+
+    mean: float
+    half: float
+    is_hollow: bool
+
+
+def point_of(column: Column, runs: list[Cells], scale: float) -> Point | None:
+    """The point of a setting with these runs, if they have a mean."""
+    found, is_hollow = interval(column.averaged(runs)), ring_lost(runs)
+    if found.mean is None:
+        return None
+    # Over rings that were kept and rings that were lost no interval holds.
+    is_mixed = column.name == "served" and is_hollow
+    return Point(scale * found.mean, 0.0 if is_mixed else scale * (found.half or 0), is_hollow)
 
 
 def cut_bars(means: list[float], halves: list[float], column: Column) -> list[list[float]]:

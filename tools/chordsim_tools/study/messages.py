@@ -4,11 +4,8 @@ from collections import Counter
 from dataclasses import dataclass
 from typing import Any
 
+from chordsim_tools.messages import MESSAGES, REPLIES, REQUESTS, messages_made
 from chordsim_tools.study.served import Population, Scope
-
-KINDS = ("step", "get-state", "get-list", "ping", "notify", "step-reply", "state-reply", "list-reply", "pong")
-CALLS = KINDS[:4]
-REPLIES = dict(zip(CALLS, KINDS[5:], strict=True))
 
 
 class Traffic:
@@ -112,8 +109,8 @@ class Span:
         return max(0.0, sum(self.population.members.sums) / mean - self.at_start(traffic) / 2 - skipped)
 
     def pings(self, traffic: Traffic) -> float:
-        """About how many pings are sent: one for each mean delay of a member that checks its predecessor, and each time
-        that one is sent again. Without checks only those are known that had no reply."""
+        """About how many pings are sent: one for each mean delay of a member that checks its predecessor, and those
+        that are sent again. Without checks only those that had no reply are known."""
         unanswered, retries = traffic.unanswered("ping"), int(self.top.get("retries", 0))
         if not self.top.get("check_us"):
             return unanswered
@@ -134,28 +131,25 @@ def estimate(traffic: Traffic, span: Span) -> dict[str, int]:
     Each call makes a request, a timeout and, unless a line says otherwise, a reply, and so does each time that it is
     sent again. So the events that are neither timers nor commands say how many of these there were, once the notifies,
     one a stabilization, are known."""
-    lost, dropped = traffic.sum_of("lose", CALLS), traffic.sum_of("drop", CALLS)
+    lost, dropped = traffic.sum_of("lose", REQUESTS), traffic.sum_of("drop", REQUESTS)
     notifies = span.stabilizations(traffic)
     rest = span.events - span.timers(traffic) - notifies + traffic.lines["lose notify"]
-    calls = (rest + 2 * lost + dropped + traffic.sum_of("lose", KINDS[5:])) / (2 + span.timed_out(traffic))
+    lost_replies = traffic.sum_of("lose", tuple(REPLIES.values()))
+    calls = (rest + 2 * lost + dropped + lost_replies) / (2 + span.timed_out(traffic))
     requests = {"notify": notifies, "ping": span.pings(traffic)}
     for kind, answered in (("get-state", notifies), ("get-list", 2.0 * traffic.lines["member"])):
         requests[kind] = answered + traffic.unanswered(kind)
-    requests["step"] = calls - sum(requests[kind] for kind in CALLS[1:])
+    requests["step"] = calls - sum(requests[kind] for kind in REQUESTS[1:])
     replies = {
         REPLIES[kind]: requests[kind] - traffic.sum_of("drop", (kind,)) - traffic.sum_of("lose", (kind,))
-        for kind in CALLS
+        for kind in REQUESTS
     }
-    return {kind: max(0, round({**requests, **replies}[kind])) for kind in KINDS}
+    return {kind: max(0, round({**requests, **replies}[kind])) for kind in MESSAGES}
 
 
 def exact(traffic: Traffic) -> dict[str, int]:
-    """How many messages of each kind were sent in the span, the lost ones with them, by the lines of a run with detail.
-
-    A request that is lost has a line `ask` too; another message has a line `send` or a line `lose`."""
-    requests = {kind: traffic.lines[f"ask {kind}"] for kind in CALLS}
-    others = {kind: traffic.lines[f"send {kind}"] + traffic.lines[f"lose {kind}"] for kind in KINDS[4:]}
-    return requests | others
+    """How many messages of each kind were sent in the span of a run with detail, the lost ones with them."""
+    return {kind: messages_made(kind, traffic.lines) for kind in MESSAGES}
 
 
 def message_numbers(traffic: Traffic, span: Span) -> dict[str, int | str | None]:

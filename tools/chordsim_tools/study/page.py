@@ -3,13 +3,13 @@
 import shlex
 from typing import Any
 
+from chordsim_tools.messages import MESSAGES
 from chordsim_tools.study.answer import NAMES, answer, chosen, those_that_reach
 from chordsim_tools.study.compare import Pair, guarded_level, scale_of
 from chordsim_tools.study.goal import Goal, goal_again
 from chordsim_tools.study.head import head
 from chordsim_tools.study.interval import LEAST_SEEDS
 from chordsim_tools.study.layout import worlds_of
-from chordsim_tools.study.messages import KINDS
 from chordsim_tools.study.numbers import Cells, Summary, setting_label, summaries
 from chordsim_tools.study.tables import Tables
 from chordsim_tools.study.taken import taken_table
@@ -30,26 +30,28 @@ MEANINGS = """\
 - **rings kept**: worlds in which every audit found a ring, and the interval of Clopper and Pearson of the share.
   **rings lost an hour**: for each hour that a ring lives; Garwood's interval, or its upper bound if none was lost.
 - **served**: right answers of all lookups wanted, over all worlds; a dead ring counts. Wanted are the lookups begun or
-  refused, and for each node that is up but no member its time by the mean gap of lookups. A node is up from the start or
-  a join until its crash, also if its join has failed. Where rings were lost, the range over the worlds is given.
+  refused, and for each node that is up but no member its time by the mean gap of lookups. A node is up from the start
+  or a join until its crash, also if its join has failed. If rings were lost, the range over the worlds is given.
 - The other columns are means among the rings kept.
-- **right of begun**: of the lookups whose asker lived to their end, those whose answer names the right owner at the time
-  of the answer (the strict view). **defensible**: that named the right owner at some instant while they ran. **given
-  up**: that ended without an answer.
+- **right of begun**: of the lookups whose asker lived to their end, those whose answer names the right owner at the
+  time of the answer (the strict view). **defensible**: that named the right owner at some instant while they ran.
+  **given up**: that ended without an answer.
 - **cut off**: of the lookups begun, those whose asker crashed; they are in none of the three, but count as wanted.
 - **p50, p99**: of all lookups by the curve of Kaplan and Meier in each run: one that was given up never ends, one that
   was cut off is censored. `never`: fewer than this share ever end. `-`: fewer than 1,000 lookups in a run (p99).
 - **members**: time as a member of the time that nodes are up.
-- **messages**: all messages sent, by an estimate, since a trace has no line for a message that arrives: every call makes
-  a request, a timeout and mostly a reply, so that the events that are neither timers nor commands say how many there
-  were. In runs that were counted it was off by less than {off}, where the span had 40 timeouts or more and the ring was
-  kept. **upkeep** is all but the steps of lookups.
+- **messages**: all messages sent. With `detail = true` they are counted. Otherwise they are estimated, since a trace
+  then has no line for a message that arrives: every call makes a request, a timeout and mostly a reply, so that the
+  events that are neither timers nor commands say how many there were. In runs that were counted the estimate was off
+  by less than {off}, if the span had 40 timeouts or more and the ring was kept. **upkeep** is all but the steps of
+  lookups.
 """
 GUARD = """\
 - **{number}, less the best one's**: differences seed by seed where both settings kept their rings (served: over all
   seeds, unless a setting lost its ring in some of them), with intervals that hold for all {pairs} pairs of settings
-  together (Bonferroni). The best one of each world is that of the answer above, else the one that kept most rings and of these served
-  most. Not told apart: the interval reaches 0 or cannot be computed, and so does McNemar's exact test of the rings lost.
+  together (Bonferroni). The best one of each world is that of the answer above, else the one that kept most rings and
+  of these served most. Not told apart: the interval reaches 0 or cannot be computed, and so does McNemar's exact test
+  of the rings lost.
 """
 ERROR = "0.5 %"
 """How far off the estimate of messages was at most; tests/test_study_messages.py looks at it."""
@@ -61,7 +63,7 @@ def bytes_of(one: Summary, sizes: dict[str, int]) -> str:
     def take(cells: Cells) -> float | None:
         """The bytes of a run."""
         seconds = int(cells["cost-member-us"]) / 1e6
-        return sum(sizes[kind] * int(cells[f"sent-{kind}"]) for kind in KINDS) / seconds if seconds else None
+        return sum(sizes[kind] * int(cells[f"sent-{kind}"]) for kind in MESSAGES) / seconds if seconds else None
 
     return one.of(take).told()
 
@@ -99,9 +101,8 @@ def answers(tables: Tables, found: list[Summary], goal: Goal | None) -> str:
     if goal is None:
         return ""
     worlds = of_each_world(tables, found)
-    return "".join(
-        f"{f'With {name}: ' if len(worlds) > 1 else ''}{answer(settings, goal)}\n\n" for name, settings in worlds.items()
-    )
+    heads = {name: f"With {name}: " if len(worlds) > 1 else "" for name in worlds}
+    return "".join(f"{heads[name]}{answer(settings, goal)}\n\n" for name, settings in worlds.items())
 
 
 def table(tables: Tables, found: list[Summary]) -> str:

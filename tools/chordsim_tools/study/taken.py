@@ -14,11 +14,11 @@ COLUMNS = (
 )
 MEANINGS = """\
 - All numbers are for each member and hour, from the warm-up to the end; ± and `(m of n)` are as above.
-- **timeouts**: calls that had no reply in time, to any of their sendings. **members taken for dead**: of these, those to
-  a node that was a member at that time: a message was lost, or the node had only just joined.
+- **timeouts**: calls that had no reply in time, to any of their sendings. **members taken for dead**: of these, those
+  to a node that was a member at that time: a message was lost, or the node had only just joined.
 - **removed as successors**: stabilizations whose last request or its reply was lost, so that the nearest successor left
   the list though it was a member. In all other cases a lookup, a join or a ping went on without the node.
-- **stranded**: members whose successor list ran empty. **joins failed**: joins abandoned after eight failures.
+- **stranded**: members whose successor list ran empty. **joins failed**: times that a join had failed eight times.
 """
 
 

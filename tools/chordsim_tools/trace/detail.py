@@ -3,11 +3,11 @@
 from collections.abc import Iterator, Sequence
 
 from chordsim_tools.cli import Failure
+from chordsim_tools.messages import REPLIES
 from chordsim_tools.quantities import time_of
 from chordsim_tools.trace.history import Join
 from chordsim_tools.trace.lines import (
-    CHANGES, CODES, CRASH, FOUND, JOIN, JOIN_FAILED, LOOKUP, LOST, MEMBER, REPLIES, STRANDED, TIMEOUT,
-    Lookup,
+    CHANGES, CODES, CRASH, FOUND, JOIN, JOIN_FAILED, LOOKUP, LOST, MEMBER, STRANDED, TIMEOUT, Lookup,
 )
 from chordsim_tools.trace.reading import Run
 from chordsim_tools.trace.requests import Call, calls_of
@@ -23,7 +23,7 @@ SENDS = frozenset(CODES[f"send {kind}"] for kind in REPLIES.values())
 
 
 def marked_lines(run: Run, own: Sequence[int], calls: Sequence[Call]) -> Iterator[str]:
-    """A node's own lines and those of its calls; behind | what a node asked did, behind ? what it may have done."""
+    """A node's own lines and those of its calls; with | those of nodes asked, with ? those that may be of a call."""
     marks = dict.fromkeys([*own, *(at for call in calls for at in call.places())], "  ")
     for handled in (one.handled for call in calls for one in call.sendings):
         for at in handled:
@@ -117,18 +117,22 @@ def join_of(run: Run, spec: str) -> tuple[Join, int]:
         raise Failure(2, f"--join: the scenario has no node {name!r}")
     if at and time is None:
         raise Failure(2, f"--join: {spec!r} is neither a node nor NODE@TIME, such as n07@12.5s")
-    kinds = enumerate(history.lines.kinds)
-    own = [pair for pair in zip(history.joins, [at for at, kind in kinds if kind in (JOIN, STRANDED)], strict=True)
-           if pair[0].node == node]
+    begins = [at for at, kind in enumerate(history.lines.kinds) if kind in (JOIN, STRANDED)]
+    own = [pair for pair in zip(history.joins, begins, strict=True) if pair[0].node == node]
     meant = [pair for pair in own if time in (None, pair[0].begin)]
     if len(meant) == 1:
         return meant[0]
-    told = ", ".join(f"{name}@{join.begin}us" for join, _ in own[:20]) + (" and more" if len(own) > 20 else "")
+    raise Failure(2, f"--join: {unclear_join(name, time, [join for join, _ in own])}")
+
+
+def unclear_join(name: str, time: int | None, own: list[Join]) -> str:
+    """Why the joins of a node are not one, or none begins at this time."""
     if not own:
-        raise Failure(2, f"--join: {name} never joins")
-    if not meant:
-        raise Failure(2, f"--join: {name} does not begin to join at {seconds(time)}; its joins are: {told}")
-    raise Failure(2, f"--join: {name} joins {counted(len(own))} times; name one by its begin: {told}")
+        return f"{name} never joins"
+    told = ", ".join(f"{name}@{join.begin}us" for join in own[:20]) + (" and more" if len(own) > 20 else "")
+    if all(time not in (None, join.begin) for join in own):
+        return f"{name} does not begin to join at {seconds(time)}; its joins are: {told}"
+    return f"{name} joins {counted(len(own))} times; name one by its begin: {told}"
 
 
 def join_story(run: Run, spec: str) -> list[str]:

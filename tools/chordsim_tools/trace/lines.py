@@ -4,11 +4,8 @@ from array import array
 from bisect import bisect_left
 from dataclasses import dataclass
 
-MESSAGES = (
-    "step", "get-state", "get-list", "ping", "notify", "step-reply", "state-reply", "list-reply", "pong",
-)
-REQUESTS = MESSAGES[:4]
-REPLIES = dict(zip(REQUESTS, MESSAGES[5:], strict=True))
+from chordsim_tools.messages import MESSAGES, REQUESTS
+
 PLAIN = (
     "join", "member", "join-failed", "crash", "stranded", "timeout", "lookup", "found", "lost", "busy",
     "ignored join", "ignored crash", "ignored lookup", "audit",

@@ -1,9 +1,9 @@
 """How many messages of each kind a run with detail has made, and what the trace says of them."""
 
 from collections import Counter
-from typing import Any
 
-from chordsim_tools.trace.lines import KINDS, MESSAGES, REQUESTS
+from chordsim_tools.messages import MESSAGES, messages_made
+from chordsim_tools.trace.lines import KINDS
 from chordsim_tools.trace.reading import Run
 from chordsim_tools.trace.wording import counted, table
 
@@ -16,18 +16,14 @@ def message_counts(run: Run) -> Counts | None:
     if not run.history.scenario.detail:
         return None
     lines = Counter({KINDS[code]: count for code, count in Counter(run.history.lines.kinds).items()})
-    counts: Counts = {}
-    for kind in MESSAGES:
-        # A request that is lost has a line `ask` too; another message has a line `send` or a line `lose`.
-        made = lines[f"ask {kind}"] if kind in REQUESTS else lines[f"send {kind}"] + lines[f"lose {kind}"]
-        counts[kind] = {
-            "made": made, "lost": lines[f"lose {kind}"], "again": lines[f"again {kind}"],
-            "drops": lines[f"drop {kind}"], "late": lines[f"late {kind}"],
-        }
-    return counts
+    words = {"lost": "lose", "again": "again", "drops": "drop", "late": "late"}
+    return {
+        kind: {"made": messages_made(kind, lines), **{name: lines[f"{word} {kind}"] for name, word in words.items()}}
+        for kind in MESSAGES
+    }
 
 
-def message_table(counts: dict[str, Any]) -> list[str]:
+def message_table(counts: Counts) -> list[str]:
     """The same for readers, with the sums."""
     sums = {word: sum(row[word] for row in counts.values()) for word in COLUMNS}
     rows = [[kind, *(counted(row[word]) for word in COLUMNS)] for kind, row in (*counts.items(), ("all", sums))]

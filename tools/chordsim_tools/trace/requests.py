@@ -6,7 +6,8 @@ from collections.abc import Iterator
 from dataclasses import dataclass, field
 
 from chordsim_tools.cli import Refused
-from chordsim_tools.trace.lines import CODES, KINDS, REPLIES, TIMEOUT
+from chordsim_tools.messages import REPLIES
+from chordsim_tools.trace.lines import CODES, KINDS, TIMEOUT
 from chordsim_tools.trace.reading import Run
 
 FATES = {"drop": "dropped", "send": "replied", "lose": "reply lost"}
@@ -101,12 +102,9 @@ def find_fates(run: Run, node: int, calls: list[Call]) -> None:
     """Finds what the nodes asked did with the requests that were not lost.
 
     Without a spread the time says it, and of requests of one time the order."""
-    lines, scenario = run.history.lines, run.history.scenario
-    time_of = lines.times.__getitem__
-    handled: dict[tuple[int, str], list[int]] = defaultdict(list)
-    for at, (kind, other) in enumerate(zip(lines.kinds, lines.others, strict=True)):
-        if other == node and kind in HANDLED:
-            handled[lines.nodes[at], HANDLED[kind]].append(at)
+    scenario = run.history.scenario
+    time_of = run.history.lines.times.__getitem__
+    handled = handled_for(run, node)
     taken: Counter[tuple[int, str, int]] = Counter()
     for call, sending in in_order(calls):
         spread = scenario.spread_us if call.asked != node else 0
@@ -121,6 +119,16 @@ def find_fates(run: Run, node: int, calls: list[Call]) -> None:
             raise Refused(f"{run.name} line {sending.at + 1}: the request does not arrive when it must. Is the "
                           "scenario that of this run, and is its latency file given by --latency?")
         sending.handled = there
+
+
+def handled_for(run: Run, node: int) -> dict[tuple[int, str], list[int]]:
+    """The places of the lines in which others say what they did with a node's requests, by the other and the kind."""
+    lines = run.history.lines
+    handled: dict[tuple[int, str], list[int]] = defaultdict(list)
+    for at, (kind, other) in enumerate(zip(lines.kinds, lines.others, strict=True)):
+        if other == node and kind in HANDLED:
+            handled[lines.nodes[at], HANDLED[kind]].append(at)
+    return handled
 
 
 def in_order(calls: list[Call]) -> Iterator[tuple[Call, Sending]]:

@@ -2,6 +2,7 @@
 
 from pathlib import Path
 
+from chordsim_tools.cli import Refused
 from chordsim_tools.reference.procedures import World
 from chordsim_tools.reference.state import Node, Status
 from chordsim_tools.scenario.reading import Scenario, read_scenario
@@ -17,6 +18,15 @@ def ring(*changes: tuple[str, str], rows: str = "") -> Scenario:
         assert old in text, old
         text = text.replace(old, new, 1)
     return read_scenario(text.encode(), rows.encode())
+
+
+def fault(text: str, rows: str = "") -> str:
+    """What the two files are refused for."""
+    try:
+        read_scenario(text.encode(), rows.encode())
+    except Refused as refused:
+        return str(refused)
+    return "accepted"
 
 
 def with_detail(toml: str, value: str = "true") -> str:
