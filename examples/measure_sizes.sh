@@ -2,10 +2,10 @@
 # Times rings of the third profile with 512, 4,096 and 65,536 nodes: the examples churn512 and churn4096 with
 # `profile = 3` and churn65536, by the serial engine and by teams of 2, 3 and 4 workers with as many parts, alternately.
 # Prints a row for each way to run a scenario: the seconds and the processor seconds of each turn, the most memory, the
-# events a second of the fastest turn, and its seconds as a ratio to the least of the serial engine. A last row times the
-# start: the same scenario cut to a millisecond.
+# events a second of the fastest turn, and its seconds as a ratio to the least of the serial engine. A last row times
+# the start: the same scenario cut to a millisecond.
 #
-#   examples/measure_sizes.sh [TURNS]     so many turns, 2 if not said
+#   examples/measure_sizes.sh [TURNS]     the number of turns, 2 by default
 #
 # CHORDSIM names another program than ./chordsim. It needs GNU time (/usr/bin/time).
 set -eu
@@ -25,7 +25,7 @@ take() {
         "$program" run --scenario "$scenario" --trace "$work/trace" "$@" > "$work/report"
 }
 
-# Prints the row of this name, of a run with so many events. Its ratio is to these seconds.
+# Prints the row of this name, of a run with this number of events, with its ratio to these seconds.
 show() {
     awk -v name="$1" -v events="$2" -v least="$3" '
         { seconds = seconds " " $1; processors = processors " " $2 + $3; if ($4 > memory) memory = $4 }
@@ -47,7 +47,8 @@ measure() {
         done
     done
     events=$(sed -n 's/^events //p' "$work/report")
-    sed -e 's/^duration_us = .*/duration_us = 1000/' -e 's/^audit_us = .*/audit_us = 1000/' "$work/scenario.toml" > "$work/start.toml"
+    sed -e 's/^duration_us = .*/duration_us = 1000/' -e 's/^audit_us = .*/audit_us = 1000/' \
+        "$work/scenario.toml" > "$work/start.toml"
     take start "$work/start.toml" --engine serial
     echo "$1 ($events events)"
     least=$(cut -d ' ' -f 1 "$work/serial.row" | sort -n | head -n 1)
