@@ -24,9 +24,10 @@ returns-in_err-scenario-clause-faults g c =
 pub returns-clause-read : goal.returns-clause-read
 returns-clause-read g c =
     let toml_few : length c.in-Ok.text.items ≤ most_bytes = search (rules, c.in-Ok.ensures.short) in
-    let csv_few : length c.in-Ok-read_text.text.items ≤ most_bytes = search (rules, c.in-Ok-read_text.ensures.short) in
-    ((c.in-Ok.ensures.reader, short_text _ _ _ c.in-Ok.ensures.whole c.in-Ok.ensures.end toml_few),
-    (c.in-Ok-read_text.ensures.reader, short_text _ _ _ c.in-Ok-read_text.ensures.whole c.in-Ok-read_text.ensures.end csv_few))
+    let csv_few : length c.in-Ok-read_text.text.items ≤ most_bytes = search (rules, c.in-Ok-read_text.ensures.short) in (
+      (c.in-Ok.ensures.reader, short_text _ _ _ c.in-Ok.ensures.whole c.in-Ok.ensures.end toml_few),
+      (c.in-Ok-read_text.ensures.reader, short_text _ _ _ c.in-Ok-read_text.ensures.whole c.in-Ok-read_text.ensures.end csv_few),
+    )
 
 pub returns-clause-accepted : goal.returns-clause-accepted
 returns-clause-accepted g c toml csv is_toml is_csv =
