@@ -32,6 +32,10 @@ command_text command.Join = codes "join"
 command_text command.Crash = codes "crash"
 command_text command.Lookup = codes "lookup"
 
+-- what a line says of a message, with the other node
+abbrev pub message_words : Setup → (word : List ℕ) → MessageKind → (other : ℕ) → List ℕ
+message_words sc word kind other = word ++ codes " " ++ message_text kind ++ codes " " ++ name_of sc other
+
 -- what a line says of its node
 abbrev pub line_words : Setup → Line → List ℕ
 line_words sc (line.Join via) = codes "join " ++ name_of sc via
@@ -39,22 +43,17 @@ line_words sc (line.Member predecessor) = codes "member " ++ name_of sc predeces
 line_words sc line.JoinFailed = codes "join-failed"
 line_words sc line.Crash = codes "crash"
 line_words sc (line.Stranded via) = codes "stranded " ++ name_of sc via
-line_words sc (line.Drop kind sender) =
-    codes "drop " ++ message_text kind ++ codes " " ++ name_of sc sender
-line_words sc (line.Late kind sender) =
-    codes "late " ++ message_text kind ++ codes " " ++ name_of sc sender
+line_words sc (line.Drop kind sender) = message_words sc (codes "drop") kind sender
+line_words sc (line.Late kind sender) = message_words sc (codes "late") kind sender
 line_words sc (line.Timeout silent) = codes "timeout " ++ name_of sc silent
-line_words sc (line.Lose kind receiver) =
-    codes "lose " ++ message_text kind ++ codes " " ++ name_of sc receiver
-line_words sc (line.Again kind receiver) =
-    codes "again " ++ message_text kind ++ codes " " ++ name_of sc receiver
+line_words sc (line.Lose kind receiver) = message_words sc (codes "lose") kind receiver
+line_words sc (line.Again kind receiver) = message_words sc (codes "again") kind receiver
 line_words sc (line.Forget predecessor) = codes "forget " ++ name_of sc predecessor
-line_words sc (line.Ask kind receiver call) =
-    codes "ask " ++ message_text kind ++ codes " " ++ name_of sc receiver ++ codes " call=" ++ decimal call
+line_words sc (line.Ask kind receiver call) = message_words sc (codes "ask") kind receiver ++ codes " call=" ++ decimal call
 line_words sc (line.Seek receiver call key since) =
-    codes "ask step " ++ name_of sc receiver ++ codes " call=" ++ decimal call ++ codes " key=" ++ decimal key ++ codes " since=" ++ decimal since
-line_words sc (line.Send kind receiver) =
-    codes "send " ++ message_text kind ++ codes " " ++ name_of sc receiver
+    message_words sc (codes "ask") message.Step receiver
+    ++ codes " call=" ++ decimal call ++ codes " key=" ++ decimal key ++ codes " since=" ++ decimal since
+line_words sc (line.Send kind receiver) = message_words sc (codes "send") kind receiver
 line_words sc (line.Lookup key) = codes "lookup " ++ decimal key
 line_words sc (line.Found key owner hops timeouts us) =
     codes "found " ++ decimal key ++ codes " " ++ name_of sc owner ++ codes " hops=" ++ decimal hops

@@ -3,7 +3,7 @@ ghost use Rattle.std.specs.Prelude.{◌≡◌, ◌⊎◌, ◌<◌, ◌++◌, fal
 ghost use Rattle.std.specs.Io.KnownBytes.{Appends};
 ghost use Rattle.chord_scenario.specs.World.{node_count};
 ghost use Rattle.chord_scenario.specs.Blocks.{IsBlockOf, IsLineOf};
-ghost use Rattle.chord_trace.specs.Texts.{message_text, command_text, line_words, line_text, block_text};
+ghost use Rattle.chord_trace.specs.Texts.{message_text, message_words, command_text, line_words, line_text, block_text};
 ghost use Rattle.chord_trace.specs.Watched.{wrapped, has_failed};
 ghost use Rattle.chord_trace.specs.Writing.{AppendsFront, is_write};
 
@@ -71,38 +71,10 @@ fn push_words(text: &mut String, scenario: &Scenario, line: Line) -> Result<(), 
         Line::JoinFailed => text.push_str("join-failed"),
         Line::Crash => text.push_str("crash"),
         Line::Stranded { via } => write!(text, "stranded {}", scenario.name(via)),
-        Line::Drop { kind, sender } => {
-            write!(
-                text,
-                "drop {} {}",
-                message_text(kind),
-                scenario.name(sender)
-            )
-        }
-        Line::Late { kind, sender } => {
-            write!(
-                text,
-                "late {} {}",
-                message_text(kind),
-                scenario.name(sender)
-            )
-        }
-        Line::Lose { kind, receiver } => {
-            write!(
-                text,
-                "lose {} {}",
-                message_text(kind),
-                scenario.name(receiver)
-            )
-        }
-        Line::Again { kind, receiver } => {
-            write!(
-                text,
-                "again {} {}",
-                message_text(kind),
-                scenario.name(receiver)
-            )
-        }
+        Line::Drop { kind, sender } => push_message(text, scenario, "drop", kind, sender),
+        Line::Late { kind, sender } => push_message(text, scenario, "late", kind, sender),
+        Line::Lose { kind, receiver } => push_message(text, scenario, "lose", kind, receiver),
+        Line::Again { kind, receiver } => push_message(text, scenario, "again", kind, receiver),
         Line::Timeout { silent } => write!(text, "timeout {}", scenario.name(silent)),
         Line::Forget { predecessor } => write!(text, "forget {}", scenario.name(predecessor)),
         Line::Ask {
@@ -110,12 +82,8 @@ fn push_words(text: &mut String, scenario: &Scenario, line: Line) -> Result<(), 
             receiver,
             call,
         } => {
-            write!(
-                text,
-                "ask {} {} call={call}",
-                message_text(kind),
-                scenario.name(receiver)
-            )
+            push_message(text, scenario, "ask", kind, receiver)?;
+            write!(text, " call={call}")
         }
         Line::Seek {
             receiver,
@@ -123,21 +91,10 @@ fn push_words(text: &mut String, scenario: &Scenario, line: Line) -> Result<(), 
             key,
             since,
         } => {
-            write!(
-                text,
-                "ask step {} call={call} key={} since={since}",
-                scenario.name(receiver),
-                key.raw()
-            )
+            push_message(text, scenario, "ask", MessageKind::Step, receiver)?;
+            write!(text, " call={call} key={} since={since}", key.raw())
         }
-        Line::Send { kind, receiver } => {
-            write!(
-                text,
-                "send {} {}",
-                message_text(kind),
-                scenario.name(receiver)
-            )
-        }
+        Line::Send { kind, receiver } => push_message(text, scenario, "send", kind, receiver),
         Line::Lookup { key } => write!(text, "lookup {}", key.raw()),
         Line::Found {
             key,
@@ -168,6 +125,25 @@ fn push_words(text: &mut String, scenario: &Scenario, line: Line) -> Result<(), 
         Line::Busy { key } => write!(text, "busy {}", key.raw()),
         Line::Ignored { command } => write!(text, "ignored {}", command_text(command)),
     }
+}
+
+/// Adds what a line says of a message: a word, the kind of the message and the other node.
+fn push_message(
+    text: &mut String,
+    scenario: &Scenario,
+    word: &str,
+    kind: MessageKind,
+    other: u32,
+) -> Result<(), AllocError>
+    requires { other < node_count scenario.now }
+    ensures { OnOk result (string_bytes text.new ≡ string_bytes text.old ++ message_words scenario.now word.now kind other) }
+{
+    write!(
+        text,
+        "{word} {} {}",
+        message_text(kind),
+        scenario.name(other)
+    )
 }
 
 fn message_text(kind: MessageKind) -> &'static str

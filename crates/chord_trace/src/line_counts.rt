@@ -69,7 +69,7 @@ impl LineCounts {
         ensures { self.new ≡ plus self.old (counts_in (line ∷ [])) }
     {
         match line {
-            // A report has no number of what detail tells.
+            // A report has no number of these.
             Line::Join { .. } | Line::Ask { .. } | Line::Seek { .. } | Line::Send { .. } => {}
             Line::Member { .. } => self.members += 1,
             Line::JoinFailed => self.join_failed += 1,
