@@ -15,7 +15,7 @@ use Rattle.chord_node.specs.declared.state.Purpose.TheVariants as purpose
 use Rattle.chord_ops.specs.Procedures.{call_of}
 use Rattle.chord_ops.specs.declared.turn.Turn.{Turn}
 
--- the line of a call's request, by the purpose of the call
+-- the line of a call's request, by the purpose of the call; a call of a lookup has its lookup beside it
 abbrev pub request_line : NodeState → Call → Purpose → Option Line
 request_line s call purpose.Lookup =
     option_map (λ lookup. line.Seek call.to call.number lookup.key lookup.started) (find (λ lookup. lookup.call == call.number) s.lookups)
@@ -26,7 +26,8 @@ request_line s call purpose.List = Some (line.Ask kind.GetList call.to call.numb
 request_line s call purpose.Check = Some (line.Ask kind.Ping call.to call.number)
 request_line s call (purpose.Ping notifier) = Some (line.Ask kind.Ping call.to call.number)
 
--- the line for an event that was made: a timeout stands for the request of its call, which may have been lost
+-- the line for an event that was made: a timeout stands for the request of its call, which may have been lost, and the
+-- call is among the outstanding ones
 abbrev pub line_for : NodeState → (target : ℕ) → Body → Option Line
 line_for s target (body.Timeout number) = option_and_then (λ call. request_line s call call.purpose) (call_of number s)
 line_for s target (body.StepReply number answer) = Some (line.Send kind.StepReply target)

@@ -1,4 +1,5 @@
--- What a member does with requests and notifies, said without the rule table. A rule that stays silent has none of this.
+-- What a member does with requests, notifies and checks, said without the rule table. A rule that stays silent has none
+-- of this.
 use Rattle.std.specs.Prelude.{◌≡◌, ◌≢◌, ℕ, ◌-◌, List, true, false, None, Some}
 use Rattle.chord_circle.specs.Circle.{between}
 use Rattle.chord_event.specs.declared.body.Body.{Body}
@@ -12,6 +13,7 @@ use Rattle.chord_node.specs.declared.state.NodeState.{NodeState}
 use Rattle.chord_node.specs.declared.state.Purpose.TheVariants as purpose
 use Rattle.chord_ops.specs.declared.turn.Request.TheVariants as request
 use Rattle.chord_ops.specs.Detail.{detailed}
+use Rattle.chord_ops.specs.Procedures.{check_armed}
 use Rattle.chord_ops.specs.Rules.{effect, has_ping_call, opening}
 use Rattle.chord_ops.specs.Search.{step_answer}
 use Rattle.chord_ops.specs.Turns.{called, sent}
@@ -20,7 +22,8 @@ use Rattle.chord_ops.specs.Turns.{called, sent}
 abbrev pub sender_of : Event Body → ℕ
 sender_of e = e.key.origin - 2
 
--- a message to the sender is all that the event makes; in the second profile it may be lost on the way
+-- a message to the sender is all that the event makes; from the second profile on it may be lost on the way, and with detail
+-- it leaves a line
 abbrev pub RepliesWith : Scenario → NodeState → Event Body → MessageKind → Body → Type 0
 RepliesWith sc s e kind reply = effect sc s e ≡ detailed sc (sent sc kind (sender_of e) reply (opening s e))
 
@@ -42,3 +45,7 @@ pub record WeighsNotifiers (sc : Scenario) (s : NodeState) (e : Event Body) : Ty
   pub other : (prdc : ℕ) → s.prdc ≡ Some prdc → between sc.bits (ident_of sc prdc) (ident_of sc (sender_of e)) (ident_of sc s.me) ≡ false
       → sender_of e ≢ prdc → has_ping_call s ≡ false
       → effect sc s e ≡ detailed sc (called sc prdc request.Ping (purpose.Ping (sender_of e)) (opening s e))
+
+-- beside setting the timer of the next check, the node asks its predecessor for a sign of life
+abbrev pub ChecksPredecessor : Scenario → NodeState → Event Body → (prdc : ℕ) → Type 0
+ChecksPredecessor sc s e prdc = effect sc s e ≡ detailed sc (called sc prdc request.Ping purpose.Check (check_armed sc (opening s e)))
