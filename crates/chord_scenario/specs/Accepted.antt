@@ -60,8 +60,8 @@ square_by_rows rows nodes = flat_map (λ x. map (latency_by_rows 0 rows x) nodes
 abbrev pub setup_in : Members → List Row → Setup
 setup_in top rows = setup_with top (nodes_in top) (commands_in top) (square_by_rows rows (nodes_in top))
 
--- the scenario is that of the file and the rows, and so the latency of two different nodes without coordinates is that of the
--- row that names the pair, or the file's, and that of nodes with coordinates follows from these
+-- the scenario is that of the file and the rows, and so the latency of two different nodes without coordinates is that
+-- of the row that names the pair, or the file's, and that of nodes with coordinates follows from these
 pub record IsSetupOf (top : Members) (rows : List Row) (sc : Setup) : Type 0 where
   pub values : sc ≡ setup_in top rows
   pub latencies : sc.coordinates ≡ [] → (i j : ℕ) (x y : Node) → i ≢ j → slice_get sc.nodes i ≡ Some x → slice_get sc.nodes j ≡ Some y

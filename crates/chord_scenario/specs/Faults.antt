@@ -129,7 +129,7 @@ latency_below_window window default nodes rows =
     option_map (λ p. LatencyBelowWindow p.0.name p.1.name)
     (first_meeting (λ x y. nat_lt (latency_by_rows default rows x y) window) nodes)
 
--- the number and the height of a node and of a later one: those of the lower one, and of the first at the same height
+-- of a node and of a later one, each as its number and its height: the lower one, and the first if both are as low
 abbrev pub lower : ℕ × ℕ → Option (ℕ × ℕ) → ℕ × ℕ
 lower one None = one
 lower one (Some other) = if nat_lt other.1 one.1 then other else one
@@ -140,7 +140,7 @@ lowest_from left_out n [] = None
 lowest_from left_out n (c ∷ cs) =
     let later = lowest_from left_out (n + 1) cs in if n == left_out then later else Some (lower (n, c.height) later)
 
--- the first of the lowest nodes, and the first of the lowest of the others
+-- the first of the lowest nodes (no node has the number that is left out), and the first of the lowest of the others
 abbrev pub lowest : List Coordinates → Option (ℕ × ℕ)
 lowest coordinates = lowest_from (length coordinates) 0 coordinates
 

@@ -41,8 +41,8 @@ pub record IsCommandOf (sc : Setup) (command : Command) : Type 0 where
   pub node : command.node < node_count sc
   pub action : IsActionOf sc command.action
 
--- the most events of a run: an event makes at most seven others, and these are fewer than 2 ^ 40, below which a node numbers
--- its events
+-- the most events of a run: an event makes at most seven others, and these are fewer than 2 ^ 40, below which a node
+-- numbers its events
 abbrev pub most_events : ℕ
 most_events = 100000000000
 

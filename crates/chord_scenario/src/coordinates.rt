@@ -1,6 +1,6 @@
 //! Latencies by coordinates.
 ghost use Rattle.std.specs.Prelude.{◌≡◌, ◌+◌, ◌*◌, ◌<◌, ◌≤◌};
-ghost use Rattle.chord_scenario.specs.Distances.{root, IsRoot, apart, squared_distance, latency_by_coordinates, IsPlace};
+ghost use Rattle.chord_scenario.specs.Distances.{root, IsRoot, apart, latency_by_coordinates, IsPlace};
 
 use crate::setting::Coordinates;
 

@@ -102,7 +102,7 @@ pub(crate) struct Needs {
     pub coordinates: bool,
 }
 
-/// What the nodes of a file ask of its tables.
+/// Whether some node churns, and whether some node has coordinates.
 fn needs_of(tables: &[PlacedTable<'_>]) -> Needs
     ensures { result ≡ needs_of (map section_of tables.now) }
 {

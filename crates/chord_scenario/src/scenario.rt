@@ -65,7 +65,8 @@ impl Scenario {
     }
 
     /// The profile: 1 is a lossless network with fixed latencies, 2 adds loss and delay, and 3 adds
-    /// requests that are sent again and draws that do not depend on earlier ones.
+    /// requests that are sent again, pauses of joins, checks of predecessors, coordinates, detail,
+    /// and draws that do not depend on earlier ones.
     pub fn profile(&self) -> u32
         ensures { result ≡ self.now.profile }
     {

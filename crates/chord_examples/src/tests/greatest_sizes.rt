@@ -73,7 +73,8 @@ fn stranded_trace<T: Abort + AllocGlobal>(rt: &T) -> String {
     value_of(rt, trace)
 }
 
-/// The longest block: a timeout strands a node with sixty lookups, and the request by which it joins again is lost.
+/// The longest block without detail: a timeout strands a node with sixty lookups, and the request by which it joins
+/// again is lost.
 #[test]
 fn a_block_of_63_lines(rt: HostRuntime) {
     let scenario = stranded(&rt);

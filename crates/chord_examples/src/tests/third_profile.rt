@@ -67,8 +67,8 @@ const LATE_REPLY: Example = Example {
         insufficient 0\nlosses 0\nagain 1\nforgotten 0\n",
 };
 
-/// n0 has crashed. n1 asks it for a sign of life at 100, and forgets it at 140. At 170 n3 asks n1 for its state, which
-/// has no predecessor then; so n3 notifies n1 and becomes its predecessor at 190, and is asked by the next check.
+/// n0 has crashed. n1 asks it for a sign of life at 100, and forgets it at 140. At 160 n3 asks n1 for its state, which
+/// has no predecessor then; so n3 notifies n1 at 180, becomes its predecessor at 190, and is asked by the next check.
 const SILENT_PREDECESSOR: Example = Example {
     name: "silent predecessor",
     settings: "list = 2\nduration_us = 230\nwindow_us = 10\ntimeout_us = 40\naudit_us = 230\nstabilize_us = 120\nfinger_us = 1000\n",
