@@ -90,16 +90,16 @@ REFUSED = [
 ]
 
 
-def text_of(words: str) -> str:
-    """What the tool writes for these words."""
-    status, out, err = ended(main, *words.split())
+def text_of(arguments: str) -> str:
+    """What the tool writes for these arguments."""
+    status, out, err = ended(main, *arguments.split())
     assert status == 0 and all(line.startswith("warning: ") for line in err.splitlines()), err
     return out
 
 
-def made(words: str) -> Scenario:
-    """The scenario of these words, as the reference simulator reads it."""
-    return read_scenario(text_of(words).encode(), b"")
+def made(arguments: str) -> Scenario:
+    """The scenario of these arguments, as the reference simulator reads it."""
+    return read_scenario(text_of(arguments).encode(), b"")
 
 
 def churn_of(scenario: Scenario, node: int) -> list[Command]:
@@ -112,7 +112,7 @@ def ups(scenario: Scenario) -> dict[int, int]:
     return {i: 0 for i, node in enumerate(scenario.nodes) if node.initial}
 
 
-def random_words(random: Random) -> list[str]:
+def random_arguments(random: Random) -> list[str]:
     """Words that the tool takes."""
     profile = random.choice((1, 2, 3))
     bits = random.choice((3, 4, 8, 31, 32, 33, 63, 64) if profile == 1 else (3, 8, 64, 65, 96, 97, 127, 128))
@@ -120,14 +120,14 @@ def random_words(random: Random) -> list[str]:
     initial = random.randint(2, nodes)
     duration = random.choice((1, 30, 10**6, 10**7))
     latency = random.choice((1, 500, 20_000, 10**9))
-    words = {"profile": profile, "bits": bits, "nodes": nodes, "initial": initial}
-    words |= {"duration": duration, "latency": latency}
-    words["seed"] = random.choice((0, 5, 2**63 - 1))
-    words["list"] = random.randint(1, min(16, initial - 1))
-    words["window"] = random.randint(1, latency)
+    arguments = {"profile": profile, "bits": bits, "nodes": nodes, "initial": initial}
+    arguments |= {"duration": duration, "latency": latency}
+    arguments["seed"] = random.choice((0, 5, 2**63 - 1))
+    arguments["list"] = random.randint(1, min(16, initial - 1))
+    arguments["window"] = random.randint(1, latency)
     laws = ("exp:2s", "pareto:1.1:900ms", "uniform:1s..4s", "pareto:0.1:1s", "exp:1s")
     churn = random.choice(("", "itself", "commands"))
-    given = [word for name, value in words.items() for word in (f"--{name}", str(value))]
+    given = [word for name, value in arguments.items() for word in (f"--{name}", str(value))]
     if churn == "itself":
         given += ["--churn-uniform", "1..5s", "250us..1.5s"]
     if churn == "commands":
@@ -179,8 +179,9 @@ class GenerateTest(TestCase):
 
     def test_second_profile(self) -> None:
         """Loss and spread stand behind `max_events`; keys have up to 128 bits, and nodes are as many as may be."""
-        words = "--profile 2 --bits 128 --nodes 4096 --loss 20000 --spread 5ms --lookups 0.001 --duration 10s --seed 3"
-        ring = tomllib.loads(text_of(words))
+        arguments = "--profile 2 --bits 128 --nodes 4096 --loss 20000 --spread 5ms --lookups 0.001"
+        arguments += " --duration 10s --seed 3"
+        ring = tomllib.loads(text_of(arguments))
         assert [ring[key] for key in ("profile", "bits", "loss_ppm", "spread_us")] == [2, 128, 20_000, 5000]
         assert list(ring)[12:15] == ["max_events", "loss_ppm", "spread_us"]
         assert len(ring["node"]) == 4096
@@ -200,13 +201,13 @@ class GenerateTest(TestCase):
 
     def test_joins_and_checks(self) -> None:
         """The keys stand behind `retries` if they are given, and only then."""
-        words = "--profile 3 --check 1s --join-forever --join-pause 5s"
-        ring = tomllib.loads(text_of(words))
+        arguments = "--profile 3 --check 1s --join-forever --join-pause 5s"
+        ring = tomllib.loads(text_of(arguments))
         wanted = [("retries", 0), ("join_pause_us", 5_000_000), ("join_forever", True), ("check_us", 1_000_000)]
         assert list(ring.items())[15:19] == wanted
         plain = tomllib.loads(text_of("--profile 3 --check 0"))
         assert plain["check_us"] == 0 and "join_pause_us" not in plain and "join_forever" not in plain
-        assert text_of(words).splitlines()[2].endswith("--profile 3 --join-pause 5s --join-forever --check 1s")
+        assert text_of(arguments).splitlines()[2].endswith("--profile 3 --join-pause 5s --join-forever --check 1s")
 
     def test_detail(self) -> None:
         """It stands behind the others, in the third profile alone."""
@@ -216,23 +217,23 @@ class GenerateTest(TestCase):
 
     def test_coordinates(self) -> None:
         """Places of the square and heights of the span, both to their ends; the window is the two least heights."""
-        words = "--profile 3 --nodes 300 --coordinates square:9us:3us..7us"
-        ring = made(words)
+        arguments = "--profile 3 --nodes 300 --coordinates square:9us:3us..7us"
+        ring = made(arguments)
         places = [known(node.coordinates) for node in ring.nodes]
         assert {place.x_us for place in places} == {place.y_us for place in places} == set(range(10))
         assert {place.height_us for place in places} == set(range(3, 8))
-        assert ring.window_us == 6 and made(f"{words} --window 2us").window_us == 2
+        assert ring.window_us == 6 and made(f"{arguments} --window 2us").window_us == 2
         alike = made("--profile 3 --nodes 2 --coordinates square:0:4ms..4ms")
         assert [node.coordinates for node in alike.nodes] == [Coordinates(0, 0, 4000)] * 2
         assert alike.window_us == 8000
 
     def test_coordinates_of_their_own(self) -> None:
         """More nodes, churn and lookups leave the coordinates of a node; a seed gives others."""
-        words = "--profile 3 --coordinates square:1s:1ms..9ms"
-        few = [node.coordinates for node in made(f"{words} --nodes 20").nodes]
-        more = made(f"{words} --nodes 30 --lifetime exp:20s --lookups 0.1 --bits 64")
+        arguments = "--profile 3 --coordinates square:1s:1ms..9ms"
+        few = [node.coordinates for node in made(f"{arguments} --nodes 20").nodes]
+        more = made(f"{arguments} --nodes 30 --lifetime exp:20s --lookups 0.1 --bits 64")
         assert [node.coordinates for node in more.nodes][:20] == few
-        assert [node.coordinates for node in made(f"{words} --nodes 20 --seed 2").nodes] != few
+        assert [node.coordinates for node in made(f"{arguments} --nodes 20 --seed 2").nodes] != few
         other = made("--profile 3 --nodes 30 --lifetime exp:20s --lookups 0.1 --bits 64")
         assert other.commands == more.commands
 
@@ -334,35 +335,35 @@ class GenerateTest(TestCase):
 
     def test_streams_of_their_own(self) -> None:
         """Lookups do not change the lives, and more nodes change neither lives nor lookups of the others."""
-        words = "--lifetime exp:20s --down exp:5s --lookups 0.1 --via first --nodes"
-        few, more = made(f"{words} 20"), made(f"{words} 30")
+        arguments = "--lifetime exp:20s --down exp:5s --lookups 0.1 --via first --nodes"
+        few, more = made(f"{arguments} 20"), made(f"{arguments} 30")
         assert [command for command in more.commands if command.node < 20] == few.commands
         quiet = made("--lifetime exp:20s --down exp:5s --via first --nodes 20")
         assert quiet.commands == [command for command in few.commands if command.do != "lookup"]
 
     def test_longer_run_begins_as_the_shorter(self) -> None:
         """The commands of a minute are those of the first minute of two."""
-        words = "--nodes 20 --initial 9 --arrive 0..50s --lifetime exp:20s --down exp:5s --lookups 0.1 --duration"
-        short, long = made(f"{words} 60s"), made(f"{words} 120s")
+        arguments = "--nodes 20 --initial 9 --arrive 0..50s --lifetime exp:20s --down exp:5s --lookups 0.1 --duration"
+        short, long = made(f"{arguments} 60s"), made(f"{arguments} 120s")
         assert short.commands == [command for command in long.commands if command.at_us < 60_000_000]
         assert len(long.commands) > len(short.commands) > 50
 
     def test_same_words_same_bytes(self) -> None:
         """In another process, with other hashes; another seed gives another file."""
-        words = "--nodes 20 --initial 5 --lifetime pareto:1.5:5s --lookups 0.5 --keys zipf:0.9:50"
+        arguments = "--nodes 20 --initial 5 --lifetime pareto:1.5:5s --lookups 0.5 --keys zipf:0.9:50"
         for seed in ("1", "2"):
             hashes = os.environ | {"PYTHONHASHSEED": seed}
-            there = subprocess.run([TOOL, *words.split()], env=hashes, capture_output=True, text=True, check=True)
-            assert there.stdout == text_of(words)
-        assert text_of(words + " --seed 2") != text_of(words)
+            there = subprocess.run([TOOL, *arguments.split()], env=hashes, capture_output=True, text=True, check=True)
+            assert there.stdout == text_of(arguments)
+        assert text_of(arguments + " --seed 2") != text_of(arguments)
 
     def test_head_says_the_words(self) -> None:
-        """The words of the head, given again, make the same file; the file's name is not among them."""
-        words = "--seed 7 --lifetime exp:9s --nodes 9 --churn-uniform 1s..2s 3s..4s".split()
-        assert ended(main, *words)[0] == 2
+        """The arguments in the head, given again, make the same file; the file's name is not among them."""
+        arguments = "--seed 7 --lifetime exp:9s --nodes 9 --churn-uniform 1s..2s 3s..4s".split()
+        assert ended(main, *arguments)[0] == 2
         with tempfile.TemporaryDirectory() as folder:
             name = Path(folder) / "a b.toml"
-            assert ended(main, *words[:-3], "-o", str(name)) == (0, "", "")
+            assert ended(main, *arguments[:-3], "-o", str(name)) == (0, "", "")
             text = name.read_text()
             assert list(Path(folder).iterdir()) == [name]
         assert text.splitlines()[2] == "#   tools/generate --nodes 9 --seed 7 --lifetime exp:9s"
@@ -371,9 +372,9 @@ class GenerateTest(TestCase):
     def test_refused_words(self) -> None:
         """One line that names the option and its range, status 2, and no file."""
         with tempfile.TemporaryDirectory() as folder:
-            for words, text in REFUSED:
-                with self.subTest(arguments=words):
-                    status, out, err = ended(main, "-o", f"{folder}/x.toml", *words.split())
+            for arguments, text in REFUSED:
+                with self.subTest(arguments=arguments):
+                    status, out, err = ended(main, "-o", f"{folder}/x.toml", *arguments.split())
                     assert (status, out) == (2, "")
                     assert err.startswith("tools/generate: ") and text in err and err.count("\n") == 1, err
             assert list(Path(folder).iterdir()) == []
@@ -392,8 +393,8 @@ class GenerateTest(TestCase):
     def test_disk_that_fills_up(self) -> None:
         """Only 512 or 1024 bytes fit in a file: status 3, and of the part that was written nothing is left."""
         with tempfile.TemporaryDirectory() as folder:
-            words = f"ulimit -f 1; exec {TOOL} --nodes 512 -o {folder}/x.toml"
-            there = subprocess.run(["sh", "-c", words], capture_output=True, text=True, check=False)
+            arguments = f"ulimit -f 1; exec {TOOL} --nodes 512 -o {folder}/x.toml"
+            there = subprocess.run(["sh", "-c", arguments], capture_output=True, text=True, check=False)
             assert (there.returncode, there.stdout) == (3, "")
             assert there.stderr == f"failed: {folder}/x.toml: File too large\n"
             assert list(Path(folder).iterdir()) == []
@@ -422,17 +423,17 @@ class GenerateTest(TestCase):
             assert link.is_symlink() and not file.is_symlink() and file.read_text() == text_of("")
 
     def test_random_words_are_accepted(self) -> None:
-        """Forty sets of words: `chordsim check` accepts what is written, with as many commands as the head counts."""
+        """Forty sets of arguments: `chordsim check` accepts what is written, with the commands that the head counts."""
         program()
         random = Random(1)
         with tempfile.TemporaryDirectory() as folder:
             name = Path(folder) / "x.toml"
             for _ in range(40):
-                words = random_words(random)
-                assert ended(main, *words, "-o", str(name))[:2] == (0, ""), words
+                arguments = random_arguments(random)
+                assert ended(main, *arguments, "-o", str(name))[:2] == (0, ""), arguments
                 text = name.read_text()
                 nodes, commands = text.count("[[node]]"), text.count("[[command]]")
-                assert checked(name) == f"ok nodes={nodes} commands={commands}\n", words
+                assert checked(name) == f"ok nodes={nodes} commands={commands}\n", arguments
                 read_scenario(text.encode(), b"")
 
     def test_random_scenarios(self) -> None:
@@ -451,9 +452,10 @@ class GenerateTest(TestCase):
         program()
         with tempfile.TemporaryDirectory() as folder:
             name = Path(folder) / "x.toml"
-            words = "--nodes 50 --stay 0 --lifetime uniform:1s..1s --down uniform:1s..1s --duration 1990s -o".split()
-            assert ended(main, *words, str(name)) == (0, "", "")
+            lives = "--lifetime uniform:1s..1s --down uniform:1s..1s"
+            arguments = f"--nodes 50 --stay 0 {lives} --duration 1990s -o".split()
+            assert ended(main, *arguments, str(name)) == (0, "", "")
             assert checked(name) == "ok nodes=50 commands=99450\n"
-            assert ended(main, *words, str(name), "--lookups", "0.02")[0] == 2
-            assert ended(main, *words, str(name), "--nodes", "51")[0] == 2
+            assert ended(main, *arguments, str(name), "--lookups", "0.02")[0] == 2
+            assert ended(main, *arguments, str(name), "--nodes", "51")[0] == 2
             assert checked(name) == "ok nodes=50 commands=99450\n"

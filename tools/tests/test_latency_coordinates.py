@@ -88,21 +88,21 @@ class FitTest(Folder):
         """
         places = places_of(King(), 5, names(60))
         rows = [row for number, row in enumerate(rows_of(places).splitlines()) if number % 3]
-        words = ("--fit", self.file("links.csv", "\n".join(rows)), "--floor", "1us")
-        status, out, err = ended(main, *words)
+        arguments = ("--fit", self.file("links.csv", "\n".join(rows)), "--floor", "1us")
+        status, out, err = ended(main, *arguments)
         assert status == 0 and err.startswith("nodes 60, pairs 1180, relative error: median 0."), err
         assert float(err.partition("90th percentile ")[2].partition(" %")[0]) < 3
         found = {name: Coordinates(*map(int, rest)) for name, *rest in (line.split(",") for line in out.splitlines())}
         far = [abs(found["n0"].latency_to(found[f"n{i}"]) / places[0].latency_to(places[i]) - 1) for i in range(1, 60)]
         assert median(far) < 0.01
-        assert ended(main, *words) == (status, out, err)
-        assert ended(main, *words, "--seed", "2")[1] != out
+        assert ended(main, *arguments) == (status, out, err)
+        assert ended(main, *arguments, "--seed", "2")[1] != out
 
     def test_window(self) -> None:
         """The least latency of the file, or --floor, is kept: the two least heights together are not below it."""
         links = self.file("links.csv", "b,a,1001\na,c,3000\nb,c,2500\n")
-        for words, least in (((), 1002), (("--floor", "2ms"), 2000)):
-            status, out, err = ended(main, "--fit", links, *words)
+        for arguments, least in (((), 1002), (("--floor", "2ms"), 2000)):
+            status, out, err = ended(main, "--fit", links, *arguments)
             assert status == 0 and [line.split(",")[0] for line in out.splitlines()] == ["b", "a", "c"]
             heights = sorted(int(line.split(",")[3]) for line in out.splitlines())
             window = int(err.rpartition(" ")[2])
@@ -176,8 +176,8 @@ class KingTest(Folder):
     def test_generate(self) -> None:
         """The law of tools/generate is the same, and so is a file of the tool."""
         places = self.file("places.csv", ended(main, "--king", "--nodes", "20", "--seed", "3")[1])
-        words = ("--profile", "3", "--nodes", "20", "--seed", "3", "--timeout", "1s", "--coordinates")
-        made = [ended(generate, *words, law) for law in ("king", f"file:{places}")]
+        arguments = ("--profile", "3", "--nodes", "20", "--seed", "3", "--timeout", "1s", "--coordinates")
+        made = [ended(generate, *arguments, law) for law in ("king", f"file:{places}")]
         for status, text, err in made:
             assert (status, err) == (0, "")
             nodes = read_scenario(text.encode(), b"").nodes
@@ -190,8 +190,8 @@ class PlacesFileTest(Folder):
     def generated(self, text: str) -> tuple[int, str]:
         """The status of tools/generate for two nodes with such a file, and what it says."""
         name = self.file("places.csv", text)
-        words = ("--profile", "3", "--nodes", "2", "--list", "1", "--latency", "9s", "--coordinates", f"file:{name}")
-        status, _, err = ended(generate, *words)
+        arguments = f"--profile 3 --nodes 2 --list 1 --latency 9s --coordinates file:{name}".split()
+        status, _, err = ended(generate, *arguments)
         # Nodes that are so far from each other have too short a timeout.
         return status, "" if err.startswith("warning: timeout_us") else err.replace(name, "FILE")
 
@@ -211,8 +211,8 @@ class PlacesFileTest(Folder):
     def test_study(self) -> None:
         """A study names the file relative to its own. Coordinates are no latency file."""
         self.file("places.csv", "n0,1,2,3\nn1,4,5,6\n")
-        words = "--profile 3 --nodes 2 --list 1 --coordinates file:places.csv --duration 1s".split()
-        text = f'question = "?"\nseeds = 1\ngenerate = {words}\n'
+        arguments = "--profile 3 --nodes 2 --list 1 --coordinates file:places.csv --duration 1s".split()
+        text = f'question = "?"\nseeds = 1\ngenerate = {arguments}\n'
         study = read_study(Path(self.file("study.toml", text)))
         nodes = read_scenario(generated(study, (), 1).encode(), b"").nodes
         assert [node.coordinates for node in nodes] == [Coordinates(1, 2, 3), Coordinates(4, 5, 6)]

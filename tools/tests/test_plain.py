@@ -58,9 +58,9 @@ def outcome(command: list[str], trace: Path) -> Outcome:
     return Outcome(done.returncode, done.stdout, done.stderr, trace.read_text(encoding="utf-8"))
 
 
-def generated(words: str) -> str:
+def generated(arguments: str) -> str:
     """What tools/generate writes, whatever it warns of."""
-    status, text, _ = ended(generate, *words.split())
+    status, text, _ = ended(generate, *arguments.split())
     assert status == 0
     return text
 
@@ -115,8 +115,9 @@ class ReferenceTest(Built):
     def test_coordinates(self) -> None:
         """Latencies by coordinates, which are near, or of two nodes so far that 2000^2 + 2000000^2 is 2000001^2 - 1."""
         places = iter(("x_us = 0\ny_us = 0\nheight_us = 10", "x_us = 2000\ny_us = 2000000\nheight_us = 5"))
-        words = "--profile 3 --nodes 24 --coordinates square:90ms:10us..20ms --window 10us --duration 9s --check 500ms"
-        text = generated(words)
+        arguments = "--profile 3 --nodes 24 --coordinates square:90ms:10us..20ms --window 10us"
+        arguments += " --duration 9s --check 500ms"
+        text = generated(arguments)
         far = re.sub("x_us = .*\ny_us = .*\nheight_us = .*", lambda found: next(places, found.group()), text)
         for scenario in (text, far):
             plain, (trace, report) = self.plain(scenario, ""), expected(scenario, "")
