@@ -1,9 +1,10 @@
-//! Tests, and what they share: `gates`, `left`, `random_texts`, `ring_of_three` and `steps`.
+//! Tests, and what they share: `comparisons`, `gates`, `left`, `random_texts`, `ring_of_three` and `steps`.
 mod audits;
 mod by_engine;
 mod by_example;
 mod by_plan;
 mod circles;
+mod comparisons;
 mod coordinates;
 mod crews;
 mod dealers;
@@ -23,6 +24,7 @@ mod searches;
 mod second_profile;
 mod steps;
 mod streams;
+mod team_windows;
 mod third_profile;
 mod watched;
 mod windows;
