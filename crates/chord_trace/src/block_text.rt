@@ -15,6 +15,10 @@ use std::alloc::{AllocError, Global};
 use std::fmt::Write as _;
 use std::io::Write;
 
+/// The room in bytes that is made for a line before it is written, so that the text does not grow
+/// piece by piece. Most lines need less.
+const ROOM_FOR_LINE: usize = 96;
+
 /// Writes the lines of an event. The error is `Memory` if an allocation fails, and `Write` if the
 /// writer fails.
 pub fn write_block<W: Write>(
@@ -56,6 +60,7 @@ fn push_line(
     requires names { IsLineOf scenario.now line }
     ensures { OnOk result (string_bytes text.new ≡ string_bytes text.old ++ line_text scenario.now time node line) }
 {
+    text.try_reserve(ROOM_FOR_LINE)?;
     write!(text, "{time} {} ", scenario.name(node))?;
     push_words(text, scenario, line)?;
     text.push('\n')
