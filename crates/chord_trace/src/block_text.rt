@@ -34,6 +34,10 @@ pub fn write_block<W: Write>(
     ensures writer { has_failed writer.new ≡ is_write result }
     ensures only { IfErr result (λ e. (e ≡ RunError.Memory) ⊎ (e ≡ RunError.Write)) }
 {
+    // Most events write nothing.
+    if block.lines.as_slice().is_empty() {
+        return Ok(());
+    }
     let mut text = String::new(alloc);
     push_block(&mut text, scenario, block)?;
     write_text(text.as_bytes(), writer)
