@@ -16,7 +16,7 @@ pub struct Example {
 }
 
 /// Two nodes opposite each other.
-pub const TWO_NODES: &str = "[[node]]\n\
+const TWO_NODES: &str = "[[node]]\n\
     name = \"n0\"\n\
     id = 0\n\
     initial = true\n\

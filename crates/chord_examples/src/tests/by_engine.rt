@@ -5,13 +5,13 @@ use crate::examples::engines::{ENGINES, Engine, Shape};
 use crate::examples::table::{Example, TWO_LOOKUPS, example_groups};
 use crate::tests::left::{Picked, run_left, run_picks};
 use crate::tests::ring_of_three::{scenario_of, scenario_of_example, two_lookups};
-use crate::tests::second_profile::ring_of;
-use crate::tests::steps::holds;
+use crate::tests::steps::{holds, value_of};
 use crate::tests::windows::divide;
 use chord_crew::MOST_SEATS;
 use chord_play::Split;
 use chord_scenario::Scenario;
 use chord_window::MOST_PARTS;
+use std::fmt::Write as _;
 use std::process::Abort;
 use std::sync::Wait;
 use std::thread::Threads;
@@ -162,6 +162,28 @@ fn takes_the_lowest<T: Abort + AllocGlobal>(rt: &T, scenario: &Scenario, parts: 
     left.shows(rt, &parts, TWO_LOOKUPS.trace, TWO_LOOKUPS.report);
     let first = steps.as_str().lines().all(|step| step.starts_with("0 "));
     holds(rt, first, &parts);
+}
+
+/// A ring of `nodes` nodes, each with its number as identifier, in which the first node looks a key up.
+fn ring_of<T: Abort + AllocGlobal>(rt: &T, bits: u32, nodes: u32, key: u32) -> String {
+    let top = format!(in rt.alloc();
+        "profile = 2\nbits = {bits}\nseed = 1\nlatency_us = 10\nlist = 16\nduration_us = 300\n\
+         window_us = 10\ntimeout_us = 40\naudit_us = 300\nstabilize_us = 1000\nfinger_us = 1000\n"
+    );
+    let mut text = value_of(rt, top);
+    for node in 0..nodes {
+        let table = writeln!(
+            text,
+            "[[node]]\nname = \"n{node}\"\nid = {node}\ninitial = true"
+        );
+        value_of(rt, table);
+    }
+    let command = writeln!(
+        text,
+        "[[command]]\nat_us = 100\ndo = \"lookup\"\nnode = \"n0\"\nkey = {key}"
+    );
+    value_of(rt, command);
+    text
 }
 
 /// As many parts as nodes, and as many workers as there can be, write what one event at a time writes.

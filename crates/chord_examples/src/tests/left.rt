@@ -71,18 +71,6 @@ pub fn all_leave<T: Abort + AllocGlobal + Threads + Wait + Sync>(
     }
 }
 
-/// Asserts that a scenario leaves this trace by each engine.
-pub fn all_write<T: Abort + AllocGlobal + Threads + Wait + Sync>(
-    rt: &T,
-    scenario: &Scenario,
-    trace: &str,
-) {
-    for engine in ENGINES {
-        let left = run_left(rt, engine, PAIR, scenario);
-        left.has_written(rt, &engine, trace);
-    }
-}
-
 /// What a run by windows left, and a line for each step: its worker, and the step.
 #[derive(Drop)]
 pub struct Picked {

@@ -7,7 +7,7 @@ use std::alloc::AllocError;
 use std::fmt::Write as _;
 
 /// Three nodes without identifiers, which churn and look up at once.
-pub const NAMED: &str = r#"profile = 1
+const NAMED: &str = r#"profile = 1
 bits = 8
 list = 1
 seed = 1

@@ -8,9 +8,6 @@ use std::process::Abort;
 /// A lookup of n0, which knows the owner.
 pub const NO_HOP: &str = "[[command]]\nat_us = 100\ndo = \"lookup\"\nnode = \"n0\"\nkey = 1\n";
 
-/// A lookup of n3, which asks n0.
-pub const ONE_HOP: &str = "[[command]]\nat_us = 100\ndo = \"lookup\"\nnode = \"n3\"\nkey = 1\n";
-
 /// The text of the ring with these commands.
 pub fn text_of_three<T: Abort + AllocGlobal>(rt: &T, commands: &str) -> String {
     value_of(rt, text_of(rt.alloc(), SETTINGS, THREE, commands))
