@@ -1,6 +1,6 @@
 #!/bin/sh
-# Runs the tests of the tools. What the plots need is installed from Debian's packages if it is not there; if that cannot
-# be, the tests of plots are skipped.
+# Runs the tests of the tools and of the program. What the plots need is installed from Debian's packages if it is not
+# there; if that cannot be, the tests of plots are skipped.
 #
 #   tools/run_tests.sh
 #

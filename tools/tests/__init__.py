@@ -1,1 +1,1 @@
-"""Tests of chordsim_tools: `tools/run_tests.sh`, or `cd tools && python3 -m unittest tests.test_rules`."""
+"""Tests of the tools and of the program: `tools/run_tests.sh`, or in tools `python3 -m unittest tests.test_rules`."""
