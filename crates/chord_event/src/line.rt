@@ -24,7 +24,7 @@ pub enum CommandKind {
 }
 
 /// One line of an event's block. Nodes are named by their numbers from 0. `us` is in microseconds.
-#[derive(Clone, Copy, Debug, PartialEq, Eq, Drop)]
+#[derive(Clone, Copy, Drop)]
 pub enum Line {
     Join {
         via: u32,
