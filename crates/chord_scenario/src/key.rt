@@ -8,7 +8,7 @@ use std::fmt;
 
 /// The place of a table of the scenario file, or of a row of the latency file. Nodes, commands and
 /// rows are counted from 1.
-#[derive(Clone, Copy, Debug, PartialEq, Eq)]
+#[derive(Clone, Copy)]
 pub enum Place {
     Top,
     Churn,
@@ -32,7 +32,7 @@ impl fmt::Display for Place {
 }
 
 /// A key of a table of the scenario file.
-#[derive(Clone, Copy, Debug, PartialEq, Eq)]
+#[derive(Clone, Copy)]
 pub enum FileKey {
     Profile,
     Bits,
@@ -127,7 +127,7 @@ impl FileKey {
 }
 
 /// What a value may be.
-#[derive(Clone, Copy, Debug, PartialEq, Eq)]
+#[derive(Clone, Copy)]
 pub(crate) enum Form {
     /// A whole number from the first to the second.
     Whole(u64, u64),
@@ -143,7 +143,7 @@ pub(crate) enum Form {
 }
 
 /// When a key is required.
-#[derive(Clone, Copy, Debug, PartialEq, Eq)]
+#[derive(Clone, Copy)]
 pub(crate) enum Presence {
     Required,
     Optional,
@@ -158,7 +158,7 @@ pub(crate) enum Presence {
 }
 
 /// The tables of one array.
-#[derive(Clone, Copy, Debug, PartialEq, Eq)]
+#[derive(Clone, Copy)]
 pub(crate) enum Group {
     Nodes,
     Commands,
@@ -187,7 +187,7 @@ impl Group {
 }
 
 /// A key of a table, with what it may hold and when it is required.
-#[derive(Clone, Copy, Debug, PartialEq, Eq)]
+#[derive(Clone, Copy)]
 pub(crate) struct Entry(pub FileKey, pub Form, pub Presence);
 
 /// A number of microseconds that is at least 1.

@@ -9,7 +9,7 @@ use crate::value::text_at;
 use toml::Table;
 
 /// What a command may ask of its node.
-#[derive(Clone, Copy, Debug, PartialEq, Eq)]
+#[derive(Clone, Copy)]
 pub(crate) enum Operation {
     Join,
     Crash,
