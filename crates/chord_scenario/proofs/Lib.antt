@@ -2,6 +2,7 @@ pub mod Values
 pub mod Hexadecimal
 pub mod KeyFaults
 pub mod FirstSome
+pub mod Built
 pub mod Documents
 pub mod FirstRepeat
 pub mod Heights

@@ -1,0 +1,61 @@
+-- A loop over tables that adds, for each of one kind, what it makes of it.
+use Rattle.std.proofs.Common.{
+  ◌≡◌,
+  ◌∙◌,
+  sym,
+  ap,
+  refl,
+  ℕ,
+  ◌+◌,
+  ◌<◌,
+  Bool,
+  true,
+  false,
+  List,
+  [],
+  ◌∷◌,
+  ◌++◌,
+  map,
+  filter,
+  length,
+  drop,
+  get_or,
+  append_assoc,
+}
+use Rattle.std.proofs.lemmas.List.{drop_more}
+use Rattle.chord_scenario.specs.declared.key.Place.{Place}
+use Rattle.chord_scenario.specs.declared.key.Place.TheVariants as place
+use Rattle.chord_scenario.specs.Settings.{is_node, is_command}
+
+-- a place that is that of no node, or of no command
+pub no-node : (at : Place) → ((n : ℕ) → at ≡ place.Node n → ⊥) → is_node at ≡ false
+no-node (place.Node n) other = absurd (other n refl)
+no-node _ other = refl
+
+pub no-command : (at : Place) → ((n : ℕ) → at ≡ place.Command n → ⊥) → is_command at ≡ false
+no-command (place.Command n) other = absurd (other n refl)
+no-command _ other = refl
+
+-- what is made of the items of the kind
+abbrev pub made : {X A B : Type 0} → (X → A) → (A → Bool) → (A → B) → List X → List B
+made seen test make xs = map make (filter test (map seen xs))
+
+module _ {X A B : Type 0} (seen : X → A) (test : A → Bool) (make : A → B) (xs : List X) (i : ℕ) (x : X) (done : List B) where
+  turn : i < length xs → x ≡ get_or xs i x → made seen test make (drop i xs) ≡ made seen test make (x ∷ drop (i + 1) xs)
+  turn within is = ap (made seen test make) (drop_more xs i x within) ∙ ap (λ y. made seen test make (y ∷ drop (i + 1) xs)) (sym is)
+
+  -- an item of the kind is added
+  pub made-more : (y : B) → done ++ made seen test make (drop i xs) ≡ made seen test make xs → i < length xs → x ≡ get_or xs i x
+      → test (seen x) ≡ true → y ≡ make (seen x)
+      → (done ++ y ∷ []) ++ made seen test make (drop (i + 1) xs) ≡ made seen test make xs
+  made-more y before within is here same =
+      let rest : List B = made seen test make (drop (i + 1) xs) in
+      let next : made seen test make (x ∷ drop (i + 1) xs) ≡ make (seen x) ∷ rest = rw here refl in
+      append_assoc done (y ∷ []) rest ∙ ap (λ z. done ++ z ∷ rest) same ∙ ap (λ l. done ++ l) (sym (turn within is ∙ next)) ∙ before
+
+  -- another is passed over
+  pub made-other : done ++ made seen test make (drop i xs) ≡ made seen test make xs → i < length xs → x ≡ get_or xs i x → test (seen x) ≡ false
+      → done ++ made seen test make (drop (i + 1) xs) ≡ made seen test make xs
+  made-other before within is here =
+      let next : made seen test make (x ∷ drop (i + 1) xs) ≡ made seen test make (drop (i + 1) xs) = rw here refl in
+      ap (λ l. done ++ l) (sym (turn within is ∙ next)) ∙ before
