@@ -57,28 +57,53 @@ impl From<AllocError> for ScenarioFault {
     }
 }
 
+impl ScenarioFault {
+    /// The number and the name of the fault, with which its text begins.
+    fn heading(&self) -> &'static str {
+        match self {
+            ScenarioFault::NotToml => "S1 NotToml",
+            ScenarioFault::UnknownKey(_) => "S2 UnknownKey",
+            ScenarioFault::MissingKey(_, _) => "S3 MissingKey",
+            ScenarioFault::WrongType(_, _) => "S4 WrongType",
+            ScenarioFault::OutOfRange(_, _) => "S5 OutOfRange",
+            ScenarioFault::BadName(_) => "S6 BadName",
+            ScenarioFault::SameName(_, _) => "S7 SameName",
+            ScenarioFault::SameId(_, _) => "S8 SameId",
+            ScenarioFault::UnknownNode(_) => "S9 UnknownNode",
+            ScenarioFault::TooFewInitial => "S10 TooFewInitial",
+            ScenarioFault::TimeAfterEnd(_) => "S11 TimeAfterEnd",
+            ScenarioFault::BadLatencyRow(_) => "S12 BadLatencyRow",
+            ScenarioFault::SelfLink(_) => "S13 SelfLink",
+            ScenarioFault::SameLinkTwice(_) => "S14 SameLinkTwice",
+            ScenarioFault::LatencyBelowWindow(_, _) => "S15 LatencyBelowWindow",
+            ScenarioFault::RowsAndCoordinates => "S16 RowsAndCoordinates",
+            ScenarioFault::Memory => "Memory",
+        }
+    }
+}
+
 impl fmt::Display for ScenarioFault {
     fn fmt<W: fmt::Write>(&self, f: &mut fmt::Formatter<W>) -> fmt::Result {
+        f.write_str(self.heading())?;
         match self {
-            ScenarioFault::NotToml => f.write_str("S1 NotToml"),
-            ScenarioFault::UnknownKey(at) => write!(f, "S2 UnknownKey {at}"),
-            ScenarioFault::MissingKey(at, key) => write!(f, "S3 MissingKey {at} {}", key.name()),
-            ScenarioFault::WrongType(at, key) => write!(f, "S4 WrongType {at} {}", key.name()),
-            ScenarioFault::OutOfRange(at, key) => write!(f, "S5 OutOfRange {at} {}", key.name()),
-            ScenarioFault::BadName(at) => write!(f, "S6 BadName {at}"),
-            ScenarioFault::SameName(i, j) => write!(f, "S7 SameName node {i} node {j}"),
-            ScenarioFault::SameId(a, b) => write!(f, "S8 SameId {} {}", a.as_str(), b.as_str()),
-            ScenarioFault::UnknownNode(at) => write!(f, "S9 UnknownNode {at}"),
-            ScenarioFault::TooFewInitial => f.write_str("S10 TooFewInitial"),
-            ScenarioFault::TimeAfterEnd(at) => write!(f, "S11 TimeAfterEnd {at}"),
-            ScenarioFault::BadLatencyRow(at) => write!(f, "S12 BadLatencyRow {at}"),
-            ScenarioFault::SelfLink(at) => write!(f, "S13 SelfLink {at}"),
-            ScenarioFault::SameLinkTwice(at) => write!(f, "S14 SameLinkTwice {at}"),
-            ScenarioFault::LatencyBelowWindow(a, b) => {
-                write!(f, "S15 LatencyBelowWindow {} {}", a.as_str(), b.as_str())
+            ScenarioFault::UnknownKey(at)
+            | ScenarioFault::BadName(at)
+            | ScenarioFault::UnknownNode(at)
+            | ScenarioFault::TimeAfterEnd(at)
+            | ScenarioFault::BadLatencyRow(at)
+            | ScenarioFault::SelfLink(at)
+            | ScenarioFault::SameLinkTwice(at) => write!(f, " {at}"),
+            ScenarioFault::MissingKey(at, key)
+            | ScenarioFault::WrongType(at, key)
+            | ScenarioFault::OutOfRange(at, key) => write!(f, " {at} {}", key.name()),
+            ScenarioFault::SameName(i, j) => write!(f, " node {i} node {j}"),
+            ScenarioFault::SameId(a, b) | ScenarioFault::LatencyBelowWindow(a, b) => {
+                write!(f, " {} {}", a.as_str(), b.as_str())
             }
-            ScenarioFault::RowsAndCoordinates => f.write_str("S16 RowsAndCoordinates"),
-            ScenarioFault::Memory => f.write_str("Memory"),
+            ScenarioFault::NotToml
+            | ScenarioFault::TooFewInitial
+            | ScenarioFault::RowsAndCoordinates
+            | ScenarioFault::Memory => Ok(()),
         }
     }
 }
