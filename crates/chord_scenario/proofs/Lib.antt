@@ -3,6 +3,7 @@ pub mod Hexadecimal
 pub mod KeyFaults
 pub mod FirstSome
 pub mod Built
+pub mod FirstFound
 pub mod Documents
 pub mod FirstRepeat
 pub mod Heights
