@@ -65,7 +65,7 @@ use Rattle.chord_trace.specs.Merging.{block_key}
 use Rattle.chord_team.proofs.Merged.{in_either}
 use Rattle.chord_team.proofs.Texts.{as_many, mark_key, text_of}
 use Rattle.chord_team.specs.Heads.{IsBelow, IsHead, IsLimit, ahead, blocks_at, head_at, head_cmp, with_blocks}
-use Rattle.chord_team.specs.Outputs.{AreTexts, IsText}
+use Rattle.chord_team.specs.Outputs.{AreTexts, IsMarked}
 use Rattle.chord_team.specs.declared.output.Head.{Head}
 use Rattle.chord_team.specs.declared.output.Mark.{Mark}
 use Rattle.chord_team.specs.declared.output.Output.{Output}
@@ -143,7 +143,7 @@ put_none (b ∷ blocks) ls e = absurd (omega (arith, e))
 
 module _ (sc : Setup) (lists : List (List Block)) where
   -- the head at a mark
-  pub head_made : (part place start : ℕ) (o : Output) (head : Head) → IsText sc (blocks_at lists part) o
+  pub head_made : (part place start : ℕ) (o : Output) (head : Head) → IsMarked sc (blocks_at lists part) o
       → start ≡ length (text_of sc (take place (blocks_at lists part))) → Some head ≡ head_at o.marks.items part place start → IsHead sc lists head
   head_made part place start o head is from made =
       let g = got (λ (m : Mark). record { key = m.key; part = part; place = place; start = start }) o.marks.items place head made in
@@ -194,7 +194,7 @@ module _ (sc : Setup) (lists : List (List Block)) where
       let one : suc part ≡ part + 1 = omega arith in
       filled_at lists part lt ∙ ap (λ n. put_filled (blocks_at lists part) (with_blocks (drop n lists))) one
 
-  pub head_put : (part : ℕ) (o : Output) (hs new : List Head) (head : Head) → part < length lists → IsText sc (blocks_at lists part) o
+  pub head_put : (part : ℕ) (o : Output) (hs new : List Head) (head : Head) → part < length lists → IsMarked sc (blocks_at lists part) o
       → Some head ≡ head_at o.marks.items part 0 0 → IsPermutation (head ∷ hs) new → AreHeads part hs → AreHeads (part + 1) new
   head_put part o hs new head lt is made put are =
       let left : List (List Block) = with_blocks (drop (part + 1) lists) in
@@ -214,7 +214,7 @@ module _ (sc : Setup) (lists : List (List Block)) where
             (IsPermutation-append_left left (map (ahead lists) (head ∷ hs)) (map (ahead lists) new) (IsPermutation-map (ahead lists) (head ∷ hs) new put));
       }
 
-  pub head_skipped : (part : ℕ) (o : Output) (hs : List Head) → part < length lists → IsText sc (blocks_at lists part) o
+  pub head_skipped : (part : ℕ) (o : Output) (hs : List Head) → part < length lists → IsMarked sc (blocks_at lists part) o
       → None ≡ head_at o.marks.items part 0 0 → AreHeads part hs → AreHeads (part + 1) hs
   head_skipped part o hs lt is made are =
       let none : length (blocks_at lists part) ≡ 0 =

@@ -22,6 +22,7 @@ pub mod TeamMail
 pub mod TeamOrders
 pub mod TeamShares
 pub mod Texts
+pub mod Told
 pub mod WindowFaults
 pub mod WindowNext
 pub mod WindowParts

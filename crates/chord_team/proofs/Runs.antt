@@ -45,7 +45,7 @@ use Rattle.chord_team.proofs.Heads.{all_moved, at_most_all, below_heads, got, go
 use Rattle.chord_team.proofs.Merged.{begun, merged_front, merged_whole, put_run}
 use Rattle.chord_team.proofs.Texts.{as_many, mark_end, mark_key, text-append, text_between, text_of, text_within}
 use Rattle.chord_team.specs.Heads.{IsBelow, IsHead, IsLimit, ahead, blocks_at, head_at, head_cmp, with_blocks}
-use Rattle.chord_team.specs.Outputs.{AreTexts, CanMergeLists, IsMergeOf, IsText, joined}
+use Rattle.chord_team.specs.Outputs.{AreTexts, CanMergeLists, IsMergeOf, IsMarked, joined}
 use Rattle.chord_team.specs.declared.output.Head.{Head}
 use Rattle.chord_team.specs.declared.output.Mark.{Mark}
 use Rattle.chord_team.specs.declared.output.Output.{Output}
@@ -66,7 +66,7 @@ module _ (sc : Setup) (lists : List (List Block)) where
     pub up : IsUpperBound head_cmp h ws
     pub heads : AllByRecursion (IsHead sc lists) (h ∷ ws)
     pub lim : IsLimit limit ws
-    pub text : IsText sc (blocks_at lists h.part) o
+    pub text : IsMarked sc (blocks_at lists h.part) o
     pub run : IsRun h limit after
     pub ends : end ≡ length (text_of sc (take after (blocks_at lists h.part)))
 
@@ -135,8 +135,8 @@ pub taken_at : {sc : Setup} {lists : List (List Block)} {outputs : List Output} 
 taken_at {sc} {lists} {outputs} {hs} {ws} {h} {o} limit after m are heads out up lim its here more within below =
     let both : AllByRecursion (IsHead sc lists) (h ∷ ws) = all_moved (IsHead sc lists) hs (h ∷ ws) out heads in
     let blocks : List Block = blocks_at lists h.part in
-    let text : IsText sc blocks o =
-    subst (IsText sc blocks) (sym its) (are.each h.part o (part_within lists h.part h.place both.0.inside)) in
+    let text : IsMarked sc blocks o =
+    subst (IsMarked sc blocks) (sym its) (are.each h.part o (part_within lists h.part h.place both.0.inside)) in
     let fits : after ≤ length blocks = omega (arith, within, ap length here, as_many sc blocks o text) in
     record {
       out = out;

@@ -29,7 +29,7 @@ use Rattle.std.proofs.lemmas.List.Concat.{flat_map-append}
 use Rattle.std.specs.List.{flat_map}
 use Rattle.chord_event.specs.declared.block.Block.{Block}
 use Rattle.chord_scenario.specs.Setup.{Setup}
-use Rattle.chord_team.specs.Outputs.{IsText, marks_from}
+use Rattle.chord_team.specs.Outputs.{IsMarked, marks_from}
 use Rattle.chord_team.specs.declared.output.Mark.{Mark}
 use Rattle.chord_team.specs.declared.output.Output.{Output}
 use Rattle.chord_trace.specs.Texts.{block_text}
@@ -76,7 +76,7 @@ module _ (sc : Setup) where
   -- the output of one event more
   pub text_put : (blocks : List Block) (b : Block) (old new : Output) (end : ℕ) → new.text.items ≡ old.text.items ++ block_text sc b
       → end ≡ length new.text.items → new.marks.items ≡ old.marks.items ++ record { key = b.key; end = end } ∷ []
-      → IsText sc blocks old → IsText sc (blocks ++ b ∷ []) new
+      → IsMarked sc blocks old → IsMarked sc (blocks ++ b ∷ []) new
   text_put blocks b old new end text at marks is =
       let before : old.text.items ≡ text_of blocks = is.text_is in
       let stop : end ≡ 0 + length (text_of blocks) + length (block_text sc b) =
@@ -88,7 +88,7 @@ module _ (sc : Setup) where
       }
 
   -- what the marks say
-  module _ (blocks : List Block) (o : Output) (is : IsText sc blocks o) where
+  module _ (blocks : List Block) (o : Output) (is : IsMarked sc blocks o) where
     pub as_many : length o.marks.items ≡ length blocks
     as_many = ap length is.marks_are ∙ marks-length 0 blocks
 

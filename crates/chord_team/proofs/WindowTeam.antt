@@ -28,7 +28,7 @@ use Rattle.chord_team.specs.declared.part.Parcel.{Parcel}
 use Rattle.chord_team.specs.declared.team.Team.{Team}
 use Rattle.chord_team.specs.Exchanges.{AreBack, AreReady, HasExchanged, HaveExchanged, IsReady, part_in, soonest}
 use Rattle.chord_team.specs.Orders.{AreResults, HaveNoFault}
-use Rattle.chord_team.specs.Outputs.{IsText}
+use Rattle.chord_team.specs.Outputs.{IsText, told}
 use Rattle.chord_team.specs.Owned.{IsOwned, all_of}
 use Rattle.chord_team.specs.Teams.{AreHere, CanSend, IsHere, IsOpened, IsTeam, audits_due, audits_in, before_end, events_in, is_audit}
 use Rattle.chord_team.proofs.PartLists.{none_contained, none_listed}
@@ -36,6 +36,7 @@ use Rattle.chord_team.proofs.TeamMail.{first}
 use Rattle.chord_team.proofs.WindowNext.{next_after}
 use Rattle.chord_team.proofs.WindowParts.{after_window, owned_with_mail, result_of}
 use Rattle.chord_team.proofs.WindowRuns.{after_is, after_long}
+use Rattle.chord_team.proofs.Told.{told_text}
 use Rattle.chord_team.proofs.WindowTexts.{blocks_long, text_of_pieces, window_blocks, window_leaves, window_puts_out}
 
 all_empty : (lists : List (Vec (Event Body) Global)) → ((q : ℕ) (v : Vec (Event Body) Global) → q < length lists → (get_or lists q v).items ≡ [])
@@ -155,14 +156,14 @@ module _ (sc : Scenario) (ranges : IsInRange sc) (l : Layout) (t : Team) (fs : L
 
   -- and then of the blocks
   pub begin_blocks : (b : Team) (middle x : Option (List ℕ)) (text : List ℕ) → b ≡ record t { parcels = b.parcels; next = b.next }
-      → text ≡ b.due.items → Appends now middle text → AppendsFront middle x (flat_map (block_text sc) blocks) → IsBeginning sc old x
+      → text ≡ b.due.items → Appends now middle text → AppendsFront middle x (flat_map (block_text sc) (told blocks)) → IsBeginning sc old x
   begin_blocks b middle x text same is due front = (
     t.count + events_in fs,
     fronts_longer sc old x (output (chord sc) (history (chord sc) (t.count + events_in fs))) _
         (subst (λ ps. AppendsFront old x (pieces_text sc ps)) (sym puts_out)
         (fronts_then sc old now x (output (chord sc) before) (new_audits ++ map piece.OfEvent blocks) opened.written
         (fronts_then sc now middle x new_audits (map piece.OfEvent blocks) (subst (λ z. Appends now middle z) (is ∙ due_of_back b same ∙ opened.due_is) due)
-        (subst (λ z. AppendsFront middle x z) (sym (text_of_pieces sc blocks)) front)))),
+        (subst (λ z. AppendsFront middle x z) (told_text sc blocks ∙ sym (text_of_pieces sc blocks)) front)))),
   )
 
   -- the team after the window, once its parts are back: the events are counted, the parts have their mail, and what the
@@ -171,7 +172,7 @@ module _ (sc : Scenario) (ranges : IsInRange sc) (l : Layout) (t : Team) (fs : L
       → b.next ≡ soonest None fs → u ≡ record b { count = b.count + events; parcels = u.parcels } → events ≡ events_in fs
       → t.count + events_in fs ≤ sc.max_events → length u.parcels.items ≡ length t.parcels.items
       → AreHere sc l (history (chord sc) (t.count + events_in fs)) u.parcels.items → text ≡ b.due.items → Appends now middle text
-      → Appends middle new (flat_map (block_text sc) blocks) → IsTeam sc l old new u
+      → Appends middle new (flat_map (block_text sc) (told blocks)) → IsTeam sc l old new u
   next_team b u events middle new text same next_time then events_are within long here is due written =
       let can = opened.can_send in
       let count : u.count ≡ t.count + events_in fs = count_then t b u events (events_in fs) same then events_are in
@@ -195,7 +196,7 @@ module _ (sc : Scenario) (ranges : IsInRange sc) (l : Layout) (t : Team) (fs : L
             (subst (λ z. Appends now new z) (sym (texts-append sc new_audits (map piece.OfEvent blocks)))
             (Appends-trans now middle new (pieces_text sc new_audits) (pieces_text sc (map piece.OfEvent blocks))
             (subst (λ z. Appends now middle z) (is ∙ due_of_back b same ∙ opened.due_is) due)
-            (subst (λ z. Appends middle new z) (sym (text_of_pieces sc blocks)) written))))));
+            (subst (λ z. Appends middle new z) (told_text sc blocks ∙ sym (text_of_pieces sc blocks)) written))))));
         audited = subst (λ ps. IsTallyOf sc.profile ps u.audits) (sym (audits_are u.count count))
             (subst (IsTallyOf sc.profile (audits_in (output (chord sc) before) ++ new_audits)) (sym audits) opened.audited);
         room = omega (

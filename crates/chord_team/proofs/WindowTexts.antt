@@ -34,9 +34,10 @@ use Rattle.chord_team.specs.declared.part.Finished.{Finished}
 use Rattle.chord_team.specs.declared.team.Team.{Team}
 use Rattle.chord_team.specs.Exchanges.{outputs_of}
 use Rattle.chord_team.specs.Orders.{AreResults, HaveNoFault}
-use Rattle.chord_team.specs.Outputs.{AreMerged, AreTexts, CanMergeLists, CanWrite, IsMergeOf, IsText, joined}
+use Rattle.chord_team.specs.Outputs.{AreMerged, AreTexts, CanMergeLists, CanWrite, IsMarked, IsMergeOf, IsText, joined, told}
 use Rattle.chord_team.specs.Teams.{CanSend, audits_due, events_in}
 use Rattle.chord_team.proofs.TeamMail.{first}
+use Rattle.chord_team.proofs.Told.{told_at, told_can_merge, told_merged}
 use Rattle.chord_team.proofs.WindowRuns.{commuted, may, opening, past, ran, run_at, sealed, total_is, w}
 
 in_list : (sc : Scenario) (h g : List (Event Body)) (b : Block) → IsIn b (map (block_at nowhere) (pieces_since (chord sc) h g))
@@ -180,21 +181,25 @@ module _ (sc : Scenario) (ranges : IsInRange sc) (l : Layout) (t : Team) (can : 
   output_at (g ∷ gs) zero f o lt = refl
   output_at (g ∷ gs) (suc q) f o lt = output_at gs q f o (omega (arith, lt))
 
-  lists_texts : AreTexts sc all_lists (outputs_of fs)
+  -- the blocks of each part that have lines
+  abbrev told_lists : List (List Block)
+  told_lists = map told all_lists
+
+  lists_texts : AreTexts sc told_lists (outputs_of fs)
   lists_texts = record {
-    long = length-map fs (λ (f : Finished). f.parcel.output) ∙ results.long ∙ sym (lists_long 0 l.division.parts);
+    long = length-map fs (λ (f : Finished). f.parcel.output) ∙ results.long ∙ sym (length-map all_lists told ∙ lists_long 0 l.division.parts);
     each = λ q o lt.
-        let inside : q < l.division.parts = omega (arith, lt, lists_long 0 l.division.parts) in
+        let inside : q < l.division.parts = omega (arith, lt, length-map all_lists told, lists_long 0 l.division.parts) in
         let there : q < length fs = omega (arith, inside, results.long) in
         let f = first fs (omega (arith, there)) in
-        subst (λ bs. IsText sc bs (get_or (outputs_of fs) q o)) (sym (list_at 0 l.division.parts q inside))
+        subst (λ bs. IsMarked sc bs (get_or (outputs_of fs) q o)) (sym (told_at all_lists q ∙ ap told (list_at 0 l.division.parts q inside)))
         (subst (λ z. IsText sc (part_blocks z) (get_or (outputs_of fs) q o)) (omega arith)
         (subst (λ z. IsText sc (part_blocks q) z) (sym (output_at fs q f o there)) (text_at q f inside)));
   }
 
   pub can_write : (outputs : List Output) → outputs ≡ outputs_of fs → CanWrite outputs
   can_write outputs is = subst (λ (os : List Output). CanWrite os) (sym is)
-      (record { setup = sc; lists = all_lists; texts = lists_texts; merge = lists_merge })
+      (record { setup = sc; lists = told_lists; texts = lists_texts; merge = told_can_merge all_lists lists_merge })
 
   -- the blocks of the window
   abbrev pub window_blocks : List Block
@@ -209,9 +214,9 @@ module _ (sc : Scenario) (ranges : IsInRange sc) (l : Layout) (t : Team) (can : 
     );
   }
 
-  pub merged_blocks : (outputs : List Output) → outputs ≡ outputs_of fs → AreMerged sc outputs window_blocks
-  merged_blocks outputs is = subst (λ (os : List Output). AreMerged sc os window_blocks) (sym is)
-      (record { lists = all_lists; texts = lists_texts; merged = merged_all })
+  pub merged_blocks : (outputs : List Output) → outputs ≡ outputs_of fs → AreMerged sc outputs (told window_blocks)
+  merged_blocks outputs is = subst (λ (os : List Output). AreMerged sc os (told window_blocks)) (sym is)
+      (record { lists = told_lists; texts = lists_texts; merged = told_merged all_lists window_blocks merged_all })
 
   blocks_are : window_blocks ≡ reverse (map (block_at nowhere) (pieces_since (chord sc) before taken))
   blocks_are = blocks_merge (chord sc) (w sc ranges l t can fs results none) l.division can.layout.divides t.count t.window.time t.window.horizon

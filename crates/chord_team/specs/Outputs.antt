@@ -1,6 +1,6 @@
 -- The text of a part's window, with the marks of its events.
-use Rattle.std.specs.Prelude.{◌≡◌, ◌≢◌, ◌↔◌, ◌<◌, ◌+◌, ℕ, List, [], ◌∷◌, ◌++◌, length, slice_index_or}
-use Rattle.std.specs.List.{AllByRecursion, AllPairs, Contains, flat_map}
+use Rattle.std.specs.Prelude.{◌≡◌, ◌≢◌, ◌↔◌, ◌<◌, ◌+◌, ℕ, ◌==◌, Bool, not, List, [], ◌∷◌, ◌++◌, length, slice_index_or}
+use Rattle.std.specs.List.{AllByRecursion, AllPairs, Contains, filter, flat_map}
 use Rattle.chord_event.specs.declared.block.Block.{Block}
 use Rattle.chord_event.specs.KeyOrder.{InKeyOrder}
 use Rattle.chord_scenario.specs.Setup.{Setup}
@@ -16,14 +16,25 @@ marks_from sc start (b ∷ blocks) =
     let end = start + length (block_text sc b) in record { key = b.key; end = end } ∷ marks_from sc end blocks
 
 -- the output has the text of these blocks, and a mark for each
-pub record IsText (sc : Setup) (blocks : List Block) (o : Output) : Type 0 where
+pub record IsMarked (sc : Setup) (blocks : List Block) (o : Output) : Type 0 where
   pub text_is : o.text.items ≡ flat_map (block_text sc) blocks
   pub marks_are : o.marks.items ≡ marks_from sc 0 blocks
+
+abbrev pub has_lines : Block → Bool
+has_lines b = not (length b.lines == 0)
+
+-- the blocks that have lines
+abbrev pub told : List Block → List Block
+told blocks = filter has_lines blocks
+
+-- the output has the text of these blocks, and a mark for each that has lines
+abbrev pub IsText : Setup → List Block → Output → Type 0
+IsText sc blocks o = IsMarked sc (told blocks) o
 
 -- each output has the text of a list
 pub record AreTexts (sc : Setup) (lists : List (List Block)) (outputs : List Output) : Type 0 where
   pub long : length outputs ≡ length lists
-  pub each : (p : ℕ) (o : Output) → p < length lists → IsText sc (slice_index_or lists p []) (slice_index_or outputs p o)
+  pub each : (p : ℕ) (o : Output) → p < length lists → IsMarked sc (slice_index_or lists p []) (slice_index_or outputs p o)
 
 -- the blocks of all lists, one list after another
 abbrev pub joined : List (List Block) → List Block

@@ -35,7 +35,8 @@ pub struct Mark {
     pub end: usize,
 }
 
-/// The text of the events that a part ran in a window, in the order of their keys.
+/// The text of the events that a part ran in a window, in the order of their keys. Most events have
+/// no text, and no mark.
 #[derive(Drop)]
 pub struct Output {
     pub text: Vec<u8>,
@@ -66,6 +67,9 @@ impl Output {
         requires { IsBlockOf scenario.now block.now }
         ensures { OnOk result ((blocks : List ABlock) → IsText scenario.now blocks self.old → IsText scenario.now (blocks ++ block.now ∷ []) self.new) }
     {
+        if block.lines.as_slice().is_empty() {
+            return Ok(());
+        }
         let text = mem::replace(&mut self.text, Vec::new(alloc));
         let mut writer = Watched::new(text);
         let written = write_block(alloc, scenario, block, &mut writer);

@@ -2,7 +2,7 @@ use Rattle.std.proofs.Common.{◌≡◌, ◌+◌, ◌<◌, ◌∙◌, List, None
 use Rattle.std.specs.BinaryHeap.{IsHeap, heap_items}
 use Rattle.chord_team.proofs.Heads.{AreHeads, all_heads, head_put, head_skipped}
 use Rattle.chord_team.specs.Heads.{blocks_at, head_at, head_cmp}
-use Rattle.chord_team.specs.Outputs.{IsText}
+use Rattle.chord_team.specs.Outputs.{IsMarked}
 use Rattle.chord_team.specs.declared.output.Head.{Head}
 use Rattle.chord_team.proofs.output.heads_of.Goals as goal
 use Rattle.chord_team.proofs.output.heads_of.Goals.{in-Some+in_ok-push, in_default}
@@ -17,7 +17,7 @@ loop-part-preserved c =
         heap = subst (λ (hs : List Head). IsHeap head_cmp hs) (sym (ap heap_items w.heads-is)) (w.in_ok-push.ensures.heap_order i.heap);
         heads = λ sc lists are.
             let lt : part < length lists = omega (arith, are.long) in
-            let is : IsText sc (blocks_at lists part) o = are.each part c.index-outputs-part.result lt in
+            let is : IsMarked sc (blocks_at lists part) o = are.each part c.index-outputs-part.result lt in
             let made : Some w.in-Some.head ≡ head_at o.marks.items part 0 0 =
             w.in-Some.ensures ∙ ap (λ l. head_at l part 0 0) c.as_slice-marks.ensures.value in
             subst (AreHeads sc lists (part + 1)) (sym (ap heap_items w.heads-is))
@@ -27,7 +27,7 @@ loop-part-preserved c =
         heap = subst (λ (hs : List Head). IsHeap head_cmp hs) (sym (ap heap_items w.heads-is)) i.heap;
         heads = λ sc lists are.
             let lt : part < length lists = omega (arith, are.long) in
-            let is : IsText sc (blocks_at lists part) o = are.each part c.index-outputs-part.result lt in
+            let is : IsMarked sc (blocks_at lists part) o = are.each part c.index-outputs-part.result lt in
             let made : None ≡ head_at o.marks.items part 0 0 =
             w.in_default.ensures ∙ ap (λ l. head_at l part 0 0) c.as_slice-marks.ensures.value in
             subst (AreHeads sc lists (part + 1)) (sym (ap heap_items w.heads-is)) (head_skipped sc lists part o _ lt is made (i.heads sc lists are));

@@ -2,6 +2,7 @@
 use Rattle.std.proofs.Common.{◌≡◌, ◌∙◌, ◌+◌, ap, arith, refl}
 use Rattle.chord_machine.specs.Chord.{chord}
 use Rattle.chord_model.specs.Histories.{history}
+use Rattle.chord_team.specs.Outputs.{told}
 use Rattle.chord_team.specs.Teams.{events_in}
 use Rattle.chord_team.proofs.RunCourse.{begin_opened}
 use Rattle.chord_team.proofs.WindowRuns.{window_has_some, window_has_too_many}
@@ -46,7 +47,7 @@ returns-in_err-write_outputs-clause-front g c = λ old o.
     let can = o.can_send in
     begin_blocks sc c.recall_range.ensures l t fs c.requires.results c.requires.no_fault old _ o c.put_back.new.self _ _ c.as_slice-2.result.now
     c.in_ok-outputs.ensures.others c.as_slice-2.ensures.value c.in_ok-write_text.ensures.whole
-    (c.in_err-write_outputs.ensures.front sc (window_blocks sc c.recall_range.ensures l t can fs c.requires.results c.requires.no_fault)
+    (c.in_err-write_outputs.ensures.front sc (told (window_blocks sc c.recall_range.ensures l t can fs c.requires.results c.requires.no_fault))
     (merged_blocks sc c.recall_range.ensures l t can fs c.requires.results c.requires.no_fault c.as_slice-3.result.now
     (c.as_slice-3.ensures.value ∙ c.in_ok-outputs.ensures.outputs)))
 
@@ -59,7 +60,7 @@ returns-clause-front g c = λ old o.
     let can = o.can_send in
     begin_blocks sc c.recall_range.ensures l t fs c.requires.results c.requires.no_fault old _ o c.put_back.new.self _ _ c.as_slice-2.result.now
     c.in_ok-outputs.ensures.others c.as_slice-2.ensures.value c.in_ok-write_text.ensures.whole
-    (c.in_ok-write_outputs.ensures.front sc (window_blocks sc c.recall_range.ensures l t can fs c.requires.results c.requires.no_fault)
+    (c.in_ok-write_outputs.ensures.front sc (told (window_blocks sc c.recall_range.ensures l t can fs c.requires.results c.requires.no_fault))
     (merged_blocks sc c.recall_range.ensures l t can fs c.requires.results c.requires.no_fault c.as_slice-3.result.now
     (c.as_slice-3.ensures.value ∙ c.in_ok-outputs.ensures.outputs)))
 
@@ -92,5 +93,5 @@ returns-clause-at g c = λ old o.
     (given.here sc l (history (chord sc) (t.count + events_in fs)) (parts_here sc ranges l t can fs c.requires.results c.requires.no_fault
     c.put_back.new.self.parcels.items back.back back.long c.exchange_mail.new.parcels.items c.exchange_mail.ensures))
     c.as_slice-2.ensures.value c.in_ok-write_text.ensures.whole
-    (c.in_ok-write_outputs.ensures.whole sc (window_blocks sc ranges l t can fs c.requires.results c.requires.no_fault)
+    (c.in_ok-write_outputs.ensures.whole sc (told (window_blocks sc ranges l t can fs c.requires.results c.requires.no_fault))
     (merged_blocks sc ranges l t can fs c.requires.results c.requires.no_fault c.as_slice-3.result.now (c.as_slice-3.ensures.value ∙ back.outputs)))
