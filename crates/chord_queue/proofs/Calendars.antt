@@ -1,102 +1,241 @@
 -- Events by day: what a call does to all of them.
-use Rattle.std.proofs.Common.{◌≡◌, ℕ, suc, ◌+◌, ◌-◌, ◌/◌, ◌<◌, ◌≤◌, List, [], ◌∷◌, ◌++◌, Some, slice_get, length, reverse, sym, ap, ◌∙◌, subst, arith}
+use Rattle.std.proofs.Common.{◌≡◌, inl, inr, ℕ, suc, ◌+◌, ◌-◌, ◌/◌, ◌<◌, ◌≤◌, false, List, [], ◌∷◌, ◌++◌, map, length, Option, Some, None, IsSome, IsSomeAnd, slice_get, slice_index_or, vec_capacity, refl, sym, ap, ◌∙◌, subst, arith}
+use Rattle.std.specs.Global.{Vec}
 use Rattle.std.specs.List.{AllByRecursion}
-use Rattle.std.specs.List.Sorted.{IsPermutation}
-use Rattle.std.proofs.lemmas.List.Sorted.{
-  IsPermutation-append_left,
-  IsPermutation-append_right,
-  IsPermutation-to_front,
-  IsPermutation-middle,
-  IsPermutation-sym,
-  IsPermutation-trans,
-}
+use Rattle.std.specs.List.Sorted.{IsPermutation, IsSorted}
+use Rattle.std.specs.BinaryHeap.{IsUpperBound}
+use Rattle.std.specs.Ordering.{is_lt, nat_cmp, ordering_then}
+use Rattle.std.specs.declared.cmp.Ordering.{Ordering}
+use Rattle.std.specs.declared.cmp.Ordering.TheVariants.{Less, Equal, Greater}
+use Rattle.std.proofs.lemmas.List.Sorted.{IsPermutation-append_left, IsPermutation-map, IsPermutation-to_front, IsPermutation-sym, IsPermutation-trans}
+use Rattle.std.proofs.lemmas.List.{map-append}
+use Rattle.slab.specs.Slab.{ContainsKey, Slab, get, Updates}
 use Rattle.chord_event.specs.declared.body.Body.{Body}
 use Rattle.chord_event.specs.declared.event.Event.{Event}
-use Rattle.chord_event.specs.Keys.{IsBefore}
-use Rattle.chord_event.specs.KeyOrder.{InKeyOrder, IsNewKey, put_in_order}
-use Rattle.chord_event.proofs.KeyLists.{all_from, all_in}
-use Rattle.chord_queue.specs.Calendar.{AreDistinct}
-use Rattle.chord_queue.specs.Days.{AllPlaced, AreDays, IsInPlace, IsOpened, day_of, events_in}
+use Rattle.chord_event.specs.declared.key.Key.{Key}
+use Rattle.chord_event.specs.Keys.{key_cmp}
+use Rattle.chord_event.specs.KeyOrder.{IsNewKey, put_in_order}
+use Rattle.chord_event.proofs.Compare.{compared}
+use Rattle.chord_event.proofs.KeyLists.{IsIn, all_from, all_in}
+use Rattle.chord_queue.specs.Calendar.{AreOrderly, events_of}
+use Rattle.chord_queue.specs.Days.{AllPlaced, AreDays, HaveNone, HasSame, HasTaken, IsInPlace, IsListed, IsOpened, day_of, entries_in, places_in}
 use Rattle.chord_queue.specs.declared.days.Days.{Days}
 use Rattle.chord_queue.specs.EventKey.{event_key}
-use Rattle.chord_queue.specs.Places.{in_key_order}
-use Rattle.chord_queue.proofs.Orders.{all_both, distinct_more, distinct_permuted, distinct_rest, first_taken, last_first, new_in_order, same_order}
-use Rattle.chord_queue.proofs.Placed.{EventList, Placing, joined}
+use Rattle.chord_queue.specs.Places.{Entry, Events, Held, IsPlaced, entry_at, events_at, in_key_order, key_there, waiting_cmp, waiting_key}
+use Rattle.chord_queue.proofs.Due.{last_greatest, sorted_front}
+use Rattle.chord_queue.proofs.Orders.{all_both, in_left, in_right, put_behind}
+use Rattle.chord_queue.proofs.Placed.{PlaceList, Placing, joined}
+use Rattle.chord_queue.proofs.Places.{changes_by, event_of, held_none, held_permuted, inserted, order_permuted, others_stay, permuted_in, popped}
 
--- an event more
-pub put_behind : (due es fs : List (Event Body)) (e : Event Body) → IsPermutation (e ∷ es) fs → IsPermutation (e ∷ (due ++ es)) (due ++ fs)
-put_behind due es fs e p =
-    IsPermutation-trans (e ∷ (due ++ es)) (due ++ e ∷ es) (due ++ fs)
-    (IsPermutation-sym (due ++ e ∷ es) (e ∷ (due ++ es)) (IsPermutation-middle due e es))
-    (IsPermutation-append_right due (e ∷ es) fs p)
+in_map : {A B : Type 0} (f : A → B) (xs : List A) (x : A) → IsIn x xs → IsIn (f x) (map f xs)
+in_map f [] x h = absurd h
+in_map f (y ∷ ys) x (inl q) = inl (ap f q)
+in_map f (y ∷ ys) x (inr h) = inr (in_map f ys x h)
 
-pub one_more : (xs ys es : List (Event Body)) (e : Event Body) → AreDistinct xs → in_key_order xs ≡ es → IsNewKey event_key e.key es
-    → IsPermutation (e ∷ xs) ys → AreDistinct ys × (in_key_order ys ≡ put_in_order event_key e es)
-one_more xs ys es e d shown new p =
-    let all : AreDistinct (e ∷ xs) = distinct_more e xs (new_in_order e.key xs (subst (IsNewKey event_key e.key) (sym shown) new)) d in
-    (distinct_permuted (e ∷ xs) ys p all, sym (same_order (e ∷ xs) ys p all) ∙ ap (put_in_order event_key e) shown)
+-- the entries of places that have what they had
+entries_stay : (s t : Events) (ps : List ℕ) → ((p : ℕ) → IsIn p ps → t p ≡ s p) → map (entry_at t) ps ≡ map (entry_at s) ps
+entries_stay s t [] f = refl
+entries_stay s t (p ∷ ps) f =
+    let here : entry_at t p ≡ entry_at s p = λ i. record { key = record { 0 = key_there (f p (inl refl) i) }; place = p } in
+    let rest = entries_stay s t ps (λ q h. f q (inr h)) in λ i. here i ∷ rest i
 
--- the days that were opened stay so
-pub still_opened : (c d : Days) (es : List (Event Body)) → d.today ≡ c.today → IsOpened c es → IsOpened d es
-still_opened c d es today all = subst (λ t. AllByRecursion (λ e. day_of e ≤ t) es) (sym today) all
+-- the places are listed, and have what they had
+pub placed_stay : (P Q : Placing) (i : ℕ) (ls : List PlaceList) → ((j n : ℕ) → IsIn n (joined ls) → P j n → Q j n) → AllPlaced P i ls → AllPlaced Q i ls
+placed_stay P Q i [] f all = tt
+placed_stay P Q i (l ∷ ls) f all = (
+  all_from (Q i) l.items (λ z h. f i z (in_left l.items (joined ls) z h) (all_in (P i) l.items all.0 z h)),
+  placed_stay P Q (i + 1) ls (λ j n h. f j n (in_right l.items (joined ls) n h)) all.1,
+)
+
+placed_all : (P : Placing) (Q : ℕ → Type 0) (i : ℕ) (ls : List PlaceList) → ((j n : ℕ) → P j n → Q n) → AllPlaced P i ls → AllByRecursion Q (joined ls)
+placed_all P Q i [] f all = tt
+placed_all P Q i (l ∷ ls) f all =
+    all_both Q l.items (joined ls) (all_from Q l.items (λ z h. f i z (all_in (P i) l.items all.0 z h))) (placed_all P Q (i + 1) ls f all.1)
+
+pub all_mapped : {A B : Type 0} (P : B → Type 0) (f : A → B) (xs : List A) → AllByRecursion (λ x. P (f x)) xs → AllByRecursion P (map f xs)
+all_mapped P f [] all = tt
+all_mapped P f (x ∷ xs) all = (all.0, all_mapped P f xs all.1)
+
+-- the entries of a list that is taken
+pub taken_entries : (s : Events) (ps qs rest : List ℕ) (due : List Entry) → IsPermutation ps (qs ++ rest) → due ≡ map (entry_at s) qs
+    → IsPermutation (map (entry_at s) ps) (due ++ map (entry_at s) rest)
+taken_entries s ps qs rest due p is =
+    subst (λ l. IsPermutation (map (entry_at s) ps) (l ++ map (entry_at s) rest)) (sym is)
+    (subst (λ l. IsPermutation (map (entry_at s) ps) l) (map-append (entry_at s) qs rest) (IsPermutation-map (entry_at s) ps (qs ++ rest) p))
+
+abbrev at_slots : List (Option (Event Body)) → Events
+at_slots os p = slice_index_or os p None
+
+-- where the same events are at the same places, and in the lists
+pub same_places : (d : Days) (r : Slab (Event Body)) (room : ℕ) → r.slots ≡ d.events.slots → AreDays d room → AreDays (record d { events = r }) room
+same_places d r room slots days = record {
+  placed = subst (λ os. AllPlaced (IsListed (at_slots os) d.today d.latest) 0 d.lists.items) (sym slots) days.placed;
+  fit = days.fit;
+}
+
+-- room was made before an event was put
+pub put_updates : (s r t : Slab (Event Body)) (p q : ℕ) (e : Event Body) → r.slots ≡ s.slots → q ≡ p → get r q ≡ None → Updates r t q (Some e)
+    → (get s p ≡ None) × Updates s t p (Some e)
+put_updates s r t p q e slots same free updates =
+    let here : Updates r t p (Some e) = subst (λ n. Updates r t n (Some e)) same updates in (
+      sym (ap (λ (os : List (Option (Event Body))). at_slots os p) slots) ∙ subst (λ n. get r n ≡ None) same free,
+      record { changed = here.changed; others = λ n ne. here.others n ne ∙ ap (λ (os : List (Option (Event Body))). at_slots os n) slots },
+    )
+
+pub same_orderly : (due new : Vec Entry) (c d : Days) → AreOrderly due c → new.items ≡ due.items → HasSame c d → AreDays d (vec_capacity new)
+    → AreOrderly new d × (events_of new.items d ≡ events_of due.items c)
+same_orderly due new c d is entries same days =
+    let all : new.items ++ entries_in d ≡ due.items ++ entries_in c = λ i. entries i ++ map (entry_at (at_slots (same.slots i))) (same.places i) in (
+      record {
+        held = subst (λ (x : List (Option (Event Body)) × List Entry). Held (at_slots x.0) x.1) (λ i. (sym same.slots i, sym all i)) is.held;
+        days = days;
+        opened = subst (λ (x : ℕ × List Entry). AllByRecursion (λ w. day_of (waiting_key w) ≤ x.0) x.1) (λ i. (sym same.today i, sym entries i)) is.opened;
+        sorted = subst (IsSorted waiting_cmp) (sym entries) is.sorted;
+      },
+      λ i. in_key_order (events_at (at_slots (same.slots i)) (all i)),
+    )
+
+-- an event was put
+pub put_orderly : (due : Vec Entry) (c d : Days) (e : Event Body) (es : List (Event Body)) → AreOrderly due c → events_of due.items c ≡ es
+    → IsNewKey event_key e.key es → HasTaken c e d → AreDays d (vec_capacity due)
+    → AreOrderly due d × (events_of due.items d ≡ put_in_order event_key e es)
+put_orderly due c d e es is shown new put days =
+    let s = get c.events in let t = get d.events in let w = entry_at t put.place in
+    let change = changes_by c.events d.events put.place (Some e) put.updates in
+    let kept : (p : ℕ) → IsIn p (places_in c) → t p ≡ s p = λ p h. change.others p (λ q.
+    subst (λ o. IsSomeAnd o (λ (x : Event Body). x.key ≡ waiting_key (entry_at s p))) (ap s q ∙ put.free)
+    (all_in (IsPlaced s) (due.items ++ entries_in c) is.held.placed (entry_at s p)
+    (in_right due.items (entries_in c) (entry_at s p) (in_map (entry_at s) (places_in c) p h)))) in
+    let more : IsPermutation (w ∷ entries_in c) (entries_in d) = subst (λ ws. IsPermutation (w ∷ ws) (entries_in d)) (entries_stay s t (places_in c) kept)
+    (IsPermutation-map (entry_at t) (put.place ∷ places_in c) (places_in d) put.places) in
+    let out = inserted s t (due.items ++ entries_in c) (due.items ++ entries_in d) es w e is.held shown new (ap key_there change.changed) put.free change
+    (put_behind due.items (entries_in c) (entries_in d) w more) in (
+      record {
+        held = out.0;
+        days = days;
+        opened = subst (λ today. AllByRecursion (λ w. day_of (waiting_key w) ≤ today) due.items) (sym put.today) is.opened;
+        sorted = is.sorted;
+      },
+      out.1,
+    )
 
 -- what has an earlier day has an earlier time
 earlier : (a b : ℕ) → a / 1024 < b / 1024 → a < b
 earlier a b h = omega (arith, h)
 
-pub placed_all : (P : Placing) (Q : Event Body → Type 0) (i : ℕ) (ls : List EventList) → ((j : ℕ) (e : Event Body) → P j e → Q e)
-    → AllPlaced P i ls → AllByRecursion Q (joined ls)
-placed_all P Q i [] f all = tt
-placed_all P Q i (l ∷ ls) f all =
-    all_both Q l.items (joined ls) (all_from Q l.items (λ z h. f i z (all_in (P i) l.items all.0 z h))) (placed_all P Q (i + 1) ls f all.1)
+-- the heap order is by time first
+first_by_time : (w v : Entry) → (waiting_key w).time < (waiting_key v).time → is_lt (waiting_cmp w v) ≡ false
+first_by_time w v lt = by_cmp (key_cmp (waiting_key v) (waiting_key w)) refl
+  where
+    by_cmp : (r : Ordering) → key_cmp (waiting_key v) (waiting_key w) ≡ r → is_lt (ordering_then r (nat_cmp w.place v.place)) ≡ false
+    by_cmp Less q = let b = compared (waiting_key v) (waiting_key w) Less q in absurd (omega (arith, lt, b.time))
+    by_cmp Equal q = absurd (omega (arith, lt, ap (λ (k : Key). k.time) (compared (waiting_key v) (waiting_key w) Equal q)))
+    by_cmp Greater q = refl
 
--- an event of the opened days comes before those of later days
-pub days_after : (d : Days) (e : Event Body) → AreDays d → day_of e ≤ d.today → AllByRecursion (λ x. IsBefore e.key x.key) (events_in d)
-days_after d e days le = placed_all (IsInPlace d.today d.latest) (λ x. IsBefore e.key x.key) 0 d.lists.items
-    (λ j x is. let lt = earlier e.key.time x.key.time (omega (arith, le, is.later)) in record {
-      time = omega (arith, lt);
-      origin = λ q. absurd (omega (arith, lt, q));
-      number = λ q o. absurd (omega (arith, lt, q));
-    }) days
+-- an entry of the opened days comes before those of later days
+days_after : (d : Days) (w : Entry) (room : ℕ) → AreDays d room → day_of (waiting_key w) ≤ d.today → IsUpperBound waiting_cmp w (entries_in d)
+days_after d w room days le =
+    all_mapped (λ v. is_lt (waiting_cmp w v) ≡ false) (entry_at (get d.events)) (places_in d)
+    (placed_all (IsListed (get d.events) d.today d.latest) (λ n. is_lt (waiting_cmp w (entry_at (get d.events) n)) ≡ false) 0 d.lists.items
+    (λ j n listed. first_by_time w (entry_at (get d.events) n) (time_by j (get d.events n) listed)) days.placed)
+  where
+    time_by : (j : ℕ) (o : Option (Event Body)) → IsSomeAnd o (IsInPlace d.today d.latest j) → (waiting_key w).time < (key_there o).time
+    time_by j None h = absurd h
+    time_by j (Some x) is = earlier (waiting_key w).time x.key.time (omega (arith, le, is.later))
 
--- the last of the due events is the first of all
-pub record IsFirstDue (days : Days) (all due : List (Event Body)) (e : Event Body) : Type 0 where
-  pub opened : IsOpened days due
-  pub down : InKeyOrder event_key (reverse due)
-  pub distinct : AreDistinct (due ++ events_in days)
-  pub shown : in_key_order all ≡ e ∷ in_key_order (due ++ events_in days)
+-- the entry is the first of all
+pub record IsFirst (all rest : List Entry) (w : Entry) : Type 0 where
+  pub moved : IsPermutation all (w ∷ rest)
+  pub bound : IsUpperBound waiting_cmp w rest
 
-opened_front : (d : Days) (es : List (Event Body)) (e : Event Body) → IsOpened d (es ++ e ∷ []) → IsOpened d es × (day_of e ≤ d.today)
-opened_front d [] e all = (tt, all.0)
-opened_front d (x ∷ xs) e all = let rest = opened_front d xs e all.1 in ((all.0, rest.0), rest.1)
+opened_front : (d : Days) (ws : List Entry) (w : Entry) → IsOpened d (ws ++ w ∷ []) → IsOpened d ws × (day_of (waiting_key w) ≤ d.today)
+opened_front d [] w all = (tt, all.0)
+opened_front d (x ∷ xs) w all = let rest = opened_front d xs w all.1 in ((all.0, rest.0), rest.1)
 
-pub first_due : (d : Days) (es due : List (Event Body)) (e : Event Body) → AreDays d → IsOpened d es → InKeyOrder event_key (reverse es)
-    → AreDistinct (es ++ events_in d) → es ≡ due ++ e ∷ [] → IsFirstDue d (es ++ events_in d) due e
-first_due d es due e days opened down distinct is =
-    let rest = events_in d in
-    let front = opened_front d due e (subst (IsOpened d) is opened) in
-    let first = last_first due e (subst (λ l. InKeyOrder event_key (reverse l)) is down) in
-    let p : IsPermutation (es ++ rest) (e ∷ (due ++ rest)) = subst (λ l. IsPermutation (l ++ rest) (e ∷ (due ++ rest))) (sym is)
-    (IsPermutation-append_left rest (due ++ e ∷ []) (e ∷ due) (IsPermutation-to_front due e)) in
-    let after = all_both (λ x. IsBefore e.key x.key) due rest first.1 (days_after d e days front.1) in record {
-      opened = front.0;
-      down = first.0;
-      distinct = distinct_rest e (due ++ rest) (distinct_permuted (es ++ rest) (e ∷ (due ++ rest)) p distinct);
-      shown = first_taken (es ++ rest) (due ++ rest) e p distinct after;
+-- the last of the due entries is the first of all
+pub first_due : (due : Vec Entry) (rest : List Entry) (d : Days) (w : Entry) → AreOrderly due d → due.items ≡ rest ++ w ∷ []
+    → IsFirst (due.items ++ entries_in d) (rest ++ entries_in d) w
+first_due due rest d w is last =
+    let days = entries_in d in record {
+      moved = subst (λ l. IsPermutation (l ++ days) (w ∷ (rest ++ days))) (sym last)
+          (IsPermutation-append_left days (rest ++ w ∷ []) (w ∷ rest) (IsPermutation-to_front rest w));
+      bound = all_both (λ v. is_lt (waiting_cmp w v) ≡ false) rest days (last_greatest rest w (subst (IsSorted waiting_cmp) last is.sorted))
+          (days_after d w (vec_capacity due) is.days (opened_front d rest w (subst (IsOpened d) last is.opened)).1);
     }
 
+-- the last of the due entries is taken, and its event
+pub popped_orderly : (due new : Vec Entry) (c : Days) (t : Slab (Event Body)) (w : Entry) (e : Event Body) → AreOrderly due c
+    → due.items ≡ new.items ++ w ∷ [] → vec_capacity new ≡ vec_capacity due → get c.events w.place ≡ Some e → Updates c.events t w.place None
+    → let d : Days = record c { events = t } in AreOrderly new d × (events_of due.items c ≡ e ∷ events_of new.items d)
+popped_orderly due new c t w e is last room there updates =
+    let s = get c.events in let ws = due.items ++ entries_in c in let rest = new.items ++ entries_in c in
+    let first = first_due due new.items c w is last in
+    let change = changes_by c.events t w.place None updates in
+    let out = popped s (get t) ws rest w e is.held first.moved first.bound there change in
+    let kept : (p : ℕ) → IsIn p (places_in c) → get t p ≡ s p = λ p h. others_stay s (get t) ws rest w e is.held first.moved there change (entry_at s p)
+    (in_right new.items (entries_in c) (entry_at s p) (in_map (entry_at s) (places_in c) p h)) in
+    let same = entries_stay s (get t) (places_in c) kept in (
+      record {
+        held = subst (λ l. Held (get t) (new.items ++ l)) (sym same) out.0;
+        days = record {
+          placed = placed_stay (IsListed s c.today c.latest) (IsListed (get t) c.today c.latest) 0 c.lists.items
+              (λ j n h listed. subst (λ o. IsSomeAnd o (IsInPlace c.today c.latest j)) (sym (kept n h)) listed) is.days.placed;
+          fit = subst (λ r. AllByRecursion (λ (l : PlaceList). length l.items ≤ r) c.lists.items) (sym room) is.days.fit;
+        };
+        opened = (opened_front c new.items w (subst (IsOpened c) last is.opened)).0;
+        sorted = sorted_front new.items w (subst (IsSorted waiting_cmp) last is.sorted);
+      },
+      out.1 ∙ ap (λ l. e ∷ in_key_order (events_at (get t) (new.items ++ l))) (sym same),
+    )
+
+-- an empty list was filled with the entries of a day, and sorted
+pub filled_orderly : (due mid new : Vec Entry) (c d : Days) → AreOrderly due c → due.items ≡ [] → d.events ≡ c.events
+    → IsPermutation (entries_in c) (mid.items ++ entries_in d) → IsPermutation mid.items new.items → IsOpened d mid.items → AreDays d (vec_capacity mid)
+    → vec_capacity new ≡ vec_capacity mid → IsSorted waiting_cmp new.items
+    → AreOrderly new d × (events_of new.items d ≡ events_of due.items c)
+filled_orderly due mid new c d is none events moved sorted opened days room up =
+    let s = get c.events in let rest = entries_in d in
+    let p : IsPermutation (due.items ++ entries_in c) (new.items ++ rest) = subst (λ l. IsPermutation (l ++ entries_in c) (new.items ++ rest)) (sym none)
+    (IsPermutation-trans (entries_in c) (mid.items ++ rest) (new.items ++ rest) moved (IsPermutation-append_left rest mid.items new.items sorted)) in (
+      record {
+        held = subst (λ (x : Slab (Event Body)). Held (get x) (new.items ++ rest)) (sym events) (held_permuted s _ (new.items ++ rest) p is.held);
+        days = subst (λ r. AreDays d r) (sym room) days;
+        opened = all_from (λ w. day_of (waiting_key w) ≤ d.today) new.items (λ z h.
+            all_in (λ w. day_of (waiting_key w) ≤ d.today) mid.items opened z (permuted_in new.items mid.items (IsPermutation-sym mid.items new.items sorted) z h));
+        sorted = up;
+      },
+      ap (λ (x : Slab (Event Body)). in_key_order (events_at (get x) (new.items ++ rest))) events ∙ sym (order_permuted s _ (new.items ++ rest) p is.held),
+    )
+
+-- without entries there are no events
+pub none_orderly : (due : Vec Entry) (d : Days) → due.items ≡ [] → HaveNone d → AreDays d (vec_capacity due)
+    → AreOrderly due d × (events_of due.items d ≡ [])
+none_orderly due d empty none days =
+    let s = get d.events in
+    let all : due.items ++ entries_in d ≡ [] = λ i. empty i ++ map (entry_at s) (none i) in (
+      record {
+        held = subst (Held s) (sym all) (held_none s);
+        days = days;
+        opened = subst (IsOpened d) (sym empty) tt;
+        sorted = subst (IsSorted waiting_cmp) (sym empty) (λ k x l h. absurd (omega (arith, h)));
+      },
+      ap (λ ws. in_key_order (events_at s ws)) all,
+    )
+
+-- the last due entry has an event
+pub due_there : (due : Vec Entry) (rest : List Entry) (d : Days) (w : Entry) → AreOrderly due d → due.items ≡ rest ++ w ∷ [] → ContainsKey d.events w.place
+due_there due rest d w is last =
+    let s = get d.events in let all = rest ++ entries_in d in
+    let own = event_of s w (held_permuted s (due.items ++ entries_in d) (w ∷ all) (first_due due rest d w is last).moved is.held).placed.0 in
+    subst IsSome (sym own.1) refl
+
 -- a list that has a last element
-pub last_split : (es : List (Event Body)) (e : Event Body) → slice_get es (length es - 1) ≡ Some e → (due : List (Event Body)) × (es ≡ due ++ e ∷ [])
+pub last_split : {A : Type 0} (es : List A) (e : A) → slice_get es (length es - 1) ≡ Some e → (due : List A) × (es ≡ due ++ e ∷ [])
 last_split [] e h = absurd cc
-last_split (x ∷ []) e h = let same : x ≡ e = cc in ([], ap (λ (y : Event Body). y ∷ []) same)
+last_split {A} (x ∷ []) e h = let same : x ≡ e = cc in ([], ap (λ (y : A). y ∷ []) same)
 last_split (x ∷ (y ∷ ys)) e h =
     let r = last_split (y ∷ ys) e (subst (λ n. slice_get (x ∷ (y ∷ ys)) n ≡ Some e) (less (length ys)) h) in
     (x ∷ r.0, ap (λ l. x ∷ l) r.1)
   where
     less : (n : ℕ) → suc (suc n) - 1 ≡ suc (suc n - 1)
     less n = omega arith
-
--- a list of days that were filled anew has what the events had
-pub refilled : (xs due rest es : List (Event Body)) → AreDistinct xs → in_key_order xs ≡ es → IsPermutation xs (due ++ rest)
-    → AreDistinct (due ++ rest) × (in_key_order (due ++ rest) ≡ es)
-refilled xs due rest es d shown p = (distinct_permuted xs (due ++ rest) p d, sym (same_order xs (due ++ rest) p d) ∙ shown)

@@ -43,23 +43,8 @@ use Rattle.chord_event.specs.KeyOrder.{InKeyOrder, before}
 use Rattle.chord_event.proofs.KeyLists.{IsIn, all_in, all_from, same_list, Contains-from_IsIn, IsIn-from_Contains}
 use Rattle.chord_event.proofs.Members.{contains_filter, filter_contains}
 use Rattle.chord_queue.specs.EventKey.{event_key}
-use Rattle.chord_queue.specs.Places.{Events, Entry, waiting_key, waiting_cmp, is_due, events_at, in_key_order, IsPlaced}
-use Rattle.chord_queue.proofs.Places.{
-  AreDistinct,
-  Held,
-  held_permuted,
-  distinct_first,
-  distinct_more,
-  distinct_rest,
-  in_of_order,
-  of_order_in,
-  event_in,
-  entry_of,
-  event_of,
-  key_at,
-  ordered,
-  first_out,
-}
+use Rattle.chord_queue.specs.Places.{Held, Events, Entry, waiting_key, waiting_cmp, is_due, events_at, in_key_order, IsPlaced}
+use Rattle.chord_queue.proofs.Places.{AreDistinct, held_permuted, distinct_first, distinct_more, distinct_rest, in_of_order, of_order_in, event_in, entry_of, event_of, key_at, ordered, first_out}
 
 -- what a filter keeps
 pub in_filter : {A : Type 0} (p : A → Bool) (xs : List A) (x : A) → IsIn x (filter p xs) → IsIn x xs × (p x ≡ true)
@@ -127,13 +112,13 @@ waiting_total =
     (then_total (on_total (λ (k : Key). k.origin) nat_cmp_total) (on_total (λ (k : Key). k.number) nat_cmp_total)))))
     (on_total (λ (w : Entry). w.place) nat_cmp_total)
 
-last_greatest : (ws : List Entry) (w : Entry) → IsSorted waiting_cmp (ws ++ w ∷ []) → IsUpperBound waiting_cmp w ws
+pub last_greatest : (ws : List Entry) (w : Entry) → IsSorted waiting_cmp (ws ++ w ∷ []) → IsUpperBound waiting_cmp w ws
 last_greatest ws w up = recursion_from_All (λ v. is_lt (waiting_cmp w v) ≡ false) ws (λ i d h.
     let far = sorted_far (λ a b. is_lt (waiting_cmp a b)) (ranks_by waiting_total (λ (v : Entry). v)) (ws ++ w ∷ []) up i (length ws) d
     (omega (arith, h)) (omega (arith, length-append ws (w ∷ []))) in
     (λ j. is_lt (waiting_cmp (sym (get_or-append_seam ws w [] d) j) (sym (get_or-append ws (w ∷ []) d i h) j))) ∙ far)
 
-sorted_front : (ws : List Entry) (w : Entry) → IsSorted waiting_cmp (ws ++ w ∷ []) → IsSorted waiting_cmp ws
+pub sorted_front : (ws : List Entry) (w : Entry) → IsSorted waiting_cmp (ws ++ w ∷ []) → IsSorted waiting_cmp ws
 sorted_front ws w up k d l h =
     (λ j. is_lt (waiting_cmp (sym (get_or-append ws (w ∷ []) d (k + 1) h) j) (sym (get_or-append ws (w ∷ []) d k (omega (arith, h))) j)))
     ∙ up k d l (omega (arith, h, length-append ws (w ∷ [])))

@@ -36,7 +36,15 @@ use Rattle.std.proofs.lemmas.Cmp.{back_total, nat_cmp_total, on_total, then_tota
 use Rattle.std.proofs.lemmas.List.{reverse-append}
 use Rattle.std.proofs.lemmas.List.Elements.{recursion_from_All}
 use Rattle.std.proofs.lemmas.List.MinMax.{ranks_by}
-use Rattle.std.proofs.lemmas.List.Sorted.{sorted_far, IsPermutation-map, IsPermutation-reverse, IsPermutation-sym}
+use Rattle.std.proofs.lemmas.List.Sorted.{
+  sorted_far,
+  IsPermutation-append_right,
+  IsPermutation-map,
+  IsPermutation-middle,
+  IsPermutation-reverse,
+  IsPermutation-sym,
+  IsPermutation-trans,
+}
 use Rattle.std.proofs.lemmas.Map.Keys.{IsDistinct-IsPermutation, IsDistinct-head, IsDistinct-tail, IsDistinct-cons}
 use Rattle.chord_event.specs.declared.body.Body.{Body}
 use Rattle.chord_event.specs.declared.event.Event.{Event}
@@ -44,7 +52,7 @@ use Rattle.chord_event.specs.declared.key.Key.{Key}
 use Rattle.chord_event.specs.Keys.{IsBefore, is_same_key, key_cmp}
 use Rattle.chord_event.specs.KeyOrder.{InKeyOrder, IsNewKey, put_in_order, before}
 use Rattle.chord_event.proofs.Compare.{compared}
-use Rattle.chord_event.proofs.KeyLists.{IsIn, all_in, all_from, ordered_put, put_first, same_list}
+use Rattle.chord_event.proofs.KeyLists.{IsIn, all_in, all_from, ordered_put, same_list}
 use Rattle.chord_queue.specs.Calendar.{AreDistinct}
 use Rattle.chord_queue.specs.EventKey.{event_key}
 use Rattle.chord_queue.specs.Places.{in_key_order}
@@ -72,10 +80,6 @@ distinct_more e es new d = IsDistinct-cons is_same_key e.key (map event_key es) 
 pub distinct_permuted : (xs ys : List (Event Body)) → IsPermutation xs ys → AreDistinct xs → AreDistinct ys
 distinct_permuted xs ys p d = IsDistinct-IsPermutation is_same_key same_key-flips (map event_key xs) (map event_key ys) (IsPermutation-map event_key xs ys p) d
 
-pub distinct_back : (xs ys : List (Event Body)) → AreDistinct (xs ++ ys) → AreDistinct ys
-distinct_back [] ys d = d
-distinct_back (x ∷ xs) ys d = distinct_back xs ys (distinct_rest x (xs ++ ys) d)
-
 pub in_left : {A : Type 0} (xs ys : List A) (z : A) → IsIn z xs → IsIn z (xs ++ ys)
 in_left [] ys z h = absurd h
 in_left (x ∷ xs) ys z (inl e) = inl e
@@ -89,13 +93,6 @@ pub all_both : {A : Type 0} (P : A → Type 0) (xs ys : List A) → AllByRecursi
 all_both P [] ys f g = g
 all_both P (x ∷ xs) ys f g = (f.0, all_both P xs ys f.1 g)
 
-pub distinct_front : (xs ys : List (Event Body)) → AreDistinct (xs ++ ys) → AreDistinct xs
-unfolding IsDistinct
-distinct_front [] ys d = tt
-distinct_front (x ∷ xs) ys d =
-    distinct_more x xs (all_from (λ y. y.key ≢ x.key) xs (λ z h q. distinct_first x (xs ++ ys) d z (in_left xs ys z h) (sym q)))
-    (distinct_front xs ys (distinct_rest x (xs ++ ys) d))
-
 -- what was put in order is in order
 pub ordered_all : (es : List (Event Body)) → AreDistinct es → InKeyOrder event_key (in_key_order es)
 ordered_all [] d = tt
@@ -108,21 +105,22 @@ same_order xs ys p d =
     (λ z h. of_order_in ys z (permuted_in xs ys p z (in_of_order xs z h)))
     (λ z h. of_order_in xs z (permuted_in ys xs (IsPermutation-sym xs ys p) z (in_of_order ys z h)))
 
--- a list in order stays so
-pub order_stays : (es : List (Event Body)) → InKeyOrder event_key es → in_key_order es ≡ es
-order_stays [] o = refl
-order_stays (e ∷ es) o = ap (put_in_order event_key e) (order_stays es o.1) ∙ put_first event_key e es o.0
-
--- the first event is taken
-pub first_taken : (xs rest : List (Event Body)) (e : Event Body) → IsPermutation xs (e ∷ rest) → AreDistinct xs
-    → AllByRecursion (λ x. IsBefore e.key x.key) rest → in_key_order xs ≡ e ∷ in_key_order rest
-first_taken xs rest e p d all =
-    same_order xs (e ∷ rest) p d
-    ∙ put_first event_key e (in_key_order rest)
-    (all_from (λ x. IsBefore e.key x.key) (in_key_order rest) (λ z h. all_in (λ x. IsBefore e.key x.key) rest all z (in_of_order rest z h)))
-
 pub new_in_order : (k : Key) (es : List (Event Body)) → IsNewKey event_key k (in_key_order es) → IsNewKey event_key k es
 new_in_order k es new = all_from (λ y. y.key ≢ k) es (λ z h. all_in (λ y. y.key ≢ k) (in_key_order es) new z (of_order_in es z h))
+
+-- one element more behind a list
+pub put_behind : {A : Type 0} (front es fs : List A) (e : A) → IsPermutation (e ∷ es) fs → IsPermutation (e ∷ (front ++ es)) (front ++ fs)
+put_behind front es fs e p =
+    IsPermutation-trans (e ∷ (front ++ es)) (front ++ e ∷ es) (front ++ fs)
+    (IsPermutation-sym (front ++ e ∷ es) (e ∷ (front ++ es)) (IsPermutation-middle front e es))
+    (IsPermutation-append_right front (e ∷ es) fs p)
+
+-- an event more
+pub one_more : (xs ys es : List (Event Body)) (e : Event Body) → AreDistinct xs → in_key_order xs ≡ es → IsNewKey event_key e.key es
+    → IsPermutation (e ∷ xs) ys → AreDistinct ys × (in_key_order ys ≡ put_in_order event_key e es)
+one_more xs ys es e d shown new p =
+    let all : AreDistinct (e ∷ xs) = distinct_more e xs (new_in_order e.key xs (subst (IsNewKey event_key e.key) (sym shown) new)) d in
+    (distinct_permuted (e ∷ xs) ys p all, sym (same_order (e ∷ xs) ys p all) ∙ ap (put_in_order event_key e) shown)
 
 -- by key, turned round
 abbrev pub down_cmp : Event Body → Event Body → Ordering
@@ -171,16 +169,6 @@ sorted_down (x ∷ xs) d up =
     (all_from (λ e. IsBefore e.key x.key) (reverse xs) (λ z h.
     all_in (λ e. IsBefore e.key x.key) xs (head_last x xs d up) z
     (permuted_in (reverse xs) xs (IsPermutation-sym xs (reverse xs) (IsPermutation-reverse xs)) z h))))
-
--- the last of the due events comes before all others
-pub last_first : (es : List (Event Body)) (e : Event Body) → InKeyOrder event_key (reverse (es ++ e ∷ [])) → InKeyOrder event_key (reverse es)
-    × AllByRecursion (λ x. IsBefore e.key x.key) es
-last_first es e o =
-    let turned : InKeyOrder event_key (e ∷ reverse es) = subst (InKeyOrder event_key) (reverse-append es (e ∷ [])) o in (
-      turned.1,
-      all_from (λ x. IsBefore e.key x.key) es (λ z h.
-          all_in (λ x. IsBefore e.key x.key) (reverse es) turned.0 z (permuted_in es (reverse es) (IsPermutation-reverse es) z h)),
-    )
 
 pub distinct_none : AreDistinct []
 unfolding IsDistinct

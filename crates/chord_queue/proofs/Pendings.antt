@@ -45,8 +45,7 @@ use Rattle.chord_event.proofs.Order.{before_trans, before_from_at_most, is_befor
 use Rattle.chord_queue.specs.Calendar.{AreDistinct}
 use Rattle.chord_queue.specs.EventKey.{event_key}
 use Rattle.chord_queue.specs.Places.{in_key_order}
-use Rattle.chord_queue.proofs.Calendars.{one_more, put_behind}
-use Rattle.chord_queue.proofs.Orders.{new_in_order, all_both, distinct_first, distinct_permuted, distinct_rest, in_right, same_order}
+use Rattle.chord_queue.proofs.Orders.{new_in_order, all_both, distinct_first, distinct_permuted, distinct_rest, in_right, one_more, put_behind, same_order}
 use Rattle.chord_queue.proofs.Places.{in_of_order}
 
 abbrev pub Events : Type 0

@@ -1,4 +1,4 @@
--- The entries of a heap, and the events at their places.
+-- Entries, and the events at their places.
 use Rattle.std.proofs.Common.{
   ◌≡◌,
   ◌≢◌,
@@ -49,16 +49,11 @@ use Rattle.chord_event.proofs.Compare.{compared}
 use Rattle.chord_event.proofs.KeyLists.{IsIn, all_in, all_from, in_put, put_in, ordered_put, put_first, same_list, Contains-from_IsIn, IsIn-from_Contains}
 use Rattle.chord_event.proofs.Order.{is_same_key-true, same_key-self}
 use Rattle.chord_queue.specs.EventKey.{event_key}
-use Rattle.chord_queue.specs.Places.{Events, Entry, waiting_key, waiting_cmp, events_at, in_key_order, heap_events, IsPlaced, IsPlacedHeap}
+use Rattle.chord_queue.specs.Places.{Events, Entry, Held, waiting_key, waiting_cmp, events_at, in_key_order, heap_events, IsPlaced, IsPlacedHeap}
 use Rattle.chord_queue.specs.declared.event_heap.EventHeap.TheInside.{Inside}
 
 abbrev pub AreDistinct : List Entry → Type 0
 AreDistinct ws = IsDistinct is_same_key (map waiting_key ws)
-
--- no two entries have one key, and their places have events of these keys
-pub record Held (s : Events) (ws : List Entry) : Type 0 where
-  pub placed : AllByRecursion (IsPlaced s) ws
-  pub distinct : AreDistinct ws
 
 pub differs : (a b : Key) → is_same_key a b ≡ false → a ≢ b
 differs a b h e = let both : false ≡ true = sym h ∙ ap (λ k. is_same_key a k) (sym e) ∙ same_key-self a in cc
@@ -230,14 +225,19 @@ pub record ChangesAt (s t : Events) (place : ℕ) (new : Option (Event Body)) : 
 pub changes_by : (s t : Slab (Event Body)) (place : ℕ) (new : Option (Event Body)) → Updates s t place new → ChangesAt (get s) (get t) place new
 changes_by s t place new u = record { changed = u.changed; others = u.others }
 
+-- once the event of an entry is taken, the others' places have what they had
+pub others_stay : (s t : Events) (ws rest : List Entry) (w : Entry) (e : Event Body) → Held s ws → IsPermutation ws (w ∷ rest) → s w.place ≡ Some e
+    → ChangesAt s t w.place None → (v : Entry) → IsIn v rest → t v.place ≡ s v.place
+others_stay s t ws rest w e held p g change v h =
+    let all = held_permuted s ws (w ∷ rest) p held in
+    change.others v.place (λ q.
+    distinct_first w rest all.distinct v h (sym (key_at s w e all.placed.0 g) ∙ key_at s v e (all_in (IsPlaced s) rest all.placed.1 v h) (ap s q ∙ g)))
+
 pub popped : (s t : Events) (ws rest : List Entry) (w : Entry) (e : Event Body) → Held s ws → IsPermutation ws (w ∷ rest)
     → IsUpperBound waiting_cmp w rest → s w.place ≡ Some e → ChangesAt s t w.place None
     → Held t rest × (in_key_order (events_at s ws) ≡ e ∷ in_key_order (events_at t rest))
 popped s t ws rest w e held p up g change =
-    let all = held_permuted s ws (w ∷ rest) p held in
-    let out = first_out s ws rest w e held p up g in
-    let kept : (v : Entry) → IsIn v rest → t v.place ≡ s v.place = λ v h. change.others v.place (λ q.
-    distinct_first w rest all.distinct v h (sym (key_at s w e all.placed.0 g) ∙ key_at s v e (all_in (IsPlaced s) rest all.placed.1 v h) (ap s q ∙ g))) in
+    let out = first_out s ws rest w e held p up g in let kept = others_stay s t ws rest w e held p g change in
     (held_stays s t rest kept out.0, out.1 ∙ ap (λ es. e ∷ in_key_order es) (sym (stays s t rest kept)))
 
 pub inserted : (s t : Events) (ws more : List Entry) (es : List (Event Body)) (w : Entry) (e : Event Body) → Held s ws
@@ -288,14 +288,19 @@ kept_by p s ws is items slots =
     )
 
 -- what the first event's key says
+pub first_says : {A : Type 0} (f : Key → A) (s : Events) (ws rest : List Entry) (w : Entry) → Held s ws → IsPermutation ws (w ∷ rest)
+    → IsUpperBound waiting_cmp w rest → Some (f (waiting_key w)) ≡ option_map (λ e. f e.key) (slice_get (in_key_order (events_at s ws)) 0)
+first_says f s ws rest w held p up =
+    let own = event_of s w (held_permuted s ws (w ∷ rest) p held).placed.0 in let out = first_out s ws rest w own.0 held p up own.1 in
+    ap (λ (k : Key). Some (f k)) (sym own.2) ∙ sym (ap (λ es. option_map (λ (e : Event Body). f e.key) (slice_get es 0)) out.1)
+
 pub first_of : {A : Type 0} (f : Key → A) (s : Events) (ws : List Entry) (w : Entry) → Held s ws → IsUpperBound waiting_cmp w ws
     → w ≡ slice_index_or ws 0 w → 0 < length ws
     → Some (f (waiting_key w)) ≡ option_map (λ e. f e.key) (slice_get (in_key_order (events_at s ws)) 0)
 first_of f s [] w held up first some = absurd (omega (arith, some))
 first_of f s (x ∷ xs) w held up first some =
-    let own = event_of s x held.placed.0 in
-    let out = first_out s (x ∷ xs) xs x own.0 held (IsPermutation-refl (x ∷ xs)) (subst (λ v. IsUpperBound waiting_cmp v xs) first up.1) own.1 in
-    ap (λ (k : Key). Some (f k)) (ap waiting_key first ∙ sym own.2) ∙ sym (ap (λ es. option_map (λ (e : Event Body). f e.key) (slice_get es 0)) out.1)
+    ap (λ (v : Entry). Some (f (waiting_key v))) first
+    ∙ first_says f s (x ∷ xs) xs x held (IsPermutation-refl (x ∷ xs)) (subst (λ v. IsUpperBound waiting_cmp v xs) first up.1)
 
 length_put : (e : Event Body) (es : List (Event Body)) → length (put_in_order event_key e es) ≡ length es + 1
 length_put e [] = refl

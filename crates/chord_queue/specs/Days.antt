@@ -1,40 +1,69 @@
 -- Events by day.
-use Rattle.std.specs.Prelude.{◌≡◌, ℕ, ◌+◌, ◌/◌, ◌%◌, ◌<◌, ◌≤◌, List, [], ◌∷◌, ⊤}
+use Rattle.std.specs.Prelude.{◌≡◌, ℕ, ◌+◌, ◌/◌, ◌%◌, ◌<◌, ◌≤◌, List, [], ◌∷◌, ⊤, map, length, Some, None, IsSomeAnd}
 use Rattle.std.specs.List.{AllByRecursion, flat_map}
+use Rattle.std.specs.List.Sorted.{IsPermutation}
 use Rattle.std.specs.Global.{Vec}
+use Rattle.slab.specs.Slab.{get, Updates}
 use Rattle.chord_event.specs.declared.body.Body.{Body}
 use Rattle.chord_event.specs.declared.event.Event.{Event}
+use Rattle.chord_event.specs.declared.key.Key.{Key}
+use Rattle.chord_queue.specs.Places.{Events, Entry, entry_at, waiting_key}
 use Rattle.chord_queue.specs.declared.days.Days.{Days}
 
 -- how many days have a list
 abbrev pub list_count : ℕ
 list_count = 1024
 
--- the day of an event: a day has 1,024 microseconds
-abbrev pub day_of : Event Body → ℕ
-day_of e = e.key.time / 1024
+-- the day of a key: a day has 1,024 microseconds
+abbrev pub day_of : Key → ℕ
+day_of k = k.time / 1024
 
-abbrev pub events_in : Days → List (Event Body)
-events_in d = flat_map (λ l. l.items) d.lists.items
+-- the places in the lists
+abbrev pub places_in : Days → List ℕ
+places_in d = flat_map (λ l. l.items) d.lists.items
+
+-- the entries of the events at these places
+abbrev pub entries_in : Days → List Entry
+entries_in d = map (entry_at (get d.events)) (places_in d)
 
 abbrev pub HaveNone : Days → Type 0
-HaveNone d = events_in d ≡ []
+HaveNone d = places_in d ≡ []
 
--- the event may be in the list at the place
-pub record IsInPlace (today latest place : ℕ) (e : Event Body) : Type 0 where
-  pub later : today < day_of e
-  pub soon : day_of e < today + list_count
-  pub known : day_of e ≤ latest
-  pub there : day_of e % list_count ≡ place
+-- the event's place may be in the list at the index
+pub record IsInPlace (today latest at : ℕ) (e : Event Body) : Type 0 where
+  pub later : today < day_of e.key
+  pub soon : day_of e.key < today + list_count
+  pub known : day_of e.key ≤ latest
+  pub there : day_of e.key % list_count ≡ at
 
--- P holds of each event in a list and of the list's place
-abbrev pub AllPlaced : (P : ℕ → Event Body → Type 0) → ℕ → List (Vec (Event Body)) → Type 0
+-- the place has an event, and may be in the list at the index
+abbrev pub IsListed : Events → (today latest at place : ℕ) → Type 0
+IsListed s today latest at p = IsSomeAnd (s p) (IsInPlace today latest at)
+
+-- P holds of each place in a list and of the list's index
+abbrev pub AllPlaced : (P : ℕ → ℕ → Type 0) → ℕ → List (Vec ℕ) → Type 0
 AllPlaced P i [] = ⊤
 AllPlaced P i (l ∷ ls) = AllByRecursion (P i) l.items × AllPlaced P (i + 1) ls
 
-abbrev pub AreDays : Days → Type 0
-AreDays d = AllPlaced (IsInPlace d.today d.latest) 0 d.lists.items
+-- each place in a list has an event of the list's day, and no list has more than this many
+pub record AreDays (d : Days) (room : ℕ) : Type 0 where
+  pub placed : AllPlaced (IsListed (get d.events) d.today d.latest) 0 d.lists.items
+  pub fit : AllByRecursion (λ l. length l.items ≤ room) d.lists.items
 
--- no event's day is after the day that was opened last
-abbrev pub IsOpened : Days → List (Event Body) → Type 0
-IsOpened d es = AllByRecursion (λ e. day_of e ≤ d.today) es
+-- no entry's day is after the day that was opened last
+abbrev pub IsOpened : Days → List Entry → Type 0
+IsOpened d ws = AllByRecursion (λ w. day_of (waiting_key w) ≤ d.today) ws
+
+-- the same events are at the same places, and in the lists
+pub record HasSame (old new : Days) : Type 0 where
+  pub today : new.today ≡ old.today
+  pub slots : new.events.slots ≡ old.events.slots
+  pub places : places_in new ≡ places_in old
+
+-- the event is at a place that was free, and in a list
+pub record HasTaken (old : Days) (e : Event Body) (new : Days) : Type 0 where
+  pub place : ℕ
+  pub today : new.today ≡ old.today
+  pub free : get old.events place ≡ None
+  pub updates : Updates old.events new.events place (Some e)
+  pub places : IsPermutation (place ∷ places_in old) (places_in new)

@@ -1,5 +1,5 @@
--- The entries of a heap, and the events at their places.
-use Rattle.std.specs.Prelude.{◌≡◌, ℕ, Bool, nat_lt, List, [], ◌∷◌, map, Option, IsSomeAnd}
+-- Entries, and the events at their places.
+use Rattle.std.specs.Prelude.{◌≡◌, ℕ, Bool, nat_lt, List, [], ◌∷◌, map, Option, Some, None, IsSomeAnd}
 use Rattle.std.specs.List.{AllByRecursion, IsDistinct, filter_map}
 use Rattle.std.specs.BinaryHeap.{IsHeap, heap_items, heap_len}
 use Rattle.std.specs.Ordering.{nat_cmp, ordering_then}
@@ -48,6 +48,20 @@ heap_events p = in_key_order (events_at (get p.events) (heap_items p.heap))
 -- the entry's place has an event of its key
 abbrev pub IsPlaced : Events → Entry → Type 0
 IsPlaced s w = IsSomeAnd (s w.place) (λ e. e.key ≡ waiting_key w)
+
+-- no two of these entries have one key, and their places have events of these keys
+pub record Held (s : Events) (ws : List Entry) : Type 0 where
+  pub placed : AllByRecursion (IsPlaced s) ws
+  pub distinct : IsDistinct is_same_key (map waiting_key ws)
+
+-- the key of what is at a place
+abbrev pub key_there : Option (Event Body) → Key
+key_there None = record { time = 0; origin = 0; number = 0 }
+key_there (Some e) = e.key
+
+-- the entry of the event at a place
+abbrev pub entry_at : Events → ℕ → Entry
+entry_at s p = record { key = record { 0 = key_there (s p) }; place = p }
 
 -- no two of the heap's entries have one key, and their places have events of these keys; no other place has an event
 pub record IsPlacedHeap (p : Inside) : Type 0 where

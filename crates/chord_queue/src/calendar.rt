@@ -1,12 +1,13 @@
 //! Events by day, of which those of the opened days are in order.
-ghost use Rattle.std.specs.Prelude.{◌≡◌, [], ◌∷◌, ◌++◌, reverse, slice_get, option_map, IfErr, IfOk, MatchOption, OnOk};
+ghost use Rattle.std.specs.Prelude.{◌≡◌, [], ◌∷◌, reverse, slice_get, option_map, IfErr, IfOk, MatchOption, OnOk};
 ghost use Rattle.std.specs.List.Sorted.{IsPermutation};
 ghost use Rattle.chord_event.specs.KeyOrder.{InKeyOrder, IsNewKey, put_in_order, before};
-ghost use Rattle.chord_queue.specs.Calendar.{AreDistinct};
-ghost use Rattle.chord_queue.specs.Days.{AreDays, HaveNone, IsOpened, events_in};
+ghost use Rattle.chord_queue.specs.Calendar.{AreDistinct, AreOrderly, events_of};
+ghost use Rattle.chord_queue.specs.Days.{HaveNone};
 ghost use Rattle.chord_queue.specs.EventKey.{event_key};
 
-use crate::days::{Days, copy_before};
+use crate::days::Days;
+use crate::waiting::{Waiting, copies_before};
 use chord_event::{Event, Key, Memory};
 use std::alloc::Global;
 use std::cmp::Reverse;
@@ -14,13 +15,17 @@ use std::marker::Model;
 
 /// How many events must be pending for a calendar. Fewer are as fast in a heap, and take less memory
 /// there than lists would.
-const FEW: u64 = 2048;
+const FEW: usize = 2048;
 
 /// Events by day, which contracts see as their list in the order of their keys.
+///
+/// The lists have places in a slab and not events: a slab gives out again first the place that was
+/// left last, so an event is mostly written to memory that was used just before. A list was last
+/// used a second ago, so events in lists would mostly be written to memory that no cache has.
 #[derive(Drop)]
 pub struct Calendar {
-    /// The events of the opened days, the first event last.
-    due: Vec<Event>,
+    /// The entries of the events of the opened days, the first event last.
+    due: Vec<Waiting<usize>>,
     days: Days,
     alloc: Global,
 }
@@ -65,14 +70,11 @@ impl Calendar {
         ensures ok { OnOk result (self.new ≡ put_in_order event_key event self.old) }
         ensures err { IfErr result (λ back. (back ≡ event) × (self.new ≡ self.old)) }
     {
-        if self.days.count.saturating_add(others as u64) < FEW {
+        if self.days.events.len().saturating_add(others) < FEW {
             return Err(event);
         }
-        self.days.make_lists(self.alloc);
-        self.days.put(event)?;
-        if self.due.len() > 0 {
-            return Ok(());
-        }
+        self.days.make_lists(&mut self.due, self.alloc);
+        self.days.put(event, self.due.capacity())?;
         refill(&mut self.due, &mut self.days);
         Ok(())
     }
@@ -81,18 +83,16 @@ impl Calendar {
     pub fn first_key(&self) -> Option<Key>
         ensures { result ≡ option_map (λ e. e.key) (slice_get self.now 0) }
     {
-        let event = self.due.last()?;
-        Some(event.key)
+        let waiting = self.due.last()?;
+        Some(waiting.key.0)
     }
 
     /// Takes the first event.
     pub fn pop_first(&mut self) -> Option<Event>
         ensures { MatchOption result ((self.old ≡ []) × (self.new ≡ [])) (λ first. self.old ≡ first ∷ self.new) }
     {
-        let event = self.due.pop()?;
-        if self.due.len() > 0 {
-            return Some(event);
-        }
+        let waiting = self.due.pop()?;
+        let event = self.days.events.remove(waiting.place);
         refill(&mut self.due, &mut self.days);
         Some(event)
     }
@@ -111,27 +111,27 @@ impl Calendar {
     pub fn up_to(&self, horizon: u64) -> Result<Vec<Event>, Memory>
         ensures { IfOk result (λ copies. copies.items ≡ before event_key horizon self.now) }
     {
-        let mut copies = Vec::new(self.alloc);
-        copy_before(&self.due, horizon, &mut copies)?;
-        self.days.copy_before(horizon, &mut copies)?;
-        sort_up(&mut copies);
-        Ok(copies)
+        let mut entries = Vec::new(self.alloc);
+        for waiting in &self.due {
+            entries.push(*waiting)?;
+        }
+        self.days.add_all(&mut entries)?;
+        copies_before(self.alloc, &self.days.events, &entries, horizon)
     }
 }
 
-/// Fills the list of due events with those of the next day that has any.
-fn refill(due: &mut Vec<Event>, days: &mut Days)
-    requires days { AreDays days.old }
-    requires empty { due.old.items ≡ [] }
-    requires distinct { AreDistinct (events_in days.old) }
-    ensures days { AreDays days.new }
-    ensures moved { IsPermutation (events_in days.old) (due.new.items ++ events_in days.new) }
-    ensures opened { IsOpened days.new due.new.items }
-    ensures down { InKeyOrder event_key (reverse due.new.items) }
+/// Fills the list of due entries, if it is empty, with those of the next day that has any.
+fn refill(due: &mut Vec<Waiting<usize>>, days: &mut Days)
+    requires { AreOrderly due.old days.old }
+    ensures orderly { AreOrderly due.new days.new }
+    ensures same { events_of due.new.items days.new ≡ events_of due.old.items days.old }
     ensures whole { due.new.items ≡ [] → HaveNone days.new }
 {
+    if due.len() > 0 {
+        return;
+    }
     days.open_next(due);
-    sort_down(due);
+    due.sort_unstable();
 }
 
 /// Sorts events by their keys.

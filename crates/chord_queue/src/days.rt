@@ -1,14 +1,16 @@
-//! Events in lists, one for each of the next days.
-ghost use Rattle.std.specs.Prelude.{◌≡◌, ◌+◌, ◌<◌, ◌∷◌, ◌++◌, [], OnOk, IfErr};
-ghost use Rattle.std.specs.List.{AllByRecursion};
+//! Events by day.
+ghost use Rattle.std.specs.Prelude.{◌≡◌, ℕ, ◌+◌, ◌<◌, ◌≤◌, [], ◌++◌, map, vec_len, vec_capacity, IfErr, OnOk};
+ghost use Rattle.std.specs.List.{All, AllByRecursion};
 ghost use Rattle.std.specs.List.Sorted.{IsPermutation};
-ghost use Rattle.chord_event.specs.KeyOrder.{before};
-ghost use Rattle.chord_queue.specs.EventKey.{event_key};
-ghost use Rattle.chord_queue.specs.Days.{AreDays, HaveNone, IsOpened, events_in};
+ghost use Rattle.slab.specs.Slab.{ContainsKey, get};
+ghost use Rattle.chord_queue.specs.Days.{AreDays, HasSame, HasTaken, HaveNone, IsOpened, entries_in};
+ghost use Rattle.chord_queue.specs.Places.{entry_at};
 
+use crate::waiting::Waiting;
 use chord_event::{Event, Memory};
+use slab::Slab;
 use std::alloc::Global;
-use std::mem;
+use std::cmp::Reverse;
 
 /// The number of days that have a list.
 const DAYS: u64 = 1024;
@@ -16,87 +18,100 @@ const DAYS: u64 = 1024;
 /// The length of a day in microseconds.
 const DAY: u64 = 1024;
 
-/// Events by day. A list has the events of one day, and only days after the last opened one have
-/// events.
+/// The number of events that one day may have.
+const MOST: usize = 8192;
+
+/// Events, and those of later days by day. A list has the places of the events of one day, and only
+/// days after the last opened one have any.
 #[derive(Drop)]
 pub struct Days {
-    /// The events of day `d` are in list `d % DAYS`.
-    pub lists: Vec<Vec<Event>>,
+    /// The places of the events of day `d` are in list `d % DAYS`.
+    pub lists: Vec<Vec<usize>>,
     /// The day that was opened last.
     pub today: u64,
-    /// No event has a later day.
+    /// No event in the lists has a later day.
     pub latest: u64,
-    /// The number of events in the lists. It decides where an event goes, so nothing is proved of it.
-    pub count: u64,
+    /// The events of the lists and of the opened days.
+    pub events: Slab<Event>,
 }
 
 impl Days {
     /// Days without events. They take no memory.
     pub fn new(alloc: Global) -> Days
-        ensures days { AreDays result }
+        ensures days { (room : ℕ) → AreDays result room }
         ensures none { HaveNone result }
     {
         Days {
             lists: Vec::new(alloc),
             today: 0,
             latest: 0,
-            count: 0,
+            events: Slab::new(alloc),
         }
     }
 
-    /// Makes the lists if there are none yet, or fewer of them if an allocation fails.
-    pub fn make_lists(&mut self, alloc: Global)
-        requires { AreDays self.old }
-        ensures days { AreDays self.new }
-        ensures today { self.new.today ≡ self.old.today }
-        ensures same { events_in self.new ≡ events_in self.old }
+    /// Makes the lists if there are none yet, and room in `due` for the events of one of them. There
+    /// are fewer lists or none if an allocation fails.
+    pub fn make_lists(&mut self, due: &mut Vec<Waiting<usize>>, alloc: Global)
+        requires { AreDays self.old (vec_capacity due.old) }
+        ensures days { AreDays self.new (vec_capacity due.new) }
+        ensures same { HasSame self.old self.new }
+        ensures due { due.new.items ≡ due.old.items }
     {
         if self.lists.len() > 0 {
+            return;
+        }
+        if due.reserve(MOST).is_err() {
             return;
         }
         self.lists = empty_lists(alloc);
     }
 
-    /// Adds an event. Returns it if its day has no list, if its day is too far ahead, or if an
-    /// allocation fails.
-    pub fn put(&mut self, event: Event) -> Result<(), Event>
-        requires { AreDays self.old }
-        ensures days { AreDays self.new }
-        ensures today { self.new.today ≡ self.old.today }
-        ensures ok { OnOk result (IsPermutation (event ∷ events_in self.old) (events_in self.new)) }
-        ensures err { IfErr result (λ back. (back ≡ event) × (events_in self.new ≡ events_in self.old)) }
+    /// Adds an event. Returns it if its day has no list or is too far ahead, if the list has no room,
+    /// or if an allocation fails.
+    pub fn put(&mut self, event: Event, room: usize) -> Result<(), Event>
+        requires { AreDays self.old room }
+        ensures days { AreDays self.new room }
+        ensures ok { OnOk result (HasTaken self.old event self.new) }
+        ensures err { IfErr result (λ back. (back ≡ event) × HasSame self.old self.new) }
     {
         let day = event.key.time / DAY;
-        let place = (day % DAYS) as usize;
-        if day <= self.today || day - self.today >= DAYS || place >= self.lists.len() {
+        let at = (day % DAYS) as usize;
+        if day <= self.today || day - self.today >= DAYS || at >= self.lists.len() {
             return Err(event);
         }
-        if let Err(refused) = self.lists[place].push(event) {
-            return Err(refused.value);
+        if self.lists[at].len() >= room {
+            return Err(event);
         }
+        if self.events.reserve(1).is_err() {
+            return Err(event);
+        }
+        let place = self.events.vacant_key();
+        if let Err(_refused) = self.lists[at].push(place) {
+            return Err(event);
+        }
+        self.events.insert_reserved(event);
         self.latest = self.latest.max(day);
-        self.count = self.count.saturating_add(1);
         Ok(())
     }
 
-    /// Moves on to the day of a time. There are no events.
+    /// Moves on to the day of a time. There are no events in the lists.
     pub fn go_on(&mut self, time: u64)
-        requires days { AreDays self.old }
         requires none { HaveNone self.old }
-        ensures days { AreDays self.new }
+        ensures days { (room : ℕ) → AreDays self.old room → AreDays self.new room }
         ensures none { HaveNone self.new }
     {
         self.today = self.today.max(time / DAY);
         self.latest = self.today;
     }
 
-    /// Opens days until one has events, which go to the empty list `due`. If no day has events, the
-    /// list stays empty.
-    pub fn open_next(&mut self, due: &mut Vec<Event>)
-        requires days { AreDays self.old }
+    /// Opens days until one has events, whose entries go to the empty list `due`. If no day has
+    /// events, the list stays empty.
+    pub fn open_next(&mut self, due: &mut Vec<Waiting<usize>>)
+        requires days { AreDays self.old (vec_capacity due.old) }
         requires empty { due.old.items ≡ [] }
-        ensures days { AreDays self.new }
-        ensures moved { IsPermutation (events_in self.old) (due.new.items ++ events_in self.new) }
+        ensures days { AreDays self.new (vec_capacity due.new) }
+        ensures events { self.new.events ≡ self.old.events }
+        ensures moved { IsPermutation (entries_in self.old) (due.new.items ++ entries_in self.new) }
         ensures opened { IsOpened self.new due.new.items }
         ensures whole { due.new.items ≡ [] → HaveNone self.new }
     {
@@ -105,50 +120,57 @@ impl Days {
         }
     }
 
-    /// Adds copies of the events before a time in microseconds.
-    pub fn copy_before(&self, horizon: u64, copies: &mut Vec<Event>) -> Result<(), Memory>
-        ensures { OnOk result (copies.new.items ≡ copies.old.items ++ before event_key horizon (events_in self.now)) }
+    /// Adds the entries of all lists.
+    pub fn add_all(&self, entries: &mut Vec<Waiting<usize>>) -> Result<(), Memory>
+        requires { (room : ℕ) × AreDays self.now room }
+        ensures { OnOk result (entries.new.items ≡ entries.old.items ++ entries_in self.now) }
     {
         for list in &self.lists {
-            copy_before(list, horizon, copies)?;
+            entries.reserve(list.len())?;
+            add_entries(&self.events, list, entries);
         }
         Ok(())
     }
 
-    /// Opens the next day. Its events go to the empty list `due`.
-    fn open_day(&mut self, due: &mut Vec<Event>)
-        requires days { AreDays self.old }
+    /// Opens the next day. The entries of its events go to the empty list `due`.
+    fn open_day(&mut self, due: &mut Vec<Waiting<usize>>)
+        requires days { AreDays self.old (vec_capacity due.old) }
         requires empty { due.old.items ≡ [] }
         requires more { self.old.today < self.old.latest }
-        ensures days { AreDays self.new }
+        ensures days { AreDays self.new (vec_capacity due.new) }
         ensures today { (self.new.today ≡ self.old.today + 1) × (self.new.latest ≡ self.old.latest) }
-        ensures moved { IsPermutation (events_in self.old) (due.new.items ++ events_in self.new) }
+        ensures events { self.new.events ≡ self.old.events }
+        ensures moved { IsPermutation (entries_in self.old) (due.new.items ++ entries_in self.new) }
         ensures opened { IsOpened self.new due.new.items }
     {
         self.today += 1;
-        let place = (self.today % DAYS) as usize;
-        if place < self.lists.len() {
-            // A swap, so that both lists keep their memory and nothing is allocated.
-            mem::swap(due, &mut self.lists[place]);
-            self.count = self.count.saturating_sub(due.len() as u64);
+        let at = (self.today % DAYS) as usize;
+        if at < self.lists.len() {
+            add_entries(&self.events, &self.lists[at], due);
+            self.lists[at].clear();
         }
     }
 }
 
-/// Adds copies of the events before a time in microseconds.
-pub fn copy_before(events: &Vec<Event>, horizon: u64, copies: &mut Vec<Event>) -> Result<(), Memory>
-    ensures { OnOk result (copies.new.items ≡ copies.old.items ++ before event_key horizon events.now.items) }
+/// Adds the entries of the events at some places.
+fn add_entries(events: &Slab<Event>, places: &Vec<usize>, entries: &mut Vec<Waiting<usize>>)
+    requires there { All (ContainsKey events.now) places.now.items }
+    requires room { vec_len entries.old + vec_len places.now ≤ vec_capacity entries.old }
+    ensures added { entries.new.items ≡ entries.old.items ++ map (entry_at (get events.now)) places.now.items }
+    ensures capacity { vec_capacity entries.old ≤ vec_capacity entries.new }
 {
-    for event in events {
-        if event.key.time < horizon {
-            copies.push(event.try_clone()?)?;
+    for place in places {
+        let place = *place;
+        let key = Reverse(events[place].key);
+        match entries.push(Waiting { key, place }) {
+            Ok(()) => {}
+            Err(_) => unreachable!(),
         }
     }
-    Ok(())
 }
 
 /// Empty lists, one for each day, or fewer if an allocation fails.
-fn empty_lists(alloc: Global) -> Vec<Vec<Event>>
+fn empty_lists(alloc: Global) -> Vec<Vec<usize>>
     ensures { AllByRecursion (λ l. l.items ≡ []) result.items }
 {
     let mut lists = Vec::new(alloc);

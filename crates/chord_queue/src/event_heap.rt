@@ -1,13 +1,9 @@
 //! Events in a heap.
 ghost use Rattle.std.specs.Prelude.{◌≡◌, [], ◌∷◌, slice_get, option_map, IfOk, IfErr, MatchOption, OnOk};
-ghost use Rattle.std.specs.List.{filter};
-ghost use Rattle.std.specs.List.Sorted.{IsPermutation, IsSorted};
-ghost use Rattle.std.specs.BinaryHeap.{heap_items};
 ghost use Rattle.chord_event.specs.KeyOrder.{InKeyOrder, IsNewKey, put_in_order, before};
 ghost use Rattle.chord_queue.specs.EventKey.{event_key};
-ghost use Rattle.chord_queue.specs.Places.{waiting_cmp, is_due};
 
-use crate::waiting::Waiting;
+use crate::waiting::{Waiting, copies_before};
 use chord_event::{Event, Key, Memory};
 use slab::Slab;
 use std::alloc::Global;
@@ -98,30 +94,6 @@ impl EventHeap {
     pub fn up_to(&self, horizon: u64) -> Result<Vec<Event>, Memory>
         ensures { IfOk result (λ copies. copies.items ≡ before event_key horizon self.now) }
     {
-        let mut due = due_before(&self.heap, self.alloc, horizon)?;
-        let mut copies = Vec::new(self.alloc);
-        while let Some(waiting) = due.pop() {
-            copies.push(self.events[waiting.place].try_clone()?)?;
-        }
-        Ok(copies)
+        copies_before(self.alloc, &self.events, self.heap.as_slice(), horizon)
     }
-}
-
-/// The keys and places of the events before a time in microseconds, the first event last.
-fn due_before(
-    heap: &BinaryHeap<Waiting<usize>>,
-    alloc: Global,
-    horizon: u64,
-) -> Result<Vec<Waiting<usize>>, Memory>
-    ensures same { IfOk result (λ due. IsPermutation (filter (is_due horizon) (heap_items heap.now)) due.items) }
-    ensures sorted { IfOk result (λ due. IsSorted waiting_cmp due.items) }
-{
-    let mut due = Vec::new(alloc);
-    for waiting in heap {
-        if waiting.key.0.time < horizon {
-            due.push(*waiting)?;
-        }
-    }
-    due.sort_unstable();
-    Ok(due)
 }

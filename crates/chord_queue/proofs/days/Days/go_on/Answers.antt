@@ -1,7 +1,11 @@
-use Rattle.chord_queue.specs.Days.{IsInPlace}
+use Rattle.slab.specs.Slab.{get}
+use Rattle.chord_queue.specs.Days.{IsListed}
 use Rattle.chord_queue.proofs.Placed.{placed_of_none}
 use Rattle.chord_queue.proofs.days.Days.go_on.Goals as goal
 
 pub returns-clause-days : goal.returns-clause-days
-returns-clause-days c =
-    let d = c.args.self.now in placed_of_none (IsInPlace c.max-self.result c.max-self.result) 0 d.lists.items c.requires.none
+returns-clause-days c room days =
+    let d = c.args.self.now in record {
+      placed = placed_of_none (IsListed (get d.events) c.max-self.result c.max-self.result) 0 d.lists.items c.requires.none;
+      fit = days.fit;
+    }

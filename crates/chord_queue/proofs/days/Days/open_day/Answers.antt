@@ -1,45 +1,70 @@
-use Rattle.std.proofs.Common.{◌≡◌, ◌∙◌, ◌≤◌, ◌+◌, ◌%◌, ◌++◌, [], slice_index_or, slice_set, sym, ap, arith, subst}
+use Rattle.std.proofs.Common.{◌≡◌, ℕ, ◌∙◌, ◌≤◌, ◌<◌, ◌+◌, ◌%◌, ◌++◌, List, length, map, slice_index_or, sym, ap, arith, subst, vec_capacity}
 use Rattle.std.specs.List.{AllByRecursion}
-use Rattle.std.specs.List.Sorted.{IsPermutation}
-use Rattle.chord_event.specs.declared.body.Body.{Body}
-use Rattle.chord_event.specs.declared.event.Event.{Event}
+use Rattle.slab.specs.Slab.{get}
 use Rattle.chord_event.proofs.KeyLists.{all_from, all_in}
-use Rattle.chord_queue.specs.Days.{IsInPlace, day_of, list_count}
-use Rattle.chord_queue.proofs.Placed.{EventList, joined, joined_taken, next_day, placed_at, placed_off, placed_set, this_day}
+use Rattle.chord_queue.specs.declared.days.Days.{Days}
+use Rattle.chord_queue.specs.Days.{AreDays, IsListed, day_of, list_count}
+use Rattle.chord_queue.specs.Places.{Entry, entry_at, waiting_key}
+use Rattle.chord_queue.proofs.Calendars.{all_mapped, taken_entries}
+use Rattle.chord_queue.proofs.Placed.{PlaceList, all_set, fit_at, fit_more, all_there, joined, joined_taken, listed_at, next_day, placed_off, placed_set, this_day}
 use Rattle.chord_queue.proofs.days.Days.open_day.Goals as goal
 
-pub returns-then-place-len-clause-days : goal.returns-then-place-len-clause-days
-returns-then-place-len-clause-days c =
-    let d = c.args.self.now in let at = (d.today + 1) % list_count in let P = IsInPlace d.today d.latest in
-    let Q = IsInPlace (d.today + 1) d.latest in
-    let none : c.swap.new.y.items ≡ [] = ap (λ (l : EventList). l.items) c.swap.ensures.y_after ∙ c.requires.empty in
-    placed_set P Q 0 at d.lists.items c.swap.new.y
-    (λ j e ne p. next_day d.today d.latest j e (λ q. ne (q ∙ omega arith)) p) c.requires.days
-    (subst (λ es. AllByRecursion (Q (0 + at)) es) (sym none) tt)
+-- the places of the day have its events
+listed : (d : Days) (l : PlaceList) (room : ℕ) → AreDays d room → (d.today + 1) % list_count < length d.lists.items
+    → l ≡ slice_index_or d.lists.items ((d.today + 1) % list_count) l
+    → AllByRecursion (IsListed (get d.events) d.today d.latest ((d.today + 1) % list_count)) l.items
+listed d l room days lt is =
+    let at = (d.today + 1) % list_count in listed_at (IsListed (get d.events) d.today d.latest) at d.lists.items l l lt is days.placed
 
-pub returns-then-place-len-clause-moved : goal.returns-then-place-len-clause-moved
-returns-then-place-len-clause-moved c =
-    let d = c.args.self.now in let at = (d.today + 1) % list_count in let v = c.index_mut.result.now in
-    let none : c.swap.new.y.items ≡ [] = ap (λ (l : EventList). l.items) c.swap.ensures.y_after ∙ c.requires.empty in
-    let same : (slice_index_or d.lists.items at v).items ≡ c.swap.new.x.items
-    = ap (λ (l : EventList). l.items) (sym c.index_mut.ensures.value ∙ sym c.swap.ensures.x_after) in
-    subst (λ es. IsPermutation (joined d.lists.items) (es ++ joined (slice_set d.lists.items at c.swap.new.y))) same
-    (joined_taken d.lists.items at v c.swap.new.y (omega (arith, c.if-place-len.true, c.len.ensures, d.lists.ok.0)) none)
+pub add_entries-requires-clause-there : goal.add_entries-requires-clause-there
+add_entries-requires-clause-there c =
+    let d = c.args.self.now in let l = c.index.result.now in
+    all_there (get d.events) d.today d.latest ((d.today + 1) % list_count) l.items (listed d l (vec_capacity c.args.due.now) c.requires.days
+    (omega (arith, c.if-at-len.true, c.len.ensures, d.lists.ok.0)) c.index.ensures)
 
-pub returns-then-place-len-clause-opened : goal.returns-then-place-len-clause-opened
-returns-then-place-len-clause-opened c =
-    let d = c.args.self.now in let at = (d.today + 1) % list_count in let v = c.index_mut.result.now in
-    let same : (slice_index_or d.lists.items at v).items ≡ c.swap.new.x.items
-    = ap (λ (l : EventList). l.items) (sym c.index_mut.ensures.value ∙ sym c.swap.ensures.x_after) in
-    let there = placed_at (IsInPlace d.today d.latest) 0 at d.lists.items v (omega (arith, c.if-place-len.true, c.len.ensures, d.lists.ok.0)) c.requires.days in
-    let P : Event Body → Type 0 = λ e. IsInPlace d.today d.latest (0 + at) e in
-    all_from (λ e. day_of e ≤ d.today + 1) c.swap.new.x.items (λ e h.
-    let is = all_in P c.swap.new.x.items (subst (λ es. AllByRecursion P es) same there) e h in
-    omega (arith, this_day d.today d.latest e (subst (λ i. IsInPlace d.today d.latest i e) (omega arith) is)))
+pub add_entries-requires-clause-room : goal.add_entries-requires-clause-room
+add_entries-requires-clause-room c =
+    let d = c.args.self.now in let due = c.args.due.now in let l = c.index.result.now in
+    let fit = fit_at (vec_capacity due) ((d.today + 1) % list_count) d.lists.items l l (omega (arith, c.if-at-len.true, c.len.ensures, d.lists.ok.0))
+    c.index.ensures c.requires.days.fit in
+    let none : length due.items ≡ 0 = ap (λ (ws : List Entry). length ws) c.requires.empty in
+    omega (arith, fit, none, due.ok.0, l.ok.0)
 
-pub returns-else-place-len-clause-days : goal.returns-else-place-len-clause-days
-returns-else-place-len-clause-days c =
-    let d = c.args.self.now in let at = (d.today + 1) % list_count in
-    placed_off (IsInPlace d.today d.latest) (IsInPlace (d.today + 1) d.latest) 0 at d.lists.items
-    (omega (arith, c.if-place-len.false, c.len.ensures, d.lists.ok.0))
-    (λ j e ne p. next_day d.today d.latest j e ne p) c.requires.days
+pub returns-then-at-len-clause-days : goal.returns-then-at-len-clause-days
+returns-then-at-len-clause-days c =
+    let d = c.args.self.now in let at = (d.today + 1) % list_count in let s = get d.events in let l = c.clear.new.self in
+    let Q = IsListed s (d.today + 1) d.latest in let room = vec_capacity c.add_entries.new.entries in record {
+      placed = placed_set (IsListed s d.today d.latest) Q 0 at d.lists.items l
+          (λ j n ne is. next_day s d.today d.latest j n (λ q. ne (q ∙ omega arith)) is) c.requires.days.placed
+          (subst (λ ps. AllByRecursion (Q (0 + at)) ps) (sym c.clear.ensures.items) tt);
+      fit = all_set (λ (m : PlaceList). length m.items ≤ room) d.lists.items at l
+          (fit_more (vec_capacity c.args.due.now) room d.lists.items c.add_entries.ensures.capacity c.requires.days.fit)
+          (subst (λ ps. length ps ≤ room) (sym c.clear.ensures.items) (omega arith));
+    }
+
+pub returns-then-at-len-clause-moved : goal.returns-then-at-len-clause-moved
+returns-then-at-len-clause-moved c =
+    let d = c.args.self.now in let at = (d.today + 1) % list_count in let s = get d.events in let l = c.index.result.now in
+    taken_entries s (joined d.lists.items) (slice_index_or d.lists.items at l).items _ c.add_entries.new.entries.items
+    (joined_taken d.lists.items at l c.clear.new.self (omega (arith, c.if-at-len.true, c.len.ensures, d.lists.ok.0)) c.clear.ensures.items)
+    (c.add_entries.ensures.added ∙ ap (λ (ws : List Entry). ws ++ map (entry_at s) l.items) c.requires.empty
+    ∙ ap (λ (m : PlaceList). map (entry_at s) m.items) c.index.ensures)
+
+pub returns-then-at-len-clause-opened : goal.returns-then-at-len-clause-opened
+returns-then-at-len-clause-opened c =
+    let d = c.args.self.now in let at = (d.today + 1) % list_count in let s = get d.events in let ps = c.index.result.now.items in
+    let opened = all_mapped (λ w. day_of (waiting_key w) ≤ d.today + 1) (entry_at s) ps
+    (all_from (λ n. day_of (waiting_key (entry_at s n)) ≤ d.today + 1) ps
+    (λ n h. this_day s d.today d.latest n (all_in (IsListed s d.today d.latest at) ps (listed d c.index.result.now (vec_capacity c.args.due.now) c.requires.days
+    (omega (arith, c.if-at-len.true, c.len.ensures, d.lists.ok.0)) c.index.ensures) n h))) in
+    subst (λ ws. AllByRecursion (λ w. day_of (waiting_key w) ≤ d.today + 1) ws)
+    (sym (c.add_entries.ensures.added ∙ ap (λ (ws : List Entry). ws ++ map (entry_at s) ps) c.requires.empty)) opened
+
+pub returns-else-at-len-clause-days : goal.returns-else-at-len-clause-days
+returns-else-at-len-clause-days c =
+    let d = c.args.self.now in let at = (d.today + 1) % list_count in let s = get d.events in record {
+      placed = placed_off (IsListed s d.today d.latest) (IsListed s (d.today + 1) d.latest) 0 at d.lists.items
+          (omega (arith, c.if-at-len.false, c.len.ensures, d.lists.ok.0))
+          (λ j n ne is. next_day s d.today d.latest j n ne is) c.requires.days.placed;
+      fit = c.requires.days.fit;
+    }

@@ -1,12 +1,13 @@
-use Rattle.std.proofs.Common.{◌++◌, ◌-◌}
+use Rattle.std.proofs.Common.{◌≡◌, ◌++◌, ◌-◌, vec_capacity}
 use Rattle.std.specs.List.Sorted.{IsPermutation}
-use Rattle.chord_queue.specs.Days.{AreDays, IsOpened, events_in}
+use Rattle.chord_queue.specs.Days.{AreDays, IsOpened, entries_in}
 use Rattle.chord_queue.proofs.days.Days.open_next.Given as goal
 
 abbrev pub invariant-loop-self : goal.invariant-loop-self
 invariant-loop-self l = record {
-  days : AreDays l.self;
-  moved : IsPermutation (events_in l.initial.self) (l.due.items ++ events_in l.self);
+  days : AreDays l.self (vec_capacity l.due);
+  events : l.self.events ≡ l.initial.self.events;
+  moved : IsPermutation (entries_in l.initial.self) (l.due.items ++ entries_in l.self);
   opened : IsOpened l.self l.due.items;
 }
 

@@ -1,8 +1,8 @@
 use Rattle.std.proofs.Common.{◌≡◌, ◌∙◌, ◌∷◌, sym, arith}
 use Rattle.std.specs.BinaryHeap.{heap_items}
 use Rattle.slab.specs.Slab.{get}
-use Rattle.chord_queue.specs.Places.{heap_events, events_at, in_key_order}
-use Rattle.chord_queue.proofs.Places.{Held, changes_by, held_by, placed_by, popped}
+use Rattle.chord_queue.specs.Places.{Held, heap_events, events_at, in_key_order}
+use Rattle.chord_queue.proofs.Places.{changes_by, held_by, placed_by, popped}
 use Rattle.chord_queue.proofs.event_heap.EventHeap.pop_first.Goals as goal
 
 after : (c : goal.After-remove) → let t = get c.remove.new.self in let rest = heap_items c.pop.new.self in
