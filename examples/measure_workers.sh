@@ -4,7 +4,7 @@
 # with as many parts, in blocks of neighbours. Prints a row for each way to run a scenario: the seconds of each turn, the
 # processor seconds of each turn (user + system), and the least seconds as a ratio to the least of the serial engine.
 #
-#   examples/measure_workers.sh [TURNS]     so many turns, 3 if not said
+#   examples/measure_workers.sh [TURNS [ENGINE]]     3 turns if not said; crew and team, or this one of them
 #
 # CHORDSIM names another program than ./chordsim.
 set -eu
@@ -12,6 +12,7 @@ top=$(CDPATH='' cd -- "$(dirname -- "$0")/.." && pwd)
 # The launcher takes time of its own, so the program that it would start is timed.
 program=${CHORDSIM:-$("$top/chordsim" --where)}
 turns=${1:-3}
+engines=${2:-crew team}
 work=$(mktemp -d)
 trap 'rm -rf "$work"' EXIT
 # What `time` prints: the seconds, and those of the processors for the program and for the system.
@@ -46,14 +47,14 @@ measure() {
     for ((turn = 0; turn < turns; turn++)); do
         take serial --engine serial
         for workers in 1 2 3 4; do
-            for engine in crew team; do
+            for engine in $engines; do
                 take "$engine-$workers" --engine $engine --workers $workers --parts $workers --split block
             done
         done
     done
     echo "$1 ($(sed -n 's/^events //p' "$work/report") events in all)"
     least=$(sort -n "$work/rows/serial" | head -n 1 | cut -d ' ' -f 1)
-    for row in "$work/rows/serial" "$work"/rows/crew-* "$work"/rows/team-*; do
+    for row in "$work"/rows/serial "$work"/rows/*-*; do
         show "$row" "$least"
     done
 }
