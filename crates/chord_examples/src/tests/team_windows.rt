@@ -23,7 +23,7 @@ use std::process::Abort;
 const SCENARIOS: u64 = 40;
 
 /// What a window leaves of a part: how many events it ran, the states of its nodes, the events that are still to come, the
-/// text of its events, and the key of each with the place at which its text ends.
+/// text of its events, and the key of each that has lines with the place at which its text ends.
 #[derive(Drop)]
 struct Leavings {
     events: u64,
@@ -48,7 +48,7 @@ impl Leavings {
     }
 }
 
-/// The text of blocks, and the key of each with the place at which its text ends.
+/// The text of blocks, and the key of each that has lines with the place at which its text ends.
 fn text_of<T: Abort + AllocGlobal>(
     rt: &T,
     scenario: &Scenario,
@@ -62,7 +62,9 @@ fn text_of<T: Abort + AllocGlobal>(
         let mut writer = Watched::new(Vec::new(alloc));
         value_of(rt, write_block(alloc, scenario, block, &mut writer));
         value_of(rt, text.append(&mut writer.into_inner()));
-        value_of(rt, ends.push((block.key, text.len())));
+        if !block.lines.as_slice().is_empty() {
+            value_of(rt, ends.push((block.key, text.len())));
+        }
     }
     (text, ends)
 }
