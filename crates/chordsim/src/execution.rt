@@ -4,13 +4,11 @@ ghost use Rattle.std.specs.Io.Buffered.{writer_inner};
 ghost use Rattle.std.specs.Process.{exit_status};
 ghost use Rattle.chord_trace.specs.Watched.{has_failed};
 
-use crate::latency_file::LatencyFile;
-use crate::questions::Question;
-use crate::session::{or_write_fault, run, tell};
 use crate::status::{conclude, refuse_trace};
 use chord_command::{Files, Order};
 use chord_event::RunError;
 use chord_play::{Plan, PlayFault, Text};
+use chord_session::{LatencyFile, Question, or_write_fault, run, tell};
 use chord_trace::Watched;
 use std::alloc::Global;
 use std::io::{BufWriter, Read, Write};

@@ -1,6 +1,6 @@
 //! Faults of orders, as standard error shows them.
 ghost use Rattle.std.specs.Prelude.{◌≡◌};
-ghost use Rattle.chordsim.specs.Answers.{status_of};
+ghost use Rattle.chordsim.specs.Statuses.{status_of};
 
 use chord_command::Files;
 use chord_event::RunError;

@@ -3,9 +3,6 @@
 
 mod execution;
 mod failure;
-mod latency_file;
-mod questions;
-mod session;
 mod status;
 
 use chord_command::read_process;

@@ -1,7 +1,7 @@
 //! Exit statuses, and what standard error says beside them.
 ghost use Rattle.std.specs.Prelude.{◌≡◌, ◌⊎◌};
 ghost use Rattle.std.specs.Process.{exit_status};
-ghost use Rattle.chordsim.specs.Answers.{IsShown, status_of_outcome, status_of_words};
+ghost use Rattle.chordsim.specs.Statuses.{IsShown, status_of_outcome, status_of_words};
 
 use crate::failure::{FAILED, FailedRun, Failure};
 use chord_command::{Files, WordFault};

@@ -10,8 +10,8 @@ use Rattle.chord_play.specs.declared.fault.PlayFault.TheVariants as fault
 use Rattle.chord_trace.specs.Watched.{wrapped}
 use Rattle.chord_trace.specs.declared.report.Report.{Report}
 use Rattle.chord_trace.specs.declared.watched.Watched.{Watched}
-use Rattle.chordsim.specs.Answers.{HasBegun, IsOver}
-use Rattle.chordsim.proofs.session.run.Goals as goal
+use Rattle.chord_session.specs.Answers.{HasBegun, IsOver}
+use Rattle.chord_session.proofs.session.run.Goals as goal
 
 -- a run has begun the trace, whatever its result, and a flush keeps it
 begun_kept : (scenario latency old mid new : Option (List ℕ)) (result : Result Report RunError) → IsPlayed scenario latency old mid result

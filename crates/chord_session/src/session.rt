@@ -5,7 +5,7 @@ ghost use Rattle.chord_machine.specs.Run.{trace_text};
 ghost use Rattle.chord_play.specs.Faults.{is_of_run, is_write_fault};
 ghost use Rattle.chord_play.specs.Readings.{IsFaultOf, reading};
 ghost use Rattle.chord_trace.specs.Watched.{wrapped, has_failed};
-ghost use Rattle.chordsim.specs.Answers.{HasAnswered, HasBegun, HasReported, IsAnswered, IsOver, IsReported, told};
+ghost use Rattle.chord_session.specs.Answers.{HasAnswered, HasBegun, HasReported, IsAnswered, IsOver, IsReported, told};
 
 use crate::questions::{Question, answer};
 use chord_event::RunError;

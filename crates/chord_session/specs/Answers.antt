@@ -1,26 +1,17 @@
--- What the program prints, and the status that it ends with.
+-- What the commands write of a scenario.
 use Rattle.std.specs.Io.KnownBytes.{Appends}
-use Rattle.std.specs.Prelude.{◌≡◌, ◌⊎◌, ℕ, List, [], ◌++◌, codes, decimal, length, Option, Result, Ok, Err}
+use Rattle.std.specs.Prelude.{ℕ, List, ◌++◌, codes, decimal, length, Option}
 use Rattle.std.specs.List.{flat_map, range_with_len}
 use Rattle.chord_machine.specs.Run.{HasTooManyEvents, IsReport}
 use Rattle.chord_output.specs.Runs.{IsBeginning}
-use Rattle.clap.specs.Words.{kind_of}
-use Rattle.clap.specs.declared.error.kind.ErrorKind.{ErrorKind}
-use Rattle.clap.specs.declared.error.kind.ErrorKind.TheVariants as kind
-use Rattle.chord_play.specs.declared.fault.PlayFault.{PlayFault}
-use Rattle.chord_play.specs.declared.fault.PlayFault.TheVariants as fault
 use Rattle.chord_play.specs.Texts.{Gives}
 use Rattle.chord_scenario.specs.declared.scenario.Scenario.{Scenario}
 use Rattle.chord_scenario.specs.World.{ident_of, name_of as node_name, node_count}
+use Rattle.chord_session.specs.declared.questions.Question.{Question}
+use Rattle.chord_session.specs.declared.questions.Question.TheVariants as question
 use Rattle.chord_trace.specs.ReportText.{report_text}
 use Rattle.chord_trace.specs.Writing.{AppendsFront}
 use Rattle.chord_trace.specs.declared.report.Report.{Report}
-use Rattle.chordsim.specs.declared.questions.Question.{Question}
-use Rattle.chordsim.specs.declared.questions.Question.TheVariants as question
-use Rattle.chord_command.specs.declared.words.WordFault.{WordFault}
-use Rattle.chord_command.specs.declared.words.WordFault.TheVariants as word
-
--- What is printed
 
 -- what `check` prints of a scenario
 abbrev pub check_text : Scenario → List ℕ
@@ -78,35 +69,3 @@ pub record HasReported (scenario latency old new : Option (List ℕ)) : Type 0 w
   pub report : Report
   pub right : IsReport setup report
   pub front : AppendsFront old new (report_text report)
-
--- The status of an order that is not carried out
-
--- the exit status for a fault
-abbrev pub status_of : PlayFault → ℕ
-status_of (fault.Run error) = 3
-status_of (fault.Scenario fault) = 1
-status_of (fault.Read text) = 1
-status_of (fault.TooLong text) = 1
-
--- 0 if the order was carried out
-abbrev pub status_of_outcome : {A : Type 0} → Result A PlayFault → ℕ
-status_of_outcome (Ok done) = 0
-status_of_outcome (Err fault) = status_of fault
-
--- the arguments ask for a text: with `--help` or `--version`
-abbrev pub IsShown : WordFault → Type 0
-IsShown (word.Refused error) = (kind_of error ≡ kind.DisplayHelp) ⊎ (kind_of error ≡ kind.DisplayVersion)
-IsShown word.NotText = ⊥
-IsShown word.Memory = ⊥
-
--- the status for what clap returns in place of an order
-abbrev pub status_of_kind : ErrorKind → ℕ
-status_of_kind kind.DisplayHelp = 0
-status_of_kind kind.DisplayVersion = 0
-status_of_kind other = 2
-
--- the status for arguments that give no order
-abbrev pub status_of_words : WordFault → ℕ
-status_of_words (word.Refused error) = status_of_kind (kind_of error)
-status_of_words word.NotText = 2
-status_of_words word.Memory = 3
