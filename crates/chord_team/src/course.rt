@@ -21,7 +21,7 @@ pub struct Course<'a> {
 pub struct Hands {
     /// The number of workers, of which the calling thread is one.
     pub workers: u32,
-    /// How many events of a window are worth waking a worker. If it is 0, all are woken in each
-    /// window.
+    /// How many events of a window are worth waking a worker that sleeps. If it is 0, all are woken
+    /// in each window.
     pub worth: u64,
 }

@@ -9,6 +9,7 @@ mod link;
 mod named;
 mod order;
 mod output;
+mod pace;
 mod part;
 mod run;
 mod start;
@@ -33,6 +34,9 @@ pub use named::Named;
 pub use order::{Order, Reply};
 #[doc(hidden)]
 pub use output::{Mark, Output};
+// Public so that a test can ask it.
+#[doc(hidden)]
+pub use pace::Pace;
 #[doc(hidden)]
 pub use part::{Finished, OwnedPart, Parcel};
 #[doc(hidden)]

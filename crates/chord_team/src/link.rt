@@ -11,6 +11,8 @@ use std::thread::Parker;
 pub struct Link<J: Named> {
     pub orders: Producer<Order<J>>,
     pub replies: Consumer<Reply<J>>,
+    /// Whether the caller had to wait long for a reply.
+    pub is_slow: bool,
 }
 
 /// The worker's ends.
@@ -20,17 +22,17 @@ pub struct Desk<J: Named> {
     pub replies: Producer<Reply<J>>,
 }
 
-/// The next item, or `None` if no other can come.
-pub fn next_item<R: Wait, T>(rt: &R, ring: &mut Consumer<T>, parker: &Parker) -> Option<T> {
+/// The next item, or `None` if no other can come, and how many turns it took.
+pub fn next_item<R: Wait, T>(rt: &R, ring: &mut Consumer<T>, parker: &Parker) -> (Option<T>, u32) {
     let mut turn = 0u32;
     for _ in rt.forever() {
         if let Ok(item) = ring.pop() {
-            return Some(item);
+            return (Some(item), turn);
         }
         if ring.is_abandoned() {
             return match ring.pop() {
-                Ok(item) => Some(item),
-                Err(_) => None,
+                Ok(item) => (Some(item), turn),
+                Err(_) => (None, turn),
             };
         }
         wait_a_turn(rt, turn, parker);

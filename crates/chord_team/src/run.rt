@@ -13,6 +13,7 @@ use crate::course::{Course, Hands};
 use crate::layout::Layout;
 use crate::link::{Desk, Link};
 use crate::named::Named;
+use crate::pace::Pace;
 use crate::team::Team;
 use crate::window_run::run_window;
 use crate::worker::serve;
@@ -31,18 +32,23 @@ use std::thread::{Parker, Scope, Threads};
 /// The most workers of a team.
 pub const MOST_WORKERS: u32 = 64;
 
-/// How many events are worth waking a worker: fewer are run before it is awake.
+/// How many events are worth waking a worker that sleeps: fewer are run before it is awake.
 const EVENTS_OF_A_WORKER: u64 = 250;
 
-/// The links of the workers that are woken for a window of this many events: all of them, or those of
-/// the first ones.
-fn links_worth<J: Named>(links: &mut Vec<Link<J>>, events: u64, worth: u64) -> &mut [Link<J>] {
+/// The links of the first workers beside the caller.
+fn first_links<J: Named>(links: &mut Vec<Link<J>>, count: usize) -> &mut [Link<J>] {
     let most = links.len();
-    let others = match events.checked_div(worth) {
-        Some(workers) => usize::try_from(workers.saturating_sub(1)).unwrap_or(most),
-        None => most,
-    };
-    &mut links[..others.min(most)]
+    &mut links[..count.min(most)]
+}
+
+/// Whether the caller waited long for one of the workers since this was last asked.
+fn take_slow<J: Named>(links: &mut Vec<Link<J>>) -> bool {
+    let mut is_slow = false;
+    for k in 0..links.len() {
+        is_slow = is_slow || links[k].is_slow;
+        links[k].is_slow = false;
+    }
+    is_slow
 }
 
 /// Runs the windows, while the workers stand.
@@ -61,17 +67,15 @@ fn drive<J: Named, R: Wait, W: Write>(
     ensures only { IfErr result (λ e. e ≢ RunError.BadDivision) }
 {
     let mut team = team;
+    let mut pace = Pace::new(course.worth);
     let mut events = 0u64;
     while let Some(opening) = team.opening(course) {
         team.open_window(course, opening)?;
         let before = team.count;
         // A window is likely to have as many events as the one before it.
-        let results = run_window(
-            rt,
-            course,
-            &mut team,
-            links_worth(links, events, course.worth),
-        )?;
+        let others = pace.others(events, links.len());
+        let results = run_window(rt, course, &mut team, first_links(links, others))?;
+        pace.learn(events, links.len(), take_slow(links));
         team.put_window(course, results, writer)?;
         events = team.count - before;
     }
@@ -92,6 +96,7 @@ fn make_ends<J: Named>(alloc: Global, parts: usize) -> Result<(Link<J>, Desk<J>)
         Link {
             orders: to_worker,
             replies: from_worker,
+            is_slow: false,
         },
         Desk {
             orders: from_caller,

@@ -7,6 +7,11 @@ use std::{hint, thread};
 /// would take the processor from the thread that is waited for.
 const SPINS: u32 = 300;
 
+/// Whether it took so many turns that the thread was to sleep.
+pub fn is_long(turns: u32) -> bool {
+    turns >= SPINS
+}
+
 /// Waits a turn: the first turns are short, the later ones sleep until the parker is woken.
 pub fn wait_a_turn<R: Wait>(rt: &R, turn: u32, parker: &Parker) {
     if turn < SPINS {

@@ -13,6 +13,7 @@ use crate::named::Named;
 use crate::order::Order;
 use crate::part::Finished;
 use crate::team::Team;
+use crate::waiting::is_long;
 use chord_event::RunError;
 use chord_output::graver;
 use std::sync::Wait;
@@ -88,7 +89,9 @@ fn receive<J: Named, R: Wait>(
     let Some(caller) = course.parkers.first() else {
         return Err(RunError::Worker);
     };
-    let Some(reply) = next_item(rt, &mut link.replies, caller) else {
+    let (reply, turns) = next_item(rt, &mut link.replies, caller);
+    link.is_slow = link.is_slow || is_long(turns);
+    let Some(reply) = reply else {
         return Err(RunError::Worker);
     };
     let result = reply.expect(

@@ -25,7 +25,8 @@ pub fn serve<J: Named, R: Wait>(rt: &R, course: &Course<'_>, desk: Desk<J>, work
         return;
     };
     for _ in rt.forever() {
-        let Some(order) = next_item(rt, &mut orders, mine) else {
+        let (order, _turns) = next_item(rt, &mut orders, mine);
+        let Some(order) = order else {
             return;
         };
         let reply = order.run(alloc, scenario, layout);

@@ -13,6 +13,7 @@ mod first_ring;
 mod gates;
 mod later_profiles;
 mod left;
+mod paces;
 mod random_texts;
 mod read_scenarios;
 mod reader_failures;
