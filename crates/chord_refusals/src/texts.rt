@@ -1,7 +1,8 @@
 //! Calls that make a scenario from texts, and the start of a run from a scenario.
 use crate::stop::{Stop, holds, holds_written};
+use chord_event::Event;
 use chord_examples::{Example, text_of};
-use chord_node::initial_ring;
+use chord_node::{NodeState, initial_ring};
 use chord_play::{Engine, Plan, Split, load, play};
 use chord_scenario::Scenario;
 use chord_trace::Watched;
@@ -49,17 +50,29 @@ pub fn play_example<T: AllocGlobal + Threads + Wait + Sync>(
 pub fn copy_the_start(alloc: Global, scenario: &Scenario) -> Result<(), Stop> {
     let events = scenario.start_events(alloc)?;
     for event in events.iter() {
-        let key = event.key;
-        let copy = event.try_clone();
-        holds(event.key == key, "copying changes an event")?;
-        holds(copy?.key == key, "the copy is another event")?;
+        copy_event(event)?;
     }
+    copy_ring(alloc, scenario)
+}
+
+fn copy_event(event: &Event) -> Result<(), Stop> {
+    let key = event.key;
+    let copy = event.try_clone();
+    holds(event.key == key, "copying changes an event")?;
+    holds(copy?.key == key, "the copy is another event")
+}
+
+fn copy_ring(alloc: Global, scenario: &Scenario) -> Result<(), Stop> {
     let states = initial_ring(alloc, scenario)?;
     for state in states.iter() {
-        let me = state.me;
-        let copy = state.clone_state();
-        holds(state.me == me, "copying changes a state")?;
-        holds(copy?.me == me, "the copy is another state")?;
+        copy_state(state)?;
     }
     Ok(())
+}
+
+fn copy_state(state: &NodeState) -> Result<(), Stop> {
+    let me = state.me;
+    let copy = state.clone_state();
+    holds(state.me == me, "copying changes a state")?;
+    holds(copy?.me == me, "the copy is another state")
 }
