@@ -5,6 +5,14 @@ use Rattle.clap.specs.Words.{App, Rule, Text, new_app, new_rule, with_rule}
 use Rattle.clap.specs.declared.builder.action.ArgAction.TheVariants.{Set, SetTrue}
 use Rattle.clap.specs.declared.builder.value_parser.ValueParser.TheVariants as parser
 
+-- an option that takes a value
+abbrev pub option_rule : Text → Rule
+option_rule name = record (new_rule name) {
+  long = Some name;
+  value_names = 1;
+  action = Some Set;
+}
+
 abbrev pub scenario_rule : Rule
 scenario_rule = record (new_rule (codes "scenario")) {
   long = Some (codes "scenario");

@@ -1,7 +1,7 @@
 //! The command line of the program, for clap to read.
 ghost use Rattle.std.specs.Prelude.{◌≡◌, false, IfOk};
 ghost use Rattle.clap.specs.Words.{app_of, rule_of};
-ghost use Rattle.chord_command.specs.Commands.{IsEngineNames, IsSplitNames, Names, OptionNames, check_app, engine_rule, files_app, ids_app, latency_rule, parts_rule, run_app, scenario_rule, serial_rule, split_rule, trace_rule, workers_rule};
+ghost use Rattle.chord_command.specs.Commands.{IsEngineNames, IsSplitNames, Names, OptionNames, check_app, engine_rule, files_app, ids_app, latency_rule, option_rule, parts_rule, run_app, scenario_rule, serial_rule, split_rule, trace_rule, workers_rule};
 
 use clap::{Arg, ArgAction, Command, value_parser};
 use std::alloc::{AllocError, Global};
@@ -86,55 +86,50 @@ pub fn run_command<'a>(alloc: Global) -> Result<Command<'a>, AllocError>
         .arg(trace_argument(alloc))
 }
 
+/// An option that takes a value.
+fn option_argument<'a>(alloc: Global, name: &'a str, value_name: &'a str, help: &'a str) -> Arg<'a>
+    ensures rule { rule_of result ≡ option_rule name.now }
+    ensures local { result.global ≡ false }
+{
+    Arg::new(alloc, name)
+        .long(name)
+        .value_name(value_name)
+        .help(help)
+        .action(ArgAction::Set)
+}
+
 fn scenario_argument<'a>(alloc: Global) -> Arg<'a>
     ensures rule { rule_of result ≡ scenario_rule }
     ensures local { result.global ≡ false }
 {
-    Arg::new(alloc, "scenario")
-        .long("scenario")
-        .value_name("FILE")
-        .help("Scenario file: TOML, at most 16777216 bytes")
-        .required(true)
-        .action(ArgAction::Set)
+    let help = "Scenario file: TOML, at most 16777216 bytes";
+    option_argument(alloc, "scenario", "FILE", help).required(true)
 }
 
 fn latency_argument<'a>(alloc: Global) -> Arg<'a>
     ensures rule { rule_of result ≡ latency_rule }
     ensures local { result.global ≡ false }
 {
-    Arg::new(alloc, "latency")
-        .long("latency")
-        .value_name("FILE")
-        .help(
-            "Latency file: CSV, at most 16777216 bytes, rows of two node names and the microseconds between them [default: no rows]",
-        )
-        .action(ArgAction::Set)
+    let help = "Latency file: CSV, at most 16777216 bytes, rows of two node names and \
+        the microseconds between them [default: no rows]";
+    option_argument(alloc, "latency", "FILE", help)
 }
 
 fn workers_argument<'a>(alloc: Global) -> Arg<'a>
     ensures rule { rule_of result ≡ workers_rule }
     ensures local { result.global ≡ false }
 {
-    Arg::new(alloc, "workers")
-        .long("workers")
-        .value_name("COUNT")
-        .help("Number of worker threads, 1 to 64 [default: 1]")
-        .action(ArgAction::Set)
-        .value_parser(value_parser!(u32).range(1..=64))
+    let help = "Number of worker threads, 1 to 64 [default: 1]";
+    option_argument(alloc, "workers", "COUNT", help).value_parser(value_parser!(u32).range(1..=64))
 }
 
 fn parts_argument<'a>(alloc: Global) -> Arg<'a>
     ensures rule { rule_of result ≡ parts_rule }
     ensures local { result.global ≡ false }
 {
-    Arg::new(alloc, "parts")
-        .long("parts")
-        .value_name("COUNT")
-        .help(
-            "Number of parts that the nodes are divided into, 1 to 512 [default: as many as workers]",
-        )
-        .action(ArgAction::Set)
-        .value_parser(value_parser!(u32).range(1..=512))
+    let help =
+        "Number of parts that the nodes are divided into, 1 to 512 [default: as many as workers]";
+    option_argument(alloc, "parts", "COUNT", help).value_parser(value_parser!(u32).range(1..=512))
 }
 
 static SPLITS: [&str; 2] = ["rr", "block"];
@@ -143,14 +138,10 @@ fn split_argument<'a>(alloc: Global) -> Arg<'a>
     ensures rule { (names : Names) × IsSplitNames names × (rule_of result ≡ split_rule names) }
     ensures local { result.global ≡ false }
 {
-    Arg::new(alloc, "split")
-        .long("split")
-        .value_name("WAY")
-        .help(
-            "How the nodes are divided: rr deals them out in turn, block keeps neighbours in the file together [default: rr]",
-        )
-        .action(ArgAction::Set)
-        .value_parser(SPLITS.as_slice())
+    let help =
+        "How the nodes are divided: rr deals them out in turn, block keeps neighbours in the file \
+        together [default: rr]";
+    option_argument(alloc, "split", "WAY", help).value_parser(SPLITS.as_slice())
 }
 
 static ENGINES: [&str; 3] = ["serial", "crew", "team"];
@@ -159,14 +150,10 @@ fn engine_argument<'a>(alloc: Global) -> Arg<'a>
     ensures rule { (names : Names) × IsEngineNames names × (rule_of result ≡ engine_rule names) }
     ensures local { result.global ≡ false }
 {
-    Arg::new(alloc, "engine")
-        .long("engine")
-        .value_name("NAME")
-        .help(
-            "What runs the scenario: serial is one event at a time on one thread, team has threads for the whole run, crew starts threads in each window [default: serial with one worker and one part, else team]",
-        )
-        .action(ArgAction::Set)
-        .value_parser(ENGINES.as_slice())
+    let help =
+        "What runs the scenario: serial is one event at a time on one thread, team has threads for \
+        the whole run, crew starts threads in each window [default: serial with one worker and one part, else team]";
+    option_argument(alloc, "engine", "NAME", help).value_parser(ENGINES.as_slice())
 }
 
 fn serial_argument<'a>(alloc: Global) -> Arg<'a>
@@ -185,11 +172,8 @@ fn trace_argument<'a>(alloc: Global) -> Arg<'a>
     ensures rule { rule_of result ≡ trace_rule }
     ensures local { result.global ≡ false }
 {
-    Arg::new(alloc, "trace")
-        .long("trace")
-        .value_name("FILE")
-        .help(
-            "File for the trace; its old content is lost, even if the scenario is then refused [default: standard output]",
-        )
-        .action(ArgAction::Set)
+    let help =
+        "File for the trace; its old content is lost, even if the scenario is then refused [default: \
+        standard output]";
+    option_argument(alloc, "trace", "FILE", help)
 }
