@@ -1,6 +1,6 @@
 //! The command line of the program, for clap to read.
 ghost use Rattle.std.specs.Prelude.{◌≡◌, false, IfOk};
-ghost use Rattle.clap.specs.Words.{app_of, rule_of};
+ghost use Rattle.clap.specs.Words.{app_of, new_app, rule_of};
 ghost use Rattle.chord_command.specs.Commands.{IsEngineNames, IsSplitNames, Names, OptionNames, check_app, engine_rule, files_app, ids_app, latency_rule, option_rule, parts_rule, run_app, scenario_rule, serial_rule, split_rule, trace_rule, workers_rule};
 
 use clap::{Arg, ArgAction, Command, value_parser};
@@ -65,11 +65,22 @@ fn files_command<'a>(
 ) -> Result<Command<'a>, AllocError>
     ensures { IfOk result (λ c. app_of c ≡ files_app name.now) }
 {
-    Command::new(alloc, name)
-        .bin_name(bin_name)?
-        .about(about)
+    bare_command(alloc, name, bin_name, about)?
         .arg(scenario_argument(alloc))?
         .arg(latency_argument(alloc))
+}
+
+/// A command without arguments.
+fn bare_command<'a>(
+    alloc: Global,
+    name: &'a str,
+    bin_name: &str,
+    about: &'a str,
+) -> Result<Command<'a>, AllocError>
+    ensures { IfOk result (λ c. app_of c ≡ new_app name.now) }
+{
+    let command = Command::new(alloc, name).bin_name(bin_name)?;
+    Ok(command.about(about))
 }
 
 /// The command `run`.

@@ -10,7 +10,7 @@ use crate::commands::{check_command, ids_command, run_command, whole_command};
 use crate::order::{Files, Order};
 use chord_plan::{Engine, Plan, Split};
 use clap::error::ErrorKind;
-use clap::{ArgMatches, Error};
+use clap::{ArgMatches, Command, Error};
 use std::alloc::{AllocError, Global};
 
 /// Why the arguments of the program give no order.
@@ -220,9 +220,12 @@ fn refused<'a>(alloc: Global, words: &'a [String]) -> Result<WordFault, AllocErr
     let mut command = whole_command(alloc)?;
     match command.try_get_matches_from_mut(words) {
         Err(error) => Ok(WordFault::from(error)),
-        Ok(_) => {
-            let error = command.error(ErrorKind::MissingSubcommand, "a command is required")?;
-            Ok(WordFault::Refused(error))
-        }
+        Ok(_) => no_command(&mut command),
     }
+}
+
+/// What the whole command line says of arguments without a command.
+fn no_command(command: &mut Command<'_>) -> Result<WordFault, AllocError> {
+    let error = command.error(ErrorKind::MissingSubcommand, "a command is required")?;
+    Ok(WordFault::Refused(error))
 }

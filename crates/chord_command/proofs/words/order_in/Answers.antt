@@ -1,8 +1,9 @@
-use Rattle.std.proofs.Common.{◌≡◌, ◌∙◌, ◌∷◌, List, Some, ap, drop, map, refl, string_bytes, subst, sym}
+use Rattle.std.proofs.Common.{◌≡◌, ◌∙◌, ◌∷◌, [], List, Some, ap, drop, map, refl, string_bytes, subst, sym}
 use Rattle.std.specs.Prelude.{option_map, slice_get}
 use Rattle.std.proofs.lemmas.Option.{slice_get-map}
-use Rattle.clap.specs.Words.{Text}
-use Rattle.chord_command.specs.Orders.{IsRunOf, command_word}
+use Rattle.clap.specs.Words.{Text, fault_of, matches_of}
+use Rattle.chord_command.specs.Commands.{check_app, ids_app}
+use Rattle.chord_command.specs.Orders.{HasFiles, IsRunOf, command_word}
 use Rattle.chord_command.proofs.words.order_in.Goals as goal
 
 -- the texts of the words after the first
@@ -25,4 +26,28 @@ returns-in_ok-files-in-run-clause-order c =
     let run = c.in_ok-files-in-run in (
       word ∙ ap (λ t. Some t) (sym c.as_str.ensures.value ∙ c.in-run.is),
       subst (λ given. IsRunOf given run.files run.plan run.trace) (sym rest) run.ensures.order,
+    )
+
+pub returns-in_ok-files_of_check-in-check-clause-order : goal.returns-in_ok-files_of_check-in-check-clause-order
+returns-in_ok-files_of_check-in-check-clause-order c =
+    let words = c.args.words.now in
+    let are = c.in-Some.ensures.cases.0 in
+    let rest = texts_after string_bytes words c.in-Some.field-0-0.now c.in-Some.rest.now are in
+    let word = text_after string_bytes words c.in-Some.field-0-0.now c.in-Some.rest.now c.in-Some-first.name.now are (sym c.in-Some-first.ensures.value) in
+    let check = c.in_ok-files_of_check-in-check in (
+      word ∙ ap (λ t. Some t) (sym c.as_str.ensures.value ∙ c.in-check.is),
+      subst (λ given. fault_of check_app given ≡ []) (sym rest) check.ensures.accepted,
+      subst (λ given. HasFiles (matches_of check_app given) check.field-0) (sym rest) check.ensures.files,
+    )
+
+pub returns-in_ok-files_of_ids-in-ids-clause-order : goal.returns-in_ok-files_of_ids-in-ids-clause-order
+returns-in_ok-files_of_ids-in-ids-clause-order c =
+    let words = c.args.words.now in
+    let are = c.in-Some.ensures.cases.0 in
+    let rest = texts_after string_bytes words c.in-Some.field-0-0.now c.in-Some.rest.now are in
+    let word = text_after string_bytes words c.in-Some.field-0-0.now c.in-Some.rest.now c.in-Some-first.name.now are (sym c.in-Some-first.ensures.value) in
+    let ids = c.in_ok-files_of_ids-in-ids in (
+      word ∙ ap (λ t. Some t) (sym c.as_str.ensures.value ∙ c.in-ids.is),
+      subst (λ given. fault_of ids_app given ≡ []) (sym rest) ids.ensures.accepted,
+      subst (λ given. HasFiles (matches_of ids_app given) ids.field-0) (sym rest) ids.ensures.files,
     )
