@@ -1,5 +1,5 @@
-use Rattle.std.proofs.Common.{◌∙◌, ◌∷◌, [], ap, map, sym, refl, string_bytes, subst}
-use Rattle.clap.specs.Words.{fault_of, is_simple, is_simple_and_free, matches_of}
+use Rattle.std.proofs.Common.{rules, ◌∙◌, ◌∷◌, [], ap, map, sym, refl, string_bytes, subst}
+use Rattle.clap.specs.Words.{fault_of, is_simple, is_simple_and_free, matches_of, takes}
 use Rattle.chord_command.specs.Orders.{HasFiles}
 use Rattle.chord_command.specs.Commands.{latency_rule}
 use Rattle.chord_command.proofs.CommandFacts.{check_is_free, check_is_simple, check_rules, scenario_given}
@@ -20,3 +20,8 @@ pub returns-clause-accepted : goal.returns-clause-accepted
 returns-clause-accepted c =
     let app = c.in_ok-command.ensures in
     ap (λ a. fault_of a (map string_bytes c.args.words.now)) (sym app) ∙ c.in_ok-matches.ensures.kinds (ap is_simple_and_free app ∙ check_is_free)
+
+pub returns-in_err-matches-clause-taken : goal.returns-in_err-matches-clause-taken
+returns-in_err-matches-clause-taken c given =
+    let passes = ap (λ a. takes a (map string_bytes c.args.words.now)) c.in_ok-command.ensures ∙ given in
+    search (rules, c.in_err-matches.ensures.passes passes, c.from_residual-in_err-matches.ensures)

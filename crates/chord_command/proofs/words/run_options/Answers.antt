@@ -1,6 +1,6 @@
-use Rattle.std.proofs.Common.{◌∙◌, ◌∷◌, [], ap, codes, map, refl, string_bytes, subst, sym}
+use Rattle.std.proofs.Common.{rules, ◌∙◌, ◌∷◌, [], ap, codes, map, refl, string_bytes, subst, sym}
 use Rattle.std.specs.Prelude.{◌≡◌, option_map}
-use Rattle.clap.specs.Words.{fault_of, first_of, is_simple, is_simple_and_free, matches_of}
+use Rattle.clap.specs.Words.{fault_of, first_of, is_simple, is_simple_and_free, matches_of, takes}
 use Rattle.chord_command.specs.Orders.{HasFiles, HasPlan}
 use Rattle.chord_command.specs.Commands.{latency_rule, workers_rule, parts_rule, split_rule, engine_rule, serial_rule, trace_rule}
 use Rattle.chord_command.proofs.CommandFacts.{run_is_free, run_is_simple, run_rules, parts_given, scenario_given, workers_given}
@@ -34,3 +34,9 @@ returns-clause-order c =
       subst (λ rs. HasPlan rs c.plan_in-plan.result) rows c.plan_in-plan.ensures,
       subst (λ rs. first_of (codes "trace") rs ≡ option_map string_bytes c.in_ok-trace.trace) rows c.in_ok-trace.ensures,
     )
+
+pub returns-in_err-matches-clause-taken : goal.returns-in_err-matches-clause-taken
+returns-in_err-matches-clause-taken c given =
+    let app = c.in_ok-command.ensures in
+    let passes = ap (λ a. takes a (map string_bytes c.args.words.now)) app.1 ∙ given app.0 in
+    search (rules, c.in_err-matches.ensures.passes passes, c.from_residual-in_err-matches.ensures)
