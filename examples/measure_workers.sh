@@ -4,7 +4,8 @@
 # with as many parts, in blocks of neighbours. Prints a row for each way to run a scenario: the seconds of each turn, the
 # processor seconds of each turn (user + system), and the least seconds as a ratio to the least of the serial engine.
 #
-#   examples/measure_workers.sh [TURNS [ENGINE]]     3 turns if not said; crew and team, or this one of them
+#   examples/measure_workers.sh [TURNS [ENGINE [SECONDS]]]     3 turns if not said; crew and team, or this one of them;
+#                                                              the whole scenarios, or so many simulated seconds of each
 #
 # CHORDSIM names another program than ./chordsim.
 set -eu
@@ -13,6 +14,7 @@ top=$(CDPATH='' cd -- "$(dirname -- "$0")/.." && pwd)
 program=${CHORDSIM:-$("$top/chordsim" --where)}
 turns=${1:-3}
 engines=${2:-crew team}
+span=${3:-}
 work=$(mktemp -d)
 trap 'rm -rf "$work"' EXIT
 # What `time` prints: the seconds, and those of the processors for the program and for the system.
@@ -42,6 +44,7 @@ show() {
 
 # Times all ways to run the scenario, which has this title.
 measure() {
+    [ -z "$span" ] || sed -i "s/^duration_us = .*/duration_us = ${span}000000/" "$work/scenario.toml"
     rm -rf "$work/rows"
     mkdir "$work/rows"
     for ((turn = 0; turn < turns; turn++)); do
