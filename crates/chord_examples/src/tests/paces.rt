@@ -50,3 +50,18 @@ fn large_windows_have_all_workers(rt: HostRuntime) {
     let always = Pace::new(0);
     holds(&rt, always.others(0, 3) == 3, &0);
 }
+
+/// After each try that fails small windows are not shared for twice as long, up to 4,096 windows.
+/// Once a team has had all its credit again, it begins with 64.
+#[test]
+fn rests_get_longer_and_begin_anew(rt: HostRuntime) {
+    let mut pace = Pace::new(250);
+    for rest in [64, 128, 256, 512, 1024, 2048, 4096, 4096] {
+        takes(&rt, &mut pace, 16, 3, true);
+        takes(&rt, &mut pace, rest, 0, false);
+    }
+    takes(&rt, &mut pace, 33, 3, false);
+    takes(&rt, &mut pace, 32, 3, true);
+    takes(&rt, &mut pace, 64, 0, true);
+    takes(&rt, &mut pace, 1, 3, true);
+}
