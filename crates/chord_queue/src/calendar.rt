@@ -15,7 +15,7 @@ use std::marker::Model;
 
 /// How many events must be pending for a calendar. Fewer are as fast in a heap, and take less memory
 /// there than lists would.
-const FEW: usize = 2048;
+const FEW: usize = 256;
 
 /// Events by day, which contracts see as their list in the order of their keys.
 ///
