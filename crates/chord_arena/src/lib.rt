@@ -4,8 +4,6 @@
 mod arena;
 mod chunk;
 mod raw_chunk;
-#[cfg(test)]
-mod tests;
 
 pub use arena::{RecordArena, Ticket};
 // Contracts can name an arena only if the types of its fields are exported.

@@ -1,4 +1,5 @@
 //! Tests, and what they share: `comparisons`, `gates`, `left`, `random_texts`, `ring_of_three` and `steps`.
+mod arenas;
 mod audits;
 mod by_engine;
 mod by_example;
@@ -14,6 +15,7 @@ mod gates;
 mod later_profiles;
 mod left;
 mod paces;
+mod queues;
 mod random_texts;
 mod read_scenarios;
 mod reader_failures;

@@ -7,7 +7,7 @@ use Rattle.chord_event.specs.declared.key.Key.{Key}
 use Rattle.chord_event.specs.KeyOrder.{put_in_order}
 use Rattle.chord_event.proofs.KeyLists.{all_from, all_in, all_put}
 use Rattle.chord_queue.specs.EventKey.{event_key}
-use Rattle.chord_queue.proofs.tests.insert_later.Goals as goal
+use Rattle.chord_examples.proofs.tests.queues.insert_later.Goals as goal
 
 pub returns : goal.returns
 returns g c =

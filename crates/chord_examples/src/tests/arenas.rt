@@ -1,5 +1,5 @@
 //! Records are placed up to the room, and each is dropped once.
-use crate::RecordArena;
+use chord_arena::RecordArena;
 use chord_event::Memory;
 use std::cell::Cell;
 
