@@ -68,11 +68,10 @@ least_of_ordered (e ∷ es) ordered = (
 )
 
 -- what the test of a first time says
-pub as_tested : (es : List (Event Body)) {first : Option ℕ} {here horizon : ℕ} {answer due : Bool}
-    → first ≡ option_map (λ (e : Event Body). e.key.time) (slice_get es 0) → here ≡ horizon → answer ≡ is_due first here → answer ≡ due
+pub as_tested : (es : List (Event Body)) (horizon : ℕ) {first : Option ℕ} {answer due : Bool}
+    → first ≡ option_map (λ (e : Event Body). e.key.time) (slice_get es 0) → answer ≡ is_due first horizon → answer ≡ due
     → is_due (option_map (λ (e : Event Body). e.key.time) (slice_get es 0)) horizon ≡ due
-as_tested es {first} {here} {horizon} first_is here_is says is =
-    ap (λ t. is_due t horizon) (sym first_is) ∙ ap (λ h. is_due first h) (sym here_is) ∙ sym says ∙ is
+as_tested es horizon first_is says is = ap (λ t. is_due t horizon) (sym first_is) ∙ sym says ∙ is
 
 -- if the first of them is not due none is
 pub none_due : (es : List (Event Body)) → InKeyOrder event_key es → (horizon : ℕ)

@@ -28,12 +28,10 @@ use Rattle.chord_window.specs.declared.world.Opening.{Opening}
 use Rattle.chord_window.proofs.Openings.{opens_with}
 use Rattle.chord_team.specs.declared.layout.Layout.{Layout}
 use Rattle.chord_team.specs.declared.output.Output.{Output}
-use Rattle.chord_team.specs.declared.part.Finished.{Finished}
 use Rattle.chord_team.specs.declared.part.OwnedPart.{OwnedPart}
-use Rattle.chord_team.specs.declared.part.Parcel.{Parcel}
 use Rattle.chord_team.specs.Layouts.{IsLayout, slot_of}
-use Rattle.chord_team.specs.Orders.{HasRun, IsOrder, OpensTo}
-use Rattle.chord_team.specs.Owned.{AreApart, IsOwned, all_of, share_of}
+use Rattle.chord_team.specs.Orders.{HasRunAll, MayRun, OpensTo}
+use Rattle.chord_team.specs.Owned.{AreApart, IsOwned, LeastTimeIs, all_of, share_of}
 use Rattle.chord_team.specs.Running.{HasHandled, HasTakenIn, CanHandle, IsRunning, ran_first, state_at}
 use Rattle.chord_team.proofs.LeastTimes.{least_of_joined, least_of_ordered}
 use Rattle.chord_team.proofs.PartLists.{none_listed}
@@ -54,9 +52,9 @@ one_block_more sc blocks b all here = All_from (IsShortBlock sc) (blocks ++ b �
     (λ k. ⊎_elim (λ e. subst (IsShortBlock sc) e here) (λ r. absurd (contains_none y r)) (contains_cons y b [] k)) (contains_append blocks (b ∷ []) y c))
 
 -- when what the other parts made is pending, the part has run nothing
-pub running_first : (sc : Scenario) (l : Layout) (parcel : Parcel) → IsOrder sc l parcel → (new : OwnedPart) → HasTakenIn parcel.part new
-    → IsRunning sc l parcel.count parcel.horizon 0 None new parcel.output
-running_first sc l parcel order new took = record {
+pub running_first : (sc : Scenario) (l : Layout) (count horizon : ℕ) (old : OwnedPart) (o : Output) → MayRun sc l count horizon old o → (new : OwnedPart)
+    → HasTakenIn old new → IsRunning sc l count horizon 0 None new o
+running_first sc l count horizon old o order new took = record {
   runs = tt;
   long = refl;
   within = omega (arith, order.within);
@@ -71,7 +69,7 @@ running_first sc l parcel order new took = record {
     apart = subst (λ es. AreApart es) (sym only_pending) (ordered_apart new.pending took.ordered);
     in_long = took.in_long ∙ order.owned.in_long;
     out_long = ap (λ (z : OwnedPart). length z.outbox.items) took.others ∙ order.owned.out_long;
-    tallied = subst (λ (z : OwnedPart). IsTallyOf sc.profile (share_of sc l.division z.part (history (chord sc) parcel.count)) z.tally) (sym took.others)
+    tallied = subst (λ (z : OwnedPart). IsTallyOf sc.profile (share_of sc l.division z.part (history (chord sc) count)) z.tally) (sym took.others)
         order.owned.tallied;
   };
   taken_in = took.none_left;
@@ -87,7 +85,7 @@ running_first sc l parcel order new took = record {
   text_is = order.no_text;
 }
   where
-    part_is : new.part ≡ parcel.part.part
+    part_is : new.part ≡ old.part
     part_is = ap (λ (z : OwnedPart). z.part) took.others
 
     only_pending : new.pending ++ all_of new.inbox.items ≡ new.pending
@@ -95,17 +93,16 @@ running_first sc l parcel order new took = record {
 
     nothing_sent : (q : ℕ) (v : Vec (Event Body) Global) → q < l.division.parts → (get_or new.outbox.items q v).items ≡ []
     nothing_sent q v k = ap (λ (z : OwnedPart). (get_or z.outbox.items q v).items) took.others
-        ∙ none_listed parcel.part.outbox.items order.none_sent q v (omega (arith, k, order.owned.out_long))
+        ∙ none_listed old.outbox.items order.none_sent q v (omega (arith, k, order.owned.out_long))
 
 module _ (sc : Scenario) (ranges : IsInRange sc) (l : Layout) (lay : IsLayout sc l) (count horizon time : ℕ)
     (o : MayOpen (chord sc) (history (chord sc) count) time horizon) (whole : length (history (chord sc) count) ≡ count)
     (n : ℕ) (soonest : Option ℕ) (p : OwnedPart) (before : Output) (r : IsRunning sc l count horizon n soonest p before)
     (ordered : InKeyOrder event_key p.pending) where
   -- the run ends when nothing is due
-  pub run_ends : ((x : Event Body) → Contains p.pending x → horizon ≤ x.key.time) → (f : Finished) → f.parcel.count ≡ count → f.parcel.horizon ≡ horizon
-      → f.parcel.part ≡ p → f.parcel.output ≡ before → f.events ≡ n
-      → f.next ≡ sooner soonest (option_map (λ (e : Event Body). e.key.time) (slice_get p.pending 0)) → HasRun sc l f
-  run_ends late f count_is horizon_is part_is output_is events_is next_is = subst (λ z. HasRun sc l z) (sym same) (record {
+  pub run_ends : ((x : Event Body) → Contains p.pending x → horizon ≤ x.key.time) → (next : Option ℕ)
+      → next ≡ sooner soonest (option_map (λ (e : Event Body). e.key.time) (slice_get p.pending 0)) → HasRunAll sc l count horizon n next p before
+  run_ends late next next_is = record {
     sealed = record {
       runs = r.runs;
       done = none_is_due sc ranges l lay (history (chord sc) count) time horizon o p (ran_first sc l count horizon p.part n) r.runs r.owned r.taken_in
@@ -117,26 +114,14 @@ module _ (sc : Scenario) (ranges : IsInRange sc) (l : Layout) (lay : IsLayout sc
     taken_in = r.taken_in;
     sent = r.sent;
     sent_apart = r.sent_apart;
-    next_is = least_of_joined (all_of p.outbox.items) p.pending soonest (option_map (λ (e : Event Body). e.key.time) (slice_get p.pending 0))
-        r.soonest_is (least_of_ordered p.pending ordered);
+    next_is = subst (LeastTimeIs (p.pending ++ all_of p.outbox.items)) (sym next_is)
+        (least_of_joined (all_of p.outbox.items) p.pending soonest (option_map (λ (e : Event Body). e.key.time) (slice_get p.pending 0))
+        r.soonest_is (least_of_ordered p.pending ordered));
     blocks = r.blocks;
     blocks_are = r.blocks_are;
     pieces_are = r.pieces_are;
     text_is = r.text_is;
-  })
-    where
-      same : f ≡ record {
-        parcel = record { count = count; horizon = horizon; part = p; output = before };
-        events = n;
-        next = sooner soonest (option_map (λ (e : Event Body). e.key.time) (slice_get p.pending 0));
-        fault = f.fault;
-      }
-      same = λ i. record {
-        parcel = record { count = count_is i; horizon = horizon_is i; part = part_is i; output = output_is i };
-        events = events_is i;
-        next = next_is i;
-        fault = f.fault;
-      }
+  }
 
   module _ (e : Event Body) (rest : List (Event Body)) (is : p.pending ≡ e ∷ rest) (early : e.key.time < horizon) where
     pub run_is_over : sc.max_events ≤ count + n → HasTooManyEvents sc

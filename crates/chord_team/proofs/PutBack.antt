@@ -10,7 +10,7 @@ use Rattle.chord_team.specs.Outputs.{IsText}
 
 -- so it is with the first n results
 abbrev pub AreBackTo : ℕ → List Finished → List (Option Parcel) → Type 0
-AreBackTo n fs parcels = (p : ℕ) (f : Finished) → p < n → IsBack (get_or fs p f).parcel.part (get_or parcels p None)
+AreBackTo n fs parcels = (p : ℕ) (f : Finished) → p < n → IsBack (get_or fs p f).parcel.part.value (get_or parcels p None)
 
 rest_after : (fs : List Finished) (at : ℕ) (x : Finished) (next : List Finished) → drop at fs ≡ x ∷ next → drop (suc at) fs ≡ next
 rest_after [] zero x next e = absurd (omega (arith, ap length e))
@@ -31,17 +31,17 @@ pub none_back : (fs : List Finished) (parcels : List (Option Parcel)) → AreBac
 none_back fs parcels p f lt = absurd (omega (arith, lt))
 
 pub one_back : (fs : List Finished) (parcels : List (Option Parcel)) (at : ℕ) (x : Finished) (rest next : List Finished) (parcel : Parcel)
-    → drop at fs ≡ rest → rest ≡ x ∷ next → at < length parcels → parcel.part ≡ x.parcel.part → ((sc : Scenario) → IsText sc [] parcel.output)
+    → drop at fs ≡ rest → rest ≡ x ∷ next → at < length parcels → parcel.part.value ≡ x.parcel.part.value → ((sc : Scenario) → IsText sc [] parcel.output)
     → AreBackTo at fs parcels → AreBackTo (at + 1) fs (set parcels at (Some parcel))
 one_back fs parcels at x rest next parcel a b inside part text back p f lt = ⊎_elim
     (λ e. (
       parcel,
       ap (λ q. get_or (set parcels at (Some parcel)) q None) e ∙ get_or-set_same parcels at (Some parcel) None inside,
-      part ∙ ap (λ (z : Finished). z.parcel.part) (sym (ap (λ q. get_or fs q f) e ∙ first_of_rest fs at x next (a ∙ b) f)),
+      part ∙ ap (λ (z : Finished). z.parcel.part.value) (sym (ap (λ q. get_or fs q f) e ∙ first_of_rest fs at x next (a ∙ b) f)),
       text,
     ))
     (λ ne. let differ : p ≢ at = ne in
-    subst (IsBack (get_or fs p f).parcel.part) (sym (get_or-set_other parcels at p (Some parcel) None ne)) (back p f (omega (arith, lt, differ))))
+    subst (IsBack (get_or fs p f).parcel.part.value) (sym (get_or-set_other parcels at p (Some parcel) None ne)) (back p f (omega (arith, lt, differ))))
     (cases_eq p at)
 
 pub all_back : (fs : List Finished) (parcels : List (Option Parcel)) (at : ℕ) (rest : List Finished) → drop at fs ≡ rest → length rest ≡ 0

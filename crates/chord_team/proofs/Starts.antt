@@ -96,7 +96,7 @@ use Rattle.chord_team.specs.declared.layout.Layout.{Layout}
 use Rattle.chord_team.specs.declared.part.OwnedPart.{OwnedPart}
 use Rattle.chord_team.specs.declared.part.Parcel.{Parcel}
 use Rattle.chord_team.specs.Layouts.{IsLayout, nodes_before, slot_of}
-use Rattle.chord_team.specs.Owned.{AreApart, HasSentAll, IsOwned, LeastTimeIs, all_of, events_of}
+use Rattle.chord_team.specs.Owned.{AreApart, HasSentAll, IsOwned, LeastTimeIs, all_of, events_of, with_part}
 use Rattle.chord_team.specs.Starts.{AreEmptyParts, AreParcelsOf, HasEvents, HasStates, HaveEvents, HaveStates, IsEmptyPart, IsParcelOf, states_for}
 use Rattle.chord_team.specs.Teams.{AreHere, IsHere, IsTeam, before_end}
 use Rattle.chord_team.proofs.Slots.{count_elsewhere, count_grows, count_here}
@@ -504,7 +504,7 @@ module _ (sc : Scenario) (ranges : IsInRange sc) where
         let q = dealt.each p o in_stated in (
           r.0,
           r.1,
-          subst (λ (z : OwnedPart). IsHere sc l (history (chord sc) 0) p (record r.0 { part = z })) (sym r.2.part_is) (record {
+          subst (λ (z : OwnedPart). IsHere sc l (history (chord sc) 0) p (with_part r.0 z)) (sym r.2.part_is) (record {
             part_is = part_at_start l layout p k (get_or empty p o) (get_or stated p o) (get_or parts p o) e s q;
             owned = owned_at_start l layout p k (get_or empty p o) (get_or stated p o) (get_or parts p o) e s q;
             none_sent = none_sent l layout p k (get_or empty p o) (get_or stated p o) (get_or parts p o) e s q;

@@ -43,8 +43,10 @@ use Rattle.chord_scenario.specs.declared.scenario.Scenario.{Scenario}
 use Rattle.chord_scenario.specs.Range.{IsInRange}
 use Rattle.chord_scenario.specs.World.{node_count}
 use Rattle.chord_team.specs.declared.layout.Layout.{Layout}
+use Rattle.chord_team.specs.declared.part.OwnedPart.{OwnedPart}
 use Rattle.chord_team.specs.declared.part.Parcel.{Parcel}
 use Rattle.chord_team.specs.Layouts.{IsLayout, slot_of}
+use Rattle.chord_team.specs.Owned.{with_part}
 use Rattle.chord_team.specs.Swaps.{CanSwap, HasOnlyStates, HasSlot, HaveSwapped, IsStateSwapped, placed, state_in}
 use Rattle.chord_team.specs.Teams.{AreHere, IsHere}
 use Rattle.chord_team.proofs.TeamMail.{or_same}
@@ -53,27 +55,27 @@ only_same : (x : Option Parcel) → HasOnlyStates x x
 only_same None = refl
 only_same (Some p) = (p, refl, refl, refl)
 
-only_then : (x : Option Parcel) (p q : Parcel) → HasOnlyStates x (Some p) → q ≡ record p { part = record p.part { states = q.part.states } }
-    → length q.part.states.items ≡ length p.part.states.items → HasOnlyStates x (Some q)
+only_then : (x : Option Parcel) (p q : Parcel) → HasOnlyStates x (Some p) → q ≡ with_part p (record p.part.value { states = q.part.value.states })
+    → length q.part.value.states.items ≡ length p.part.value.states.items → HasOnlyStates x (Some q)
 only_then None p q only is long = absurd cc
 only_then (Some o) p q only is long =
     let same : only.0 ≡ p = cc in (
       q,
       refl,
-      is ∙ ap (λ (z : Parcel). record z { part = record z.part { states = q.part.states } }) (sym same ∙ only.2),
-      long ∙ ap (λ (z : Parcel). length z.part.states.items) (sym same) ∙ only.3,
+      is ∙ ap (λ (z : Parcel). with_part z (record z.part.value { states = q.part.value.states })) (sym same ∙ only.2),
+      long ∙ ap (λ (z : Parcel). length z.part.value.states.items) (sym same) ∙ only.3,
     )
 
-pub state_swapped : (slot : ℕ) (place : Option Parcel) (old : Parcel) (state x got y : NodeState) (v : Vec NodeState Global) → place ≡ Some old
-    → v.items ≡ set old.part.states.items slot x → x ≡ state → got ≡ get_or old.part.states.items slot got → y ≡ got → slot < length old.part.states.items
-    → IsStateSwapped slot place state (Some (record old { part = record old.part { states = v } })) y
-state_swapped slot place old state x got y v is items given found taken l =
-    subst (λ z. IsStateSwapped slot z state (Some (record old { part = record old.part { states = v } })) y) (sym is) (
-      record old { part = record old.part { states = v } },
+pub state_swapped : (slot : ℕ) (place : Option Parcel) (old : Parcel) (part : OwnedPart) (state x got y : NodeState) (v : Vec NodeState Global)
+    → place ≡ Some old → part ≡ old.part.value → v.items ≡ set part.states.items slot x → x ≡ state → got ≡ get_or part.states.items slot got → y ≡ got
+    → slot < length old.part.value.states.items → IsStateSwapped slot place state (Some (with_part old (record part { states = v }))) y
+state_swapped slot place old part state x got y v is opened items given found taken l =
+    subst (λ z. IsStateSwapped slot z state (Some (with_part old (record part { states = v }))) y) (sym is) (
+      with_part old (record part { states = v }),
       refl,
-      refl,
-      items ∙ ap (λ z. set old.part.states.items slot z) given,
-      λ s. taken ∙ found ∙ or_same old.part.states.items slot got s l,
+      ap (λ (z : OwnedPart). with_part old (record z { states = v })) opened,
+      items ∙ ap (λ z. set part.states.items slot z) given ∙ ap (λ (z : OwnedPart). set z.states.items slot state) opened,
+      λ s. taken ∙ found ∙ ap (λ (z : OwnedPart). get_or z.states.items slot got) opened ∙ or_same old.part.value.states.items slot got s l,
     )
 
 pub swapped_none : (l : Layout) (old : List (Option Parcel)) (whole : List NodeState) → HaveSwapped l 0 old whole old whole
@@ -110,8 +112,8 @@ module _ (l : Layout) (nodes : ℕ) (old : List (Option Parcel)) (can : CanSwap 
     read_part : (a : Option Parcel) → a ≡ get_or new (part_of l.division n) a → a ≡ Some here.0
     read_part a is = is ∙ or_same new (part_of l.division n) a None part_fits ∙ here.1
 
-    pub may_swap : (a : Option Parcel) → a ≡ get_or new (part_of l.division n) a → IfSome a (λ p. slot_of l n < length p.part.states.items)
-    may_swap a is = subst (λ z. IfSome z (λ p. slot_of l n < length p.part.states.items)) (sym (read_part a is)) here.2
+    pub may_swap : (a : Option Parcel) → a ≡ get_or new (part_of l.division n) a → IfSome a (λ p. slot_of l n < length p.part.value.states.items)
+    may_swap a is = subst (λ z. IfSome z (λ p. slot_of l n < length p.part.value.states.items)) (sym (read_part a is)) here.2
 
     module _ (a : Option Parcel) (read : a ≡ get_or new (part_of l.division n) a) (b : NodeState) (read_state : b ≡ get_or got n b) (s : Option Parcel)
         (g : NodeState) (swapped : IsStateSwapped (slot_of l n) a b s g) where
@@ -132,7 +134,7 @@ module _ (l : Layout) (nodes : ℕ) (old : List (Option Parcel)) (can : CanSwap 
           ap (λ q. state_in (get_or (set new (part_of l.division n) s) q None) (slot_of l i) d) e
           ∙ ap (λ z. state_in z (slot_of l i) d) new_part
           ∙ ap (λ z. get_or z (slot_of l i) d) out.3
-          ∙ get_or-set_other here.0.part.states.items (slot_of l n) (slot_of l i) b d apart
+          ∙ get_or-set_other here.0.part.value.states.items (slot_of l n) (slot_of l i) b d apart
           ∙ sym (ap (λ q. state_in (get_or new q None) (slot_of l i) d) e ∙ ap (λ z. state_in z (slot_of l i) d) here.1))
           (λ ne. ap (λ z. state_in z (slot_of l i) d) (get_or-set_other new (part_of l.division n) (part_of l.division i) s None ne))
           (cases_eq (part_of l.division i) (part_of l.division n))
@@ -140,7 +142,7 @@ module _ (l : Layout) (nodes : ℕ) (old : List (Option Parcel)) (can : CanSwap 
       -- this one has the state of the list
       mine : (d : NodeState) → placed l (set new (part_of l.division n) s) n d ≡ get_or whole n d
       mine d = ap (λ z. state_in z (slot_of l n) d) new_part ∙ ap (λ z. get_or z (slot_of l n) d) out.3
-          ∙ get_or-set_same here.0.part.states.items (slot_of l n) b d here.2
+          ∙ get_or-set_same here.0.part.value.states.items (slot_of l n) b d here.2
           ∙ read_state ∙ or_same got n b d (omega (arith, inside, many, h.got_long)) ∙ h.kept n d (omega arith)
 
       pub swapped_one : HaveSwapped l (n + 1) old whole (set new (part_of l.division n) s) (set got n g)
@@ -153,7 +155,7 @@ module _ (l : Layout) (nodes : ℕ) (old : List (Option Parcel)) (can : CanSwap 
             (only_then (get_or old (part_of l.division n) None) here.0 out.0
             (subst (λ z. HasOnlyStates (get_or old (part_of l.division n) None) z) here.1 (h.same (part_of l.division n)))
             out.2
-            (ap length out.3 ∙ length-set here.0.part.states.items (slot_of l n) b))))
+            (ap length out.3 ∙ length-set here.0.part.value.states.items (slot_of l n) b))))
             (λ ne. subst (λ z. HasOnlyStates (get_or old p None) z) (sym (get_or-set_other new (part_of l.division n) p s None ne)) (h.same p))
             (cases_eq p (part_of l.division n));
         taken = λ i d k. ⊎_elim
@@ -171,8 +173,8 @@ module _ (l : Layout) (nodes : ℕ) (old : List (Option Parcel)) (can : CanSwap 
       }
 
     pub may_swap_at : (p slot : ℕ) → p ≡ part_of l.division n → slot ≡ slot_of l n → (a : Option Parcel) → a ≡ get_or new p a
-        → IfSome a (λ q. slot < length q.part.states.items)
-    may_swap_at p slot part_is slot_is a read = subst (λ k. IfSome a (λ q. k < length q.part.states.items)) (sym slot_is)
+        → IfSome a (λ q. slot < length q.part.value.states.items)
+    may_swap_at p slot part_is slot_is a read = subst (λ k. IfSome a (λ q. k < length q.part.value.states.items)) (sym slot_is)
         (may_swap a (read ∙ ap (λ k. get_or new k a) part_is))
 
     pub swapped_at : (p slot : ℕ) → p ≡ part_of l.division n → slot ≡ slot_of l n → (a : Option Parcel) → a ≡ get_or new p a → (b : NodeState)
@@ -232,8 +234,8 @@ module _ (sc : Scenario) (ranges : IsInRange sc) (l : Layout) (layout : IsLayout
         let r = here p k in
         let m = subst (λ z. HasOnlyStates z (get_or mid p None)) r.1 (first.same p) in
         let q = subst (λ z. HasOnlyStates z (get_or new p None)) m.1 (again.same p) in
-        let is : q.0 ≡ record r.0 { part = record r.0.part { states = q.0.part.states } } = q.2
-        ∙ ap (λ (z : Parcel). record z { part = record z.part { states = q.0.part.states } }) m.2 in (
+        let is : q.0 ≡ with_part r.0 (record r.0.part.value { states = q.0.part.value.states }) = q.2
+        ∙ ap (λ (z : Parcel). with_part z (record z.part.value { states = q.0.part.value.states })) m.2 in (
           q.0,
           q.1,
           subst (λ (z : Parcel). IsHere sc l past p z) (sym is) (record {

@@ -126,18 +126,18 @@ module _ (sc : Scenario) (ranges : IsInRange sc) (l : Layout) (old now : Option 
   -- the parts have their tallies, also while the states of all nodes are put together
   pub mid_tallied : (n : ℕ) (together : List NodeState) (mid : List (Option Parcel)) (got : List NodeState)
       → HaveSwapped l n t.parcels.items together mid got → (p : ℕ) → p < l.division.parts → (parcel : Parcel) × (get_or mid p None ≡ Some parcel)
-      × IsTallyOf sc.profile (share_of sc l.division p past) parcel.part.tally
+      × IsTallyOf sc.profile (share_of sc l.division p past) parcel.part.value.tally
   mid_tallied n together mid got first p k =
       let r = at.here p k in
       let m = subst (λ z. HasOnlyStates z (get_or mid p None)) r.1 (first.same p) in (
         m.0,
         m.1,
-        subst (λ (z : Parcel). IsTallyOf sc.profile (share_of sc l.division p past) z.part.tally) (sym m.2)
-            (subst (λ q. IsTallyOf sc.profile (share_of sc l.division q past) r.0.part.tally) r.2.part_is r.2.owned.tallied),
+        subst (λ (z : Parcel). IsTallyOf sc.profile (share_of sc l.division p past) z.part.value.tally) (sym m.2)
+            (subst (λ q. IsTallyOf sc.profile (share_of sc l.division q past) r.0.part.value.tally) r.2.part_is r.2.owned.tallied),
       )
 
   module _ (mid : List (Option Parcel)) (same : (p : ℕ) → p < l.division.parts → (parcel : Parcel) × (get_or mid p None ≡ Some parcel)
-      × IsTallyOf sc.profile (share_of sc l.division p past) parcel.part.tally) (long : length mid ≡ l.division.parts) (audits : Tally)
+      × IsTallyOf sc.profile (share_of sc l.division p past) parcel.part.value.tally) (long : length mid ≡ l.division.parts) (audits : Tally)
       (adds : (earlier : List Piece) → IsTallyOf sc.profile earlier t.audits → IsTallyOf sc.profile (earlier ++ rest) audits) where
     abbrev pub shares : ℕ → List Piece
     shares = tallied_by sc l.division past (audits_in (output (chord sc) past) ++ rest)

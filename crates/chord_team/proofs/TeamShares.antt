@@ -173,11 +173,11 @@ first_tallied profile share audits tallies here rest (suc p) t l = rest p t (ome
 
 abbrev ArePlaced : (profile : ℕ) → (ℕ → List Piece) → List (Option Parcel) → Type 0
 ArePlaced profile share places = (p : ℕ) → p < length places
-    → (parcel : Parcel) × (get_or places p None ≡ Some parcel) × IsTallyOf profile (share p) parcel.part.tally
+    → (parcel : Parcel) × (get_or places p None ≡ Some parcel) × IsTallyOf profile (share p) parcel.part.value.tally
 
-tally_here : (profile : ℕ) (pieces : List Piece) (q : Parcel) → (parcel : Parcel) × (Some q ≡ Some parcel) × IsTallyOf profile pieces parcel.part.tally
-    → IsTallyOf profile pieces q.part.tally
-tally_here profile pieces q r = subst (λ (z : Parcel). IsTallyOf profile pieces z.part.tally) (some_same r.0 q (Some q) r.1 refl) r.2
+tally_here : (profile : ℕ) (pieces : List Piece) (q : Parcel) → (parcel : Parcel) × (Some q ≡ Some parcel) × IsTallyOf profile pieces parcel.part.value.tally
+    → IsTallyOf profile pieces q.part.value.tally
+tally_here profile pieces q r = subst (λ (z : Parcel). IsTallyOf profile pieces z.part.value.tally) (some_same r.0 q (Some q) r.1 refl) r.2
 
 pub tallies_are : (profile : ℕ) (share : ℕ → List Piece) (places : List (Option Parcel)) → ArePlaced profile share places
     → AreTalliesOf profile share (tallies_in places) × (length (tallies_in places) ≡ length places)
@@ -185,4 +185,4 @@ tallies_are profile share [] each = (λ part t l. absurd (omega (arith, l)), ref
 tallies_are profile share (None ∷ places) each = let r = each 0 (omega arith) in absurd (none_here None r.0 refl r.1)
 tallies_are profile share (Some q ∷ places) each =
     let rest = tallies_are profile (λ p. share (suc p)) places (λ p l. each (suc p) (omega (arith, l))) in
-    (first_tallied profile share q.part.tally (tallies_in places) (tally_here profile (share 0) q (each 0 (omega arith))) rest.0, omega (arith, rest.1))
+    (first_tallied profile share q.part.value.tally (tallies_in places) (tally_here profile (share 0) q (each 0 (omega arith))) rest.0, omega (arith, rest.1))

@@ -27,7 +27,7 @@ use Rattle.chord_team.proofs.WindowParts.{after_window, made_there, pending_part
 
 -- what a part has left, and what it made for others
 abbrev pub left_of : Finished → List (Event Body)
-left_of f = f.parcel.part.pending ++ all_of f.parcel.part.outbox.items
+left_of f = f.parcel.part.value.pending ++ all_of f.parcel.part.value.outbox.items
 
 abbrev pub all_left : List Finished → List (Event Body)
 all_left [] = []
@@ -109,7 +109,7 @@ module _ (sc : Scenario) (ranges : IsInRange sc) (l : Layout) (t : Team) (can : 
   left_pending : (q : ℕ) (f : Finished) → q < l.division.parts → (x : Event Body) → Contains (left_of (get_or fs q f)) x → Contains (pending (chord sc) later) x
   left_pending q f lt x c =
       let run = result_of sc ranges l t can fs results none q f lt in
-      let part = (get_or fs q f).parcel.part in
+      let part = (get_or fs q f).parcel.part.value in
       ⊎_elim
       (λ k. let g = (run.owned.same x).0 (contains_left part.pending (all_of part.inbox.items) x k) in
       waits_here sc ranges l t can fs results none q lt x g.0 (g.1 ∙ run.part_is))
@@ -130,7 +130,7 @@ module _ (sc : Scenario) (ranges : IsInRange sc) (l : Layout) (t : Team) (can : 
       let lt : p < length fs = omega (arith, inside, results.long) in
       let f = first fs (omega (arith, lt)) in
       let run = result_of sc ranges l t can fs results none p f inside in
-      let part = (get_or fs p f).parcel.part in
+      let part = (get_or fs p f).parcel.part.value in
       left_in fs p f x lt (contains_left part.pending (all_of part.outbox.items) x (⊎_elim
       (λ m. m)
       (λ m. absurd (contains_none x (subst (λ es. Contains es x) run.taken_in m)))
@@ -140,7 +140,7 @@ module _ (sc : Scenario) (ranges : IsInRange sc) (l : Layout) (t : Team) (can : 
       let lt : q < length fs = omega (arith, k.1, results.long) in
       let f = first fs (omega (arith, lt)) in
       let run = result_of sc ranges l t can fs results none q f k.1 in
-      let part = (get_or fs q f).parcel.part in
+      let part = (get_or fs q f).parcel.part.value in
       let p = part_of l.division x.target in
       let at : p < length part.outbox.items = omega (arith, inside, run.owned.out_long) in
       let v = first part.outbox.items (omega (arith, at)) in

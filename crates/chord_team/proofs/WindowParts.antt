@@ -124,9 +124,9 @@ module _ (sc : Scenario) (ranges : IsInRange sc) (l : Layout) (t : Team) (can : 
   module _ (p : ℕ) (inside : p < l.division.parts) (f : Finished) (inbox outbox : Vec (Vec (Event Body) Global) Global)
       (in_long : length inbox.items ≡ l.division.parts) (out_long : length outbox.items ≡ l.division.parts)
       (received : (q : ℕ) (v : Vec (Event Body) Global) → q < l.division.parts
-      → (get_or inbox.items q v).items ≡ (get_or (get_or fs q f).parcel.part.outbox.items p v).items) where
+      → (get_or inbox.items q v).items ≡ (get_or (get_or fs q f).parcel.part.value.outbox.items p v).items) where
     abbrev part : OwnedPart
-    part = (get_or fs p f).parcel.part
+    part = (get_or fs p f).parcel.part.value
 
     abbrev run : IsRunOf sc l t.count t.window.horizon p (events_at fs p) (get_or fs p f)
     run = result_of p f inside
@@ -182,7 +182,7 @@ module _ (sc : Scenario) (ranges : IsInRange sc) (l : Layout) (t : Team) (can : 
         fresh p at.place inside lt g.2 x y
         (waits_from (chord sc) (lists p ++ before) x ((run.owned.same x).0 (contains_left part.pending (all_of part.inbox.items) x c)).0).known g.0)
 
-    pub owned_with_mail : IsOwned sc l after_window (record (get_or fs p f).parcel.part { inbox = inbox; outbox = outbox })
+    pub owned_with_mail : IsOwned sc l after_window (record (get_or fs p f).parcel.part.value { inbox = inbox; outbox = outbox })
     owned_with_mail = record {
       inside = run.owned.inside;
       places = run.owned.places;

@@ -35,16 +35,16 @@ use Rattle.chord_team.proofs.TeamMail.{first}
 
 -- the part has run these events of its window, this many
 pub record IsRunOf (sc : Scenario) (l : Layout) (count horizon part n : ℕ) (f : Finished) : Type 0 where
-  pub part_is : f.parcel.part.part ≡ part
+  pub part_is : f.parcel.part.value.part ≡ part
   pub sealed : IsSealedRun (chord sc) l.division (history (chord sc) count) horizon part (ran_first sc l count horizon part n)
   pub long : length (ran_first sc l count horizon part n) ≡ n
-  pub owned : IsOwned sc l (ran_first sc l count horizon part n ++ history (chord sc) count) f.parcel.part
-  pub taken_in : HasTakenAll f.parcel.part
+  pub owned : IsOwned sc l (ran_first sc l count horizon part n ++ history (chord sc) count) f.parcel.part.value
+  pub taken_in : HasTakenAll f.parcel.part.value
   pub sent : (q : ℕ) (v : Vec (Event Body) Global) (x : Event Body) → q < l.division.parts
-      → Contains (get_or f.parcel.part.outbox.items q v).items x
+      → Contains (get_or f.parcel.part.value.outbox.items q v).items x
       ↔ (Contains (made_since (chord sc) (history (chord sc) count) (ran_first sc l count horizon part n)) x × (part_of l.division x.target ≡ q) × (q ≢ part))
-  pub sent_apart : (q : ℕ) (v : Vec (Event Body) Global) → q < l.division.parts → AreApart (get_or f.parcel.part.outbox.items q v).items
-  pub next_is : LeastTimeIs (f.parcel.part.pending ++ all_of f.parcel.part.outbox.items) f.next
+  pub sent_apart : (q : ℕ) (v : Vec (Event Body) Global) → q < l.division.parts → AreApart (get_or f.parcel.part.value.outbox.items q v).items
+  pub next_is : LeastTimeIs (f.parcel.part.value.pending ++ all_of f.parcel.part.value.outbox.items) f.next
   pub blocks : List Block
   pub blocks_are : All (IsShortBlock sc) blocks
   pub pieces_are : map piece.OfEvent blocks ≡ reverse (map (λ b. b.1) (pieces_since (chord sc) (history (chord sc) count)

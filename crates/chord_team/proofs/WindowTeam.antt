@@ -64,34 +64,34 @@ module _ (sc : Scenario) (ranges : IsInRange sc) (l : Layout) (t : Team) (can : 
         subst (λ (z : OwnedPart). IsReady (length mid) p z) (sym b.2) (record {
           in_long = run.owned.in_long ∙ sym parts;
           out_long = run.owned.out_long ∙ sym parts;
-          none_in = λ q v k. none_listed (get_or fs p f).parcel.part.inbox.items run.taken_in q v (omega (arith, k, parts, run.owned.in_long));
-          none_own = λ v. none_contained (get_or (get_or fs p f).parcel.part.outbox.items p v).items
+          none_in = λ q v k. none_listed (get_or fs p f).parcel.part.value.inbox.items run.taken_in q v (omega (arith, k, parts, run.owned.in_long));
+          none_own = λ v. none_contained (get_or (get_or fs p f).parcel.part.value.outbox.items p v).items
               (λ x c. let g = (run.sent p v x part).0 c in g.2 refl);
         }),
       )
 
   module _ (new : List (Option Parcel)) (exchanged : HaveExchanged mid new) where
     -- a part with its mail
-    parcel_here : (p : ℕ) (f : Finished) (before after : Parcel) → p < l.division.parts → before.part ≡ (get_or fs p f).parcel.part
+    parcel_here : (p : ℕ) (f : Finished) (before after : Parcel) → p < l.division.parts → before.part.value ≡ (get_or fs p f).parcel.part.value
         → IsText sc [] before.output → HasExchanged (length mid) p mid before after
         → IsHere sc l (history (chord sc) (t.count + events_in fs)) p after
     parcel_here p f before after inside part_is text x =
         let run = result_of sc ranges l t can fs results none p f inside in
         let parts : length mid ≡ l.division.parts = omega (arith, results.long, parts_back) in
-        let same : after.part ≡ record (get_or fs p f).parcel.part { inbox = after.part.inbox; outbox = after.part.outbox } =
-        ap (λ (z : Parcel). z.part) x.same ∙ ap (λ (z : OwnedPart). record z { inbox = after.part.inbox; outbox = after.part.outbox }) part_is in
+        let same : after.part.value ≡ record (get_or fs p f).parcel.part.value { inbox = after.part.value.inbox; outbox = after.part.value.outbox } =
+        ap (λ (z : Parcel). z.part.value) x.same ∙ ap (λ (z : OwnedPart). record z { inbox = after.part.value.inbox; outbox = after.part.value.outbox }) part_is in
         record {
           part_is = ap (λ (z : OwnedPart). z.part) same ∙ run.part_is;
-          owned = subst (λ h. IsOwned sc l h after.part) (after_is sc ranges l t can fs results none)
+          owned = subst (λ h. IsOwned sc l h after.part.value) (after_is sc ranges l t can fs results none)
               (subst (λ (z : OwnedPart). IsOwned sc l (after_window sc ranges l t can fs results none) z) (sym same)
-              (owned_with_mail sc ranges l t can fs results none p inside f after.part.inbox after.part.outbox (x.in_long ∙ parts) (x.out_long ∙ parts)
+              (owned_with_mail sc ranges l t can fs results none p inside f after.part.value.inbox after.part.value.outbox (x.in_long ∙ parts) (x.out_long ∙ parts)
               (λ q v k.
               let there : q < length mid = omega (arith, k, parts) in
               let b = back q f (omega (arith, there, parts_back)) in
               x.received q v there (omega (arith, inside, parts))
-              ∙ ap (λ z. (get_or (part_in z before.part).outbox.items p v).items) b.1
+              ∙ ap (λ z. (get_or (part_in z before.part.value).outbox.items p v).items) b.1
               ∙ ap (λ (z : OwnedPart). (get_or z.outbox.items p v).items) b.2)));
-          none_sent = all_empty after.part.outbox.items (λ q v k. x.sent q v (omega (arith, k, x.out_long)));
+          none_sent = all_empty after.part.value.outbox.items (λ q v k. x.sent q v (omega (arith, k, x.out_long)));
           no_text = subst (λ (z : Parcel). IsText sc [] z.output) (sym x.same) text;
         }
 

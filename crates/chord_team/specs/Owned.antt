@@ -1,5 +1,6 @@
 -- What a part of the nodes has.
 use Rattle.std.specs.Prelude.{◌≡◌, ◌≢◌, ◌<◌, ◌≤◌, ◌++◌, ◌↔◌, ◌==◌, ℕ, List, [], ◌∷◌, Option, None, Some, if◌then◌else◌, length, slice_index_or, Vec}
+use Rattle.std.specs.Box.{with_value}
 use Rattle.std.specs.Global.{Global}
 use Rattle.std.specs.List.{AllPairs, Contains, flat_map}
 use Rattle.chord_event.specs.declared.body.Body.{Body}
@@ -14,6 +15,7 @@ use Rattle.chord_trace.specs.declared.piece.Piece.{Piece}
 use Rattle.chord_trace.specs.Tally.{IsTallyOf}
 use Rattle.chord_team.specs.declared.layout.Layout.{Layout}
 use Rattle.chord_team.specs.declared.part.OwnedPart.{OwnedPart}
+use Rattle.chord_team.specs.declared.part.Parcel.{Parcel}
 use Rattle.chord_team.specs.Layouts.{slot_of}
 
 -- the events of lists, one list after another
@@ -46,6 +48,10 @@ pub record IsOwned (sc : Scenario) (l : Layout) (h : List (Event Body)) (p : Own
   pub in_long : length p.inbox.items ≡ l.division.parts
   pub out_long : length p.outbox.items ≡ l.division.parts
   pub tallied : IsTallyOf sc.profile (share_of sc l.division p.part h) p.tally
+
+-- the parcel with another part in its box
+abbrev pub with_part : Parcel → OwnedPart → Parcel
+with_part parcel part = record parcel { part = with_value parcel.part part }
 
 -- nothing is on its way to other parts
 abbrev pub HasSentAll : OwnedPart → Type 0

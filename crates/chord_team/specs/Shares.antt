@@ -7,4 +7,4 @@ use Rattle.chord_team.specs.declared.part.Parcel.{Parcel}
 abbrev pub tallies_in : List (Option Parcel) → List Tally
 tallies_in [] = []
 tallies_in (None ∷ places) = tallies_in places
-tallies_in (Some parcel ∷ places) = parcel.part.tally ∷ tallies_in places
+tallies_in (Some parcel ∷ places) = parcel.part.value.tally ∷ tallies_in places

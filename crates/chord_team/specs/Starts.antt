@@ -57,7 +57,7 @@ pub record HaveEvents (d : Division) (sent rest : List (Event Body)) (old new : 
 
 -- the parcel of a part, without a text
 pub record IsParcelOf (part : OwnedPart) (parcel : Parcel) : Type 0 where
-  pub part_is : parcel.part ≡ part
+  pub part_is : parcel.part.value ≡ part
   pub no_text : (sc : Scenario) → IsText sc [] parcel.output
 
 pub record AreParcelsOf (parts : List OwnedPart) (parcels : List (Option Parcel)) : Type 0 where

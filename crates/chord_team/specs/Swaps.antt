@@ -5,18 +5,19 @@ use Rattle.chord_node.specs.declared.state.NodeState.{NodeState}
 use Rattle.chord_team.specs.declared.layout.Layout.{Layout}
 use Rattle.chord_team.specs.declared.part.Parcel.{Parcel}
 use Rattle.chord_team.specs.Layouts.{slot_of}
+use Rattle.chord_team.specs.Owned.{with_part}
 
 -- the part, if it is here, has this state at the slot, and what it had there has come out
 abbrev pub IsStateSwapped : (slot : ℕ) → Option Parcel → NodeState → Option Parcel → NodeState → Type 0
 IsStateSwapped slot None state new got = (new ≡ None) × (got ≡ state)
 IsStateSwapped slot (Some old) state new got = (parcel : Parcel) × (new ≡ Some parcel)
-    × (parcel ≡ record old { part = record old.part { states = parcel.part.states } })
-    × (parcel.part.states.items ≡ slice_set old.part.states.items slot state)
-    × ((s : NodeState) → got ≡ slice_index_or old.part.states.items slot s)
+    × (parcel ≡ with_part old (record old.part.value { states = parcel.part.value.states }))
+    × (parcel.part.value.states.items ≡ slice_set old.part.value.states.items slot state)
+    × ((s : NodeState) → got ≡ slice_index_or old.part.value.states.items slot s)
 
 -- the part is here, and has a state at the slot
 abbrev pub HasSlot : List (Option Parcel) → (part slot : ℕ) → Type 0
-HasSlot parcels part slot = (parcel : Parcel) × (slice_index_or parcels part None ≡ Some parcel) × (slot < length parcel.part.states.items)
+HasSlot parcels part slot = (parcel : Parcel) × (slice_index_or parcels part None ≡ Some parcel) × (slot < length parcel.part.value.states.items)
 
 -- all parts of the layout are here, each with a place of its own for each of its nodes
 pub record CanSwap (l : Layout) (nodes : ℕ) (parcels : List (Option Parcel)) : Type 0 where
@@ -31,13 +32,13 @@ pub record CanSwap (l : Layout) (nodes : ℕ) (parcels : List (Option Parcel)) :
 abbrev pub HasOnlyStates : Option Parcel → Option Parcel → Type 0
 HasOnlyStates None new = new ≡ None
 HasOnlyStates (Some old) new = (parcel : Parcel) × (new ≡ Some parcel)
-    × (parcel ≡ record old { part = record old.part { states = parcel.part.states } })
-    × (length parcel.part.states.items ≡ length old.part.states.items)
+    × (parcel ≡ with_part old (record old.part.value { states = parcel.part.value.states }))
+    × (length parcel.part.value.states.items ≡ length old.part.value.states.items)
 
 -- the state at a slot of a part that is here
 abbrev pub state_in : Option Parcel → (slot : ℕ) → NodeState → NodeState
 state_in None slot other = other
-state_in (Some parcel) slot other = slice_index_or parcel.part.states.items slot other
+state_in (Some parcel) slot other = slice_index_or parcel.part.value.states.items slot other
 
 -- the state that a node has in its part
 abbrev pub placed : Layout → List (Option Parcel) → (node : ℕ) → NodeState → NodeState

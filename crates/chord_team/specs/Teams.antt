@@ -46,9 +46,9 @@ events_in (f ∷ fs) = f.events + events_in fs
 
 -- the part is here, as the first events of the run leave it
 pub record IsHere (sc : Scenario) (l : Layout) (h : List (Event Body)) (part : ℕ) (parcel : Parcel) : Type 0 where
-  pub part_is : parcel.part.part ≡ part
-  pub owned : IsOwned sc l h parcel.part
-  pub none_sent : HasSentAll parcel.part
+  pub part_is : parcel.part.value.part ≡ part
+  pub owned : IsOwned sc l h parcel.part.value
+  pub none_sent : HasSentAll parcel.part.value
   pub no_text : IsText sc [] parcel.output
 
 abbrev pub AreHere : Scenario → Layout → List (Event Body) → List (Option Parcel) → Type 0

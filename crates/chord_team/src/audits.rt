@@ -19,7 +19,7 @@ use std::mem;
 
 /// Exchanges a state for that at a slot of a part, if the part is here.
 fn swap_state(place: &mut Option<Parcel>, slot: usize, state: &mut NodeState)
-    requires { IfSome place.old (λ p. slot < length p.part.states.items) }
+    requires { IfSome place.old (λ p. slot < length p.part.value.states.items) }
     ensures { IsStateSwapped slot place.old state.old place.new state.new }
 {
     if let Some(parcel) = place {

@@ -26,7 +26,7 @@ fn push_tally(tallies: &mut Vec<Tally>, place: Option<Parcel>) -> Result<(), Mem
 {
     if let Some(parcel) = place {
         let Parcel { part, .. } = parcel;
-        let OwnedPart { tally, .. } = part;
+        let OwnedPart { tally, .. } = Box::into_inner(part);
         tallies.push(tally)?;
     }
     Ok(())

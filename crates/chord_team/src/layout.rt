@@ -1,5 +1,5 @@
 //! Where the state of each node lies.
-ghost use Rattle.std.specs.Prelude.{◌≡◌, ◌≢◌, ◌⊎◌, ◌<◌, ℕ, Err, IfErr, IfOk, length, slice_index};
+ghost use Rattle.std.specs.Prelude.{◌≡◌, ◌≢◌, ◌⊎◌, ◌<◌, ℕ, Err, IfErr, IfOk, OnOk, length, slice_index};
 ghost use Rattle.chord_model.specs.Windows.{Divides, part_of};
 ghost use Rattle.chord_scenario.specs.World.{node_count};
 ghost use Rattle.chord_team.specs.Layouts.{IsLayout, nodes_before};
@@ -42,6 +42,7 @@ impl Layout {
         ensures layout { IfOk result (IsLayout scenario.now) }
         ensures division { IfOk result (λ layout. layout.division ≡ division.now) }
         ensures bad { result ≡ Err RunError.BadDivision → length division.now.of_node ≢ node_count scenario.now }
+        ensures divides { OnOk result (length division.now.of_node ≡ node_count scenario.now) }
         ensures only { IfErr result (λ e. (e ≡ RunError.Memory) ⊎ (e ≡ RunError.BadDivision)) }
     {
         scenario.recall_range();

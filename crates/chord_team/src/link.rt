@@ -26,14 +26,10 @@ pub struct Desk<J: Named> {
 pub fn next_item<R: Wait, T>(rt: &R, ring: &mut Consumer<T>, parker: &Parker) -> (Option<T>, u32) {
     let mut turn = 0u32;
     for _ in rt.forever() {
-        if let Ok(item) = ring.pop() {
-            return (Some(item), turn);
-        }
-        if ring.is_abandoned() {
-            return match ring.pop() {
-                Ok(item) => (Some(item), turn),
-                Err(_) => (None, turn),
-            };
+        // An empty ring is not asked for an item: each answer has the size of one.
+        if !ring.is_empty() || ring.is_abandoned() {
+            // The last item may have come between the two looks.
+            return (ring.pop().ok(), turn);
         }
         wait_a_turn(rt, turn, parker);
         turn = turn.saturating_add(1);

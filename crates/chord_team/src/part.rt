@@ -1,12 +1,12 @@
 //! A part of the nodes, and its run in a window.
-ghost use Rattle.std.specs.Prelude.{◌≡◌, ◌↔◌, ◌++◌, ◌<◌, [], None, length, IfOk, IfErr, OnOk};
+ghost use Rattle.std.specs.Prelude.{◌≡◌, ◌↔◌, ◌++◌, ◌<◌, [], length, IfOk, IfErr, OnOk};
 ghost use Rattle.std.specs.List.{All, Contains};
 ghost use Rattle.chord_event.specs.declared.body.Body.{Body as ABody};
 ghost use Rattle.chord_event.specs.declared.event.Event.{Event as AnEvent};
 ghost use Rattle.chord_event.specs.KeyOrder.{InKeyOrder};
 ghost use Rattle.chord_model.specs.Windows.{part_of};
 ghost use Rattle.chord_queue.specs.EventKey.{event_key};
-ghost use Rattle.chord_team.specs.Orders.{HasRun, IsFault, IsFinished, IsOrder};
+ghost use Rattle.chord_team.specs.Orders.{HasRunAll, IsFault, IsFinished, IsOrder, MayRun};
 ghost use Rattle.chord_team.specs.Running.{HasHandled, HasSent, HasTakenIn, CanHandle, is_due};
 ghost use Rattle.chord_team.specs.Owned.{AreApart, all_of};
 
@@ -40,6 +40,9 @@ pub struct OwnedPart {
     pub tally: Tally,
     /// Room for what the next event makes.
     pub spare: Spare,
+    /// Unused memory between this part and the next one. The boxes of parts lie side by side, and two
+    /// workers that write to one cache line would wait for each other.
+    pub apart: [u64; 16],
 }
 
 /// A part on its way to a window, which follows the first `count` events of the run.
@@ -47,8 +50,16 @@ pub struct OwnedPart {
 pub struct Parcel {
     pub count: u64,
     pub horizon: u64,
-    pub part: OwnedPart,
+    /// In a box, since a parcel is moved many times in each window.
+    pub part: Box<OwnedPart>,
     pub output: Output,
+}
+
+/// A window: how many events of the run come before it, and its end in microseconds.
+#[derive(Drop)]
+struct WindowBounds {
+    count: u64,
+    horizon: u64,
 }
 
 /// What a window leaves of a part.
@@ -163,59 +174,64 @@ impl OwnedPart {
         self.spare = Spare::of(made, block.lines);
         Ok(soonest)
     }
-}
 
-impl Parcel {
-    /// Runs the events before the horizon, the least first. Returns how many there were, and the
-    /// time of the first event of all that the part has or has made.
+    /// Runs the events of a window, the least first. Returns how many it ran, and the time of the
+    /// first event of all that the part has or has made.
     fn run_events(
         &mut self,
         alloc: Global,
         scenario: &Scenario,
         layout: &Layout,
+        window: WindowBounds,
+        output: &mut Output,
     ) -> Result<(u64, Option<u64>), RunError>
-        requires { IsOrder scenario.now layout.now self.old }
-        ensures ran { IfOk result (λ ran. HasRun scenario.now layout.now (record { parcel = self.new; events = ran.0; next = ran.1; fault = None })) }
+        requires { MayRun scenario.now layout.now window.count window.horizon self.old output.old }
+        ensures ran { IfOk result (λ ran. HasRunAll scenario.now layout.now window.count window.horizon ran.0 ran.1 self.new output.new) }
         ensures failed { IfErr result (IsFault scenario.now) }
-        ensures part { self.new.part.part ≡ self.old.part.part }
-        ensures count { self.new.count ≡ self.old.count }
-        ensures horizon { self.new.horizon ≡ self.old.horizon }
+        ensures part { self.new.part ≡ self.old.part }
     {
         scenario.recall_range();
-        self.part.take_in()?;
-        let room = scenario.max_events() - self.count;
+        self.take_in()?;
+        let room = scenario.max_events() - window.count;
         let mut soonest = None;
         let mut events = 0u64;
-        while is_due(self.part.pending.first_time(), self.horizon) {
-            self.part.pending.recall_order();
+        while is_due(self.pending.first_time(), window.horizon) {
+            self.pending.recall_order();
             if events >= room {
                 return Err(RunError::TooManyEvents);
             }
-            let Some(event) = self.part.pending.pop_first() else {
-                return Err(RunError::Memory);
+            let Some(event) = self.pending.pop_first() else {
+                unreachable!();
             };
-            let made = self
-                .part
-                .handle(alloc, scenario, layout, &event, &mut self.output)?;
+            let made = self.handle(alloc, scenario, layout, &event, output)?;
             // Dropped by a call, so that the proof has one case and not one for each kind of body.
             drop(event);
             soonest = sooner(soonest, made);
             events += 1;
         }
-        self.part.pending.recall_order();
-        Ok((events, sooner(soonest, self.part.pending.first_time())))
+        self.pending.recall_order();
+        Ok((events, sooner(soonest, self.pending.first_time())))
     }
+}
 
+impl Parcel {
     /// Runs the part's window.
     pub fn run(self, alloc: Global, scenario: &Scenario, layout: &Layout) -> Finished
         requires { IsOrder scenario.now layout.now self }
         ensures finished { IsFinished scenario.now layout.now result }
-        ensures part { result.parcel.part.part ≡ self.part.part }
+        ensures part { result.parcel.part.value.part ≡ self.part.value.part }
         ensures count { result.parcel.count ≡ self.count }
         ensures horizon { result.parcel.horizon ≡ self.horizon }
     {
         let mut parcel = self;
-        let ran = parcel.run_events(alloc, scenario, layout);
+        let window = WindowBounds {
+            count: parcel.count,
+            horizon: parcel.horizon,
+        };
+        let output = &mut parcel.output;
+        let ran = parcel
+            .part
+            .run_events(alloc, scenario, layout, window, output);
         match ran {
             Ok((events, next)) => Finished {
                 parcel,

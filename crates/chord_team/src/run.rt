@@ -44,9 +44,9 @@ fn first_links<J: Named>(links: &mut Vec<Link<J>>, count: usize) -> &mut [Link<J
 /// Whether the caller waited long for one of the workers since this was last asked.
 fn take_slow<J: Named>(links: &mut Vec<Link<J>>) -> bool {
     let mut is_slow = false;
-    for k in 0..links.len() {
-        is_slow = is_slow || links[k].is_slow;
-        links[k].is_slow = false;
+    for link in links.iter_mut() {
+        is_slow = is_slow || link.is_slow;
+        link.is_slow = false;
     }
     is_slow
 }
@@ -308,6 +308,7 @@ pub fn run_team<R: Threads + Wait + Sync, W: Write>(
     ensures run { IsRun scenario.now (W.contents (wrapped writer.old)) (W.contents (wrapped writer.new)) result }
     ensures writer { has_failed writer.new ≡ is_write result }
     ensures bad { result ≡ Err RunError.BadDivision → (length division.now.of_node ≢ node_count scenario.now) × (writer.new ≡ writer.old) }
+    ensures divides { OnOk result (length division.now.of_node ≡ node_count scenario.now) }
 {
     let hands = Hands {
         workers,
@@ -331,6 +332,7 @@ pub fn run_team_by<R: Threads + Wait + Sync, W: Write>(
     ensures run { IsRun scenario.now (W.contents (wrapped writer.old)) (W.contents (wrapped writer.new)) result }
     ensures writer { has_failed writer.new ≡ is_write result }
     ensures bad { result ≡ Err RunError.BadDivision → (length division.now.of_node ≢ node_count scenario.now) × (writer.new ≡ writer.old) }
+    ensures divides { OnOk result (length division.now.of_node ≡ node_count scenario.now) }
 {
     let layout = Layout::new(alloc, scenario, division)?;
     run_named::<Brand, R, W>(rt, alloc, scenario, &layout, hands, writer)

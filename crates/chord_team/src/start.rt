@@ -59,6 +59,7 @@ fn empty_parts(alloc: Global, profile: u32, parts: u32) -> Result<Vec<OwnedPart>
             outbox: empty_lists(alloc, parts)?,
             tally: Tally::new(alloc, profile),
             spare: Spare::new(alloc),
+            apart: [0; 16],
         })?;
     }
     Ok(list)
@@ -118,7 +119,7 @@ fn parcels_of(alloc: Global, parts: Vec<OwnedPart>) -> Result<Vec<Option<Parcel>
         parcels.push(Some(Parcel {
             count: 0,
             horizon: 0,
-            part,
+            part: Box::new(alloc, part)?,
             output: Output::new(alloc),
         }))?;
     }

@@ -60,18 +60,9 @@ impl Team {
         ensures rest { (sc : AScenario) (l : ALayout) → CanSend sc l self.old → CanSend sc l self.new }
         ensures others { self.new ≡ record self.old { parcels = self.new.parcels } }
     {
-        let taken = mem::replace(&mut self.parcels[part as usize], None)?;
-        let Parcel {
-            count: _,
-            horizon: _,
-            part,
-            output,
-        } = taken;
-        Some(Parcel {
-            count: self.count,
-            horizon: self.window.horizon,
-            part,
-            output,
-        })
+        let mut parcel = mem::replace(&mut self.parcels[part as usize], None)?;
+        parcel.count = self.count;
+        parcel.horizon = self.window.horizon;
+        Some(parcel)
     }
 }

@@ -41,22 +41,12 @@ fn events_within(room: u64, results: &[Finished]) -> Option<u64>
 
 /// The parcel with an empty text, and its text.
 fn take_output(alloc: Global, parcel: Parcel) -> (Parcel, Output)
-    ensures part { result.0.part ≡ parcel.part }
+    ensures part { result.0.part.value ≡ parcel.part.value }
     ensures empty { (sc : AScenario) → IsText sc [] result.0.output }
     ensures output { result.1 ≡ parcel.output }
 {
-    let Parcel {
-        count,
-        horizon,
-        part,
-        output,
-    } = parcel;
-    let emptied = Parcel {
-        count,
-        horizon,
-        part,
-        output: Output::new(alloc),
-    };
+    let mut emptied = parcel;
+    let output = mem::replace(&mut emptied.output, Output::new(alloc));
     (emptied, output)
 }
 
@@ -73,7 +63,7 @@ fn give_output(place: &mut Option<Parcel>, output: Output)
 
 /// Exchanges what a part has for another for this list.
 fn take_mail(sender: &mut Option<Parcel>, to: usize, list: &mut Vec<Event>)
-    requires { IfSome sender.old (λ s. to < length s.part.outbox.items) }
+    requires { IfSome sender.old (λ s. to < length s.part.value.outbox.items) }
     ensures { IsMailTaken to sender.old list.old sender.new list.new }
 {
     if let Some(parcel) = sender {
@@ -84,7 +74,7 @@ fn take_mail(sender: &mut Option<Parcel>, to: usize, list: &mut Vec<Event>)
 /// Collects what the parts that are here have for a part.
 fn collect_mail(parcels: &mut Vec<Option<Parcel>>, to: usize, inbox: &mut Vec<Vec<Event>>)
     requires long { length inbox.old.items ≡ length parcels.old.items }
-    requires each { (p : ℕ) → p < length parcels.old.items → IfSome (slice_index_or parcels.old.items p None) (λ s. to < length s.part.outbox.items) }
+    requires each { (p : ℕ) → p < length parcels.old.items → IfSome (slice_index_or parcels.old.items p None) (λ s. to < length s.part.value.outbox.items) }
     ensures { HaveCollected to (length parcels.old.items) parcels.old.items inbox.old.items parcels.new.items inbox.new.items }
 {
     for from in 0..parcels.len() {

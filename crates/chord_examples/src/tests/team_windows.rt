@@ -139,7 +139,7 @@ fn by_worker<T: Abort + AllocGlobal>(rt: &T, course: &Course<'_>, parcel: Parcel
         pending,
         mut outbox,
         ..
-    } = part;
+    } = Box::into_inner(part);
     lies_apart(rt, course.layout, outbox.as_slice());
     let mut coming = value_of(rt, pending.up_to(u64::MAX));
     for list in outbox.iter_mut() {

@@ -1,4 +1,4 @@
-use Rattle.std.proofs.Common.{◌∙◌, ◌∷◌, ◌++◌, [], append_assoc, append-nil, ap, arith, refl, subst, sym, List}
+use Rattle.std.proofs.Common.{◌∙◌, ◌∷◌, ◌++◌, [], append_assoc, append-nil, ap, arith, subst, sym, List}
 use Rattle.std.specs.Vec.Iter.{into_iter_items}
 use Rattle.chord_window.proofs.Sorting.{empty}
 use Rattle.chord_team.specs.declared.part.OwnedPart.{OwnedPart}
@@ -13,7 +13,7 @@ loop-part-preserved c = record {
   whole = append_assoc c.loop-part.yielded (c.in-Some.part ∷ []) (into_iter_items c.next.new.self)
       ∙ ap (λ l. c.loop-part.yielded ++ l) (sym c.in-Some.ensures.steps.0) ∙ c.loop-part.invariant.whole;
   placed = parcels_more c.loop-part.yielded c.loop-part.parcels.items c.push.new.self.items c.in-Some.part _ c.loop-part.invariant.placed
-      (record { part_is = refl; no_text = c.new.ensures }) c.in_ok-push.ensures.items;
+      (record { part_is = c.in_ok-new.ensures.ok; no_text = c.new-in-loop-part.ensures }) c.in_ok-push.ensures.items;
 }
 
 pub returns : goal.returns
