@@ -8,43 +8,12 @@ from pathlib import Path
 from typing import IO
 
 from tests.support.programs import program
+from tests.support.rings import ONE_HOP, THREE, WHOLE, text_of_three
 
 REFUSED, ARGUMENTS, FAILED = 1, 2, 3
 ENGINES = ("serial", "crew", "team")
 
-NODES = """\
-[[node]]
-name = "n0"
-id = 0
-initial = true
-[[node]]
-name = "n1"
-id = 1
-initial = true
-[[node]]
-name = "n3"
-id = 3
-initial = true
-"""
-RING = f"""\
-profile = 1
-bits = 3
-list = 2
-seed = 1
-duration_us = 200
-window_us = 10
-latency_us = 10
-timeout_us = 40
-audit_us = 200
-stabilize_us = 1000
-finger_us = 1000
-{NODES}[[command]]
-at_us = 100
-do = "lookup"
-node = "n3"
-key = 1
-"""
-WHOLE = "200 audit members=3 dead=0 ring=3 ordered=yes principals=3 sufficient=yes\n"
+RING = text_of_three(ONE_HOP)
 TRACE = "100 n3 lookup 1\n120 n3 found 1 n1 hops=1 timeouts=0 us=20\n" + WHOLE
 # The trace if a message takes 15 us between n0 and n3.
 SLOW_TRACE = "100 n3 lookup 1\n130 n3 found 1 n1 hops=1 timeouts=0 us=30\n" + WHOLE
@@ -125,7 +94,7 @@ class Commands(unittest.TestCase):
 
     def test_names(self) -> None:
         """The identifiers of nodes that are given by their names: the first byte, or 16 bytes, of the SHA-1 digest."""
-        text = RING.replace(NODES, NAMED).partition("[[command]]")[0]
+        text = RING.replace(THREE, NAMED).partition("[[command]]")[0]
         self.write("narrow.toml", text.replace("bits = 3", "bits = 8"))
         self.assertEqual(self.ended("ids --scenario narrow.toml"), (0, "a 134\nb 233\nc 132\n", ""))
         self.write("wide.toml", text.replace("profile = 1\nbits = 3", "profile = 2\nbits = 128"))

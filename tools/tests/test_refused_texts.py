@@ -1,7 +1,7 @@
 """Texts of scenarios and of latencies, each with its first fault, by `chordsim check`."""
 
 from tests.support.rings import (
-    IN_THE_PLANE, NO_HOP, ONE_HOP, SETTINGS, TOP, Change, ProgramTest, of_profile, ring_of, text_of_three,
+    IN_THE_PLANE, NO_HOP, ONE_HOP, SETTINGS, TOP, TWO, Change, ProgramTest, of_profile, ring_of, text_of_three,
 )
 
 GOOD = "ok nodes=3 commands=1"
@@ -391,6 +391,18 @@ class RefusedTexts(ProgramTest):
         base = text_of_three(NO_HOP)
         for changes in (KEYS, TYPES, TOP_KEYS, TIMES, OPTIONS, TABLES, RINGS, LIMITS):
             self.have_results(base, changes)
+
+    def test_two_nodes(self) -> None:
+        """Two nodes whose latency is the window, and is below it."""
+        two = TOP + SETTINGS.replace("list = 2", "list = 1") + TWO + NO_HOP
+        self.has_answer(two, "", "ok nodes=2 commands=1")
+        self.has_answer(two.replace("window_us = 10", "window_us = 11"), "", "S15 LatencyBelowWindow n0 n4")
+
+    def test_last_node_is_not_initial(self) -> None:
+        """The ring of three with lists of two, of which two nodes are initial."""
+        first, last, rest = text_of_three(NO_HOP).rpartition("initial = true\n")
+        self.assertEqual(last, "initial = true\n")
+        self.has_answer(first + rest, "", "S10 TooFewInitial")
 
     def test_latency_rows(self) -> None:
         """The ring of three with a latency text."""
