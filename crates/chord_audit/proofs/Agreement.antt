@@ -7,6 +7,7 @@ use Rattle.std.proofs.Common.{
   ◌+◌,
   ◌<◌,
   ◌≤◌,
+  ◌^◌,
   Bool,
   true,
   false,
@@ -44,6 +45,7 @@ use Rattle.std.proofs.Math.Dec.{eqb}
 use Rattle.std.proofs.lemmas.Bool.{eq-eqb}
 use Rattle.std.proofs.lemmas.List.{get_or-map, get_or_default, length-map}
 use Rattle.std.proofs.lemmas.List.Sums.{length-filter}
+use Rattle.chord_scenario.specs.Range.{IsInRange}
 use Rattle.chord_scenario.specs.Setup.{Setup}
 use Rattle.chord_scenario.specs.World.{node_count}
 use Rattle.chord_node.specs.declared.state.NodeState.{NodeState}
@@ -129,6 +131,41 @@ any_filter : (test p : ℕ → Bool) (n q : ℕ) → q < n → test q ≡ true �
 any_filter test p n q lt found passes =
     any_filtered test p (range_with_len 0 n) ∙ any_at (λ x. p x && test x) 0 n q (omega arith) (omega arith) (both_true (p q) (test q) passes found)
 
+pub ranks_below : (sc : Setup) (ranks : List ℕ) → AreRanks sc ranks → All (λ rank. rank < length ranks) ranks
+ranks_below sc ranks are k d lt =
+    let low : slice_index ranks k < node_count sc = are.within k (omega (arith, are.each)) in
+    let same : get_or ranks k d ≡ slice_index ranks k = get_or_default ranks k d 0 lt in
+    omega (arith, are.each)
+
+pub ranks_within : (sc : Setup) (ranks : List ℕ) (n : ℕ) → AreRanks sc ranks → n ≡ length ranks → All (λ rank. rank < n) ranks
+ranks_within sc ranks n are each = subst (λ k. All (λ rank. rank < k) ranks) (sym each) (ranks_below sc ranks are)
+
+-- a table of what a function makes of each state has an entry of each node
+pub each_mapped : {A : Type 0} (f : NodeState → A) (sc : Setup) (states : List NodeState) (table : List A)
+    → length states ≡ node_count sc → table ≡ map f states → length table ≡ node_count sc
+each_mapped f sc states table each is = ap (λ (l : List _). length l) is ∙ length-map states f ∙ each
+
+pub few_nodes : (sc : Setup) (n : ℕ) → IsInRange sc → n ≡ node_count sc → n < 2 ^ 32
+few_nodes sc n range each = omega (arith, range.nodes.greatest, each)
+
+-- the lists of the states name nodes below a number, which is that of the nodes
+pub succ_within : (sc : Setup) (states : List NodeState) (n : ℕ) → n ≡ node_count sc
+    → All (λ s. All (λ m. m < node_count sc) s.succ) states → All (λ s. All (λ m. m < n) s.succ) states
+succ_within sc states n each all = subst (λ k. All (λ (s : NodeState). All (λ m. m < k) s.succ) states) (sym each) all
+
+-- how many entries the tables have
+pub many_members : {sc : Setup} {states : List NodeState} {members : List Bool} {best : List (Option ℕ)} {ring : List Bool} {ranks : List ℕ}
+    {skipped passed : List Bool} → AreTables sc states members best ring ranks skipped passed → length members ≡ node_count sc
+many_members {sc} {states} {members} t = each_mapped is_member sc states members t.each t.members_are
+
+pub many_best : {sc : Setup} {states : List NodeState} {members : List Bool} {best : List (Option ℕ)} {ring : List Bool} {ranks : List ℕ}
+    {skipped passed : List Bool} → AreTables sc states members best ring ranks skipped passed → length best ≡ node_count sc
+many_best {sc} {states} {members} {best} t = each_mapped (λ s. find (is_marked members) s.succ) sc states best t.each t.best_are
+
+pub many_ring : {sc : Setup} {states : List NodeState} {members : List Bool} {best : List (Option ℕ)} {ring : List Bool} {ranks : List ℕ}
+    {skipped passed : List Bool} → AreTables sc states members best ring ranks skipped passed → length ring ≡ node_count sc
+many_ring t = t.ring_each ∙ many_best t
+
 module _ (sc : Setup) (states : List NodeState) (members : List Bool) (best : List (Option ℕ)) (ring : List Bool) (ranks : List ℕ)
     (skipped passed : List Bool) (t : AreTables sc states members best ring ranks skipped passed) (state : ℕ → NodeState)
     (agree : AreStates sc states state) where
@@ -156,9 +193,6 @@ module _ (sc : Setup) (states : List NodeState) (members : List Bool) (best : Li
   leads n m lt h =
       subst (λ (o : Option ℕ). IfSome o (λ m. m < node_count sc)) h (find_below (node_count sc) (λ m. is_member (state m)) (state n).succ (succ_below n lt))
 
-  many_best : length best ≡ node_count sc
-  many_best = ap (λ (l : List (Option ℕ)). length l) t.best_are ∙ length-map states (λ (s : NodeState). find (is_marked members) s.succ) ∙ t.each
-
   led_member : (n : ℕ) (o : Option ℕ) (m : ℕ) → option_and_then (best_successor state) o ≡ Some m → is_member (state m) ≡ true
   led_member n None m h = absurd cc
   led_member n (Some q) m h = find_passes (λ k. is_member (state k)) (state q).succ m h
@@ -177,7 +211,7 @@ module _ (sc : Setup) (states : List NodeState) (members : List Bool) (best : Li
 
       on : is_marked ring n ≡ true → is_on_ring sc state n ≡ true
       on h =
-          let back = (t.ring_are n (omega (arith, many_best))).0 h in
+          let back = (t.ring_are n (omega (arith, many_best t))).0 h in
           let round : after (best_successor state) back.0 n ≡ Some n = same back.0 ∙ back.2 in
           let later = comes_later (best_successor state) back.0 n back.1 round (suc (member_count sc state)) in
           let many : length (filter (λ m. is_member (state m)) (nodes sc)) ≡ member_count sc state = length-filter (λ m. is_member (state m)) (nodes sc) in
@@ -199,7 +233,7 @@ module _ (sc : Setup) (states : List NodeState) (members : List Bool) (best : Li
           let back = second_true (is_member (state n)) (comes_back (best_successor state) (member_count sc state) n) h in
           let steps = any_found (λ k. is_at (after (best_successor state) k n) n) 1 (member_count sc state) back in
           let round : after (node_at best) steps.0 n ≡ Some n = sym (same steps.0) ∙ is_at-true (after (best_successor state) steps.0 n) n steps.3 in
-          (t.ring_are n (omega (arith, many_best))).1 (steps.0, steps.1, round)
+          (t.ring_are n (omega (arith, many_best t))).1 (steps.0, steps.1, round)
 
   before_is : (n x : ℕ) → n < node_count sc → x < node_count sc → (o : Option ℕ) → IfSome o (λ m. m < node_count sc)
       → is_inside_before ranks (slice_index ranks x) n o ≡ lies_before sc n x o
@@ -248,38 +282,32 @@ module _ (sc : Setup) (states : List NodeState) (members : List Bool) (best : Li
 
   -- the counts of the nodes
 
-  many_members : length members ≡ node_count sc
-  many_members = ap (λ (l : List Bool). length l) t.members_are ∙ length-map states is_member ∙ t.each
-
   pub members_count : count_by (is_marked members) (range_with_len 0 (length members)) ≡ member_count sc state
   members_count =
-      ap (λ n. count_by (is_marked members) (range_with_len 0 n)) many_members
+      ap (λ n. count_by (is_marked members) (range_with_len 0 n)) (many_members t)
       ∙ count_same (is_marked members) (λ n. is_member (state n)) 0 (node_count sc) (λ n low lt. member_is n (omega arith))
 
   pub dead_are : count_by (λ n. is_marked members n && is_none (node_at best n)) (range_with_len 0 (length members)) ≡ dead_count sc state
   dead_are =
-      ap (λ n. count_by (λ n. is_marked members n && is_none (node_at best n)) (range_with_len 0 n)) many_members
+      ap (λ n. count_by (λ n. is_marked members n && is_none (node_at best n)) (range_with_len 0 n)) (many_members t)
       ∙ count_same (λ n. is_marked members n && is_none (node_at best n)) (is_dead state) 0 (node_count sc) (λ n low lt.
       ap (λ b. b && is_none (node_at best n)) (member_is n (omega arith)) ∙ ap (λ o. is_member (state n) && is_none o) (best_is n (omega arith)))
 
-  many_ring : length ring ≡ node_count sc
-  many_ring = t.ring_each ∙ many_best
-
   pub ring_count : count_by (is_marked ring) (range_with_len 0 (length ring)) ≡ count_by (is_on_ring sc state) (nodes sc)
   ring_count =
-      ap (λ n. count_by (is_marked ring) (range_with_len 0 n)) many_ring
+      ap (λ n. count_by (is_marked ring) (range_with_len 0 n)) (many_ring t)
       ∙ count_same (is_marked ring) (is_on_ring sc state) 0 (node_count sc) (λ n low lt. ring_is n (omega arith))
 
   pub any_is : list_any (λ n. is_marked ring n && is_marked_rank ranks skipped n) (range_with_len 0 (length ring))
       ≡ list_any (λ x. is_on_ring sc state x && is_skipped sc state x) (nodes sc)
   any_is =
-      ap (λ n. list_any (λ n. is_marked ring n && is_marked_rank ranks skipped n) (range_with_len 0 n)) many_ring
+      ap (λ n. list_any (λ n. is_marked ring n && is_marked_rank ranks skipped n) (range_with_len 0 n)) (many_ring t)
       ∙ any_same (λ n. is_marked ring n && is_marked_rank ranks skipped n) (λ x. is_on_ring sc state x && is_skipped sc state x) 0 (node_count sc) (λ n low lt.
       ap (λ b. b && is_marked_rank ranks skipped n) (ring_is n (omega arith)) ∙ ap (λ b. is_on_ring sc state n && b) (skipped_is n (omega arith)))
 
   pub principals_are : count_by (λ n. is_marked members n && not (is_marked_rank ranks passed n)) (range_with_len 0 (length members)) ≡ principal_count sc state
   principals_are =
-      ap (λ n. count_by (λ n. is_marked members n && not (is_marked_rank ranks passed n)) (range_with_len 0 n)) many_members
+      ap (λ n. count_by (λ n. is_marked members n && not (is_marked_rank ranks passed n)) (range_with_len 0 n)) (many_members t)
       ∙ count_same (λ n. is_marked members n && not (is_marked_rank ranks passed n)) (is_principal sc state) 0 (node_count sc) (λ n low lt.
       ap (λ b. b && not (is_marked_rank ranks passed n)) (member_is n (omega arith)) ∙ ap (λ b. is_member (state n) && not b) (passed_is n (omega arith)))
 
@@ -304,9 +332,3 @@ line_is sc state time m d r o p s em ed er eo ep es =
 
 pub same_lead : (n m : ℕ) (xs ys : List (Option ℕ)) → n ≡ m → xs ≡ ys → LeadBelow m ys → LeadBelow n xs
 same_lead n m xs ys e f h = subst (λ k. LeadBelow k xs) (sym e) (subst (LeadBelow m) (sym f) h)
-
-pub ranks_below : (sc : Setup) (ranks : List ℕ) → AreRanks sc ranks → All (λ rank. rank < length ranks) ranks
-ranks_below sc ranks are k d lt =
-    let low : slice_index ranks k < node_count sc = are.within k (omega (arith, are.each)) in
-    let same : get_or ranks k d ≡ slice_index ranks k = get_or_default ranks k d 0 lt in
-    omega (arith, are.each)

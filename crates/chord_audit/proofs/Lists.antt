@@ -17,7 +17,11 @@ use Rattle.std.proofs.Common.{
   [],
   ◌∷◌,
   ◌++◌,
+  List,
   get_or,
+  length,
+  map,
+  take,
   refl,
   sym,
   ap,
@@ -33,6 +37,7 @@ use Rattle.std.proofs.Common.{
   IfOk,
 }
 use Rattle.std.specs.List.{list_any, range_with_len}
+use Rattle.std.proofs.lemmas.List.{map_more}
 use Rattle.std.proofs.lemmas.List.Folds.{list_any-append, list_any_at}
 use Rattle.std.proofs.lemmas.List.FromFn.{length-range_with_len, get_or-range_with_len}
 use Rattle.std.proofs.lemmas.List.Sums.{sum_by-cons, sum_by-append, count_by-le-length}
@@ -149,3 +154,9 @@ second_true false b h = absurd cc
 
 pub none_more : (p : ℕ → Bool) (n : ℕ) → list_any p (range_with_len 0 n) ≡ false → p n ≡ false → list_any p (range_with_len 0 (n + 1)) ≡ false
 none_more p n so_far h = any_more p n ∙ ap (λ b. b || p n) so_far ∙ h
+
+-- a list of what a function makes of the elements so far, and of the next one
+pub maps_more : {A B : Type 0} (f : A → B) (xs : List A) (i : ℕ) (d x : A) (y : B) (ys zs : List B)
+    → i < length xs → x ≡ get_or xs i d → y ≡ f x → ys ≡ map f (take i xs) → zs ≡ ys ++ y ∷ [] → zs ≡ map f (take (i + 1) xs)
+maps_more f xs i d x y ys zs lt item is so_far pushed =
+    pushed ∙ ap (λ l. l ++ y ∷ []) so_far ∙ ap (λ e. map f (take i xs) ++ e ∷ []) (is ∙ ap f item) ∙ sym (map_more f xs i d lt)

@@ -1,30 +1,72 @@
-use Rattle.std.proofs.Common.{◌≡◌, ◌∙◌, ◌<◌, ℕ, List, Option, find, length, map, sym, ap, subst}
+use Rattle.std.proofs.Common.{◌≡◌, ◌∙◌, ◌<◌, Bool, ℕ, List, find, length, map, sym, ap, subst}
 use Rattle.std.specs.List.{All}
-use Rattle.std.proofs.lemmas.List.{length-map}
 use Rattle.chord_scenario.specs.World.{node_count}
 use Rattle.chord_node.specs.declared.state.NodeState.{NodeState}
+use Rattle.chord_audit.specs.Audit.{is_member}
 use Rattle.chord_audit.specs.Tables.{is_marked}
-use Rattle.chord_audit.proofs.Agreement.{best_leads, same_lead, ranks_below}
+use Rattle.chord_audit.proofs.Agreement.{best_leads, each_mapped, few_nodes, same_lead, ranks_below, succ_within}
 use Rattle.chord_audit.proofs.tables.Tables.of.Goals as goal
+
+pub best_successors-requires : goal.best_successors-requires
+best_successors-requires c =
+    let sc = c.args.scenario.now in let states = c.args.states.now in let members = c.deref.result.now in
+    succ_within sc states (length members) (each_mapped is_member sc states members c.requires.each (c.deref.ensures.value ∙ c.in_ok-members.ensures))
+    c.requires.succ
+
+pub ring_of-requires-clause-few : goal.ring_of-requires-clause-few
+ring_of-requires-clause-few c =
+    let sc = c.args.scenario.now in let states = c.args.states.now in let best = c.deref-2.result.now in
+    few_nodes sc (length best) c.recall_range.ensures
+    (each_mapped (λ s. find (is_marked c.deref.result.now) s.succ) sc states best c.requires.each (c.deref-2.ensures.value ∙ c.in_ok-best.ensures))
 
 pub ring_of-requires-clause-lead : goal.ring_of-requires-clause-lead
 ring_of-requires-clause-lead c =
-    let states = c.args.states.now in let p = is_marked c.deref.result.now in
-    let first = λ (s : NodeState). find p s.succ in
-    let is : c.deref-2.result.now ≡ map first states = c.deref-2.ensures.value ∙ c.in_ok-best.ensures in
-    same_lead (length c.deref-2.result.now) (node_count c.args.scenario.now) c.deref-2.result.now (map first states)
-    (ap (λ (l : List (Option ℕ)). length l) is ∙ length-map states first ∙ c.requires.each) is
-    (best_leads (node_count c.args.scenario.now) p states c.requires.succ)
+    let sc = c.args.scenario.now in let states = c.args.states.now in let best = c.deref-2.result.now in
+    let p = is_marked c.deref.result.now in let first = λ (s : NodeState). find p s.succ in
+    let is : best ≡ map first states = c.deref-2.ensures.value ∙ c.in_ok-best.ensures in
+    same_lead (length best) (node_count sc) best (map first states) (each_mapped first sc states best c.requires.each is) is
+    (best_leads (node_count sc) p states c.requires.succ)
+
+pub skipped_ranks-requires-clause-ranks : goal.skipped_ranks-requires-clause-ranks
+skipped_ranks-requires-clause-ranks c =
+    subst (λ (l : List ℕ). All (λ rank. rank < length l) l) (sym c.deref-3.ensures.value)
+    (ranks_below c.args.scenario.now c.in_ok-ranks.ranks.items c.in_ok-ranks.ensures)
+
+pub skipped_ranks-requires-clause-marks : goal.skipped_ranks-requires-clause-marks
+skipped_ranks-requires-clause-marks c =
+    ap (λ (l : List Bool). length l) c.deref-4.ensures.value ∙ c.in_ok-ring.ensures.length
+    ∙ each_mapped (λ s. find (is_marked c.deref.result.now) s.succ) c.args.scenario.now c.args.states.now c.deref-2.result.now c.requires.each
+    (c.deref-2.ensures.value ∙ c.in_ok-best.ensures)
+    ∙ sym (ap (λ (l : List ℕ). length l) c.deref-3.ensures.value ∙ c.in_ok-ranks.ensures.each)
+
+pub skipped_ranks-requires-clause-best : goal.skipped_ranks-requires-clause-best
+skipped_ranks-requires-clause-best c =
+    each_mapped (λ s. find (is_marked c.deref.result.now) s.succ) c.args.scenario.now c.args.states.now c.deref-5.result.now c.requires.each
+    (c.deref-5.ensures.value ∙ c.in_ok-best.ensures)
+    ∙ sym (ap (λ (l : List ℕ). length l) c.deref-3.ensures.value ∙ c.in_ok-ranks.ensures.each)
 
 pub skipped_ranks-requires-clause-lead : goal.skipped_ranks-requires-clause-lead
 skipped_ranks-requires-clause-lead c =
-    let states = c.args.states.now in let p = is_marked c.deref.result.now in
-    let first = λ (s : NodeState). find p s.succ in
-    same_lead (length c.deref-3.result.now) (node_count c.args.scenario.now) c.deref-5.result.now (map first states)
+    let sc = c.args.scenario.now in let states = c.args.states.now in
+    let p = is_marked c.deref.result.now in let first = λ (s : NodeState). find p s.succ in
+    same_lead (length c.deref-3.result.now) (node_count sc) c.deref-5.result.now (map first states)
     (ap (λ (l : List ℕ). length l) c.deref-3.ensures.value ∙ c.in_ok-ranks.ensures.each) (c.deref-5.ensures.value ∙ c.in_ok-best.ensures)
-    (best_leads (node_count c.args.scenario.now) p states c.requires.succ)
+    (best_leads (node_count sc) p states c.requires.succ)
 
 pub passed_ranks-requires-clause-ranks : goal.passed_ranks-requires-clause-ranks
 passed_ranks-requires-clause-ranks c =
     subst (λ (l : List ℕ). All (λ rank. rank < length l) l) (sym c.deref-6.ensures.value)
     (ranks_below c.args.scenario.now c.in_ok-ranks.ranks.items c.in_ok-ranks.ensures)
+
+pub passed_ranks-requires-clause-marks : goal.passed_ranks-requires-clause-marks
+passed_ranks-requires-clause-marks c =
+    each_mapped is_member c.args.scenario.now c.args.states.now c.deref-7.result.now c.requires.each (c.deref-7.ensures.value ∙ c.in_ok-members.ensures)
+    ∙ sym (ap (λ (l : List ℕ). length l) c.deref-6.ensures.value ∙ c.in_ok-ranks.ensures.each)
+
+pub passed_ranks-requires-clause-states : goal.passed_ranks-requires-clause-states
+passed_ranks-requires-clause-states c = c.requires.each ∙ sym (ap (λ (l : List ℕ). length l) c.deref-6.ensures.value ∙ c.in_ok-ranks.ensures.each)
+
+pub passed_ranks-requires-clause-succ : goal.passed_ranks-requires-clause-succ
+passed_ranks-requires-clause-succ c =
+    succ_within c.args.scenario.now c.args.states.now (length c.deref-6.result.now)
+    (ap (λ (l : List ℕ). length l) c.deref-6.ensures.value ∙ c.in_ok-ranks.ensures.each) c.requires.succ
