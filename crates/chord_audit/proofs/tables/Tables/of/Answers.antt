@@ -1,9 +1,9 @@
-use Rattle.std.proofs.Common.{◌≡◌, ◌∙◌, ◌<◌, Bool, ℕ, List, find, length, map, sym, ap, subst}
+use Rattle.std.proofs.Common.{◌≡◌, ◌∙◌, ◌<◌, ◌≤◌, ◌↔◌, Bool, true, ℕ, List, Option, Some, find, length, map, sym, ap, subst}
 use Rattle.std.specs.List.{All}
 use Rattle.chord_scenario.specs.World.{node_count}
 use Rattle.chord_node.specs.declared.state.NodeState.{NodeState}
-use Rattle.chord_audit.specs.Audit.{is_member}
-use Rattle.chord_audit.specs.Tables.{is_marked}
+use Rattle.chord_audit.specs.Audit.{after, is_member}
+use Rattle.chord_audit.specs.Tables.{is_marked, is_passed_rank, is_skipped_rank, node_at}
 use Rattle.chord_audit.proofs.Agreement.{best_leads, each_mapped, few_nodes, same_lead, ranks_below, succ_within}
 use Rattle.chord_audit.proofs.tables.Tables.of.Goals as goal
 
@@ -70,3 +70,32 @@ pub passed_ranks-requires-clause-succ : goal.passed_ranks-requires-clause-succ
 passed_ranks-requires-clause-succ c =
     succ_within c.args.scenario.now c.args.states.now (length c.deref-6.result.now)
     (ap (λ (l : List ℕ). length l) c.deref-6.ensures.value ∙ c.in_ok-ranks.ensures.each) c.requires.succ
+
+pub returns : goal.returns
+returns c =
+    let states = c.args.states.now in let members = c.in_ok-members.members.items in let best = c.in_ok-best.best.items in
+    let ring = c.in_ok-ring.ring.items in let ranks = c.in_ok-ranks.ranks.items in
+    record {
+      range = c.recall_range.ensures;
+      each = c.requires.each;
+      succ = c.requires.succ;
+      members_are = c.in_ok-members.ensures;
+      best_are = c.in_ok-best.ensures ∙ ap (λ (l : List Bool). map (λ (s : NodeState). find (is_marked l) s.succ) states) c.deref.ensures.value;
+      ring_each = c.in_ok-ring.ensures.length ∙ ap (λ (l : List (Option ℕ)). length l) c.deref-2.ensures.value;
+      ring_are =
+          subst (λ (l : List (Option ℕ)). (n : ℕ) → n < length l
+          → (is_marked ring n ≡ true) ↔ ((steps : ℕ) × (1 ≤ steps) × (after (node_at l) steps n ≡ Some n)))
+          c.deref-2.ensures.value c.in_ok-ring.ensures.back;
+      ranks_are = c.in_ok-ranks.ensures;
+      skipped_are = λ k lt.
+          c.in_ok-skipped.ensures.skipped k (subst (λ (l : List ℕ). k < length l) (sym c.deref-3.ensures.value) lt)
+          ∙ ap (λ (l : List ℕ). is_skipped_rank l c.deref-4.result.now c.deref-5.result.now k) c.deref-3.ensures.value
+          ∙ ap (λ (l : List Bool). is_skipped_rank ranks l c.deref-5.result.now k) c.deref-4.ensures.value
+          ∙ ap (λ (l : List (Option ℕ)). is_skipped_rank ranks ring l k) c.deref-5.ensures.value;
+      skipped_each = c.in_ok-skipped.ensures.length ∙ ap (λ (l : List ℕ). length l) c.deref-3.ensures.value;
+      passed_each = c.in_ok-passed.ensures.length ∙ ap (λ (l : List ℕ). length l) c.deref-6.ensures.value;
+      passed_are = λ k lt.
+          c.in_ok-passed.ensures.passed k (subst (λ (l : List ℕ). k < length l) (sym c.deref-6.ensures.value) lt)
+          ∙ ap (λ (l : List ℕ). is_passed_rank l c.deref-7.result.now states k) c.deref-6.ensures.value
+          ∙ ap (λ (l : List Bool). is_passed_rank ranks l states k) c.deref-7.ensures.value;
+    }
