@@ -1,6 +1,50 @@
 -- The start events, node by node.
-use Rattle.std.proofs.Common.{◌≡◌, ◌∙◌, sym, ap, ℕ, suc, ◌+◌, ◌-◌, ◌<◌, Bool, true, false, List, ◌∷◌, ◌++◌, filter, append_assoc, arith}
-use Rattle.std.specs.List.{flat_map, range_with_len}
+use Rattle.std.proofs.Common.{
+  ◌≡◌,
+  ◌∙◌,
+  sym,
+  ap,
+  refl,
+  ℕ,
+  suc,
+  ◌+◌,
+  ◌-◌,
+  ◌<◌,
+  ◌≤◌,
+  ◌==◌,
+  Bool,
+  true,
+  false,
+  List,
+  [],
+  ◌∷◌,
+  ◌++◌,
+  map,
+  filter,
+  length,
+  drop,
+  get_or,
+  Option,
+  Some,
+  None,
+  inl,
+  inr,
+  append_assoc,
+  arith,
+  rules,
+  tests,
+}
+use Rattle.std.specs.List.{enumerate_from, filter_map, flat_map, range_with_len}
+use Rattle.std.proofs.lemmas.Bool.{cases_Bool}
+use Rattle.std.proofs.lemmas.List.{append-nil, drop_more, drop_all}
+use Rattle.chord_event.specs.declared.body.Body.{Body}
+use Rattle.chord_event.specs.declared.body.Body.TheVariants as body
+use Rattle.chord_event.specs.declared.event.Event.{Event}
+use Rattle.chord_scenario.specs.declared.setting.Churn.{Churn}
+use Rattle.chord_scenario.specs.declared.setting.Span.{Span}
+use Rattle.chord_scenario.specs.Setup.{Setup}
+use Rattle.chord_scenario.specs.Start.{jittered, timer_event, life_timer, check_timer}
+use Rattle.chord_scenario.specs.World.{is_churn_node}
 
 -- the numbers from one on
 range-turn : (a n : ℕ) → a < n → range_with_len a (n - a) ≡ a ∷ range_with_len (a + 1) (n - (a + 1))
@@ -23,3 +67,61 @@ module _ {A : Type 0} (f : ℕ → List A) (p : ℕ → Bool) (done : List A) (a
       ap (λ l. l ++ left_from (a + 1)) is
       ∙ sym (ap (λ l. done ++ flat_map f (filter p l)) (range-turn a n within) ∙ rw other)
       ∙ h
+
+module _ {X B : Type 0} (make : ℕ × X → B) (xs : List X) (i : ℕ) (done all : List B) where
+  abbrev numbered_from : ℕ → List B
+  numbered_from k = map make (enumerate_from (k + 1) (drop k xs))
+
+  -- a numbered item is added
+  pub numbered-more : (x : X) (y : B) → i < length xs → x ≡ get_or xs i x → y ≡ make (i + 1, x) → done ++ numbered_from i ≡ all
+      → (done ++ y ∷ []) ++ numbered_from (i + 1) ≡ all
+  numbered-more x y within is same h =
+      append_assoc done (y ∷ []) (numbered_from (i + 1))
+      ∙ ap (λ z. done ++ z ∷ numbered_from (i + 1)) (same ∙ ap (λ w. make (i + 1, w)) is)
+      ∙ ap (λ l. done ++ l) (sym (ap (λ l. map make (enumerate_from (i + 1) l)) (drop_more xs i x within)))
+      ∙ h
+
+  -- and none is left
+  pub numbered-end : length xs ≤ i → done ++ numbered_from i ≡ all → done ≡ all
+  numbered-end end h = sym (ap (λ l. done ++ map make (enumerate_from (i + 1) l)) (drop_all i xs end) ∙ append-nil done) ∙ h
+
+module _ (sc : Setup) where
+  -- the timer of a check, or none
+  pub no_check : sc.check ≤ 0 → check_timer sc 1 ≡ None
+  no_check least = let is : sc.check ≡ 0 = omega arith in rw is refl
+
+  pub some_check : (span : Span) → 0 < sc.check → span ≡ jittered sc sc.check → check_timer sc 1 ≡ Some (span, body.CheckTick 1)
+  some_check span more is = let other : (sc.check == 0) ≡ false = search (rules, tests) in rw (other, is) refl
+
+module _ (sc : Setup) (n : ℕ) where
+  -- the timers of these rows as events, from this place on
+  abbrev pub timers_from : (place : ℕ) → List (Option (Span × Body)) → List (Event Body)
+  timers_from place rows = map (λ p. timer_event sc n p.0 p.1) (enumerate_from place (filter_map (λ row. row) rows))
+
+  module _ (rows : List (Option (Span × Body))) (row : Option (Span × Body)) (place next_place : ℕ) (done next all : List (Event Body)) where
+    -- a row that has a timer adds it, and another one nothing
+    pub row-some : (timer : Span × Body) → row ≡ Some timer → next_place ≡ place + 1 → next ≡ done ++ timer_event sc n place timer ∷ []
+        → done ++ timers_from place (row ∷ rows) ≡ all
+        → next ++ timers_from next_place rows ≡ all
+    row-some timer is more added h =
+        rw (more, added)
+        (append_assoc done (timer_event sc n place timer ∷ []) (timers_from (place + 1) rows)
+        ∙ sym (ap (λ r. done ++ timers_from place (r ∷ rows)) is)
+        ∙ h)
+
+    pub row-none : row ≡ None → next_place ≡ place → next ≡ done → done ++ timers_from place (row ∷ rows) ≡ all → next ++ timers_from next_place rows ≡ all
+    row-none is same kept h = rw (same, kept) (sym (ap (λ r. done ++ timers_from place (r ∷ rows)) is) ∙ h)
+
+  -- the timer of a life, or none
+  pub no_life : is_churn_node sc n ≡ false → life_timer sc n 1 ≡ None
+  no_life other = rw other refl
+
+  pub no_span : sc.churn ≡ None → life_timer sc n 1 ≡ None
+  no_span is =
+      elim (cases_Bool (is_churn_node sc n)) [
+        | inl here ↦ rw (here, is) refl
+        | inr other ↦ rw other refl
+      ]
+
+  pub some_life : (churn : Churn) → is_churn_node sc n ≡ true → sc.churn ≡ Some churn → life_timer sc n 1 ≡ Some (churn.life, body.LifeEnd 1)
+  some_life churn here is = rw (here, is) refl
