@@ -1,0 +1,5 @@
+use Rattle.std.proofs.Common.{rules}
+use Rattle.chord_ops.proofs.turn.Turn.drawer.Goals as goal
+
+pub returns : goal.returns
+returns c = search rules
