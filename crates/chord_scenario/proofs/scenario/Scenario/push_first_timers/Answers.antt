@@ -9,12 +9,12 @@ use Rattle.chord_scenario.proofs.Starts.{row-some, row-none, timers_from, no_lif
 use Rattle.chord_scenario.proofs.scenario.Scenario.push_first_timers.Goals as goal
 use Rattle.chord_scenario.proofs.scenario.Scenario.push_first_timers.Goals.{Joined-churn, in-Some+in_ok-push_timer-3, in_default, then-churn+in-Some-churn_times+in_ok-push_timer-4, then-churn+in_default-churn_times, else-churn}
 
--- the events so far, with the timer of the row that is left, are all
-set : (c : Joined-churn)
+-- the events that were pushed before the check, with the timer of its row, are all
+before_check : (c : Joined-churn)
     → c.if-churn.events.items ++ timers_from c.args.self.now c.args.node c.if-churn.place (check_timer c.args.self.now 1 ∷ [])
     ≡ c.args.events.now.items ++ first_timers c.args.self.now c.args.node
 unfolding first_timers timers
-set c =
+before_check c =
     let sc = c.args.self.now in
     let n = c.args.node in
     let old = c.args.events.now.items in
@@ -60,7 +60,7 @@ returns-else-check-gt0 c =
     let none = no_check sc (rw c.check.ensures at c.if-check-gt0.false) in
     sym (append-nil c.if-churn.events.items)
     ∙ row-none sc c.args.node [] (check_timer sc 1) c.if-churn.place c.if-churn.place c.if-churn.events.items c.if-churn.events.items all none refl refl
-    (set (goal.at.returns-else-check-gt0 c).Joined-churn)
+    (before_check (goal.at.returns-else-check-gt0 c).Joined-churn)
 
 pub returns-in_ok-push_timer-5 : goal.returns-in_ok-push_timer-5
 returns-in_ok-push_timer-5 c =
@@ -71,4 +71,4 @@ returns-in_ok-push_timer-5 c =
     let last = c.push_timer-then-check-gt0.new.events.items in
     sym (append-nil last)
     ∙ row-some sc c.args.node [] (check_timer sc 1) c.if-churn.place (c.if-churn.place + 1) c.if-churn.events.items last all
-    (span, body.CheckTick 1) some refl c.in_ok-push_timer-5.ensures (set (goal.at.returns-in_ok-push_timer-5 c).Joined-churn)
+    (span, body.CheckTick 1) some refl c.in_ok-push_timer-5.ensures (before_check (goal.at.returns-in_ok-push_timer-5 c).Joined-churn)
