@@ -1,0 +1,5 @@
+use Rattle.std.proofs.Common.{rules}
+use Rattle.chord_trace.proofs.tally.Tally.report.Goals as goal
+
+pub returns : goal.returns
+returns c = search rules
