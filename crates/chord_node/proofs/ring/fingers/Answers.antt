@@ -1,4 +1,4 @@
-use Rattle.std.proofs.Common.{◌≡◌, ◌∙◌, ◌≤◌, List, ap, length, arith}
+use Rattle.std.proofs.Common.{◌≡◌, ◌∙◌, ◌≤◌, List, ap, length, arith, rules}
 use Rattle.chord_circle.specs.Circle.{finger_start}
 use Rattle.chord_scenario.specs.World.{ident_of}
 use Rattle.chord_node.specs.declared.ring.Place.{Place}
@@ -29,3 +29,6 @@ loop-i-preserved c =
     ∙ finger-is sc n i (record { ranges = c.recall_range.ensures; known = c.requires.node; member = c.requires.member })
     (omega (arith, c.loop-i.auto.i)) within in
     c.in_ok-push.ensures ∙ fingers-more sc n i c.loop-i.fingers c.successor.result c.loop-i.auto.i next c.loop-i.invariant
+
+pub returns : goal.returns
+returns c = search rules

@@ -1,4 +1,4 @@
-use Rattle.std.proofs.Common.{◌∙◌, ◌<◌, sym, ap, length, nat_lt, arith}
+use Rattle.std.proofs.Common.{◌∙◌, ◌<◌, sym, ap, length, nat_lt, arith, rules}
 use Rattle.std.proofs.lemmas.Bool.{lt-ltb, le-ltb}
 use Rattle.chord_scenario.specs.declared.setting.Node.{Node}
 use Rattle.chord_scenario.specs.Rows.{rows_of}
@@ -30,3 +30,6 @@ loop-j-preserved c =
     find-next (λ (z : Node). nat_lt (latency_by_rows c.args.default (rows_of c.args.rows.now.text.now) c.args.node.now z) c.args.window) nodes
     c.loop-j.j y _ c.loop-j.invariant c.loop-j-test.true c.index-nodes-j.is
     (ap (λ v. nat_lt v c.args.window) (sym (c.latency_in.ensures ∙ same)) ∙ le-ltb c.latency_in.result c.args.window c.if-latency_in-window.false)
+
+pub loop-j-init : goal.loop-j-init
+loop-j-init c = search rules

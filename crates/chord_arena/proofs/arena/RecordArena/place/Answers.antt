@@ -1,4 +1,4 @@
-use Rattle.std.proofs.Common.{◌≡◌, ◌≢◌, ◌+◌, ◌*◌, ◌/◌, ◌<◌, List, [], ◌∷◌, ◌++◌, length, set, length-set, get_or, sym, ap, ◌∙◌, subst, arith}
+use Rattle.std.proofs.Common.{◌≡◌, ◌≢◌, ◌+◌, ◌*◌, ◌/◌, ◌<◌, List, [], ◌∷◌, ◌++◌, length, set, length-set, get_or, sym, ap, ◌∙◌, subst, arith, rules}
 use Rattle.chord_arena.specs.Arena.{Arena, arena}
 use Rattle.chord_arena.specs.Packed.{IsPacked, joined}
 use Rattle.chord_arena.proofs.Packing.{get_any, packed_fits, length-joined}
@@ -46,3 +46,6 @@ returns-clause-ok g c =
     let rooms : 256 * length (set cs (n / 256) c.push.new.self) ≡ c.args.self.now.room =
     ap (λ k. 256 * k) (length-set cs (n / 256) c.push.new.self) ∙ room_is c.self.inside c.args.self.now c.self.invariant c.self.view_is in
     λ i. arena (items i) (rooms i)
+
+pub returns-clause-ticket : goal.returns-clause-ticket
+returns-clause-ticket g c = search rules
