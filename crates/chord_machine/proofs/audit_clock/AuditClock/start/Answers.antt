@@ -1,4 +1,4 @@
-use Rattle.std.proofs.Common.{◌≡◌, ◌∙◌, ◌++◌, ◌∷◌, [], ◌-◌, ◌/◌, ap, sym, subst, arith}
+use Rattle.std.proofs.Common.{◌≡◌, ◌∙◌, ◌++◌, ◌∷◌, [], ◌-◌, ◌/◌, ap, sym, subst, arith, rules}
 use Rattle.chord_machine.specs.AuditTimes.{IsAscending, audit_times, multiples}
 use Rattle.chord_machine.proofs.Audits.{audits-ascend}
 use Rattle.chord_machine.proofs.audit_clock.AuditClock.start.Goals as goal
@@ -10,3 +10,6 @@ invariant_of-result c =
     let items : c.push-2.new.self.items ≡ audit_times c.args.scenario.now =
     c.in_ok-push-2.ensures.items ∙ (λ i. (c.loop-k.invariant ∙ ap (multiples c.args.scenario.now.audit) count) i ++ c.duration-2.ensures i ∷ []) in
     (omega (arith), subst IsAscending (sym items) (audits-ascend c.args.scenario.now c.recall_range.ensures))
+
+pub loop-k-preserved : goal.loop-k-preserved
+loop-k-preserved c = search rules
