@@ -17,3 +17,9 @@ run_parts-requires-clause-window g c _ _ = record {
 pub returns-in_err-dones-clause-run : goal.returns-in_err-dones-clause-run
 returns-in_err-dones-clause-run g c = run_stopped c.args.scenario.now _ _ _ c.in_err-dones.field-0.0 (search (rules, c.from_residual-in_err-dones.ensures))
     (λ is. c.in_err-dones.ensures.over (ap Err is)) (begin_at c.args.scenario.now _ _ c.loop-opening.engine c.loop-opening.invariant.at)
+
+pub finish-requires-clause-ended : goal.finish-requires-clause-ended
+finish-requires-clause-ended g c = search rules
+
+pub returns-clause-run : goal.returns-clause-run
+returns-clause-run g c = search rules
