@@ -1,4 +1,4 @@
-use Rattle.std.proofs.Common.{◌≡◌, ◌∙◌, ◌<◌, ◌+◌, ◌↔◌, ◌++◌, [], suc, length, set, take, ap, sym, subst, arith, take_all, append-nil}
+use Rattle.std.proofs.Common.{◌≡◌, ◌∙◌, ◌<◌, ◌+◌, ◌↔◌, ◌++◌, [], suc, length, set, take, ap, sym, subst, arith, take_all, append-nil, rules}
 use Rattle.std.proofs.lemmas.List.{length-set}
 use Rattle.std.specs.List.{Contains}
 use Rattle.std.specs.Vec.{with_item}
@@ -49,3 +49,6 @@ returns-clause-taken c =
       ordered = c.recall_order.ensures;
       others = c.loop-from.invariant.others;
     }
+
+pub loop-from-init : goal.loop-from-init
+loop-from-init c = search rules
