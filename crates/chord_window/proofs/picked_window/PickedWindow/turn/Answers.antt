@@ -1,6 +1,7 @@
-use Rattle.std.proofs.Common.{length}
+use Rattle.std.proofs.Common.{length, arith}
 use Rattle.chord_window.specs.Picked.{can_go}
 use Rattle.chord_window.proofs.PickedTurns.{lowest_is}
+use Rattle.std.proofs.lemmas.Grind.{common_steps}
 use Rattle.chord_window.proofs.picked_window.PickedWindow.turn.Goals as goal
 
 pub returns-clause-worker : goal.returns-clause-worker
@@ -8,3 +9,6 @@ returns-clause-worker c = (lowest_is (can_go c.args.self.now) (length c.args.sel
 
 pub returns-clause-can_go : goal.returns-clause-can_go
 returns-clause-can_go c = (lowest_is (can_go c.args.self.now) (length c.args.self.now.workers.items) c.args.lowest c.requires.lowest).1
+
+pub loop-next-preserved : goal.loop-next-preserved
+loop-next-preserved c = grind (arith, common_steps)

@@ -1,4 +1,4 @@
-use Rattle.std.proofs.Common.{◌∙◌, List, sym, subst}
+use Rattle.std.proofs.Common.{◌∙◌, List, sym, subst, rules}
 use Rattle.chord_event.specs.declared.body.Body.{Body}
 use Rattle.chord_event.specs.declared.event.Event.{Event}
 use Rattle.chord_window.specs.Worlds.{StandAfter}
@@ -11,3 +11,6 @@ divided-requires-clause-stand c = subst (λ (events : List (Event Body)). StandA
 
 pub returns-clause-opening : goal.returns-clause-opening
 returns-clause-opening c = c.in_ok-divided.ensures.opening ∙ sym c.requires.world.opening_is
+
+pub returns-clause-division : goal.returns-clause-division
+returns-clause-division c = search rules
