@@ -64,3 +64,12 @@ returns-in_err-write-clause-beginning g c = inr (begun_kept _ _ _ _ _ _ c.in_ok-
 
 pub returns-clause-beginning : goal.returns-clause-beginning
 returns-clause-beginning g c = inr (begun_kept _ _ _ _ _ _ c.in_ok-report.ensures.played c.flush.ensures.bytes)
+
+pub returns-in_err-write-clause-writers : goal.returns-in_err-write-clause-writers
+returns-in_err-write-clause-writers g c = search rules
+
+pub returns-clause-writers : goal.returns-clause-writers
+returns-clause-writers g c = search rules
+
+pub returns-clause-reported : goal.returns-clause-reported
+returns-clause-reported g c = search rules
