@@ -15,3 +15,6 @@ returns-in_err-event-clause-run g c = run_stopped c.args.scenario.now _ _ _ c.in
     (search (rules, c.from_residual-in_err-event.ensures))
     (λ is. c.in_err-event.ensures.over (ap Err is) _ _ c.loop-engine.invariant.at)
     (begin_at c.args.scenario.now _ _ c.loop-engine.engine c.loop-engine.invariant.at)
+
+pub returns-clause-run : goal.returns-clause-run
+returns-clause-run g c = search rules
