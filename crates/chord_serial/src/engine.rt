@@ -146,4 +146,23 @@ impl Engine {
         )?;
         Ok(self.tally.report())
     }
+
+    /// Takes the events that are left one at a time, and finishes the run.
+    pub fn run<W: Write>(
+        &mut self,
+        alloc: Global,
+        scenario: &Scenario,
+        writer: &mut Watched<W>,
+    ) -> Result<Report, RunError>
+        requires at { IsAt scenario.now (W.contents (wrapped writer.old)) (W.contents (wrapped writer.old)) self.old }
+        requires sound { has_failed writer.old ≡ false }
+        ensures run { IsRun scenario.now (W.contents (wrapped writer.old)) (W.contents (wrapped writer.new)) result }
+        ensures writer { has_failed writer.new ≡ is_write result }
+        ensures only { IfErr result (λ e. (e ≡ RunError.Memory) ⊎ (e ≡ RunError.Write) ⊎ (e ≡ RunError.TooManyEvents)) }
+    {
+        while let Some(event) = self.take_next(scenario)? {
+            self.handle(alloc, scenario, &event, writer)?;
+        }
+        self.finish(alloc, scenario, writer)
+    }
 }

@@ -23,10 +23,5 @@ pub fn run_serial<W: Write>(
     ensures writer { has_failed writer.new ≡ is_write result }
     ensures only { IfErr result (λ e. (e ≡ RunError.Memory) ⊎ (e ≡ RunError.Write) ⊎ (e ≡ RunError.TooManyEvents)) }
 {
-    scenario.recall_range();
-    let mut engine = Engine::start(alloc, scenario)?;
-    while let Some(event) = engine.take_next(scenario)? {
-        engine.handle(alloc, scenario, &event, writer)?;
-    }
-    engine.finish(alloc, scenario, writer)
+    Engine::start(alloc, scenario)?.run(alloc, scenario, writer)
 }
