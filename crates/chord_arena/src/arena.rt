@@ -10,7 +10,7 @@ use std::marker::Model;
 
 /// The place of a record in the arena that returned it. Contracts see its index. It is valid until
 /// that arena is cleared.
-#[derive(Clone, Copy, Debug, PartialEq, Eq, PartialOrd, Ord)]
+#[derive(Clone, Copy, PartialEq, Eq, PartialOrd, Ord)]
 pub struct Ticket {
     index: usize,
 }

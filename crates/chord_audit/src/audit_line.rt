@@ -1,7 +1,7 @@
 //! The result of an audit.
 
 /// The facts of the ring at one time, in microseconds.
-#[derive(Clone, Copy, Debug, PartialEq, Eq, Drop)]
+#[derive(Clone, Copy, Drop)]
 pub struct AuditLine {
     pub time: u64,
     /// How many nodes are members.

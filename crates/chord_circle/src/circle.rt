@@ -11,7 +11,7 @@ use std::marker::Model;
 pub const MOST_BITS: u32 = 128;
 
 /// A circle of `2^bits` identifiers, which contracts see as its number of bits.
-#[derive(Clone, Copy, Debug, PartialEq, Eq, Drop)]
+#[derive(Clone, Copy, Drop)]
 pub struct Circle {
     bits: u32,
     /// The greatest identifier.

@@ -5,7 +5,7 @@ ghost use Rattle.chord_command.specs.Files.{files_of, name_of};
 use chord_plan::{Plan, Text};
 
 /// What the arguments of the program ask for.
-#[derive(Debug, Drop)]
+#[derive(Drop)]
 pub enum Order {
     /// Check the files, and print how many nodes and commands the scenario has.
     Check(Files),
@@ -33,7 +33,7 @@ impl Order {
 }
 
 /// The names of the files that a scenario is read from.
-#[derive(Debug, Drop)]
+#[derive(Drop)]
 pub struct Files {
     pub scenario: String,
     pub latency: Option<String>,

@@ -14,7 +14,7 @@ use clap::{ArgMatches, Command, Error};
 use std::alloc::{AllocError, Global};
 
 /// Why the arguments of the program give no order.
-#[derive(Debug, Drop)]
+#[derive(Drop)]
 pub enum WordFault {
     /// Clap refuses them, with this text. For `--help` and `--version` it is the text that they ask for.
     Refused(Error),

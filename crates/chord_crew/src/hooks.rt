@@ -30,7 +30,7 @@ pub trait Gate {
 }
 
 /// A gate that never blocks.
-#[derive(Clone, Copy, Debug, Drop)]
+#[derive(Clone, Copy, Drop)]
 pub struct OpenGate;
 
 impl Gate for OpenGate {
@@ -44,7 +44,7 @@ pub trait Starter {
 }
 
 /// A starter that allows every start.
-#[derive(Clone, Copy, Debug, Drop)]
+#[derive(Clone, Copy, Drop)]
 pub struct AllStart;
 
 impl Starter for AllStart {

@@ -22,7 +22,7 @@ pub trait PartRunner {
 }
 
 /// Runs each part by `run_part`.
-#[derive(Clone, Copy, Debug, Drop)]
+#[derive(Clone, Copy, Drop)]
 pub(crate) struct ByRunPart;
 
 impl PartRunner for ByRunPart {

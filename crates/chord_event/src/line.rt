@@ -2,7 +2,7 @@
 use chord_circle::Ident;
 
 /// The kinds of message between nodes.
-#[derive(Clone, Copy, Debug, PartialEq, Eq, Drop)]
+#[derive(Clone, Copy, Drop)]
 pub enum MessageKind {
     Step,
     GetState,
@@ -16,7 +16,7 @@ pub enum MessageKind {
 }
 
 /// The kinds of command in a scenario.
-#[derive(Clone, Copy, Debug, PartialEq, Eq, Drop)]
+#[derive(Clone, Copy, Drop)]
 pub enum CommandKind {
     Join,
     Crash,

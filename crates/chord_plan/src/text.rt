@@ -1,7 +1,7 @@
 //! The names of the two texts.
 
 /// The two texts of a simulation.
-#[derive(Clone, Copy, Debug, PartialEq, Eq, Drop)]
+#[derive(Clone, Copy, Drop)]
 pub enum Text {
     /// The text of the scenario file.
     Scenario,

@@ -13,7 +13,7 @@ use std::io::Read;
 const LIMIT: usize = 16_777_216;
 
 /// Why a text was not read.
-#[derive(Clone, Copy, Debug, PartialEq, Eq, Drop)]
+#[derive(Clone, Copy, Drop)]
 pub(crate) enum TextFault {
     Read,
     TooLong,

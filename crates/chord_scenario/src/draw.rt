@@ -17,7 +17,7 @@ const MESSAGE_PURPOSE: u32 = 7;
 
 /// Who draws and when: the node, how many words of its stream it has drawn, and the time in
 /// microseconds.
-#[derive(Clone, Copy, Debug, PartialEq, Eq, Drop)]
+#[derive(Clone, Copy, Drop)]
 pub struct Drawer {
     pub node: u32,
     pub place: u64,

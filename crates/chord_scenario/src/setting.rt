@@ -16,7 +16,7 @@ pub struct Node {
 
 /// The coordinates of a node in microseconds: its place in the plane, and what its own link adds to
 /// each of its latencies.
-#[derive(Clone, Copy, Debug, PartialEq, Eq, Drop)]
+#[derive(Clone, Copy, Drop)]
 pub struct Coordinates {
     pub x: u64,
     pub y: u64,
@@ -24,21 +24,21 @@ pub struct Coordinates {
 }
 
 /// The times from `least` to `greatest`, both included.
-#[derive(Clone, Copy, Debug, PartialEq, Eq, Drop)]
+#[derive(Clone, Copy, Drop)]
 pub struct Span {
     pub least: u64,
     pub greatest: u64,
 }
 
 /// How long churn nodes live, and how long they stay down.
-#[derive(Clone, Copy, Debug, PartialEq, Eq, Drop)]
+#[derive(Clone, Copy, Drop)]
 pub struct Churn {
     pub life: Span,
     pub down: Span,
 }
 
 /// What a command asks of its node.
-#[derive(Clone, Copy, Debug, PartialEq, Eq, Drop)]
+#[derive(Clone, Copy, PartialEq, Eq, Drop)]
 pub enum Action {
     Join { via: u32 },
     Crash,
@@ -46,7 +46,7 @@ pub enum Action {
 }
 
 /// A command: its time, its node and what it asks.
-#[derive(Clone, Copy, Debug, PartialEq, Eq, Drop)]
+#[derive(Clone, Copy, Drop)]
 pub struct Command {
     pub at: u64,
     pub node: u32,

@@ -7,7 +7,7 @@ use chord_scenario::Scenario;
 use std::alloc::{AllocError, Global};
 
 /// A question about an accepted scenario.
-#[derive(Clone, Copy, Debug, PartialEq, Eq, Drop)]
+#[derive(Clone, Copy, Drop)]
 pub enum Question {
     /// How many nodes and commands it has (`check`).
     Counts,

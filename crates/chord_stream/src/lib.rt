@@ -15,7 +15,7 @@ use block::{block, high_half, low_half};
 use std::marker::Model;
 
 /// A random stream of one node, which contracts see as its seed and its number.
-#[derive(Clone, Copy, Debug, PartialEq, Eq, Drop)]
+#[derive(Clone, Copy, Drop)]
 pub struct Stream {
     seed: u64,
     number: u64,

@@ -17,7 +17,7 @@ pub struct Course<'a> {
 }
 
 /// How many workers a team has, and when it wakes them.
-#[derive(Clone, Copy, Debug, Drop)]
+#[derive(Clone, Copy, Drop)]
 pub struct Hands {
     /// The number of workers, of which the calling thread is one.
     pub workers: u32,

@@ -2,7 +2,7 @@
 use chord_audit::AuditLine;
 
 /// The number of audits, and how many of them have each fault that a report counts.
-#[derive(Clone, Copy, Debug, Default, PartialEq, Eq, Drop)]
+#[derive(Clone, Copy, Default, Drop)]
 pub struct AuditCounts {
     pub audits: u64,
     pub ringless: u64,

@@ -2,7 +2,7 @@
 use chord_event::Line;
 
 /// The number of lines of each kind that a report counts.
-#[derive(Clone, Copy, Debug, Default, PartialEq, Eq, Drop)]
+#[derive(Clone, Copy, Default, Drop)]
 pub struct LineCounts {
     pub members: u64,
     pub join_failed: u64,

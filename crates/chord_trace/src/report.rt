@@ -18,7 +18,7 @@ use std::fmt::Write as _;
 use std::io::Write;
 
 /// The numbers of a trace. Times are in microseconds.
-#[derive(Clone, Copy, Debug, PartialEq, Eq, Drop)]
+#[derive(Clone, Copy, Drop)]
 pub struct Report {
     pub events: u64,
     pub lines: LineCounts,

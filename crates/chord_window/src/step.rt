@@ -12,7 +12,7 @@ pub enum Step {
 }
 
 /// A step, and the worker that took it.
-#[derive(Clone, Copy, Debug, PartialEq, Eq, Drop)]
+#[derive(Clone, Copy, Drop)]
 pub struct Taken {
     pub worker: u32,
     pub step: Step,
