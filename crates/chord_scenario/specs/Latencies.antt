@@ -4,6 +4,7 @@ use Rattle.std.specs.Prelude.{
   ℕ,
   ◌+◌,
   ◌*◌,
+  ◌<◌,
   ◌||◌,
   Bool,
   true,
@@ -24,9 +25,25 @@ use Rattle.std.specs.Prelude.{
   ◌==◌,
   if◌then◌else◌,
 }
+use Rattle.std.specs.Borrow.{Bor}
 use Rattle.std.specs.Option.{option_map_or}
-use Rattle.csv.specs.Reading.{AreRecords, default_config, strip_bom}
+use Rattle.csv.specs.Reading.{
+  AreRecords,
+  Reached,
+  Ready,
+  default_config,
+  is_flexible,
+  owned_rows_left,
+  owned_rows_reader,
+  reader_config,
+  reader_state,
+  reader_trim,
+  source_of,
+  strip_bom,
+}
+use Rattle.csv.specs.declared.iter.ByteRecordsIntoIter.{ByteRecordsIntoIter}
 use Rattle.csv.specs.declared.parser.State.TheVariants as st
+use Rattle.csv.specs.declared.reader.Trim.TheVariants as trim
 use Rattle.chord_scenario.specs.declared.setting.Node.{Node}
 use Rattle.chord_scenario.specs.declared.row.RowLink.{RowLink}
 use Rattle.chord_scenario.specs.declared.latency.Ends.{Ends}
@@ -39,6 +56,17 @@ kept_link nodes r =
     option_map
     (λ l. record { first = index_of l.first nodes; second = index_of l.second nodes; itself = bytes_eq l.first l.second; latency = l.latency })
     (link_of r)
+
+-- the reader has given these rows of a text, and has the others left
+pub record HasLeft (text : List ℕ) (read : List Row) (rows : ByteRecordsIntoIter (Bor (List ℕ))) : Type 0 where
+  pub unread : List ℕ
+  pub source : source_of (λ s. Some s.now) (owned_rows_reader rows) ≡ Some unread
+  pub reached : Reached default_config st.StartRecord (strip_bom text) read (reader_state (owned_rows_reader rows)) unread
+  pub flexible : is_flexible (owned_rows_reader rows) ≡ true
+  pub usual : reader_config (owned_rows_reader rows) ≡ default_config
+  pub untrimmed : reader_trim (owned_rows_reader rows) ≡ trim.None
+  pub ready : Ready (owned_rows_reader rows)
+  pub left : 0 < owned_rows_left rows
 
 -- this is kept of the rows of a text
 pub record AreKept (nodes : List Node) (text : List ℕ) (kept : List (Option RowLink)) : Type 0 where

@@ -7,8 +7,10 @@ ghost use Rattle.chord_scenario.specs.Rows.{rows_of};
 ghost use Rattle.chord_scenario.specs.Sections.{section_of, sections};
 ghost use Rattle.chord_scenario.specs.Latencies.{HasLatencies, square_or_zeros};
 ghost use Rattle.chord_scenario.specs.Settings.{commands_of, coordinates_of};
-ghost use Rattle.chord_scenario.specs.Faults.{first_answer, same_name, bad_latency_row, file_fault, scenario_fault};
-ghost use Rattle.chord_scenario.specs.Groups.{key_questions, node_questions, link_questions, late_questions};
+ghost use Rattle.chord_scenario.specs.Faults.{first_answer, same_name, row_names_unknown, bad_latency_row, file_fault, scenario_fault};
+ghost use Rattle.chord_scenario.specs.Groups.{key_questions, node_questions, link_questions, pair_questions, late_questions};
+ghost use Rattle.chord_scenario.specs.declared.fault.ScenarioFault.TheVariants.{UnknownNode};
+ghost use Rattle.chord_scenario.specs.Search.{row_fault};
 ghost use Rattle.chord_scenario.specs.Range.{IsInRange};
 ghost use Rattle.chord_scenario.specs.Accepted.{setup_with, IsSetupOf, Accepts};
 
@@ -89,17 +91,73 @@ fn link_fault(
     self_link(tables, rows)
 }
 
-/// The commands of a scenario, the square of its latencies, which has no cells if there are no
-/// rows, and the coordinates of its nodes, if nodes have them.
+/// The rows of a text, or the first fault of commands and rows, each for itself.
+fn checked_rows<'a>(
+    alloc: Global,
+    top: &Table,
+    tables: &[PlacedTable<'_>],
+    names: Names<'a>,
+    csv: &'a [u8],
+) -> Result<Rows<'a>, ScenarioFault>
+    ensures nodes { IfOk result (λ rows. rows.names.nodes.now ≡ names.entry.nodes.now) }
+    ensures text { IfOk result (λ rows. rows.text.now ≡ csv.entry.now) }
+    ensures sound { IfOk result (λ _. first_answer (link_questions (number_at key.List (table_view top.now)) (number_at key.DurationUs (table_view top.now)) (map section_of tables.now) names.entry.nodes.now (rows_of csv.entry.now)) ≡ None) }
+    ensures refused { IfErr result (λ e. (e ≡ ScenarioFault.Memory) ⊎ (first_answer (link_questions (number_at key.List (table_view top.now)) (number_at key.DurationUs (table_view top.now)) (map section_of tables.now) names.entry.nodes.now (rows_of csv.entry.now)) ≡ Some e)) }
+{
+    let rows = Rows::read(alloc, names, csv)?;
+    let list = number_at(top, FileKey::List);
+    let duration = number_at(top, FileKey::DurationUs);
+    match link_fault(list, duration, tables, &rows) {
+        Some(fault) => Err(fault),
+        None => Ok(rows),
+    }
+}
+
+/// How far apart nodes are: the square of latencies, which has no cells if there are no rows, and
+/// the coordinates of nodes, if nodes have them.
 #[derive(Drop)]
-struct Linked {
-    commands: Vec<Command>,
+struct Distances {
     cells: Vec<u32>,
     coordinates: Vec<Coordinates>,
 }
 
-/// The commands, the square of latencies and the coordinates, or the first fault of what links
-/// nodes.
+/// The distances of nodes, or the first fault of the pairs that rows or coordinates link.
+fn checked_distances(
+    alloc: Global,
+    top: &Table,
+    tables: &[PlacedTable<'_>],
+    rows: &Rows<'_>,
+) -> Result<Distances, ScenarioFault>
+    requires few { length rows.now.names.nodes.now ≤ 65536 }
+    requires distinct { same_name rows.now.names.nodes.now ≡ None }
+    requires known { row_fault UnknownNode (row_names_unknown rows.now.names.nodes.now) (rows_of rows.now.text.now) ≡ None }
+    requires good { bad_latency_row (rows_of rows.now.text.now) ≡ None }
+    ensures sound { IfOk result (λ _. first_answer (pair_questions (number_at key.WindowUs (table_view top.now)) (number_at key.LatencyUs (table_view top.now)) rows.now.names.nodes.now (coordinates_of (map section_of tables.now)) (rows_of rows.now.text.now)) ≡ None) }
+    ensures coordinates { IfOk result (λ d. d.coordinates.items ≡ coordinates_of (map section_of tables.now)) }
+    ensures square { IfOk result (λ d. HasLatencies rows.now.names.nodes.now (rows_of rows.now.text.now) (square_or_zeros (length rows.now.names.nodes.now) d.cells.items)) }
+    ensures refused { IfErr result (λ e. (e ≡ ScenarioFault.Memory) ⊎ (first_answer (pair_questions (number_at key.WindowUs (table_view top.now)) (number_at key.LatencyUs (table_view top.now)) rows.now.names.nodes.now (coordinates_of (map section_of tables.now)) (rows_of rows.now.text.now)) ≡ Some e)) }
+{
+    let cells = latencies(alloc, rows)?;
+    let window = number_at(top, FileKey::WindowUs);
+    let default = number_at(top, FileKey::LatencyUs);
+    let coordinates = coordinates(alloc, tables)?;
+    if let Some(fault) = below_window(alloc, rows, &cells, &coordinates, default, window)? {
+        return Err(fault);
+    }
+    match rows_and_coordinates(&coordinates, rows) {
+        Some(fault) => Err(fault),
+        None => Ok(Distances { cells, coordinates }),
+    }
+}
+
+/// The commands of a scenario, and how far apart its nodes are.
+#[derive(Drop)]
+struct Linked {
+    commands: Vec<Command>,
+    distances: Distances,
+}
+
+/// The commands and the distances of nodes, or the first fault of what links nodes.
 fn link_nodes(
     alloc: Global,
     circle: Circle,
@@ -113,31 +171,16 @@ fn link_nodes(
     ensures sound { IfOk result (λ _. first_answer (late_questions (table_view top.now) (map section_of tables.now) names.entry.nodes.now (rows_of csv.now)) ≡ None) }
     ensures good { IfOk result (λ _. bad_latency_row (rows_of csv.now) ≡ None) }
     ensures commands { IfOk result (λ l. l.commands.items ≡ commands_of circle names.entry.nodes.now (map section_of tables.now)) }
-    ensures coordinates { IfOk result (λ l. l.coordinates.items ≡ coordinates_of (map section_of tables.now)) }
-    ensures square { IfOk result (λ l. HasLatencies names.entry.nodes.now (rows_of csv.now) (square_or_zeros (length names.entry.nodes.now) l.cells.items)) }
+    ensures coordinates { IfOk result (λ l. l.distances.coordinates.items ≡ coordinates_of (map section_of tables.now)) }
+    ensures square { IfOk result (λ l. HasLatencies names.entry.nodes.now (rows_of csv.now) (square_or_zeros (length names.entry.nodes.now) l.distances.cells.items)) }
     ensures refused { IfErr result (λ e. (e ≡ ScenarioFault.Memory) ⊎ (first_answer (late_questions (table_view top.now) (map section_of tables.now) names.entry.nodes.now (rows_of csv.now)) ≡ Some e)) }
 {
-    let rows = Rows::read(alloc, names, csv)?;
-    let list = number_at(top, FileKey::List);
-    let duration = number_at(top, FileKey::DurationUs);
-    if let Some(fault) = link_fault(list, duration, tables, &rows) {
-        return Err(fault);
-    }
-    let cells = latencies(alloc, &rows)?;
-    let window = number_at(top, FileKey::WindowUs);
-    let default = number_at(top, FileKey::LatencyUs);
-    let coordinates = coordinates(alloc, tables)?;
-    if let Some(fault) = below_window(alloc, &rows, &cells, &coordinates, default, window)? {
-        return Err(fault);
-    }
-    if let Some(fault) = rows_and_coordinates(&coordinates, &rows) {
-        return Err(fault);
-    }
+    let rows = checked_rows(alloc, top, tables, names, csv)?;
+    let distances = checked_distances(alloc, top, tables, &rows)?;
     let commands = commands(alloc, circle, &rows.names, tables)?;
     Ok(Linked {
         commands,
-        cells,
-        coordinates,
+        distances,
     })
 }
 
@@ -153,6 +196,39 @@ fn circle_of(top: &Table) -> Circle
     }
 }
 
+/// The circle of a file, or its first fault of keys.
+fn checked_circle(top: &Table, tables: &[PlacedTable<'_>]) -> Result<Circle, ScenarioFault>
+    requires { map section_of tables.now ≡ sections (table_view top.now) }
+    ensures value { IfOk result (λ circle. circle ≡ number_at key.Bits (table_view top.now)) }
+    ensures sound { IfOk result (λ _. first_answer (key_questions (number_at key.Profile (table_view top.now)) (number_at key.Bits (table_view top.now)) (sections (table_view top.now))) ≡ None) }
+    ensures refused { IfErr result (λ e. first_answer (key_questions (number_at key.Profile (table_view top.now)) (number_at key.Bits (table_view top.now)) (sections (table_view top.now))) ≡ Some e) }
+{
+    let profile = number_at(top, FileKey::Profile);
+    let bits = number_at(top, FileKey::Bits);
+    match key_fault(profile, bits, tables) {
+        Some(fault) => Err(fault),
+        None => Ok(circle_of(top)),
+    }
+}
+
+/// The names of nodes, or the first fault of nodes.
+fn checked_names<'a>(
+    alloc: Global,
+    tables: &[PlacedTable<'_>],
+    nodes: &'a [Node],
+) -> Result<Names<'a>, ScenarioFault>
+    requires { length nodes.now ≤ 65536 }
+    ensures nodes { IfOk result (λ names. names.nodes.now ≡ nodes.entry.now) }
+    ensures sound { IfOk result (λ _. first_answer (node_questions (map section_of tables.now) nodes.entry.now) ≡ None) }
+    ensures refused { IfErr result (λ e. (e ≡ ScenarioFault.Memory) ⊎ (first_answer (node_questions (map section_of tables.now) nodes.entry.now) ≡ Some e)) }
+{
+    let names = Names::new(alloc, nodes)?;
+    match node_fault(alloc, tables, &names)? {
+        Some(fault) => Err(fault),
+        None => Ok(names),
+    }
+}
+
 /// The scenario of a table and rows, or the first fault of them.
 #[tactic(auto, unfolding(crate::specs::Faults::file_fault))]
 fn scenario_of(alloc: Global, top: &Table, csv: &[u8]) -> Result<Scenario, ScenarioFault>
@@ -160,19 +236,12 @@ fn scenario_of(alloc: Global, top: &Table, csv: &[u8]) -> Result<Scenario, Scena
     ensures values { IfOk result (IsSetupOf (table_view top.now) (rows_of csv.now)) }
     ensures refused { IfErr result (λ e. (e ≡ ScenarioFault.Memory) ⊎ (file_fault (table_view top.now) (rows_of csv.now) ≡ Some e)) }
 {
-    let tables = tables_in(alloc, top)?;
-    let profile = number_at(top, FileKey::Profile);
-    let bits = number_at(top, FileKey::Bits);
-    if let Some(fault) = key_fault(profile, bits, tables.as_slice()) {
-        return Err(fault);
-    }
-    let circle = circle_of(top);
-    let nodes = nodes(alloc, circle, tables.as_slice())?;
-    let names = Names::new(alloc, nodes.as_slice())?;
-    if let Some(fault) = node_fault(alloc, tables.as_slice(), &names)? {
-        return Err(fault);
-    }
-    let linked = link_nodes(alloc, circle, top, tables.as_slice(), names, csv)?;
+    let placed = tables_in(alloc, top)?;
+    let tables = placed.as_slice();
+    let circle = checked_circle(top, tables)?;
+    let nodes = nodes(alloc, circle, tables)?;
+    let names = checked_names(alloc, tables, nodes.as_slice())?;
+    let linked = link_nodes(alloc, circle, top, tables, names, csv)?;
     Ok(assembled(circle, top, nodes, linked))
 }
 
@@ -180,9 +249,9 @@ fn scenario_of(alloc: Global, top: &Table, csv: &[u8]) -> Result<Scenario, Scena
 fn assembled(circle: Circle, top: &Table, nodes: Vec<Node>, linked: Linked) -> Scenario
     requires circle { circle ≡ number_at key.Bits (table_view top.now) }
     requires profile { number_at key.Profile (table_view top.now) ≤ 3 }
-    requires coordinates { linked.coordinates.items ≡ coordinates_of (sections (table_view top.now)) }
-    requires in_range { IsInRange (setup_with (table_view top.now) nodes.items linked.commands.items (square_or_zeros (length nodes.items) linked.cells.items)) }
-    ensures { result ≡ setup_with (table_view top.now) nodes.items linked.commands.items (square_or_zeros (length nodes.items) linked.cells.items) }
+    requires coordinates { linked.distances.coordinates.items ≡ coordinates_of (sections (table_view top.now)) }
+    requires in_range { IsInRange (setup_with (table_view top.now) nodes.items linked.commands.items (square_or_zeros (length nodes.items) linked.distances.cells.items)) }
+    ensures { result ≡ setup_with (table_view top.now) nodes.items linked.commands.items (square_or_zeros (length nodes.items) linked.distances.cells.items) }
 {
     Scenario {
         profile: small_number_at(top, FileKey::Profile),
@@ -209,8 +278,8 @@ fn assembled(circle: Circle, top: &Table, nodes: Vec<Node>, linked: Linked) -> S
         lookups: lookups_of(top),
         nodes,
         commands: linked.commands,
-        latencies: linked.cells,
-        coordinates: linked.coordinates,
+        latencies: linked.distances.cells,
+        coordinates: linked.distances.coordinates,
     }
 }
 

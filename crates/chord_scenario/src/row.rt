@@ -1,14 +1,15 @@
 //! The rows of a latency file.
-ghost use Rattle.std.specs.Prelude.{◌≡◌, ◌==◌, true, IfOk, Some, length, map, option_map};
+ghost use Rattle.std.specs.Prelude.{◌≡◌, ◌==◌, true, IfOk, Some, [], length, map, option_map};
+ghost use Rattle.csv.specs.Reading.{error_kind, stops_reader};
 ghost use Rattle.csv.specs.Records.{fields_of};
 ghost use Rattle.std.specs.Char.{is_ascii_digit};
 ghost use Rattle.std.specs.List.{list_all};
 ghost use Rattle.std.specs.Str.Parse.{digits_value};
 ghost use Rattle.chord_scenario.specs.Rows.{rows_of, is_numeral, latency_number, link_of, link_seen};
-ghost use Rattle.chord_scenario.specs.Latencies.{AreKept, kept_link};
+ghost use Rattle.chord_scenario.specs.Latencies.{AreKept, HasLeft, kept_link};
 
 use crate::names::Names;
-use csv::{ByteRecord, ErrorKind, ReaderBuilder};
+use csv::{ByteRecord, ByteRecordsIntoIter, ErrorKind, ReaderBuilder};
 use std::alloc::{AllocError, Global};
 
 /// What is kept of a row of three fields: the numbers of its two nodes, if they are nodes,
@@ -21,8 +22,18 @@ pub(crate) struct RowLink {
     pub latency: Option<u32>,
 }
 
-/// What is kept of each record of a text, which has no header row and whose records may differ in
-/// length. A record is dropped as soon as it is read.
+/// The records of a text, which has no header row and whose records may differ in length.
+fn records_in(alloc: Global, text: &[u8]) -> ByteRecordsIntoIter<&[u8]>
+    ensures { HasLeft text.entry.now [] result }
+{
+    ReaderBuilder::new()
+        .has_headers(false)
+        .flexible(true)
+        .from_reader(alloc, text)
+        .into_byte_records()
+}
+
+/// What is kept of each record of a text. A record is dropped as soon as it is read.
 fn records(
     alloc: Global,
     names: &Names<'_>,
@@ -30,28 +41,31 @@ fn records(
 ) -> Result<Vec<Option<RowLink>>, AllocError>
     ensures { IfOk result (λ v. AreKept names.now.nodes.now text.now v.items) }
 {
-    let rdr = ReaderBuilder::new()
-        .has_headers(false)
-        .flexible(true)
-        .from_reader(alloc, text);
     let mut rows = Vec::new(alloc);
-    for row in rdr.into_byte_records() {
+    for row in records_in(alloc, text) {
         match row {
             Ok(row) => rows.push(kept_link(names, &row))?,
-            Err(e) => match e.kind() {
-                ErrorKind::OutOfMemory => return Err(AllocError),
-                // Counted as a failed allocation. It never happens: a reader over memory does not
-                // fail, though no contract of the csv crate says so.
-                ErrorKind::Io(_) => return Err(AllocError),
-                // A flexible reader takes records of any length, and bytes need no decoding.
-                ErrorKind::UnequalLengths { .. }
-                | ErrorKind::Utf8 { .. }
-                | ErrorKind::Serialize(_)
-                | ErrorKind::Deserialize { .. } => unreachable!(),
-            },
+            Err(e) => return Err(failed_read(&e)),
         }
     }
     Ok(rows)
+}
+
+/// What an error of a flexible reader of bytes counts as.
+fn failed_read(error: &csv::Error) -> AllocError
+    requires { stops_reader (error_kind error.now) ≡ true }
+{
+    match error.kind() {
+        ErrorKind::OutOfMemory => AllocError,
+        // Counted as a failed allocation. It never happens: a reader over memory does not
+        // fail, though no contract of the csv crate says so.
+        ErrorKind::Io(_) => AllocError,
+        // A flexible reader takes records of any length, and bytes need no decoding.
+        ErrorKind::UnequalLengths { .. }
+        | ErrorKind::Utf8 { .. }
+        | ErrorKind::Serialize(_)
+        | ErrorKind::Deserialize { .. } => unreachable!(),
+    }
 }
 
 /// The rows of a latency file and what is kept of each, among the nodes of some names.

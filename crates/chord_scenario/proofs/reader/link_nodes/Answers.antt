@@ -1,20 +1,60 @@
-use Rattle.std.proofs.Common.{◌∙◌, sym, map, rules}
-use Rattle.chord_scenario.specs.Rows.{rows_of}
-use Rattle.chord_scenario.specs.Sections.{section_of}
-use Rattle.chord_scenario.proofs.Questions.{link_questions-known}
+use Rattle.std.proofs.Common.{◌≡◌, ◌∙◌, ◌⊎◌, ap, inl, inr, List, map, rules, Option, Some, None}
+use Rattle.std.specs.Option.{option_or}
+use Rattle.toml.specs.Data.{Members}
+use Rattle.toml.specs.View.{table_view}
+use Rattle.chord_scenario.specs.declared.fault.ScenarioFault.{ScenarioFault}
+use Rattle.chord_scenario.specs.declared.fault.ScenarioFault.TheVariants.{Memory}
+use Rattle.chord_scenario.specs.declared.key.FileKey.TheVariants as key
+use Rattle.chord_scenario.specs.declared.setting.Node.{Node}
+use Rattle.chord_scenario.specs.Faults.{first_answer}
+use Rattle.chord_scenario.specs.Groups.{link_questions, pair_questions, late_questions}
+use Rattle.chord_scenario.specs.Rows.{Row, rows_of}
+use Rattle.chord_scenario.specs.Sections.{Section, section_of}
+use Rattle.chord_scenario.specs.Settings.{coordinates_of}
+use Rattle.chord_scenario.specs.Values.{number_at}
+use Rattle.chord_scenario.proofs.Questions.{first_answer-append, link_questions-known}
 use Rattle.chord_scenario.proofs.reader.link_nodes.Goals as goal
 
-pub latencies-requires-clause-known : goal.latencies-requires-clause-known
-latencies-requires-clause-known c =
-    link_questions-known c.number_at-list.result c.number_at-duration.result (map section_of c.args.tables.now) c.in_ok-rows.rows.names.nodes.now
-    (rows_of c.in_ok-rows.rows.text.now)
-    (sym c.link_fault.ensures ∙ c.in_default.is)
+module _ (top : Members) (ss : List Section) (nodes : List Node) (rows : List Row) where
+  abbrev links : List (Option ScenarioFault)
+  links = link_questions (number_at key.List top) (number_at key.DurationUs top) ss nodes rows
 
-pub returns-in-Some-2-clause-refused : goal.returns-in-Some-2-clause-refused
-returns-in-Some-2-clause-refused c = search rules
+  abbrev pairs : List (Option ScenarioFault)
+  pairs = pair_questions (number_at key.WindowUs top) (number_at key.LatencyUs top) nodes (coordinates_of ss) rows
 
-pub returns-in-Some-rows_and_coordinates-clause-refused : goal.returns-in-Some-rows_and_coordinates-clause-refused
-returns-in-Some-rows_and_coordinates-clause-refused c = search rules
+  -- a fault of commands and rows, each for itself, comes before those of pairs
+  of_links : (e : ScenarioFault) → (e ≡ Memory) ⊎ (first_answer links ≡ Some e) → (e ≡ Memory) ⊎ (first_answer (late_questions top ss nodes rows) ≡ Some e)
+  of_links e (inl memory) = inl memory
+  of_links e (inr fault) = inr (first_answer-append links pairs ∙ ap (λ f. option_or f (first_answer pairs)) fault)
+
+  after_links : first_answer links ≡ None → first_answer (late_questions top ss nodes rows) ≡ first_answer pairs
+  after_links none = first_answer-append links pairs ∙ ap (λ f. option_or f (first_answer pairs)) none
+
+  of_pairs : first_answer links ≡ None → (e : ScenarioFault) → (e ≡ Memory) ⊎ (first_answer pairs ≡ Some e)
+      → (e ≡ Memory) ⊎ (first_answer (late_questions top ss nodes rows) ≡ Some e)
+  of_pairs none e (inl memory) = inl memory
+  of_pairs none e (inr fault) = inr (after_links none ∙ fault)
+
+pub checked_distances-requires-clause-known : goal.checked_distances-requires-clause-known
+checked_distances-requires-clause-known c =
+    let top = table_view c.args.top.now in
+    rw (c.in_ok-rows.ensures.nodes, c.in_ok-rows.ensures.text) (link_questions-known (number_at key.List top) (number_at key.DurationUs top)
+    (map section_of c.args.tables.now) c.args.names.nodes.now (rows_of c.args.csv.now) c.in_ok-rows.ensures.sound)
+
+pub returns-in_err-rows-clause-refused : goal.returns-in_err-rows-clause-refused
+returns-in_err-rows-clause-refused c =
+    let told = of_links (table_view c.args.top.now) (map section_of c.args.tables.now) c.args.names.nodes.now (rows_of c.args.csv.now)
+    c.in_err-rows.field-0.0 c.in_err-rows.ensures.refused in
+    search (rules, told)
+
+pub returns-in_err-distances-clause-refused : goal.returns-in_err-distances-clause-refused
+returns-in_err-distances-clause-refused c =
+    let told = of_pairs (table_view c.args.top.now) (map section_of c.args.tables.now) c.args.names.nodes.now (rows_of c.args.csv.now)
+    c.in_ok-rows.ensures.sound c.in_err-distances.field-0.0
+    (rw (c.in_ok-rows.ensures.nodes, c.in_ok-rows.ensures.text) at c.in_err-distances.ensures.refused) in
+    search (rules, told)
 
 pub returns-clause-sound : goal.returns-clause-sound
-returns-clause-sound c = search rules
+returns-clause-sound c =
+    after_links (table_view c.args.top.now) (map section_of c.args.tables.now) c.args.names.nodes.now (rows_of c.args.csv.now) c.in_ok-rows.ensures.sound
+    ∙ (rw (c.in_ok-rows.ensures.nodes, c.in_ok-rows.ensures.text) at c.in_ok-distances.ensures.sound)
