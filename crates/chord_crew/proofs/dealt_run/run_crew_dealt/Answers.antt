@@ -6,6 +6,7 @@ use Rattle.chord_output.proofs.Runs.{run_refused, run_stopped}
 use Rattle.chord_scenario.specs.World.{node_count}
 use Rattle.chord_window.specs.declared.world.World.{World}
 use Rattle.chord_window.specs.Divisions.{dealt_part}
+use Rattle.chord_window.specs.Exchanges.{AreDone}
 use Rattle.chord_window.specs.Worlds.{IsWorldOf}
 use Rattle.chord_window.proofs.EngineCourse.{begin_at}
 use Rattle.chord_crew.proofs.EventCounts.{all_nought, as_long, loads_fit, still_few, targets_fit}
@@ -91,3 +92,51 @@ pub returns-in_err-put_window-clause-run : goal.returns-in_err-put_window-clause
 returns-in_err-put_window-clause-run g c = run_stopped c.args.scenario.now _ _ _ c.in_err-put_window.field-0.0
     (search (rules, c.from_residual-in_err-put_window.ensures)) (λ is. c.in_err-put_window.ensures.over (ap Err is))
     (c.put_window.ensures.front _ (c.in_ok-engine-2.ensures.at _ _ c.loop-opening.invariant.at))
+
+pub redivide-requires : goal.redivide-requires
+redivide-requires g c = record { at = (_, _, c.loop-opening.invariant.at) }
+
+pub returns-in_err-engine-2-clause-bad : goal.returns-in_err-engine-2-clause-bad
+returns-in_err-engine-2-clause-bad g c is =
+    let d = c.in_ok-division.division in
+    let named : g.D.Dealer.can_name (node_count c.args.scenario.now) d =
+        subst (λ n. g.D.Dealer.can_name n d) (ap length c.as_slice.ensures.value ∙ c.loop-opening.invariant.long) c.in_ok-division.ensures.named in
+    let other : length d.of_node ≢ node_count c.args.scenario.now =
+        search (rules, is, c.from_residual-in_err-engine-2.ensures, c.in_err-engine-2.ensures.bad) in
+    (c.loop-opening.invariant.sound, (d, named, other))
+
+pub returns-in_err-dones-clause-bad : goal.returns-in_err-dones-clause-bad
+returns-in_err-dones-clause-bad g c is = search (rules, is, c.from_residual-in_err-dones.ensures, c.in_err-dones.ensures.only)
+
+pub put_window-requires-clause-at : goal.put_window-requires-clause-at
+put_window-requires-clause-at g c = (_, c.in_ok-engine-2.ensures.at _ _ c.loop-opening.invariant.at)
+
+pub put_window-requires-clause-opening : goal.put_window-requires-clause-opening
+put_window-requires-clause-opening g c = c.in_ok-engine-2.ensures.opening ∙ (sym c.opening.ensures ∙ c.in-Some.is)
+
+pub put_window-requires-clause-done : goal.put_window-requires-clause-done
+put_window-requires-clause-done g c = subst (λ (w : World). AreDone c.args.scenario.now w c.in-Some.opening.horizon c.in_ok-dones.dones.items)
+    c.world.ensures c.in_ok-dones.ensures.done
+
+pub returns-in_err-put_window-clause-bad : goal.returns-in_err-put_window-clause-bad
+returns-in_err-put_window-clause-bad g c is = search (rules, is, c.from_residual-in_err-put_window.ensures, c.in_err-put_window.ensures.only)
+
+pub loop-opening-smaller : goal.loop-opening-smaller
+loop-opening-smaller g c = omega (
+  arith,
+  c.in_ok-engine-2.ensures.count,
+  c.in_ok-put_window.ensures.more,
+  (c.in_ok-put_window.ensures.at _ (c.in_ok-engine-2.ensures.at _ _ c.loop-opening.invariant.at)).world.within,
+)
+
+pub finish-requires-clause-at : goal.finish-requires-clause-at
+finish-requires-clause-at g c = (_, c.loop-opening.invariant.at)
+
+pub finish-requires-clause-ended : goal.finish-requires-clause-ended
+finish-requires-clause-ended g c = sym c.opening.ensures ∙ c.in_default.is
+
+pub returns-clause-run : goal.returns-clause-run
+returns-clause-run g c = c.finish.ensures.run _ c.loop-opening.invariant.at
+
+pub returns-clause-bad : goal.returns-clause-bad
+returns-clause-bad g c is = search (rules, is, c.finish.ensures.only)
