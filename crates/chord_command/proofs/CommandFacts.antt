@@ -99,7 +99,7 @@ no_delimiter a h =
     let delimiter = both (is_empty a.groups.items) _ groups.1 in
     no_value a.val_delim (both (not (is_some a.val_delim)) _ delimiter.1).0
 
-differ : (a b : Text) → bytes_eq a b ≡ false → a ≡ b → ⊥
+pub differ : (a b : Text) → bytes_eq a b ≡ false → a ≡ b → ⊥
 differ a b test same = false≢true (sym test ∙ (bytes_eq-Decides a b).1 same)
 
 -- the argument of the first rule, where no later one has its id

@@ -1,7 +1,8 @@
 -- The commands of the program, as `clap` sees them.
-use Rattle.std.specs.Prelude.{◌≡◌, true, List, [], ◌∷◌, map, codes, Some, pos}
+use Rattle.std.specs.Prelude.{◌≡◌, ⊤, true, false, List, [], ◌∷◌, map, codes, Some, pos}
 use Rattle.std.specs.Borrow.{Bor}
-use Rattle.clap.specs.Words.{App, Rule, Text, new_app, new_rule, with_rule}
+use Rattle.clap.specs.Words.{App, Rule, Text, new_app, new_rule, rule_of, with_rule}
+use Rattle.clap.specs.declared.builder.arg.Arg.{Arg}
 use Rattle.clap.specs.declared.builder.action.ArgAction.TheVariants.{Set, SetTrue}
 use Rattle.clap.specs.declared.builder.value_parser.ValueParser.TheVariants as parser
 
@@ -93,9 +94,26 @@ trace_rule = record (new_rule (codes "trace")) {
   action = Some Set;
 }
 
--- a command that takes the files of a scenario and nothing else
-abbrev pub files_app : Text → App
-files_app name = with_rule (with_rule (new_app name) scenario_rule) latency_rule
+-- the options of `check` and `ids`
+abbrev pub rules_of_files : List Rule
+rules_of_files = scenario_rule ∷ latency_rule ∷ []
+
+-- the options of `run`
+abbrev pub rules_of_run : OptionNames → List Rule
+rules_of_run names =
+    scenario_rule ∷ latency_rule ∷ workers_rule ∷ parts_rule ∷ split_rule names.splits ∷ engine_rule names.engines ∷ serial_rule ∷ trace_rule ∷ []
+
+-- the arguments have these rules in this order, and none is global
+abbrev pub HaveRules : List Arg → List Rule → Type 0
+HaveRules [] [] = ⊤
+HaveRules [] (r ∷ rules) = ⊥
+HaveRules (a ∷ arguments) [] = ⊥
+HaveRules (a ∷ arguments) (r ∷ rules) = (rule_of a ≡ r) × (a.global ≡ false) × HaveRules arguments rules
+
+-- a command with these rules added in turn
+abbrev pub with_rules : App → List Rule → App
+with_rules app [] = app
+with_rules app (r ∷ rules) = with_rules (with_rule app r) rules
 
 unfoldable pub check_app : App
 check_app = with_rule (with_rule (new_app (codes "check")) scenario_rule) latency_rule

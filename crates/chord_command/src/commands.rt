@@ -1,7 +1,7 @@
 //! The command line of the program, for clap to read.
-ghost use Rattle.std.specs.Prelude.{◌≡◌, false, IfOk};
-ghost use Rattle.clap.specs.Words.{app_of, new_app, rule_of};
-ghost use Rattle.chord_command.specs.Commands.{IsEngineNames, IsSplitNames, Names, OptionNames, check_app, engine_rule, files_app, ids_app, latency_rule, option_rule, parts_rule, run_app, scenario_rule, serial_rule, split_rule, trace_rule, workers_rule};
+ghost use Rattle.std.specs.Prelude.{◌≡◌, false, List, IfOk};
+ghost use Rattle.clap.specs.Words.{Rule, app_of, new_app, rule_of};
+ghost use Rattle.chord_command.specs.Commands.{HaveRules, IsEngineNames, IsSplitNames, Names, OptionNames, check_app, engine_rule, ids_app, latency_rule, option_rule, parts_rule, rules_of_files, rules_of_run, run_app, scenario_rule, serial_rule, split_rule, trace_rule, with_rules, workers_rule};
 
 use clap::{Arg, ArgAction, Command, value_parser};
 use std::alloc::{AllocError, Global};
@@ -39,48 +39,25 @@ fn with_command<'a>(
 }
 
 /// The command `check`.
-#[tactic(auto, unfolding(crate::specs::Commands::check_app))]
 pub fn check_command<'a>(alloc: Global) -> Result<Command<'a>, AllocError>
     ensures { IfOk result (λ c. app_of c ≡ check_app) }
 {
     let about = "Checks the files, and prints how many nodes and commands the scenario has";
-    files_command(alloc, "check", "chordsim check", about)
+    command_with(
+        alloc,
+        "check",
+        "chordsim check",
+        about,
+        file_arguments(alloc)?,
+    )
 }
 
 /// The command `ids`.
-#[tactic(auto, unfolding(crate::specs::Commands::ids_app))]
 pub fn ids_command<'a>(alloc: Global) -> Result<Command<'a>, AllocError>
     ensures { IfOk result (λ c. app_of c ≡ ids_app) }
 {
     let about = "Prints the name and the decimal identifier of each node, in file order";
-    files_command(alloc, "ids", "chordsim ids", about)
-}
-
-/// A command that takes the files of a scenario and nothing else.
-fn files_command<'a>(
-    alloc: Global,
-    name: &'a str,
-    bin_name: &str,
-    about: &'a str,
-) -> Result<Command<'a>, AllocError>
-    ensures { IfOk result (λ c. app_of c ≡ files_app name.now) }
-{
-    bare_command(alloc, name, bin_name, about)?
-        .arg(scenario_argument(alloc))?
-        .arg(latency_argument(alloc))
-}
-
-/// A command without arguments.
-fn bare_command<'a>(
-    alloc: Global,
-    name: &'a str,
-    bin_name: &str,
-    about: &'a str,
-) -> Result<Command<'a>, AllocError>
-    ensures { IfOk result (λ c. app_of c ≡ new_app name.now) }
-{
-    let command = Command::new(alloc, name).bin_name(bin_name)?;
-    Ok(command.about(about))
+    command_with(alloc, "ids", "chordsim ids", about, file_arguments(alloc)?)
 }
 
 /// The command `run`.
@@ -88,13 +65,48 @@ pub fn run_command<'a>(alloc: Global) -> Result<Command<'a>, AllocError>
     ensures { IfOk result (λ c. (names : OptionNames) × (app_of c ≡ run_app names)) }
 {
     let about = "Runs the scenario, and prints its trace and then its report";
-    files_command(alloc, "run", "chordsim run", about)?
-        .arg(workers_argument(alloc))?
-        .arg(parts_argument(alloc))?
-        .arg(split_argument(alloc))?
-        .arg(engine_argument(alloc))?
-        .arg(serial_argument(alloc))?
-        .arg(trace_argument(alloc))
+    command_with(alloc, "run", "chordsim run", about, run_arguments(alloc)?)
+}
+
+/// A command with these arguments.
+fn command_with<'a>(
+    alloc: Global,
+    name: &'a str,
+    bin_name: &str,
+    about: &'a str,
+    arguments: Vec<Arg<'a>>,
+) -> Result<Command<'a>, AllocError>
+    ensures { IfOk result (λ c. (rules : List Rule) → HaveRules arguments.entry.items rules → app_of c ≡ with_rules (new_app name.now) rules) }
+{
+    Command::new(alloc, name)
+        .about(about)
+        .bin_name(bin_name)?
+        .args(arguments)
+}
+
+/// The files of a scenario.
+fn file_arguments<'a>(alloc: Global) -> Result<Vec<Arg<'a>>, AllocError>
+    ensures { IfOk result (λ v. HaveRules v.items rules_of_files) }
+{
+    let arguments = vec![in alloc; scenario_argument(alloc), latency_argument(alloc)]?;
+    Ok(arguments)
+}
+
+/// The files of a scenario, and how it is run.
+fn run_arguments<'a>(alloc: Global) -> Result<Vec<Arg<'a>>, AllocError>
+    ensures { IfOk result (λ v. (names : OptionNames) × HaveRules v.items (rules_of_run names)) }
+{
+    let arguments = vec![in alloc;
+        scenario_argument(alloc),
+        latency_argument(alloc),
+        workers_argument(alloc),
+        parts_argument(alloc),
+        split_argument(alloc),
+        engine_argument(alloc),
+        serial_argument(alloc),
+        trace_argument(alloc),
+    ]?;
+    Ok(arguments)
 }
 
 /// An option that takes a value.

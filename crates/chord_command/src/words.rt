@@ -82,8 +82,7 @@ fn files_of_check(alloc: Global, words: &[String]) -> Result<Files, WordFault>
 {
     let command = check_command(alloc)?;
     let matches = command.try_get_matches_from(words)?;
-    let files = files_in(alloc, &matches)?;
-    Ok(files)
+    files_in(alloc, &matches)
 }
 
 fn files_of_ids(alloc: Global, words: &[String]) -> Result<Files, WordFault>
@@ -93,8 +92,7 @@ fn files_of_ids(alloc: Global, words: &[String]) -> Result<Files, WordFault>
 {
     let command = ids_command(alloc)?;
     let matches = command.try_get_matches_from(words)?;
-    let files = files_in(alloc, &matches)?;
-    Ok(files)
+    files_in(alloc, &matches)
 }
 
 fn run_options(alloc: Global, words: &[String]) -> Result<(Files, Plan, Option<String>), WordFault>
@@ -189,9 +187,10 @@ fn count_in(matches: &ArgMatches<'_>, id: &str, default: u32) -> u32
     matches.get_one::<u32>(id).unwrap_or(default)
 }
 
-fn files_in(alloc: Global, matches: &ArgMatches<'_>) -> Result<Files, AllocError>
+fn files_in(alloc: Global, matches: &ArgMatches<'_>) -> Result<Files, WordFault>
     requires { is_some (first_value (found_of matches.now) (codes "scenario")) ≡ true }
-    ensures { IfOk result (HasFiles (rows_of (found_of matches.now))) }
+    ensures files { IfOk result (HasFiles (rows_of (found_of matches.now))) }
+    ensures memory { IfErr result (λ e. e ≡ WordFault.Memory) }
 {
     let scenario = matches.get_str("scenario").unwrap();
     let scenario = String::from_str(alloc, scenario)?;
@@ -210,22 +209,24 @@ fn text_in(alloc: Global, matches: &ArgMatches<'_>, id: &str) -> Result<Option<S
 
 /// Why the whole command line refuses arguments that name none of its commands.
 fn refusal(alloc: Global, words: &[String]) -> WordFault {
-    match refused(alloc, words) {
-        Ok(fault) => fault,
+    match whole_command(alloc) {
+        Ok(mut command) => refusal_by(&mut command, words),
         Err(AllocError) => WordFault::Memory,
     }
 }
 
-fn refused<'a>(alloc: Global, words: &'a [String]) -> Result<WordFault, AllocError> {
-    let mut command = whole_command(alloc)?;
+/// Why this command line refuses these arguments, or that they name none of its commands.
+fn refusal_by<'a>(command: &mut Command<'a>, words: &'a [String]) -> WordFault {
     match command.try_get_matches_from_mut(words) {
-        Err(error) => Ok(WordFault::from(error)),
-        Ok(_) => no_command(&mut command),
+        Err(error) => WordFault::from(error),
+        Ok(_) => no_command(command),
     }
 }
 
-/// What the whole command line says of arguments without a command.
-fn no_command(command: &mut Command<'_>) -> Result<WordFault, AllocError> {
-    let error = command.error(ErrorKind::MissingSubcommand, "a command is required")?;
-    Ok(WordFault::Refused(error))
+/// What the command line says of arguments without a command.
+fn no_command(command: &mut Command<'_>) -> WordFault {
+    match command.error(ErrorKind::MissingSubcommand, "a command is required") {
+        Ok(error) => WordFault::Refused(error),
+        Err(AllocError) => WordFault::Memory,
+    }
 }
