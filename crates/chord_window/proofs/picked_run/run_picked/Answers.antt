@@ -3,7 +3,7 @@ use Rattle.chord_event.specs.declared.error.RunError.TheVariants as run
 use Rattle.chord_model.specs.Windows.{Division as ADivision}
 use Rattle.chord_output.proofs.Runs.{run_refused, run_stopped}
 use Rattle.chord_window.specs.declared.world.World.{World}
-use Rattle.chord_window.specs.Exchanges.{events_in}
+use Rattle.chord_window.specs.Exchanges.{AreDone, events_in}
 use Rattle.chord_window.specs.Picked.{HasStepped}
 use Rattle.chord_window.specs.PickedRuns.{report_in}
 use Rattle.chord_window.specs.Worlds.{IsWorldOf}
@@ -69,3 +69,28 @@ returns-clause-steps g c =
     let inv = c.loop-opening.invariant in
     all_steps c.args.scenario.now c.loop-opening.engine.world inv.at.world c.args.division.now c.args.workers c.args.picks.now
     (drop c.loop-opening.next c.args.picks.now) c.loop-opening.taken.items inv.come (sym c.opening.ensures ∙ c.in_default.is)
+
+pub put_window-requires-clause-at : goal.put_window-requires-clause-at
+put_window-requires-clause-at g c = (_, c.loop-opening.invariant.at)
+
+pub put_window-requires-clause-opening : goal.put_window-requires-clause-opening
+put_window-requires-clause-opening g c = sym c.opening.ensures ∙ c.in-Some.is
+
+pub put_window-requires-clause-done : goal.put_window-requires-clause-done
+put_window-requires-clause-done g c = subst (λ (w : World). AreDone c.args.scenario.now w c.in-Some.opening.horizon c.in_ok-dones.dones.items)
+    c.world.ensures c.in_ok-dones.ensures.done
+
+pub returns-in_err-put_window-clause-run : goal.returns-in_err-put_window-clause-run
+returns-in_err-put_window-clause-run g c = run_stopped c.args.scenario.now _ _ _ c.in_err-put_window.field-0.0
+    (search (rules, c.from_residual-in_err-put_window.ensures)) (λ is. c.in_err-put_window.ensures.over (ap Err is))
+    (c.put_window.ensures.front _ c.loop-opening.invariant.at)
+
+pub loop-opening-smaller : goal.loop-opening-smaller
+loop-opening-smaller g c =
+    omega (arith, c.in_ok-put_window.ensures.more, (c.in_ok-put_window.ensures.at _ c.loop-opening.invariant.at).world.within)
+
+pub finish-requires-clause-at : goal.finish-requires-clause-at
+finish-requires-clause-at g c = (_, c.loop-opening.invariant.at)
+
+pub finish-requires-clause-ended : goal.finish-requires-clause-ended
+finish-requires-clause-ended g c = sym c.opening.ensures ∙ c.in_default.is
