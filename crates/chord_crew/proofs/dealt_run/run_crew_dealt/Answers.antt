@@ -100,9 +100,9 @@ pub returns-in_err-engine-2-clause-bad : goal.returns-in_err-engine-2-clause-bad
 returns-in_err-engine-2-clause-bad g c is =
     let d = c.in_ok-division.division in
     let named : g.D.Dealer.can_name (node_count c.args.scenario.now) d =
-        subst (λ n. g.D.Dealer.can_name n d) (ap length c.as_slice.ensures.value ∙ c.loop-opening.invariant.long) c.in_ok-division.ensures.named in
+    subst (λ n. g.D.Dealer.can_name n d) (ap length c.as_slice.ensures.value ∙ c.loop-opening.invariant.long) c.in_ok-division.ensures.named in
     let other : length d.of_node ≢ node_count c.args.scenario.now =
-        search (rules, is, c.from_residual-in_err-engine-2.ensures, c.in_err-engine-2.ensures.bad) in
+    search (rules, is, c.from_residual-in_err-engine-2.ensures, c.in_err-engine-2.ensures.bad) in
     (c.loop-opening.invariant.sound, (d, named, other))
 
 pub returns-in_err-dones-clause-bad : goal.returns-in_err-dones-clause-bad

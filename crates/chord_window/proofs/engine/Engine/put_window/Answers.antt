@@ -197,25 +197,61 @@ returns-clause-more g c =
     omega (arith, some, c.in_ok-lists.ensures.count)
 
 pub returns-in_err-put_audits-clause-counted_first : goal.returns-in_err-put_audits-clause-counted_first
-returns-in_err-put_audits-clause-counted_first g c = λ more. absurd (omega (arith, more, c.in-Some.ensures.some, ap events_in c.as_slice.ensures.value,
-    c.max_events.ensures, c.requires.at.1.world.within))
+returns-in_err-put_audits-clause-counted_first g c = λ more. absurd (omega (
+  arith,
+  more,
+  c.in-Some.ensures.some,
+  ap events_in c.as_slice.ensures.value,
+  c.max_events.ensures,
+  c.requires.at.1.world.within,
+))
 
 pub returns-in_err-lists-clause-counted_first : goal.returns-in_err-lists-clause-counted_first
-returns-in_err-lists-clause-counted_first g c = λ more. absurd (omega (arith, more, c.in-Some.ensures.some, ap events_in c.as_slice.ensures.value,
-    c.max_events.ensures, c.requires.at.1.world.within))
+returns-in_err-lists-clause-counted_first g c = λ more. absurd (omega (
+  arith,
+  more,
+  c.in-Some.ensures.some,
+  ap events_in c.as_slice.ensures.value,
+  c.max_events.ensures,
+  c.requires.at.1.world.within,
+))
 
 pub returns-in_err-tally_parts-clause-counted_first : goal.returns-in_err-tally_parts-clause-counted_first
-returns-in_err-tally_parts-clause-counted_first g c = λ more. absurd (omega (arith, more, c.in-Some.ensures.some, ap events_in c.as_slice.ensures.value,
-    c.max_events.ensures, c.requires.at.1.world.within))
+returns-in_err-tally_parts-clause-counted_first g c = λ more. absurd (omega (
+  arith,
+  more,
+  c.in-Some.ensures.some,
+  ap events_in c.as_slice.ensures.value,
+  c.max_events.ensures,
+  c.requires.at.1.world.within,
+))
 
 pub returns-in_err-blocks-clause-counted_first : goal.returns-in_err-blocks-clause-counted_first
-returns-in_err-blocks-clause-counted_first g c = λ more. absurd (omega (arith, more, c.in-Some.ensures.some, ap events_in c.as_slice.ensures.value,
-    c.max_events.ensures, c.requires.at.1.world.within))
+returns-in_err-blocks-clause-counted_first g c = λ more. absurd (omega (
+  arith,
+  more,
+  c.in-Some.ensures.some,
+  ap events_in c.as_slice.ensures.value,
+  c.max_events.ensures,
+  c.requires.at.1.world.within,
+))
 
 pub returns-in_err-write_blocks-clause-counted_first : goal.returns-in_err-write_blocks-clause-counted_first
-returns-in_err-write_blocks-clause-counted_first g c = λ more. absurd (omega (arith, more, c.in-Some.ensures.some, ap events_in c.as_slice.ensures.value,
-    c.max_events.ensures, c.requires.at.1.world.within))
+returns-in_err-write_blocks-clause-counted_first g c = λ more. absurd (omega (
+  arith,
+  more,
+  c.in-Some.ensures.some,
+  ap events_in c.as_slice.ensures.value,
+  c.max_events.ensures,
+  c.requires.at.1.world.within,
+))
 
 pub returns-clause-counted_first : goal.returns-clause-counted_first
-returns-clause-counted_first g c = λ more. absurd (omega (arith, more, c.in-Some.ensures.some, ap events_in c.as_slice.ensures.value,
-    c.max_events.ensures, c.requires.at.1.world.within))
+returns-clause-counted_first g c = λ more. absurd (omega (
+  arith,
+  more,
+  c.in-Some.ensures.some,
+  ap events_in c.as_slice.ensures.value,
+  c.max_events.ensures,
+  c.requires.at.1.world.within,
+))
