@@ -22,17 +22,27 @@ crates_of_program() {
     ' "$top/crates.txt"
 }
 
-# Prints a sum of the sources of the program: code, definitions and proofs. Crates of tests are not among them.
+# Prints the sources of the program that pass these tests of find: code, definitions and proofs. Crates of tests are not
+# among them. It is run in the folder of the crates, whose names and files have no blanks.
+sources_of_program() {
+    find $(crates_of_program) \( -name out -o -name must-fail \) -prune -o \
+        \( -name '*.rt' -o -name '*.antt' \) "$@" -print
+}
+
+# Prints a sum of the sources of the program.
 sum_of_sources() {
     (
         cd "$top/crates" || exit 1
         {
             cat ../crates.txt
-            # The names of crates and files have no blanks.
-            find $(crates_of_program) \( -name out -o -name must-fail \) -prune -o \
-                \( -name '*.rt' -o -name '*.antt' \) -print | LC_ALL=C sort | xargs sha256sum
+            sources_of_program | LC_ALL=C sort | xargs sha256sum
         } | sha256sum | cut -d ' ' -f 1
     )
+}
+
+# Whether a source of the program was changed after rt made the program.
+has_changed_since() {
+    [ -n "$(cd "$top/crates" && sources_of_program -newer "$made")" ]
 }
 
 # Whether the folder has a program of the sources with this sum.

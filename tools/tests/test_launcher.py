@@ -1,5 +1,6 @@
 """The script ./chordsim, tools/renew_release and tools/check_release, with a stand-in for rt that proves nothing."""
 
+import os
 import shutil
 import subprocess
 import tempfile
@@ -128,6 +129,24 @@ class Launcher(unittest.TestCase):
         self.change("low", "lib.rt", "second\n")
         self.assertIn("proving and building", self.start("chordsim").stderr)
         self.assertEqual(self.builds(), 2)
+
+    def test_release_from_the_gate(self) -> None:
+        """A program that rt has made here is taken as it is, unless a source is newer or an argument is unknown."""
+        renew = "tools/renew_release"
+        self.assertIn("built no program", self.start(renew, "--from-gate").stderr)
+        self.start("chordsim", "--build")
+        shutil.rmtree(self.top / "out")
+        self.assertEqual(self.start(renew, "--from-gate").returncode, 0)
+        self.assertEqual(self.start("tools/check_release").returncode, 0)
+        self.assertEqual(self.builds(), 1)
+        later = time.time() + 10
+        os.utime(self.top / "crates" / "low" / "src" / "lib.rt", (later, later))
+        stale = self.start(renew, "--from-gate")
+        self.assertEqual(stale.returncode, 1)
+        self.assertIn("have changed", stale.stderr)
+        for arguments in (["--gate"], ["--from-gate", "again"]):
+            with self.subTest(arguments=arguments):
+                self.assertEqual(self.start(renew, *arguments).returncode, 2)
 
     def test_check_release(self) -> None:
         """The gate refuses another program, another digest and other sources."""
