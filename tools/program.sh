@@ -40,9 +40,9 @@ sum_of_sources() {
     )
 }
 
-# Whether a source of the program was changed after rt made the program.
+# Whether a source of the program, or what crates.txt says, was changed after rt made the program.
 has_changed_since() {
-    [ -n "$(cd "$top/crates" && sources_of_program -newer "$made")" ]
+    [ -n "$(cd "$top/crates" && sources_of_program -newer "$made" && find ../crates.txt -newer "$made")" ]
 }
 
 # Whether the folder has a program of the sources with this sum.

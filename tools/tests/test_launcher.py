@@ -139,11 +139,15 @@ class Launcher(unittest.TestCase):
         self.assertEqual(self.start(renew, "--from-gate").returncode, 0)
         self.assertEqual(self.start("tools/check_release").returncode, 0)
         self.assertEqual(self.builds(), 1)
-        later = time.time() + 10
-        os.utime(self.top / "crates" / "low" / "src" / "lib.rt", (later, later))
-        stale = self.start(renew, "--from-gate")
-        self.assertEqual(stale.returncode, 1)
-        self.assertIn("have changed", stale.stderr)
+        now, later = time.time(), time.time() + 10
+        for file in ("crates/low/src/lib.rt", "crates.txt"):
+            with self.subTest(file=file):
+                os.utime(self.top / file, (later, later))
+                stale = self.start(renew, "--from-gate")
+                self.assertEqual(stale.returncode, 1)
+                self.assertIn("have changed", stale.stderr)
+                os.utime(self.top / file, (now - 3600, now - 3600))
+        self.assertEqual(self.start(renew, "--from-gate").returncode, 0)
         for arguments in (["--gate"], ["--from-gate", "again"]):
             with self.subTest(arguments=arguments):
                 self.assertEqual(self.start(renew, *arguments).returncode, 2)
