@@ -1,7 +1,12 @@
 //! The engine that takes one event at a time.
-ghost use Rattle.std.specs.Prelude.{◌≡◌, ◌⊎◌, ℕ, ◌+◌, ◌≤◌, List, Option, None, false, OnOk, IfOk, IfErr, IfSome, Ok, Err};
-ghost use Rattle.std.specs.List.{All};
+ghost use Rattle.std.specs.Prelude.{◌≡◌, ◌↔◌, ◌⊎◌, ℕ, ◌+◌, ◌≤◌, List, Option, None, false, OnOk, IfOk, IfErr, IfSome, Ok, Err};
+ghost use Rattle.std.specs.List.{All, Contains};
+ghost use Rattle.chord_event.specs.declared.body.Body.{Body as ABody};
+ghost use Rattle.chord_event.specs.declared.event.Event.{Event as AnEvent};
+ghost use Rattle.chord_event.specs.KeyOrder.{InKeyOrder};
 ghost use Rattle.chord_machine.specs.Run.{HasTooManyEvents};
+ghost use Rattle.chord_queue.specs.EventKey.{event_key};
+ghost use Rattle.chord_scenario.specs.Start.{start_events};
 ghost use Rattle.chord_serial.specs.Engine.{HasTaken, IsAt};
 ghost use Rattle.chord_output.specs.Runs.{IsBeginning, IsRun};
 ghost use Rattle.chord_trace.specs.Watched.{wrapped, has_failed};
@@ -40,10 +45,9 @@ impl Engine {
         ensures only { IfErr result (λ e. e ≡ RunError.Memory) }
     {
         scenario.recall_range();
-        let states = initial_ring(alloc, scenario)?;
-        let mut pending = Pending::new(alloc);
-        pending.insert_all(scenario.start_events(alloc)?)?;
         let clock = AuditClock::start(alloc, scenario)?;
+        let states = initial_ring(alloc, scenario)?;
+        let pending = pending_at_start(alloc, scenario)?;
         Ok(Engine {
             states,
             pending,
@@ -165,4 +169,17 @@ impl Engine {
         }
         self.finish(alloc, scenario, writer)
     }
+}
+
+/// The events that are pending at the start of a run.
+fn pending_at_start(alloc: Global, scenario: &Scenario) -> Result<Pending, RunError>
+    ensures same { IfOk result (λ pending. (x : AnEvent ABody) → Contains pending x ↔ Contains (start_events scenario.now) x) }
+    ensures ordered { IfOk result (λ pending. InKeyOrder event_key pending) }
+    ensures only { IfErr result (λ e. e ≡ RunError.Memory) }
+{
+    scenario.recall_range();
+    let events = scenario.start_events(alloc)?;
+    let mut pending = Pending::new(alloc);
+    pending.insert_all(events)?;
+    Ok(pending)
 }

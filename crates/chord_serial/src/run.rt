@@ -23,5 +23,9 @@ pub fn run_serial<W: Write>(
     ensures writer { has_failed writer.new ≡ is_write result }
     ensures only { IfErr result (λ e. (e ≡ RunError.Memory) ⊎ (e ≡ RunError.Write) ⊎ (e ≡ RunError.TooManyEvents)) }
 {
-    Engine::start(alloc, scenario)?.run(alloc, scenario, writer)
+    let mut engine = Engine::start(alloc, scenario)?;
+    let outcome = engine.run(alloc, scenario, writer);
+    // By one call: at the end of a function a struct is dropped field by field.
+    drop(engine);
+    outcome
 }

@@ -2,9 +2,9 @@ use Rattle.std.proofs.Common.{rules}
 use Rattle.chord_output.proofs.Runs.{run_refused}
 use Rattle.chord_serial.proofs.run.run_serial.Goals as goal
 
-pub run-requires-clause-at : goal.run-requires-clause-at
-run-requires-clause-at g c = c.in_ok-start.ensures.at _
+pub run-outcome-requires-clause-at : goal.run-outcome-requires-clause-at
+run-outcome-requires-clause-at g c = c.in_ok-engine.ensures.at _
 
-pub returns-in_err-start-clause-run : goal.returns-in_err-start-clause-run
-returns-in_err-start-clause-run g c = run_refused c.args.scenario.now _ _ c.in_err-start.field-0.0
-    (search (rules, c.from_residual.ensures)) (λ is. search (rules, is, c.in_err-start.ensures.only))
+pub returns-in_err-engine-clause-run : goal.returns-in_err-engine-clause-run
+returns-in_err-engine-clause-run g c = run_refused c.args.scenario.now _ _ c.in_err-engine.field-0.0
+    (search (rules, c.from_residual.ensures)) (λ is. search (rules, is, c.in_err-engine.ensures.only))
