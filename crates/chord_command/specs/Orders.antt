@@ -63,12 +63,15 @@ pub record HasPlan (rows : List Row) (p : Plan) : Type 0 where
 abbrev pub command_word : List Text → Option Text
 command_word words = slice_get words 1
 
+-- the files, the plan and the file for the trace that these options name
+abbrev pub HasOptions : List Row → Files → Plan → Option (String Global) → Type 0
+HasOptions rows files plan trace =
+    HasFiles rows files × HasPlan rows plan × (first_of (codes "trace") rows ≡ option_map string_bytes trace)
+
 -- the arguments from `run` on give these files, this plan and this trace
 abbrev pub IsRunOf : List Text → Files → Plan → Option (String Global) → Type 0
-IsRunOf words files plan trace = (names : OptionNames) × (fault_of (run_app names) words ≡ [])
-    × HasFiles (matches_of (run_app names) words) files
-    × HasPlan (matches_of (run_app names) words) plan
-    × (first_of (codes "trace") (matches_of (run_app names) words) ≡ option_map string_bytes trace)
+IsRunOf words files plan trace =
+    (names : OptionNames) × (fault_of (run_app names) words ≡ []) × HasOptions (matches_of (run_app names) words) files plan trace
 
 -- the arguments give this order: `clap` finds no fault in them, and the order has what it matched
 abbrev pub IsOrderOf : List Text → Order → Type 0

@@ -35,7 +35,14 @@ fn with_command<'a>(
     whole: Command<'a>,
     command: Result<Command<'a>, AllocError>,
 ) -> Result<Command<'a>, AllocError> {
-    whole.subcommand(command?)
+    match command {
+        Ok(command) => whole.subcommand(command),
+        Err(error) => {
+            // By one call: at the end of a function a struct is dropped field by field.
+            drop(whole);
+            Err(error)
+        }
+    }
 }
 
 /// The command `check`.

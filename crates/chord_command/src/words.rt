@@ -3,7 +3,7 @@ ghost use Rattle.std.specs.Prelude.{◌≡◌, ◌↔◌, Some, IsTrue, true, ma
 ghost use Rattle.clap.specs.Words.{fault_of, first_of, first_value, found_of, kind_of, matches_of, one_of, one_text, rows_of, takes};
 ghost use Rattle.clap.specs.declared.error.kind.ErrorKind.TheVariants.{OutOfMemory};
 ghost use Rattle.chord_command.specs.Commands.{OptionNames, check_app, ids_app, run_app};
-ghost use Rattle.chord_command.specs.Orders.{HasFiles, HasPlan, IsCountUpTo, IsOrderOf, IsRunOf, TakesWords, count_or, engine_for, engine_named, engine_of};
+ghost use Rattle.chord_command.specs.Orders.{HasFiles, HasOptions, HasPlan, IsCountUpTo, IsOrderOf, IsRunOf, TakesWords, count_or, engine_for, engine_named, engine_of};
 ghost use Rattle.chord_command.specs.declared.words.WordFault.TheVariants.{Memory};
 
 use crate::commands::{check_command, ids_command, run_command, whole_command};
@@ -95,15 +95,30 @@ fn files_of_ids(alloc: Global, words: &[String]) -> Result<Files, WordFault>
     files_in(alloc, &matches)
 }
 
-fn run_options(alloc: Global, words: &[String]) -> Result<(Files, Plan, Option<String>), WordFault>
+fn run_options(alloc: Global, words: &[String]) -> Result<RunOptions, WordFault>
     ensures order { IfOk result (λ r. IsRunOf (map string_bytes words.now) r.0 r.1 r.2) }
     ensures taken { ((names : OptionNames) → takes (run_app names) (map string_bytes words.now) ≡ true) → IfErr result (λ e. e ≡ WordFault.Memory) }
 {
     let command = run_command(alloc)?;
     let matches = command.try_get_matches_from(words)?;
-    let files = files_in(alloc, &matches)?;
-    let plan = plan_in(&matches);
-    let trace = text_in(alloc, &matches, "trace")?;
+    let options = run_options_in(alloc, &matches);
+    drop(matches);
+    options
+}
+
+/// The files, the plan and the file for the trace that options of `run` name.
+type RunOptions = (Files, Plan, Option<String>);
+
+fn run_options_in(alloc: Global, matches: &ArgMatches<'_>) -> Result<RunOptions, WordFault>
+    requires scenario { is_some (first_value (found_of matches.now) (codes "scenario")) ≡ true }
+    requires workers { IfSome (one_text (found_of matches.now) (codes "workers")) (IsCountUpTo 64) }
+    requires parts { IfSome (one_text (found_of matches.now) (codes "parts")) (IsCountUpTo 512) }
+    ensures options { IfOk result (λ r. HasOptions (rows_of (found_of matches.now)) r.0 r.1 r.2) }
+    ensures memory { IfErr result (λ e. e ≡ WordFault.Memory) }
+{
+    let plan = plan_in(matches);
+    let trace = text_in(alloc, matches, "trace")?;
+    let files = files_in(alloc, matches)?;
     Ok((files, plan, trace))
 }
 
@@ -210,7 +225,12 @@ fn text_in(alloc: Global, matches: &ArgMatches<'_>, id: &str) -> Result<Option<S
 /// Why the whole command line refuses arguments that name none of its commands.
 fn refusal(alloc: Global, words: &[String]) -> WordFault {
     match whole_command(alloc) {
-        Ok(mut command) => refusal_by(&mut command, words),
+        Ok(mut command) => {
+            let fault = refusal_by(&mut command, words);
+            // By one call: at the end of a function a struct is dropped field by field.
+            drop(command);
+            fault
+        }
         Err(AllocError) => WordFault::Memory,
     }
 }
