@@ -24,14 +24,14 @@ use std::{fs, io};
 pub fn carry_out<T: FileSystem + AllocGlobal + Threads + Wait + Sync, C: Print + Eprint>(
     rt: &T,
     console: &C,
-    order: Order,
+    order: &Order,
 ) -> ExitCode
     ensures { (exit_status result ≡ 0) ⊎ (exit_status result ≡ 1) ⊎ (exit_status result ≡ 2) ⊎ (exit_status result ≡ 3) }
 {
-    if let Some(text) = overwritten_by_trace(rt, &order) {
+    if let Some(text) = overwritten_by_trace(rt, order) {
         return refuse_trace(console, order.files(), text);
     }
-    let outcome = perform(rt, console, &order);
+    let outcome = perform(rt, console, order);
     conclude(console, order.files(), outcome)
 }
 

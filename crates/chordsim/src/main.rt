@@ -10,7 +10,7 @@ use std::process::ExitCode;
 
 fn main(rt: HostRuntime) -> ExitCode {
     match read_process(&rt) {
-        Ok(order) => execution::carry_out(&rt, &rt, order),
+        Ok(order) => execution::carry_out(&rt, &rt, &order),
         Err(fault) => status::refuse(&rt, fault),
     }
 }
