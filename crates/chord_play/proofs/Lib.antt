@@ -1,2 +1,3 @@
+pub mod Idents
 pub mod Readings
 pub mod Runs

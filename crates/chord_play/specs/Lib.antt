@@ -1,4 +1,6 @@
+pub mod Answers
 pub mod Faults
+pub mod LatencyFiles
 pub mod Plans
 pub mod Played
 pub mod Readings

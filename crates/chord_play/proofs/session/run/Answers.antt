@@ -11,10 +11,10 @@ use Rattle.chord_play.specs.declared.fault.PlayFault.TheVariants as fault
 use Rattle.chord_trace.specs.Watched.{wrapped}
 use Rattle.chord_trace.specs.declared.report.Report.{Report}
 use Rattle.chord_trace.specs.declared.watched.Watched.{Watched}
-use Rattle.chord_session.specs.Answers.{HasBegun, HasReported, IsOver}
+use Rattle.chord_play.specs.Answers.{HasBegun, HasReported, IsOver}
 use Rattle.chord_trace.specs.ReportText.{report_text}
 use Rattle.chord_trace.specs.Writing.{AppendsFront}
-use Rattle.chord_session.proofs.session.run.Goals as goal
+use Rattle.chord_play.proofs.session.run.Goals as goal
 
 -- a run has begun the trace, whatever its result, and a flush keeps it
 begun_kept : (scenario latency old mid new : Option (List ℕ)) (result : Result Report RunError) → IsPlayed scenario latency old mid result

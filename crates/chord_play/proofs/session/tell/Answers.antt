@@ -1,5 +1,5 @@
 use Rattle.std.proofs.Common.{rules}
-use Rattle.chord_session.proofs.session.tell.Goals as goal
+use Rattle.chord_play.proofs.session.tell.Goals as goal
 
 pub returns-in_err-scenario-clause-faults : goal.returns-in_err-scenario-clause-faults
 returns-in_err-scenario-clause-faults g c = search rules

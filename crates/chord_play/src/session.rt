@@ -5,11 +5,13 @@ ghost use Rattle.chord_machine.specs.Run.{trace_text};
 ghost use Rattle.chord_play.specs.Faults.{is_of_run, is_write_fault};
 ghost use Rattle.chord_play.specs.Readings.{IsFaultOf, reading};
 ghost use Rattle.chord_trace.specs.Watched.{wrapped, has_failed};
-ghost use Rattle.chord_session.specs.Answers.{HasAnswered, HasBegun, HasReported, IsAnswered, IsOver, IsReported, told};
+ghost use Rattle.chord_play.specs.Answers.{HasAnswered, HasBegun, HasReported, IsAnswered, IsOver, IsReported, told};
 
+use crate::fault::PlayFault;
+use crate::playing::{load, play};
 use crate::questions::{Question, answer};
 use chord_event::RunError;
-use chord_play::{Engine, Plan, PlayFault, load, play};
+use chord_plan::{Engine, Plan};
 use chord_trace::{Watched, write_text};
 use std::alloc::Global;
 use std::io::{self, Read, Write};

@@ -1,5 +1,5 @@
 use Rattle.std.proofs.Common.{rules}
-use Rattle.chord_session.proofs.questions.answer.Goals as goal
+use Rattle.chord_play.proofs.questions.answer.Goals as goal
 
 pub returns-in-Idents : goal.returns-in-Idents
 returns-in-Idents c = search rules

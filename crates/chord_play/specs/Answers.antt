@@ -7,8 +7,8 @@ use Rattle.chord_output.specs.Runs.{IsBeginning}
 use Rattle.chord_play.specs.Texts.{Gives}
 use Rattle.chord_scenario.specs.declared.scenario.Scenario.{Scenario}
 use Rattle.chord_scenario.specs.World.{ident_of, name_of as node_name, node_count}
-use Rattle.chord_session.specs.declared.questions.Question.{Question}
-use Rattle.chord_session.specs.declared.questions.Question.TheVariants as question
+use Rattle.chord_play.specs.declared.questions.Question.{Question}
+use Rattle.chord_play.specs.declared.questions.Question.TheVariants as question
 use Rattle.chord_trace.specs.ReportText.{report_text}
 use Rattle.chord_trace.specs.Writing.{AppendsFront}
 use Rattle.chord_trace.specs.declared.report.Report.{Report}

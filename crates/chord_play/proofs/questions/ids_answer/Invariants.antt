@@ -1,8 +1,8 @@
 use Rattle.std.proofs.Common.{◌≡◌, ◌-◌, ◌++◌, string_bytes}
 use Rattle.std.specs.List.{flat_map, range_with_len}
 use Rattle.chord_scenario.specs.World.{node_count}
-use Rattle.chord_session.specs.Answers.{ident_line, ids_text}
-use Rattle.chord_session.proofs.questions.ids_answer.Given as goal
+use Rattle.chord_play.specs.Answers.{ident_line, ids_text}
+use Rattle.chord_play.proofs.questions.ids_answer.Given as goal
 
 -- the lines so far and those of the nodes left are all
 abbrev pub invariant-loop-node : goal.invariant-loop-node

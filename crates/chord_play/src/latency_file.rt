@@ -1,7 +1,7 @@
 //! The latency file, which may be left out.
 ghost use Rattle.std.specs.Io.{ReadsAtMost};
 ghost use Rattle.std.specs.Io.KnownBytes.{ReadConsumes};
-ghost use Rattle.chord_session.specs.LatencyFiles.{left_in};
+ghost use Rattle.chord_play.specs.LatencyFiles.{left_in};
 
 use std::io;
 use std::io::Read;

@@ -1,8 +1,8 @@
 use Rattle.std.proofs.Common.{◌<◌, string_bytes}
 use Rattle.chord_scenario.specs.World.{node_count}
-use Rattle.chord_session.specs.Answers.{ident_line}
-use Rattle.chord_session.proofs.Idents.{one_more}
-use Rattle.chord_session.proofs.questions.ids_answer.Goals as goal
+use Rattle.chord_play.specs.Answers.{ident_line}
+use Rattle.chord_play.proofs.Idents.{one_more}
+use Rattle.chord_play.proofs.questions.ids_answer.Goals as goal
 
 pub loop-node-preserved : goal.loop-node-preserved
 loop-node-preserved c =

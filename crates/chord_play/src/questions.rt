@@ -1,7 +1,7 @@
 //! What `check` and `ids` print.
 ghost use Rattle.std.specs.Prelude.{◌≡◌, ◌++◌, ◌<◌, ℕ, IfOk, OnOk, string_bytes};
 ghost use Rattle.chord_scenario.specs.World.{node_count};
-ghost use Rattle.chord_session.specs.Answers.{check_text, ident_line, ids_text, told};
+ghost use Rattle.chord_play.specs.Answers.{check_text, ident_line, ids_text, told};
 
 use chord_scenario::Scenario;
 use std::alloc::{AllocError, Global};
