@@ -25,8 +25,9 @@ use Rattle.std.proofs.Common.{
 }
 use Rattle.std.proofs.lemmas.Bool.{cases_eq}
 use Rattle.std.proofs.lemmas.List.{length-set}
+use Rattle.std.proofs.lemmas.Option.{none-some}
 use Rattle.std.specs.Global.{Global}
-use Rattle.std.specs.Prelude.{IfSome}
+use Rattle.std.specs.Prelude.{IfSome, unwrap_or}
 use Rattle.std.specs.List.{All}
 use Rattle.chord_audit.specs.Audit.{AreStates}
 use Rattle.chord_event.specs.declared.body.Body.{Body}
@@ -57,9 +58,9 @@ only_same (Some p) = (p, refl, refl, refl)
 
 only_then : (x : Option Parcel) (p q : Parcel) → HasOnlyStates x (Some p) → q ≡ with_part p (record p.part.value { states = q.part.value.states })
     → length q.part.value.states.items ≡ length p.part.value.states.items → HasOnlyStates x (Some q)
-only_then None p q only is long = absurd cc
+only_then None p q only is long = absurd (none-some p (sym only))
 only_then (Some o) p q only is long =
-    let same : only.0 ≡ p = cc in (
+    let same : only.0 ≡ p = sym (ap (λ (o : Option Parcel). unwrap_or o p) only.1) in (
       q,
       refl,
       is ∙ ap (λ (z : Parcel). with_part z (record z.part.value { states = q.part.value.states })) (sym same ∙ only.2),
