@@ -6,6 +6,7 @@ use Rattle.chord_event.specs.declared.error.RunError.{RunError}
 use Rattle.chord_event.specs.declared.error.RunError.TheVariants as run
 use Rattle.chord_play.specs.Faults.{is_of_run}
 use Rattle.chord_play.specs.Played.{IsPlayed}
+use Rattle.chord_play.specs.Readings.{IsFaultOf, reading}
 use Rattle.chord_play.specs.declared.fault.PlayFault.{PlayFault}
 use Rattle.chord_play.specs.declared.fault.PlayFault.TheVariants as fault
 use Rattle.chord_trace.specs.Watched.{wrapped}
@@ -118,7 +119,10 @@ pub returns-in_err-or_write_fault-clause-faults : goal.returns-in_err-or_write_f
 returns-in_err-or_write_fault-clause-faults g c =
     let write = write_fault c.flush.result _ c.in_err-or_write_fault.ensures.ok c.in_err-or_write_fault.ensures.err in
     let read = c.in_ok-report.ensures.read in
-    passed_on c.from_residual-in_err-or_write_fault.result _ _ c.from_residual-in_err-or_write_fault.ensures.1 (rw write (read.0.0, read.1.0))
+    let scenario = reading g.R.Read.remaining c.args.scenario.now c.play.new.scenario in
+    let latency = reading g.Q.Read.remaining c.args.latency.now c.play.new.latency in
+    passed_on c.from_residual-in_err-or_write_fault.result _ (IsFaultOf scenario latency) c.from_residual-in_err-or_write_fault.ensures.1
+    (subst (IsFaultOf scenario latency) (sym write) (read.0.0, read.1.0))
 
 pub returns-in_err-or_write_fault-clause-untouched : goal.returns-in_err-or_write_fault-clause-untouched
 returns-in_err-or_write_fault-clause-untouched g c =
