@@ -1,5 +1,5 @@
 //! The rows of a latency file.
-ghost use Rattle.std.specs.Prelude.{◌≡◌, ◌==◌, true, IfOk, Some, [], length, map, option_map};
+ghost use Rattle.std.specs.Prelude.{◌≡◌, ◌==◌, true, ℕ, List, IfOk, Some, [], length, map, option_map};
 ghost use Rattle.csv.specs.Reading.{error_kind, stops_reader};
 ghost use Rattle.csv.specs.Records.{fields_of};
 ghost use Rattle.std.specs.Char.{is_ascii_digit};
@@ -33,22 +33,39 @@ fn records_in(alloc: Global, text: &[u8]) -> ByteRecordsIntoIter<&[u8]>
         .into_byte_records()
 }
 
-/// What is kept of each record of a text. A record is dropped as soon as it is read.
-fn records(
+/// What is kept of each record of a text, from a reader that has all of them left. A record is
+/// dropped as soon as it is read.
+fn kept_links(
+    alloc: Global,
+    names: &Names<'_>,
+    records: &mut ByteRecordsIntoIter<&[u8]>,
+) -> Result<Vec<Option<RowLink>>, AllocError>
+    requires { (text : List ℕ) × HasLeft text [] records.now }
+    ensures { IfOk result (λ v. (text : List ℕ) → HasLeft text [] records.old → AreKept names.now.nodes.now text v.items) }
+{
+    let mut links = Vec::new(alloc);
+    while let Some(record) = records.next() {
+        match record {
+            Ok(record) => links.push(kept_link(names, &record))?,
+            Err(e) => return Err(failed_read(&e)),
+        }
+    }
+    Ok(links)
+}
+
+/// What is kept of each record of a text.
+fn links_in(
     alloc: Global,
     names: &Names<'_>,
     text: &[u8],
 ) -> Result<Vec<Option<RowLink>>, AllocError>
     ensures { IfOk result (λ v. AreKept names.now.nodes.now text.now v.items) }
 {
-    let mut rows = Vec::new(alloc);
-    for row in records_in(alloc, text) {
-        match row {
-            Ok(row) => rows.push(kept_link(names, &row))?,
-            Err(e) => return Err(failed_read(&e)),
-        }
-    }
-    Ok(rows)
+    let mut records = records_in(alloc, text);
+    let links = kept_links(alloc, names, &mut records);
+    // By one call: at each end of a function a struct is dropped field by field.
+    drop(records);
+    links
 }
 
 /// What an error of a flexible reader of bytes counts as.
@@ -83,7 +100,7 @@ impl<'a> Rows<'a> {
         ensures nodes { IfOk result (λ rows. rows.names.nodes.now ≡ names.entry.nodes.now) }
         ensures text { IfOk result (λ rows. rows.text.now ≡ text.entry.now) }
     {
-        let links = records(alloc, &names, text)?;
+        let links = links_in(alloc, &names, text)?;
         Ok(Rows { names, text, links })
     }
 

@@ -10,9 +10,9 @@ use Rattle.chord_scenario.specs.Faults.{first_answer}
 use Rattle.chord_scenario.specs.Groups.{link_questions, pair_questions, late_questions}
 use Rattle.chord_scenario.specs.Rows.{Row, rows_of}
 use Rattle.chord_scenario.specs.Sections.{Section, section_of}
-use Rattle.chord_scenario.specs.Settings.{coordinates_of}
+use Rattle.chord_scenario.specs.Settings.{coordinates_of, commands_of}
 use Rattle.chord_scenario.specs.Values.{number_at}
-use Rattle.chord_scenario.proofs.Questions.{first_answer-append, link_questions-known}
+use Rattle.chord_scenario.proofs.Questions.{first_answer-append, link_questions-known, link_questions-good}
 use Rattle.chord_scenario.proofs.reader.link_nodes.Goals as goal
 
 module _ (top : Members) (ss : List Section) (nodes : List Node) (rows : List Row) where
@@ -58,3 +58,31 @@ pub returns-clause-sound : goal.returns-clause-sound
 returns-clause-sound c =
     after_links (table_view c.args.top.now) (map section_of c.args.tables.now) c.args.names.nodes.now (rows_of c.args.csv.now) c.in_ok-rows.ensures.sound
     ∙ (rw (c.in_ok-rows.ensures.nodes, c.in_ok-rows.ensures.text) at c.in_ok-distances.ensures.sound)
+
+pub checked_distances-requires-clause-few : goal.checked_distances-requires-clause-few
+checked_distances-requires-clause-few c = rw c.in_ok-rows.ensures.nodes c.requires.few
+
+pub checked_distances-requires-clause-distinct : goal.checked_distances-requires-clause-distinct
+checked_distances-requires-clause-distinct c = rw c.in_ok-rows.ensures.nodes c.requires.distinct
+
+pub checked_distances-requires-clause-good : goal.checked_distances-requires-clause-good
+checked_distances-requires-clause-good c =
+    let top = table_view c.args.top.now in
+    rw c.in_ok-rows.ensures.text (link_questions-good (number_at key.List top) (number_at key.DurationUs top) (map section_of c.args.tables.now)
+    c.args.names.nodes.now (rows_of c.args.csv.now) c.in_ok-rows.ensures.sound)
+
+pub returns-clause-good : goal.returns-clause-good
+returns-clause-good c =
+    let top = table_view c.args.top.now in
+    link_questions-good (number_at key.List top) (number_at key.DurationUs top) (map section_of c.args.tables.now)
+    c.args.names.nodes.now (rows_of c.args.csv.now) c.in_ok-rows.ensures.sound
+
+pub returns-clause-commands : goal.returns-clause-commands
+returns-clause-commands c =
+    c.in_ok-commands.ensures ∙ ap (λ nodes. commands_of c.args.circle nodes (map section_of c.args.tables.now)) c.in_ok-rows.ensures.nodes
+
+pub returns-clause-coordinates : goal.returns-clause-coordinates
+returns-clause-coordinates c = c.in_ok-distances.ensures.coordinates
+
+pub returns-clause-square : goal.returns-clause-square
+returns-clause-square c = rw (c.in_ok-rows.ensures.nodes, c.in_ok-rows.ensures.text) at c.in_ok-distances.ensures.square

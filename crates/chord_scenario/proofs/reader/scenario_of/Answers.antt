@@ -1,13 +1,16 @@
-use Rattle.std.proofs.Common.{◌≡◌, ◌∙◌, ◌<◌, ◌^◌, List, ap, subst, ℕ, map, length, None, refl}
+use Rattle.std.proofs.Common.{◌≡◌, ◌∙◌, ◌⊎◌, ◌++◌, ◌<◌, ◌^◌, inl, inr, List, Option, ap, subst, ℕ, map, length, Some, None, refl, rules}
 use Rattle.std.specs.List.{All}
+use Rattle.std.specs.Option.{option_or}
 use Rattle.chord_scenario.specs.Rows.{rows_of}
 use Rattle.toml.specs.Data.{Members}
 use Rattle.toml.specs.View.{table_view}
+use Rattle.chord_scenario.specs.declared.fault.ScenarioFault.{ScenarioFault}
+use Rattle.chord_scenario.specs.declared.fault.ScenarioFault.TheVariants.{Memory}
 use Rattle.chord_scenario.specs.declared.key.FileKey.TheVariants as key
 use Rattle.chord_scenario.specs.declared.setting.Command.{Command}
 use Rattle.chord_scenario.specs.declared.setting.Node.{Node}
 use Rattle.chord_scenario.specs.Accepted.{setup_with, nodes_in, commands_in}
-use Rattle.chord_scenario.specs.Faults.{first_answer}
+use Rattle.chord_scenario.specs.Faults.{file_fault, first_answer}
 use Rattle.chord_scenario.specs.Groups.{key_questions, node_questions, late_questions}
 use Rattle.chord_scenario.specs.Latencies.{HasLatencies, square_or_zeros}
 use Rattle.chord_scenario.specs.Rows.{Row}
@@ -16,6 +19,7 @@ use Rattle.chord_scenario.specs.Settings.{nodes_of, commands_of}
 use Rattle.chord_scenario.specs.Values.{number_at}
 use Rattle.chord_scenario.proofs.InRange.{KeysFit, keys_fit, in_range}
 use Rattle.chord_scenario.proofs.LatencyFacts.{placed}
+use Rattle.chord_scenario.proofs.Questions.{first_answer-append}
 use Rattle.chord_scenario.proofs.Scenarios.{node_questions-distinct, latency-between}
 use Rattle.chord_scenario.proofs.Squares.{square_is}
 use Rattle.chord_scenario.proofs.reader.scenario_of.Goals as goal
@@ -42,6 +46,46 @@ module _ (top : Members) where
       → first_answer (late_questions top ss nodes rows) ≡ None
       → first_answer (late_questions top (sections top) (nodes_in top) rows) ≡ None
   late_sound ss nodes rows same own h = rw (← own, ← same) h
+
+-- the first fault of a file is that of its keys, or else of its nodes, or else of what links nodes
+module _ (top : Members) (rows : List Row) where
+  abbrev of_keys : Option ScenarioFault
+  of_keys = first_answer (key_questions (number_at key.Profile top) (number_at key.Bits top) (sections top))
+
+  abbrev of_nodes : Option ScenarioFault
+  of_nodes = first_answer (node_questions (sections top) (nodes_in top))
+
+  abbrev of_links : Option ScenarioFault
+  of_links = first_answer (late_questions top (sections top) (nodes_in top) rows)
+
+  fault_is : file_fault top rows ≡ option_or of_keys (option_or of_nodes of_links)
+  unfolding file_fault
+  fault_is =
+      let late = late_questions top (sections top) (nodes_in top) rows in
+      first_answer-append (key_questions (number_at key.Profile top) (number_at key.Bits top) (sections top))
+      (node_questions (sections top) (nodes_in top) ++ late)
+      ∙ ap (option_or of_keys) (first_answer-append (node_questions (sections top) (nodes_in top)) late)
+
+  first_of_keys : (e : ScenarioFault) → of_keys ≡ Some e → (e ≡ Memory) ⊎ (file_fault top rows ≡ Some e)
+  first_of_keys e fault = inr (fault_is ∙ ap (λ f. option_or f (option_or of_nodes of_links)) fault)
+
+  after_keys : of_keys ≡ None → file_fault top rows ≡ option_or of_nodes of_links
+  after_keys none = fault_is ∙ ap (λ f. option_or f (option_or of_nodes of_links)) none
+
+  after_nodes : of_keys ≡ None → of_nodes ≡ None → file_fault top rows ≡ of_links
+  after_nodes none none-2 = after_keys none ∙ ap (λ f. option_or f of_links) none-2
+
+  first_of_nodes : of_keys ≡ None → (ss : List Section) (nodes : List Node) → ss ≡ sections top → nodes ≡ nodes_in top
+      → (e : ScenarioFault) → (e ≡ Memory) ⊎ (first_answer (node_questions ss nodes) ≡ Some e) → (e ≡ Memory) ⊎ (file_fault top rows ≡ Some e)
+  first_of_nodes none ss nodes same own e (inl memory) = inl memory
+  first_of_nodes none ss nodes same own e (inr fault) =
+      let asked : of_nodes ≡ Some e = rw (← own, ← same) fault in inr (after_keys none ∙ ap (λ f. option_or f of_links) asked)
+
+  first_of_links : of_keys ≡ None → of_nodes ≡ None → (ss : List Section) (nodes : List Node) → ss ≡ sections top → nodes ≡ nodes_in top
+      → (e : ScenarioFault) → (e ≡ Memory) ⊎ (first_answer (late_questions top ss nodes rows) ≡ Some e) → (e ≡ Memory) ⊎ (file_fault top rows ≡ Some e)
+  first_of_links none none-2 ss nodes same own e (inl memory) = inl memory
+  first_of_links none none-2 ss nodes same own e (inr fault) =
+      let asked : of_links ≡ Some e = rw (← own, ← same) fault in inr (after_nodes none none-2 ∙ asked)
 
 pub checked_names-requires : goal.checked_names-requires
 checked_names-requires c =
@@ -104,3 +148,41 @@ returns-clause-values c =
       latencies = λ none i j x y apart hx hy. latency-between rows sc i j x y square linked.good distinct none apart hx hy;
       distances = placed sc;
     })
+
+pub returns-in_err-circle-clause-refused : goal.returns-in_err-circle-clause-refused
+returns-in_err-circle-clause-refused c =
+    let told = first_of_keys (table_view c.args.top.now) (rows_of c.args.csv.now) c.in_err-circle.field-0.0 c.in_err-circle.ensures.refused in
+    search (rules, told)
+
+pub returns-in_err-names-clause-refused : goal.returns-in_err-names-clause-refused
+returns-in_err-names-clause-refused c =
+    let top = table_view c.args.top.now in
+    let ss = map section_of c.as_slice-tables.result.now in
+    let tables = ap (map section_of) c.as_slice-tables.ensures.value ∙ c.in_ok-placed.ensures in
+    let own = own_nodes top c.in_ok-circle.circle ss c.in_ok-nodes.nodes.items c.in_ok-circle.ensures.value tables c.in_ok-nodes.ensures.value in
+    let told = first_of_nodes top (rows_of c.args.csv.now) c.in_ok-circle.ensures.sound ss c.as_slice.result.now tables (c.as_slice.ensures.value ∙ own)
+    c.in_err-names.field-0.0 c.in_err-names.ensures.refused in
+    search (rules, told)
+
+pub returns-in_err-linked-clause-refused : goal.returns-in_err-linked-clause-refused
+returns-in_err-linked-clause-refused c =
+    let top = table_view c.args.top.now in
+    let ss = map section_of c.as_slice-tables.result.now in
+    let tables = ap (map section_of) c.as_slice-tables.ensures.value ∙ c.in_ok-placed.ensures in
+    let own = own_nodes top c.in_ok-circle.circle ss c.in_ok-nodes.nodes.items c.in_ok-circle.ensures.value tables c.in_ok-nodes.ensures.value in
+    let asked = nodes_sound top ss c.as_slice.result.now tables (c.as_slice.ensures.value ∙ own) c.in_ok-names.ensures.sound in
+    let lent = c.in_ok-names.ensures.nodes ∙ c.as_slice.ensures.value ∙ own in
+    let told = first_of_links top (rows_of c.args.csv.now) c.in_ok-circle.ensures.sound asked ss c.in_ok-names.names.nodes.now tables lent
+    c.in_err-linked.field-0.0 c.in_err-linked.ensures.refused in
+    search (rules, told)
+
+pub returns-clause-sound : goal.returns-clause-sound
+returns-clause-sound c =
+    let top = table_view c.args.top.now in
+    let rows = rows_of c.args.csv.now in
+    let ss = map section_of c.as_slice-tables.result.now in
+    let tables = ap (map section_of) c.as_slice-tables.ensures.value ∙ c.in_ok-placed.ensures in
+    let own = own_nodes top c.in_ok-circle.circle ss c.in_ok-nodes.nodes.items c.in_ok-circle.ensures.value tables c.in_ok-nodes.ensures.value in
+    let asked = nodes_sound top ss c.as_slice.result.now tables (c.as_slice.ensures.value ∙ own) c.in_ok-names.ensures.sound in
+    let lent = c.in_ok-names.ensures.nodes ∙ c.as_slice.ensures.value ∙ own in
+    after_nodes top rows c.in_ok-circle.ensures.sound asked ∙ late_sound top ss c.in_ok-names.names.nodes.now rows tables lent c.in_ok-linked.ensures.sound

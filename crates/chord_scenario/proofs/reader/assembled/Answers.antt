@@ -1,0 +1,37 @@
+use Rattle.std.proofs.Common.{sym, subst, length}
+use Rattle.chord_scenario.specs.Latencies.{square_or_zeros}
+use Rattle.chord_scenario.specs.Range.{IsInRange}
+use Rattle.chord_scenario.proofs.reader.assembled.Goals as goal
+
+pub returns : goal.returns
+returns c = λ i. record {
+  profile = c.small_number_at.ensures i;
+  bits = c.requires.circle i;
+  list = c.small_number_at-2.ensures i;
+  seed = c.number_at.ensures i;
+  duration = c.number_at-2.ensures i;
+  window = c.number_at-3.ensures i;
+  latency = c.number_at-4.ensures i;
+  timeout = c.number_at-5.ensures i;
+  audit = c.number_at-6.ensures i;
+  stabilize = c.number_at-7.ensures i;
+  finger = c.number_at-8.ensures i;
+  jitter = c.number_or.ensures i;
+  max_events = c.number_or-2.ensures i;
+  loss = c.number_or-3.ensures i;
+  spread = c.number_or-4.ensures i;
+  retries = c.number_or-5.ensures i;
+  join_pause = c.number_or-6.ensures i;
+  join_forever = c.truth_at.ensures i;
+  check = c.number_or-7.ensures i;
+  detail = c.truth_at-2.ensures i;
+  churn = c.churn_of.ensures i;
+  lookups = c.lookups_of.ensures i;
+  nodes = c.args.nodes.items;
+  commands = c.args.linked.commands.items;
+  latencies = square_or_zeros (length c.args.nodes.items) c.args.linked.distances.cells.items;
+  coordinates = c.requires.coordinates i;
+}
+
+pub invariant_of-result : goal.invariant_of-result
+invariant_of-result c = subst IsInRange (sym (returns c)) c.requires.in_range
