@@ -1,7 +1,7 @@
 //! The text of an event's block.
-ghost use Rattle.std.specs.Prelude.{◌≡◌, ◌⊎◌, ◌<◌, ◌++◌, false, OnOk, IfErr, string_bytes};
+ghost use Rattle.std.specs.Prelude.{◌≡◌, ◌⊎◌, ◌<◌, ◌++◌, false, OnOk, IfErr, string_bytes, codes, decimal};
 ghost use Rattle.std.specs.Io.KnownBytes.{Appends};
-ghost use Rattle.chord_scenario.specs.World.{node_count};
+ghost use Rattle.chord_scenario.specs.World.{node_count, name_of};
 ghost use Rattle.chord_scenario.specs.Blocks.{IsBlockOf, IsLineOf};
 ghost use Rattle.chord_trace.specs.Texts.{message_text, message_words, command_text, line_words, line_text, block_text};
 ghost use Rattle.chord_trace.specs.Watched.{wrapped, has_failed};
@@ -75,33 +75,30 @@ fn push_words(text: &mut String, scenario: &Scenario, line: Line) -> Result<(), 
     ensures { OnOk result (string_bytes text.new ≡ string_bytes text.old ++ line_words scenario.now line) }
 {
     match line {
-        Line::Join { via } => write!(text, "join {}", scenario.name(via)),
-        Line::Member { predecessor } => write!(text, "member {}", scenario.name(predecessor)),
+        Line::Join { via } => push_node(text, scenario, "join ", via),
+        Line::Member { predecessor } => push_node(text, scenario, "member ", predecessor),
         Line::JoinFailed => text.push_str("join-failed"),
         Line::Crash => text.push_str("crash"),
-        Line::Stranded { via } => write!(text, "stranded {}", scenario.name(via)),
+        Line::Stranded { via } => push_node(text, scenario, "stranded ", via),
         Line::Drop { kind, sender } => push_message(text, scenario, "drop", kind, sender),
         Line::Late { kind, sender } => push_message(text, scenario, "late", kind, sender),
         Line::Lose { kind, receiver } => push_message(text, scenario, "lose", kind, receiver),
         Line::Again { kind, receiver } => push_message(text, scenario, "again", kind, receiver),
-        Line::Timeout { silent } => write!(text, "timeout {}", scenario.name(silent)),
-        Line::Forget { predecessor } => write!(text, "forget {}", scenario.name(predecessor)),
+        Line::Timeout { silent } => push_node(text, scenario, "timeout ", silent),
+        Line::Forget { predecessor } => push_node(text, scenario, "forget ", predecessor),
         Line::Ask {
             kind,
             receiver,
             call,
-        } => {
-            push_message(text, scenario, "ask", kind, receiver)?;
-            write!(text, " call={call}")
-        }
+        } => push_ask(text, scenario, kind, receiver, call),
         Line::Seek {
             receiver,
             call,
             key,
             since,
         } => {
-            push_message(text, scenario, "ask", MessageKind::Step, receiver)?;
-            write!(text, " call={call} key={} since={since}", key.raw())
+            push_ask(text, scenario, MessageKind::Step, receiver, call)?;
+            write!(text, " key={} since={since}", key.raw())
         }
         Line::Send { kind, receiver } => push_message(text, scenario, "send", kind, receiver),
         Line::Lookup { key } => write!(text, "lookup {}", key.raw()),
@@ -134,6 +131,35 @@ fn push_words(text: &mut String, scenario: &Scenario, line: Line) -> Result<(), 
         Line::Busy { key } => write!(text, "busy {}", key.raw()),
         Line::Ignored { command } => write!(text, "ignored {}", command_text(command)),
     }
+}
+
+/// Adds a word, which ends in a space, and the name of a node.
+fn push_node(
+    text: &mut String,
+    scenario: &Scenario,
+    word: &str,
+    node: u32,
+) -> Result<(), AllocError>
+    requires { node < node_count scenario.now }
+    ensures { OnOk result (string_bytes text.new ≡ string_bytes text.old ++ (word.now ++ name_of scenario.now node)) }
+{
+    text.push_str(word)?;
+    text.push_str(scenario.name(node))
+}
+
+/// Adds what a line says of a request: its kind, the other node, and the number of the call.
+fn push_ask(
+    text: &mut String,
+    scenario: &Scenario,
+    kind: MessageKind,
+    other: u32,
+    call: u64,
+) -> Result<(), AllocError>
+    requires { other < node_count scenario.now }
+    ensures { OnOk result (string_bytes text.new ≡ string_bytes text.old ++ (message_words scenario.now (codes "ask") kind other ++ codes " call=" ++ decimal call)) }
+{
+    push_message(text, scenario, "ask", kind, other)?;
+    write!(text, " call={call}")
 }
 
 /// Adds what a line says of a message: a word, the kind of the message and the other node.
