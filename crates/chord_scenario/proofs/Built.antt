@@ -8,6 +8,7 @@ use Rattle.std.proofs.Common.{
   ℕ,
   ◌+◌,
   ◌<◌,
+  ◌≤◌,
   Bool,
   true,
   false,
@@ -22,7 +23,7 @@ use Rattle.std.proofs.Common.{
   get_or,
   append_assoc,
 }
-use Rattle.std.proofs.lemmas.List.{drop_more}
+use Rattle.std.proofs.lemmas.List.{append-nil, drop_all, drop_more}
 use Rattle.chord_scenario.specs.declared.key.Place.{Place}
 use Rattle.chord_scenario.specs.declared.key.Place.TheVariants as place
 use Rattle.chord_scenario.specs.Settings.{is_node, is_command}
@@ -59,3 +60,8 @@ module _ {X A B : Type 0} (seen : X → A) (test : A → Bool) (make : A → B) 
   made-other before within is here =
       let next : made seen test make (x ∷ drop (i + 1) xs) ≡ made seen test make (drop (i + 1) xs) = rw here refl in
       ap (λ l. done ++ l) (sym (turn within is ∙ next)) ∙ before
+
+-- and at the end all is there
+pub made-all : {X A B : Type 0} (seen : X → A) (test : A → Bool) (make : A → B) (xs : List X) (i : ℕ) (done : List B)
+    → done ++ made seen test make (drop i xs) ≡ made seen test make xs → length xs ≤ i → done ≡ made seen test make xs
+made-all seen test make xs i done before over = sym (append-nil done) ∙ ap (λ l. done ++ made seen test make l) (sym (drop_all i xs over)) ∙ before

@@ -92,3 +92,12 @@ meeting-here meets nodes i x y before within is here =
     let turn : first_meeting meets (drop i nodes) ≡ first_meeting meets (x ∷ drop (i + 1) nodes) = ap (first_meeting meets)
     (drop_more nodes i x within ∙ ap (λ z. z ∷ drop (i + 1) nodes) (sym is)) in
     sym (turn ∙ rw here) ∙ before
+
+-- and the one after which no node meets it is passed over
+pub meeting-next : (meets : Node → Node → Bool) (nodes : List Node) (i : ℕ) (x : Node)
+    → first_meeting meets (drop i nodes) ≡ first_meeting meets nodes → i < length nodes → x ≡ get_or nodes i x
+    → find (meets x) (drop (i + 1) nodes) ≡ None → first_meeting meets (drop (i + 1) nodes) ≡ first_meeting meets nodes
+meeting-next meets nodes i x before within is none =
+    let turn : first_meeting meets (drop i nodes) ≡ first_meeting meets (x ∷ drop (i + 1) nodes) = ap (first_meeting meets)
+    (drop_more nodes i x within ∙ ap (λ z. z ∷ drop (i + 1) nodes) (sym is)) in
+    sym (turn ∙ rw none) ∙ before

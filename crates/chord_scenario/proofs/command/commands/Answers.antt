@@ -1,4 +1,4 @@
-use Rattle.std.proofs.Common.{◌≡◌, ◌∙◌, ap, ℕ, List, [], ◌∷◌, ◌++◌, Vec, Global}
+use Rattle.std.proofs.Common.{◌≡◌, ◌∙◌, ap, refl, ℕ, List, [], ◌∷◌, ◌++◌, Vec, Global}
 use Rattle.toml.specs.Data.{Members}
 use Rattle.toml.specs.View.{table_view}
 use Rattle.chord_scenario.specs.declared.key.FileKey.TheVariants as key
@@ -8,7 +8,7 @@ use Rattle.chord_scenario.specs.declared.setting.Node.{Node}
 use Rattle.chord_scenario.specs.Sections.{Section, section_of}
 use Rattle.chord_scenario.specs.Settings.{is_command, node_at, action_of, command_of, commands_of}
 use Rattle.chord_scenario.specs.Values.{number_at}
-use Rattle.chord_scenario.proofs.Built.{no-command, made-more, made-other}
+use Rattle.chord_scenario.proofs.Built.{no-command, made-more, made-other, made-all}
 use Rattle.chord_scenario.proofs.command.commands.Goals as goal
 use Rattle.chord_scenario.proofs.command.commands.Goals.{in-Command+in_ok-push, in_default}
 
@@ -39,3 +39,12 @@ loop-table-preserved c =
           (made-other section_of (λ s. is_command s.at) of c.args.tables.now c.loop-table.table-index t c.loop-table.commands.items
           before c.loop-table-test.true c.table-item.is (no-command t.at (λ n e. w.in_default.not-Command n e)))
     ]
+
+pub loop-table-init : goal.loop-table-init
+loop-table-init c = rw c.new-commands.ensures.items refl
+
+pub returns : goal.returns
+unfolding commands_of
+returns c =
+    made-all section_of (λ s. is_command s.at) (λ s. command_of c.args.circle c.args.names.now.nodes.now s.members) c.args.tables.now c.loop-table.table-index
+    c.loop-table.commands.items c.loop-table.invariant c.loop-table-test.false

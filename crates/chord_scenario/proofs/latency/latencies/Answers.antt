@@ -32,6 +32,7 @@ use Rattle.chord_scenario.specs.declared.latency.Ends.{Ends}
 use Rattle.chord_scenario.specs.declared.row.RowLink.{RowLink}
 use Rattle.std.proofs.lemmas.List.{take_more, take_all, length-map, drop_all, get_or-map}
 use Rattle.csv.proofs.ReadFacts.{get-same}
+use Rattle.std.proofs.lemmas.Nat.{mul-le}
 use Rattle.std.proofs.lemmas.Option.{same_Some, slice_get-get_or}
 use Rattle.chord_scenario.specs.Search.{Repeat, first_repeat}
 use Rattle.chord_scenario.specs.declared.key.Place.TheVariants as place
@@ -178,3 +179,29 @@ returns-clause-square c =
     let all : HasLatencies nodes rows c.loop-i.cells.items =
     subst (λ l. HasLatencies nodes l c.loop-i.cells.items) (take_all c.loop-i.i rows over) c.loop-i.invariant.has in
     rw (square-full (length nodes) c.loop-i.cells.items all.size) all
+
+-- a square for at most 65,536 nodes has fewer than 2 ^ 64 cells
+square_fits : (n : ℕ) → n ≤ 65536 → n * n < 18446744073709551616
+square_fits n few = omega (arith, mul-le n n 65536 65536 few few)
+
+pub overflow_mul-n : goal.overflow_mul-n
+overflow_mul-n c = omega (arith, square_fits (length c.args.rows.now.names.nodes.now) c.requires.few)
+
+pub cell_of-place-requires-clause-fits : goal.cell_of-place-requires-clause-fits
+cell_of-place-requires-clause-fits c = square_fits (length c.args.rows.now.names.nodes.now) c.requires.few
+
+pub cell_of-mirrored-requires-clause-fits : goal.cell_of-mirrored-requires-clause-fits
+cell_of-mirrored-requires-clause-fits c = square_fits (length c.args.rows.now.names.nodes.now) c.requires.few
+
+pub cell_of-mirrored-requires-clause-column : goal.cell_of-mirrored-requires-clause-column
+cell_of-mirrored-requires-clause-column c =
+    let nodes = c.args.rows.now.names.nodes.now in
+    let a = at nodes (rows_of c.args.rows.now.text.now) c.deref-row-items.result.now c.loop-i.i
+    (c.deref-row-items.ensures.value ∙ c.args.rows.now.kept) c.loop-i-test.true in
+    let e = kept_ends nodes a.row c.ends_of-ends.result (subst (λ k. KeepsEnds k c.ends_of-ends.result) a.is c.ends_of-ends.ensures) in
+    index_of-below nodes c.ends_of-ends.result.first e.link.first e.first
+
+pub loop-i-init : goal.loop-i-init
+loop-i-init c =
+    let zeros = c.in_ok-cells.ensures.items_if_clones_equal (λ _ e. e) in
+    record { has = rw zeros (zeros_have c.args.rows.now.names.nodes.now); first = refl }

@@ -1,10 +1,12 @@
 use Rattle.std.proofs.Common.{◌≡◌, ◌∙◌, sym, ap, nat_lt, Some, option_map, option_copied}
+use Rattle.std.proofs.lemmas.List.{drop_all}
 use Rattle.std.proofs.lemmas.Option.{slice_get-get_or}
 use Rattle.chord_scenario.specs.declared.setting.Node.{Node}
 use Rattle.chord_scenario.specs.declared.fault.ScenarioFault.TheVariants.{LatencyBelowWindow}
+use Rattle.chord_scenario.specs.Search.{first_meeting}
 use Rattle.chord_scenario.specs.Rows.{rows_of}
 use Rattle.chord_scenario.specs.Faults.{latency_by_rows, latency_below_window}
-use Rattle.chord_scenario.proofs.WindowCheckLemmas.{meeting-here}
+use Rattle.chord_scenario.proofs.WindowCheckLemmas.{meeting-here, meeting-next}
 use Rattle.chord_scenario.proofs.NoRows.{no_rows, far_by_default}
 use Rattle.chord_scenario.proofs.window_check.latency_below_window.Goals as goal
 
@@ -27,3 +29,16 @@ returns-in-Some c =
     let first = meeting-here meets c.args.nodes.now c.loop-i.i c.index-nodes-i.result c.in-Some.other.now c.loop-i.invariant c.loop-i-test.true
     c.index-nodes-i.is (sym c.near_after.ensures ∙ ap option_copied c.in-Some.is) in
     rw (one, two) (ap (option_map (λ (p : Node × Node). LatencyBelowWindow p.0.name p.1.name)) first)
+
+pub loop-i-preserved : goal.loop-i-preserved
+loop-i-preserved c =
+    let meets = λ (x y : Node). nat_lt (latency_by_rows c.args.default (rows_of c.args.rows.now.text.now) x y) c.args.window in
+    meeting-next meets c.args.nodes.now c.loop-i.i c.index-nodes-i.result c.loop-i.invariant c.loop-i-test.true c.index-nodes-i.is
+    (sym c.near_after.ensures ∙ ap option_copied c.in_default.is)
+
+pub returns : goal.returns
+unfolding latency_below_window
+returns c =
+    let meets = λ (x y : Node). nat_lt (latency_by_rows c.args.default (rows_of c.args.rows.now.text.now) x y) c.args.window in
+    let none = ap (first_meeting meets) (sym (drop_all c.loop-i.i c.args.nodes.now c.loop-i-test.false)) ∙ c.loop-i.invariant in
+    ap (option_map (λ (p : Node × Node). LatencyBelowWindow p.0.name p.1.name)) none
