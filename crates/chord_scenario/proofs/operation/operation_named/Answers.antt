@@ -21,4 +21,8 @@ other name word differ = false_from_ne_true (bytes_eq name word) (λ same. diffe
 pub returns-in_default : goal.returns-in_default
 returns-in_default c =
     let word = c.args.word.now in
-    rw (other (codes "join") word c.in_default.not-join, other (codes "crash") word c.in_default.not-crash, other (codes "lookup") word c.in_default.not-lookup) refl
+    rw (
+      other (codes "join") word c.in_default.not-join,
+      other (codes "crash") word c.in_default.not-crash,
+      other (codes "lookup") word c.in_default.not-lookup,
+    ) refl

@@ -1,4 +1,5 @@
-use Rattle.std.proofs.Common.{◌≡◌, ◌∙◌, sym, ap, subst, ℕ, List, Bor, Option, Some, IfSome, option_map, option_copied, slice_get, is_some, nat_lt, length, get_or}
+use Rattle.std.proofs.Common.{◌≡◌, ◌∙◌, sym, ap, subst, ℕ, List, Bor, Option, Some, IfSome, option_map, option_copied, slice_get}
+use Rattle.std.proofs.Common.{is_some, nat_lt, length, get_or}
 use Rattle.std.specs.List.{All}
 use Rattle.std.specs.Option.{option_and_then}
 use Rattle.std.proofs.lemmas.Option.{get_or_from_slice_get, slice_get_within}
@@ -35,7 +36,8 @@ returns-in_default-get c =
     let seen = c.deref.ensures.value ∙ ap (λ (s : Setup). s.coordinates) c.self.view_is in
     let seen-2 = c.deref-2.ensures.value ∙ ap (λ (s : Setup). s.coordinates) c.self.view_is in
     let from = at_node sc c.deref.result.now c.args.from c.get.result seen c.get.ensures.lookup.0 c.get.ensures.lookup.1 ∙ ap option_copied c.in-Some.is in
-    let to = at_node sc c.deref-2.result.now c.args.to c.get-2.result seen-2 c.get-2.ensures.lookup.0 c.get-2.ensures.lookup.1 ∙ ap option_copied c.in_default-get.is in
+    let to = at_node sc c.deref-2.result.now c.args.to c.get-2.result seen-2 c.get-2.ensures.lookup.0 c.get-2.ensures.lookup.1
+    ∙ ap option_copied c.in_default-get.is in
     sym (ap (λ one. between one (slice_get sc.coordinates c.args.to)) from ∙ ap (between (Some c.in-Some.here.now)) to)
 
 pub latency_to-requires-clause-here : goal.latency_to-requires-clause-here
@@ -49,7 +51,8 @@ pub latency_to-requires-clause-there : goal.latency_to-requires-clause-there
 latency_to-requires-clause-there c =
     let sc = c.args.self.now in
     let seen = c.deref-2.ensures.value ∙ ap (λ (s : Setup). s.coordinates) c.self.view_is in
-    let to = at_node sc c.deref-2.result.now c.args.to c.get-2.result seen c.get-2.ensures.lookup.0 c.get-2.ensures.lookup.1 ∙ ap option_copied c.in-Some-get.is in
+    let to = at_node sc c.deref-2.result.now c.args.to c.get-2.result seen c.get-2.ensures.lookup.0 c.get-2.ensures.lookup.1
+    ∙ ap option_copied c.in-Some-get.is in
     is_place sc.coordinates c.args.to c.in-Some-get.there.now c.recall_range.ensures.coordinates.places to
 
 pub returns : goal.returns
@@ -58,5 +61,6 @@ returns c =
     let seen = c.deref.ensures.value ∙ ap (λ (s : Setup). s.coordinates) c.self.view_is in
     let seen-2 = c.deref-2.ensures.value ∙ ap (λ (s : Setup). s.coordinates) c.self.view_is in
     let from = at_node sc c.deref.result.now c.args.from c.get.result seen c.get.ensures.lookup.0 c.get.ensures.lookup.1 ∙ ap option_copied c.in-Some.is in
-    let to = at_node sc c.deref-2.result.now c.args.to c.get-2.result seen-2 c.get-2.ensures.lookup.0 c.get-2.ensures.lookup.1 ∙ ap option_copied c.in-Some-get.is in
+    let to = at_node sc c.deref-2.result.now c.args.to c.get-2.result seen-2 c.get-2.ensures.lookup.0 c.get-2.ensures.lookup.1
+    ∙ ap option_copied c.in-Some-get.is in
     ap Some c.latency_to.ensures ∙ sym (ap (λ one. between one (slice_get sc.coordinates c.args.to)) from ∙ ap (between (Some c.in-Some.here.now)) to)
