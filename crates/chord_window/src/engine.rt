@@ -24,6 +24,7 @@ use chord_scenario::Scenario;
 use chord_trace::{Report, Tally, Watched, merge_blocks, write_block};
 use std::alloc::Global;
 use std::io::Write;
+use std::mem;
 
 /// A run by windows: the world, the audits that are still to come, and what the report has so far.
 #[doc(hidden)]
@@ -81,38 +82,34 @@ impl Engine {
         })
     }
 
-    /// The same run, with another division of the nodes from the next window on. The scenario is
-    /// the one that the run was started from. After an error the run cannot go on.
+    /// Divides the nodes again, from the next window on. The scenario is the one that the run was
+    /// started from. After an error the run cannot go on.
     ///
     /// # Errors
     ///
     /// `BadDivision`, if the division has another number of nodes than the scenario; `Memory`.
     pub fn redivide(
-        self,
+        &mut self,
         alloc: Global,
         scenario: &Scenario,
         division: &Division,
-    ) -> Result<Engine, RunError>
-        requires at { (old : Option (List ℕ)) × (now : Option (List ℕ)) × IsAt scenario.now old now self }
-        ensures at { IfOk result (λ engine. (old now : Option (List ℕ)) → IsAt scenario.now old now self → IsAt scenario.now old now engine) }
-        ensures count { IfOk result (λ engine. engine.world.count ≡ self.world.count) }
-        ensures opening { IfOk result (λ engine. engine.world.opening ≡ self.world.opening) }
-        ensures division { IfOk result (λ engine. engine.world.division ≡ division.now) }
+    ) -> Result<(), RunError>
+        requires at { (old : Option (List ℕ)) × (now : Option (List ℕ)) × IsAt scenario.now old now self.old }
+        ensures at { OnOk result ((old now : Option (List ℕ)) → IsAt scenario.now old now self.old → IsAt scenario.now old now self.new) }
+        ensures count { OnOk result (self.new.world.count ≡ self.old.world.count) }
+        ensures opening { OnOk result (self.new.world.opening ≡ self.old.world.opening) }
+        ensures division { OnOk result (self.new.world.division ≡ division.now) }
         ensures bad { result ≡ Err RunError.BadDivision → length division.now.of_node ≢ node_count scenario.now }
         ensures only { IfErr result (λ e. (e ≡ RunError.Memory) ⊎ (e ≡ RunError.BadDivision)) }
     {
-        let Engine {
-            world,
-            clock,
-            mut tallies,
-        } = self;
-        let world = world.redivide(alloc, scenario, division)?;
-        add_tallies(alloc, scenario.profile(), &mut tallies, division.parts())?;
-        Ok(Engine {
-            world,
-            clock,
-            tallies,
-        })
+        self.world.divide_again(alloc, scenario, division)?;
+        add_tallies(
+            alloc,
+            scenario.profile(),
+            &mut self.tallies,
+            division.parts(),
+        )?;
+        Ok(())
     }
 
     /// The world that the windows so far have left.
@@ -129,36 +126,32 @@ impl Engine {
         self.world.opening
     }
 
-    /// Writes the remaining audits, and makes the report.
+    /// Writes the remaining audits, and makes the report. The run is over then.
     pub fn finish<W: Write>(
-        self,
+        &mut self,
         alloc: Global,
         scenario: &Scenario,
         writer: &mut Watched<W>,
     ) -> Result<Report, RunError>
-        requires at { (old : Option (List ℕ)) × IsAt scenario.now old (W.contents (wrapped writer.old)) self }
-        requires ended { self.world.opening ≡ None }
+        requires at { (old : Option (List ℕ)) × IsAt scenario.now old (W.contents (wrapped writer.old)) self.old }
+        requires ended { self.old.world.opening ≡ None }
         requires sound { has_failed writer.old ≡ false }
-        ensures run { (old : Option (List ℕ)) → IsAt scenario.now old (W.contents (wrapped writer.old)) self → IsRun scenario.now old (W.contents (wrapped writer.new)) result }
+        ensures run { (old : Option (List ℕ)) → IsAt scenario.now old (W.contents (wrapped writer.old)) self.old → IsRun scenario.now old (W.contents (wrapped writer.new)) result }
         ensures writer { has_failed writer.new ≡ is_write result }
         ensures only { IfErr result (λ e. (e ≡ RunError.Memory) ⊎ (e ≡ RunError.Write)) }
     {
         scenario.recall_range();
         self.world.division.recall_division();
-        let Engine {
-            world,
-            mut clock,
-            mut tallies,
-        } = self;
         put_audits(
             alloc,
             scenario,
-            world.states.as_slice(),
+            self.world.states.as_slice(),
             scenario.duration(),
-            &mut clock,
-            &mut tallies[0],
+            &mut self.clock,
+            &mut self.tallies[0],
             writer,
         )?;
+        let tallies = mem::replace(&mut self.tallies, Vec::new(alloc));
         let tally = join_all(alloc, scenario.profile(), tallies)?;
         Ok(tally.report())
     }

@@ -4,6 +4,7 @@ ghost use Rattle.chord_output.specs.Runs.{IsRun};
 ghost use Rattle.chord_scenario.specs.World.{node_count};
 ghost use Rattle.chord_trace.specs.Watched.{wrapped, has_failed};
 ghost use Rattle.chord_trace.specs.Writing.{is_write};
+ghost use Rattle.chord_window.specs.Engine.{IsAt};
 ghost use Rattle.chord_window.specs.PickedRuns.{AreStepsOf, report_in};
 
 use crate::division::Division;
@@ -44,8 +45,32 @@ pub fn run_picked<W: Write>(
     ensures bad { result ≡ Err RunError.BadDivision → (length division.now.of_node ≢ node_count scenario.now) × (writer.new ≡ writer.old) }
     ensures only { IfErr result (λ e. (e ≡ RunError.Memory) ⊎ (e ≡ RunError.TooManyEvents) ⊎ (e ≡ RunError.Write) ⊎ (e ≡ RunError.BadDivision)) }
 {
-    scenario.recall_range();
     let mut engine = Engine::start(alloc, scenario, division)?;
+    let outcome = run_windows(&mut engine, alloc, scenario, workers, picks, writer);
+    // By one call: at each end of a function a struct is dropped field by field.
+    drop(engine);
+    outcome
+}
+
+/// Runs the windows of a run that has started, and finishes it.
+fn run_windows<W: Write>(
+    engine: &mut Engine,
+    alloc: Global,
+    scenario: &Scenario,
+    workers: u32,
+    picks: &[u32],
+    writer: &mut Watched<W>,
+) -> Result<(Report, Vec<Taken>), RunError>
+    requires at { IsAt scenario.now (W.contents (wrapped writer.old)) (W.contents (wrapped writer.old)) engine.old }
+    requires count { engine.old.world.count ≡ 0 }
+    requires workers { (0 < workers) × (workers ≤ 64) }
+    requires sound { has_failed writer.old ≡ false }
+    ensures run { IsRun scenario.now (W.contents (wrapped writer.old)) (W.contents (wrapped writer.new)) (report_in result) }
+    ensures steps { IfOk result (λ run. AreStepsOf scenario.now engine.old.world.division workers picks.now run.1.items) }
+    ensures writer { has_failed writer.new ≡ is_write result }
+    ensures only { IfErr result (λ e. (e ≡ RunError.Memory) ⊎ (e ≡ RunError.TooManyEvents) ⊎ (e ≡ RunError.Write)) }
+{
+    scenario.recall_range();
     let mut picked = PickedWindow::new(alloc, workers)?;
     let mut next = 0;
     let mut taken = Vec::new(alloc);

@@ -12,6 +12,6 @@ loop-part-preserved c =
     record {
       can_next = tt;
       is_finite = tt;
-      whole = ap (λ l. l ++ rest) c.in_ok-move_to.ensures ∙ append_assoc c.loop-part.list.items (events_of c.in-Some.part) rest
+      whole = ap (λ l. l ++ rest) c.in_ok-moved.ensures ∙ append_assoc c.loop-part.list.items (events_of c.in-Some.part) rest
           ∙ ap (λ l. c.loop-part.list.items ++ l) (sym (ap (flat_map events_of) c.in-Some.ensures.steps.0)) ∙ c.loop-part.invariant.whole;
     }

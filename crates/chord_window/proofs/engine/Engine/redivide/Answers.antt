@@ -7,8 +7,8 @@ use Rattle.chord_window.proofs.engine.Engine.redivide.Goals as goal
 
 pub returns-clause-at : goal.returns-clause-at
 returns-clause-at c = λ old now at.
-    let f : Engine = record { world = c.in_ok-world.world; clock = c.args.self.clock; tallies = c.add_tallies.new.tallies } in
-    at_divided c.args.scenario.now old now c.args.self f c.in_ok-world.ensures.world c.in_ok-world.ensures.count refl
-    (omega (arith, c.in_ok-add_tallies.ensures.each, c.parts.ensures, ap (λ (d : Division). d.parts) c.in_ok-world.ensures.division))
-    (λ pieces. subst (λ (p : ℕ). HaveTallied p pieces c.args.self.tallies.items → HaveTallied p pieces c.add_tallies.new.tallies.items) c.profile.ensures
+    let f : Engine = record { world = c.divide_again.new.self; clock = c.args.self.now.clock; tallies = c.add_tallies.new.tallies } in
+    at_divided c.args.scenario.now old now c.args.self.now f c.in_ok-divide_again.ensures.world c.in_ok-divide_again.ensures.count refl
+    (omega (arith, c.in_ok-add_tallies.ensures.each, c.parts.ensures, ap (λ (d : Division). d.parts) c.in_ok-divide_again.ensures.division))
+    (λ pieces. subst (λ (p : ℕ). HaveTallied p pieces c.args.self.now.tallies.items → HaveTallied p pieces c.add_tallies.new.tallies.items) c.profile.ensures
     (c.in_ok-add_tallies.ensures.pieces pieces)) at
