@@ -5,6 +5,7 @@ ghost use Rattle.chord_output.specs.Runs.{IsRun};
 ghost use Rattle.chord_scenario.specs.World.{node_count};
 ghost use Rattle.chord_trace.specs.Watched.{wrapped, has_failed};
 ghost use Rattle.chord_trace.specs.Writing.{is_write};
+ghost use Rattle.chord_window.specs.Engine.{IsAt};
 ghost use Rattle.chord_window.specs.Exchanges.{AreDone};
 ghost use Rattle.chord_window.specs.PartRuns.{IsNextWindow};
 
@@ -121,8 +122,41 @@ pub fn run_crew_started<R: Threads + Wait + Sync, S: Starter, G: Gate + Sync, W:
     ensures divides { OnOk result (length division.now.of_node ≡ node_count scenario.now) }
     ensures bad { result ≡ Err RunError.BadDivision → (length division.now.of_node ≢ node_count scenario.now) × (writer.new ≡ writer.old) }
 {
-    scenario.recall_range();
     let mut engine = Engine::start(alloc, scenario, division)?;
+    let outcome = run_windows(
+        rt,
+        &mut engine,
+        alloc,
+        scenario,
+        workers,
+        starter,
+        gate,
+        writer,
+    );
+    // By one call: at each end of a function a struct is dropped field by field.
+    drop(engine);
+    outcome
+}
+
+/// Runs the windows of a run that has started, and finishes it.
+fn run_windows<R: Threads + Wait + Sync, S: Starter, G: Gate + Sync, W: Write>(
+    rt: &R,
+    engine: &mut Engine,
+    alloc: Global,
+    scenario: &Scenario,
+    workers: u32,
+    starter: &mut S,
+    gate: &G,
+    writer: &mut Watched<W>,
+) -> Result<Report, RunError>
+    requires at { IsAt scenario.now (W.contents (wrapped writer.old)) (W.contents (wrapped writer.old)) engine.old }
+    requires workers { (0 < workers) × (workers ≤ MOST_SEATS) }
+    requires sound { has_failed writer.old ≡ false }
+    ensures run { IsRun scenario.now (W.contents (wrapped writer.old)) (W.contents (wrapped writer.new)) result }
+    ensures writer { has_failed writer.new ≡ is_write result }
+    ensures only { IfErr result (λ e. (e ≡ RunError.Worker) ⊎ (e ≡ RunError.Memory) ⊎ (e ≡ RunError.TooManyEvents) ⊎ (e ≡ RunError.Write)) }
+{
+    scenario.recall_range();
     while let Some(opening) = engine.opening() {
         let window = Window {
             alloc,

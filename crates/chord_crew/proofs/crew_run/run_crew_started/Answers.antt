@@ -1,25 +1,4 @@
-use Rattle.std.proofs.Common.{◌∙◌, ap, rules, subst, sym, Err}
-use Rattle.chord_output.proofs.Runs.{run_stopped}
-use Rattle.chord_window.specs.declared.world.World.{World}
-use Rattle.chord_window.specs.Worlds.{IsWorldOf}
-use Rattle.chord_window.proofs.EngineCourse.{begin_at}
 use Rattle.chord_crew.proofs.crew_run.run_crew_started.Goals as goal
 
-pub loop-opening-init : goal.loop-opening-init
-loop-opening-init g c = record { at = c.in_ok-engine.ensures.at _; sound = c.requires.sound }
-
-pub run_parts-requires-clause-window : goal.run_parts-requires-clause-window
-run_parts-requires-clause-window g c _ _ = record {
-  world = subst (IsWorldOf c.args.scenario.now) (sym c.world.ensures) c.loop-opening.invariant.at.world;
-  next = (c.in-Some.opening.time, ap (λ (w : World). w.opening) c.world.ensures ∙ sym c.opening.ensures ∙ c.in-Some.is);
-}
-
-pub returns-in_err-dones-clause-run : goal.returns-in_err-dones-clause-run
-returns-in_err-dones-clause-run g c = run_stopped c.args.scenario.now _ _ _ c.in_err-dones.field-0.0 (search (rules, c.from_residual-in_err-dones.ensures))
-    (λ is. c.in_err-dones.ensures.over (ap Err is)) (begin_at c.args.scenario.now _ _ c.loop-opening.engine c.loop-opening.invariant.at)
-
-pub finish-requires-clause-ended : goal.finish-requires-clause-ended
-finish-requires-clause-ended g c = search rules
-
-pub returns-clause-run : goal.returns-clause-run
-returns-clause-run g c = search rules
+pub run_windows-outcome-requires-clause-at : goal.run_windows-outcome-requires-clause-at
+run_windows-outcome-requires-clause-at g c _ _ = c.in_ok-engine.ensures.at _

@@ -1,15 +1,8 @@
-use Rattle.std.proofs.Common.{◌≡◌, ◌≢◌, rules, ℕ, ◌≤◌, ◌∙◌, length, get_or, ap, arith, subst, sym, Err}
+use Rattle.std.proofs.Common.{◌≡◌, ◌≢◌, rules, ◌∙◌, length, ap}
 use Rattle.std.proofs.lemmas.List.FromFn.{length-map-range_with_len}
-use Rattle.chord_event.specs.declared.error.RunError.TheVariants as run
 use Rattle.chord_model.specs.Windows.{Division}
-use Rattle.chord_output.proofs.Runs.{run_refused, run_stopped}
 use Rattle.chord_scenario.specs.World.{node_count}
-use Rattle.chord_window.specs.declared.world.World.{World}
 use Rattle.chord_window.specs.Divisions.{dealt_part}
-use Rattle.chord_window.specs.Exchanges.{AreDone}
-use Rattle.chord_window.specs.Worlds.{IsWorldOf}
-use Rattle.chord_window.proofs.EngineCourse.{begin_at}
-use Rattle.chord_crew.proofs.EventCounts.{all_nought, as_long, loads_fit, still_few, targets_fit}
 use Rattle.chord_crew.proofs.dealt_run.run_crew_dealt.Goals as goal
 
 pub returns-in_err-engine-clause-bad : goal.returns-in_err-engine-clause-bad
@@ -19,124 +12,5 @@ returns-in_err-engine-clause-bad g c is =
     let other : length c.in_ok-whole.whole.of_node ≢ node_count c.args.scenario.now = search (rules, c.in_err-engine.ensures.bad) in
     absurd (other long)
 
-pub loop-opening-init : goal.loop-opening-init
-loop-opening-init g c =
-    let noughts = c.in_ok-loads.ensures.items_if_clones_equal (λ _ e. e) in
-    record {
-      at = c.in_ok-engine.ensures.at _;
-      sound = c.requires.sound;
-      long = as_long c.nodes-2.result c.in_ok-loads.loads.items noughts ∙ c.nodes-2.ensures;
-      few = λ node. omega (arith, all_nought c.nodes-2.result node c.in_ok-loads.loads.items noughts);
-    }
-
-pub returns-in_err-loads-clause-run : goal.returns-in_err-loads-clause-run
-returns-in_err-loads-clause-run g c = run_refused c.args.scenario.now _ _ run.Memory (search (rules, c.from_residual-in_err-loads.ensures)) (λ over. cc)
-
-pub returns-in_err-division-clause-run : goal.returns-in_err-division-clause-run
-returns-in_err-division-clause-run g c = run_stopped c.args.scenario.now _ _ _ run.Memory (search (rules, c.from_residual-in_err-division.ensures))
-    (λ is. cc) (begin_at c.args.scenario.now _ _ c.loop-opening.engine c.loop-opening.invariant.at)
-
-pub returns-in_err-engine-2-clause-run : goal.returns-in_err-engine-2-clause-run
-returns-in_err-engine-2-clause-run g c = run_stopped c.args.scenario.now _ _ _ c.in_err-engine-2.field-0.0 (search (rules, c.from_residual-in_err-engine-2.ensures))
-    (λ is. search (rules, is, c.in_err-engine-2.ensures.only)) (begin_at c.args.scenario.now _ _ c.loop-opening.engine c.loop-opening.invariant.at)
-
-pub returns-in_err-dones-clause-run : goal.returns-in_err-dones-clause-run
-returns-in_err-dones-clause-run g c = run_stopped c.args.scenario.now _ _ _ c.in_err-dones.field-0.0 (search (rules, c.from_residual-in_err-dones.ensures))
-    (λ is. c.in_err-dones.ensures.over (ap Err is)) (begin_at c.args.scenario.now _ _ c.loop-opening.engine c.loop-opening.invariant.at)
-
-pub run_parts-requires-clause-window : goal.run_parts-requires-clause-window
-run_parts-requires-clause-window g c _ _ = record {
-  world = subst (IsWorldOf c.args.scenario.now) (sym c.world.ensures) (c.in_ok-engine-2.ensures.at _ _ c.loop-opening.invariant.at).world;
-  next = (
-    c.in-Some.opening.time,
-    ap (λ (w : World). w.opening) c.world.ensures ∙ (c.in_ok-engine-2.ensures.opening ∙ (sym c.opening.ensures ∙ c.in-Some.is)),
-  );
-}
-
-pub count_events-requires-clause-targets : goal.count_events-requires-clause-targets
-count_events-requires-clause-targets g c =
-    targets_fit c.args.scenario.now c.world.result.now c.in-Some.opening.horizon c.in_ok-dones.dones.items c.as_slice-in-Some.result.now
-    c.loop-opening.loads.items c.in_ok-dones.ensures.done c.as_slice-in-Some.ensures.value c.loop-opening.invariant.long
-
-pub count_events-requires-clause-room : goal.count_events-requires-clause-room
-count_events-requires-clause-room g c =
-    let world = c.world.result.now in
-    let count : world.count ≡ c.loop-opening.engine.world.count = ap (λ (w : World). w.count) c.world.ensures ∙ c.in_ok-engine-2.ensures.count in
-    let few : (node : ℕ) → get_or c.loop-opening.loads.items node 0 ≤ world.count = λ node. omega (arith, count, c.loop-opening.invariant.few node) in
-    let parts : world.division.parts ≤ 512 = omega (
-      arith,
-      ap (λ (w : World). w.division.parts) c.world.ensures,
-      ap (λ (d : Division). d.parts) c.in_ok-engine-2.ensures.division,
-      ap (λ (d : Division). d.parts) c.division.view_is,
-      c.division.invariant.few,
-    ) in
-    loads_fit c.args.scenario.now world c.in-Some.opening.horizon c.in_ok-dones.dones.items c.as_slice-in-Some.result.now c.loop-opening.loads.items
-    c.in_ok-dones.ensures.done c.as_slice-in-Some.ensures.value few (omega (arith, count, c.loop-opening.invariant.at.world.within))
-    c.recall_range.ensures.numbers.max_events_greatest parts
-
-pub loop-opening-preserved : goal.loop-opening-preserved
-loop-opening-preserved g c =
-    let world = c.world.result.now in
-    let count : world.count ≡ c.loop-opening.engine.world.count = ap (λ (w : World). w.count) c.world.ensures ∙ c.in_ok-engine-2.ensures.count in
-    let few : (node : ℕ) → get_or c.loop-opening.loads.items node 0 ≤ world.count = λ node. omega (arith, count, c.loop-opening.invariant.few node) in
-    record {
-      at = c.in_ok-put_window.ensures.at _ (c.in_ok-engine-2.ensures.at _ _ c.loop-opening.invariant.at);
-      sound = c.in_ok-put_window.ensures.writer;
-      long = c.count_events.ensures.long ∙ c.loop-opening.invariant.long;
-      few = still_few c.args.scenario.now world c.in-Some.opening.horizon _ c.in_ok-dones.dones.items c.as_slice-in-Some.result.now
-          c.loop-opening.loads.items _ c.in_ok-dones.ensures.done c.as_slice-in-Some.ensures.value few c.count_events.ensures.counted
-          (omega (arith, c.in_ok-put_window.ensures.count, count, c.in_ok-engine-2.ensures.count));
-    }
-
-pub returns-in_err-put_window-clause-run : goal.returns-in_err-put_window-clause-run
-returns-in_err-put_window-clause-run g c = run_stopped c.args.scenario.now _ _ _ c.in_err-put_window.field-0.0
-    (search (rules, c.from_residual-in_err-put_window.ensures)) (λ is. c.in_err-put_window.ensures.over (ap Err is))
-    (c.put_window.ensures.front _ (c.in_ok-engine-2.ensures.at _ _ c.loop-opening.invariant.at))
-
-pub redivide-requires : goal.redivide-requires
-redivide-requires g c = record { at = (_, _, c.loop-opening.invariant.at) }
-
-pub returns-in_err-engine-2-clause-bad : goal.returns-in_err-engine-2-clause-bad
-returns-in_err-engine-2-clause-bad g c is =
-    let d = c.in_ok-division.division in
-    let named : g.D.Dealer.can_name (node_count c.args.scenario.now) d =
-    subst (λ n. g.D.Dealer.can_name n d) (ap length c.as_slice.ensures.value ∙ c.loop-opening.invariant.long) c.in_ok-division.ensures.named in
-    let other : length d.of_node ≢ node_count c.args.scenario.now =
-    search (rules, is, c.from_residual-in_err-engine-2.ensures, c.in_err-engine-2.ensures.bad) in
-    (c.loop-opening.invariant.sound, (d, named, other))
-
-pub returns-in_err-dones-clause-bad : goal.returns-in_err-dones-clause-bad
-returns-in_err-dones-clause-bad g c is = search (rules, is, c.from_residual-in_err-dones.ensures, c.in_err-dones.ensures.only)
-
-pub put_window-requires-clause-at : goal.put_window-requires-clause-at
-put_window-requires-clause-at g c = (_, c.in_ok-engine-2.ensures.at _ _ c.loop-opening.invariant.at)
-
-pub put_window-requires-clause-opening : goal.put_window-requires-clause-opening
-put_window-requires-clause-opening g c = c.in_ok-engine-2.ensures.opening ∙ (sym c.opening.ensures ∙ c.in-Some.is)
-
-pub put_window-requires-clause-done : goal.put_window-requires-clause-done
-put_window-requires-clause-done g c = subst (λ (w : World). AreDone c.args.scenario.now w c.in-Some.opening.horizon c.in_ok-dones.dones.items)
-    c.world.ensures c.in_ok-dones.ensures.done
-
-pub returns-in_err-put_window-clause-bad : goal.returns-in_err-put_window-clause-bad
-returns-in_err-put_window-clause-bad g c is = search (rules, is, c.from_residual-in_err-put_window.ensures, c.in_err-put_window.ensures.only)
-
-pub loop-opening-smaller : goal.loop-opening-smaller
-loop-opening-smaller g c = omega (
-  arith,
-  c.in_ok-engine-2.ensures.count,
-  c.in_ok-put_window.ensures.more,
-  (c.in_ok-put_window.ensures.at _ (c.in_ok-engine-2.ensures.at _ _ c.loop-opening.invariant.at)).world.within,
-)
-
-pub finish-requires-clause-at : goal.finish-requires-clause-at
-finish-requires-clause-at g c = (_, c.loop-opening.invariant.at)
-
-pub finish-requires-clause-ended : goal.finish-requires-clause-ended
-finish-requires-clause-ended g c = sym c.opening.ensures ∙ c.in_default.is
-
-pub returns-clause-run : goal.returns-clause-run
-returns-clause-run g c = c.finish.ensures.run _ c.loop-opening.invariant.at
-
-pub returns-clause-bad : goal.returns-clause-bad
-returns-clause-bad g c is = search (rules, is, c.finish.ensures.only)
+pub deal_windows-outcome-requires-clause-at : goal.deal_windows-outcome-requires-clause-at
+deal_windows-outcome-requires-clause-at g c _ _ = c.in_ok-engine.ensures.at _
