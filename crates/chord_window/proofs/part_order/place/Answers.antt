@@ -1,7 +1,9 @@
-use Rattle.std.proofs.Common.{◌≡◌, inr, sym, subst, rules}
+use Rattle.std.proofs.Common.{◌≡◌, ◌<◌, ◌∙◌, ◌⊎◌, List, None, Some, length, arith, inr, sym, subst, rules}
 use Rattle.std.specs.Vec.Iter.{into_iter_items}
-use Rattle.chord_window.specs.Ordering.{AreOf, IsToCome}
-use Rattle.chord_window.proofs.Orders.{all_are_of, all_to_come}
+use Rattle.std.specs.Prelude.{slice_index_or}
+use Rattle.chord_window.specs.declared.part_run.Done.{Done}
+use Rattle.chord_window.specs.Ordering.{AreOf, IsFilled, IsToCome}
+use Rattle.chord_window.proofs.Orders.{all_are_of, all_to_come, long_set, one_placed}
 use Rattle.chord_window.proofs.part_order.place.Goals as goal
 
 pub loop-done-init : goal.loop-done-init
@@ -13,4 +15,21 @@ loop-done-init c =
       long = c.in_ok-slots.ensures.long;
       inside = subst (AreOf c.args.dones.items c.args.parts) (sym items) (all_are_of c.args.parts c.args.dones.items c.requires.once);
       each = λ k below. inr (subst (IsToCome k) (sym items) (all_to_come c.args.parts c.args.dones.items c.requires.once k below));
+    }
+
+pub loop-done-preserved : goal.loop-done-preserved
+loop-done-preserved c =
+    let steps = c.in-Some.ensures.steps.0 in
+    let slots = c.loop-done.slots.items in
+    let done = c.in-Some.done in
+    let rest : List Done = into_iter_items c.next.new.self in
+    let among = subst (AreOf c.args.dones.items c.args.parts) steps c.loop-done.invariant.inside in
+    let here : done.part < length slots = omega (arith, among.0.0, c.loop-done.invariant.long) in
+    record {
+      can_next = tt;
+      is_finite = tt;
+      long = long_set slots done.part (Some done) ∙ c.loop-done.invariant.long;
+      inside = among.1;
+      each = λ k below. one_placed c.args.dones.items slots done rest k here among.0.1
+          (subst (λ l. IsFilled c.args.dones.items k (slice_index_or slots k None) ⊎ IsToCome k l) steps (c.loop-done.invariant.each k below));
     }
