@@ -131,3 +131,6 @@ returns-clause-run g c = c.finish.ensures.run _ c.loop-opening.invariant.at
 
 pub returns-clause-bad : goal.returns-clause-bad
 returns-clause-bad g c is = search (rules, is, c.finish.ensures.only)
+
+pub returns-clause-writer : goal.returns-clause-writer
+returns-clause-writer g c = c.finish.ensures.writer
