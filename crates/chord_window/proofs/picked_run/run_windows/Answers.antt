@@ -94,3 +94,9 @@ finish-requires-clause-at g c = (_, c.loop-opening.invariant.at)
 
 pub finish-requires-clause-ended : goal.finish-requires-clause-ended
 finish-requires-clause-ended g c = sym c.opening.ensures ∙ c.in_default.is
+
+pub returns-clause-run : goal.returns-clause-run
+returns-clause-run g c = rw c.in_ok-report.was at (c.finish.ensures.run _ c.loop-opening.invariant.at)
+
+pub returns-clause-writer : goal.returns-clause-writer
+returns-clause-writer g c = c.in_ok-report.ensures.writer

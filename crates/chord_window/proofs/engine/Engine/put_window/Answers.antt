@@ -1,5 +1,6 @@
 -- A window writes its audits and its blocks, and each part's blocks go into its tally.
 use Rattle.std.proofs.Common.{◌∙◌, ◌≤◌, ◌++◌, ℕ, List, Vec, length, map, set, ap, sym, subst, refl, arith}
+use Rattle.std.proofs.lemmas.List.{length-map, length-set}
 use Rattle.std.specs.Global.{Global}
 use Rattle.std.specs.List.{All, flat_map}
 use Rattle.std.specs.Io.KnownBytes.{Appends}
@@ -16,6 +17,7 @@ use Rattle.chord_trace.specs.Merging.{CanMerge, IsMerged}
 use Rattle.chord_trace.specs.Texts.{block_text}
 use Rattle.chord_trace.specs.Writing.{AppendsFront}
 use Rattle.chord_window.specs.declared.engine.Engine.{Engine}
+use Rattle.chord_window.specs.declared.part_run.Done.{Done}
 use Rattle.chord_window.specs.Exchanges.{events_in}
 use Rattle.chord_window.specs.Tallies.{AreTalliesOf, blocks_at}
 use Rattle.chord_window.proofs.EngineCourse.{
@@ -255,3 +257,34 @@ returns-clause-counted_first g c = λ more. absurd (omega (
   c.max_events.ensures,
   c.requires.at.1.world.within,
 ))
+
+pub exchange_in_order-requires-clause-world : goal.exchange_in_order-requires-clause-world
+exchange_in_order-requires-clause-world g c = c.requires.at.1.world
+
+pub exchange_in_order-requires-clause-done : goal.exchange_in_order-requires-clause-done
+exchange_in_order-requires-clause-done g c = (c.args.opening.horizon, c.requires.done)
+
+pub exchange_in_order-requires-clause-events : goal.exchange_in_order-requires-clause-events
+exchange_in_order-requires-clause-events g c = c.in-Some.ensures.some.0 ∙ ap events_in c.as_slice.ensures.value
+
+pub exchange_in_order-requires-clause-within : goal.exchange_in_order-requires-clause-within
+exchange_in_order-requires-clause-within g c = omega (arith, c.in-Some.ensures.some.1, c.max_events.ensures, c.requires.at.1.world.within)
+
+pub tally_parts-requires-clause-each : goal.tally_parts-requires-clause-each
+tally_parts-requires-clause-each g c = omega (
+  arith,
+  ap (λ (ls : List (Vec Block Global)). length ls) (c.as_slice-3.ensures.value ∙ c.in_ok-lists.ensures.blocks),
+  length-map c.args.dones.items (λ (done : Done). done.blocks),
+  c.requires.done.long,
+  c.requires.at.1.each,
+  length-set c.args.self.now.tallies.items 0 c.put_audits.new.tally,
+)
+
+pub returns-clause-count : goal.returns-clause-count
+returns-clause-count g c = c.in_ok-lists.ensures.count
+
+pub returns-clause-division : goal.returns-clause-division
+returns-clause-division g c = c.in_ok-lists.ensures.division
+
+pub returns-clause-writer : goal.returns-clause-writer
+returns-clause-writer g c = c.in_ok-write_blocks.ensures.writer
