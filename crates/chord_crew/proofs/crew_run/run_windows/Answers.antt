@@ -40,11 +40,8 @@ loop-opening-preserved g c = record { at = c.in_ok-put_window.ensures.at _ c.loo
 pub loop-opening-smaller : goal.loop-opening-smaller
 loop-opening-smaller g c = omega (arith, c.in_ok-put_window.ensures.more, (c.in_ok-put_window.ensures.at _ c.loop-opening.invariant.at).world.within)
 
-pub finish-requires-clause-at : goal.finish-requires-clause-at
-finish-requires-clause-at g c = (_, c.loop-opening.invariant.at)
-
 pub finish-requires-clause-ended : goal.finish-requires-clause-ended
-finish-requires-clause-ended g c = sym c.opening.ensures ∙ c.in_default.is
+finish-requires-clause-ended g c = search rules
 
 pub returns-clause-run : goal.returns-clause-run
 returns-clause-run g c = c.finish.ensures.run _ c.loop-opening.invariant.at
