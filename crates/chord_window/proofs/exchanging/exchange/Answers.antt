@@ -22,3 +22,12 @@ returns-clause-count c =
     let order = subst (λ parts. AreInOrder c.args.dones.items parts c.in_ok-list.list.items) c.parts.ensures c.in_ok-list.ensures in
     let same = events_in_order c.args.world.now.division.parts c.args.dones.items c.in_ok-list.list.items c.requires.done.1.once order in
     c.in_ok-exchange_in_order.ensures.count ∙ ap (λ k. c.args.world.now.count + k) same
+
+pub exchange_in_order-requires-clause-events : goal.exchange_in_order-requires-clause-events
+exchange_in_order-requires-clause-events c = c.in-Some.ensures.some.0 ∙ ap events_in c.as_slice.ensures.value
+
+pub exchange_in_order-requires-clause-within : goal.exchange_in_order-requires-clause-within
+exchange_in_order-requires-clause-within c = omega (arith, c.in-Some.ensures.some.1, c.max_events.ensures, c.requires.world.within)
+
+pub returns-clause-division : goal.returns-clause-division
+returns-clause-division c = c.in_ok-exchange_in_order.ensures.division

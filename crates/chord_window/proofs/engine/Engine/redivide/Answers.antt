@@ -12,3 +12,12 @@ returns-clause-at c = λ old now at.
     (omega (arith, c.in_ok-add_tallies.ensures.each, c.parts.ensures, ap (λ (d : Division). d.parts) c.in_ok-divide_again.ensures.division))
     (λ pieces. subst (λ (p : ℕ). HaveTallied p pieces c.args.self.now.tallies.items → HaveTallied p pieces c.add_tallies.new.tallies.items) c.profile.ensures
     (c.in_ok-add_tallies.ensures.pieces pieces)) at
+
+pub returns-clause-count : goal.returns-clause-count
+returns-clause-count c = c.in_ok-divide_again.ensures.count
+
+pub returns-clause-opening : goal.returns-clause-opening
+returns-clause-opening c = c.in_ok-divide_again.ensures.opening
+
+pub returns-clause-division : goal.returns-clause-division
+returns-clause-division c = c.in_ok-divide_again.ensures.division

@@ -34,3 +34,21 @@ returns-clause-world c =
 
 pub returns-clause-opening : goal.returns-clause-opening
 returns-clause-opening c = (returns-clause-world c).opening_is ∙ sym c.requires.world.opening_is
+
+pub fill-requires-clause-divides : goal.fill-requires-clause-divides
+fill-requires-clause-divides c = c.in_ok-expect_division.ensures.divides
+
+pub fill-requires-clause-long : goal.fill-requires-clause-long
+fill-requires-clause-long c = rw c.replace-parts.ensures.after (c.in_ok-no_events.ensures.long ∙ c.parts.ensures)
+
+pub fill-requires-clause-none : goal.fill-requires-clause-none
+fill-requires-clause-none c = rw c.replace-parts.ensures.after c.in_ok-no_events.ensures.none
+
+pub returns-clause-count : goal.returns-clause-count
+returns-clause-count c = refl
+
+pub returns-clause-states : goal.returns-clause-states
+returns-clause-states c = refl
+
+pub returns-clause-division : goal.returns-clause-division
+returns-clause-division c = c.in_ok-self-2.ensures
