@@ -35,9 +35,6 @@ returns-clause-world c =
 pub returns-clause-opening : goal.returns-clause-opening
 returns-clause-opening c = (returns-clause-world c).opening_is ∙ sym c.requires.world.opening_is
 
-pub fill-requires-clause-divides : goal.fill-requires-clause-divides
-fill-requires-clause-divides c = c.in_ok-expect_division.ensures.divides
-
 pub fill-requires-clause-long : goal.fill-requires-clause-long
 fill-requires-clause-long c = rw c.replace-parts.ensures.after (c.in_ok-no_events.ensures.long ∙ c.parts.ensures)
 
