@@ -1,12 +1,10 @@
 -- The parts of results are put back one after another.
-use Rattle.std.proofs.Common.{◌≡◌, ◌≢◌, ◌∙◌, ℕ, zero, suc, ◌+◌, ◌<◌, List, [], ◌∷◌, Option, None, Some, length, drop, get_or, set, ap, sym, subst, ⊎_elim, arith, add-one, get_or-set_same, get_or-set_other}
+use Rattle.std.proofs.Common.{◌≡◌, ◌≢◌, ◌∙◌, ℕ, zero, suc, ◌+◌, ◌<◌, List, [], ◌∷◌, Option, None, length, drop, get_or, set, ap, sym, subst, ⊎_elim, arith, add-one, get_or-set_same, get_or-set_other}
 use Rattle.std.proofs.lemmas.Bool.{cases_eq}
 use Rattle.std.proofs.lemmas.List.{length-drop}
-use Rattle.chord_scenario.specs.declared.scenario.Scenario.{Scenario}
 use Rattle.chord_team.specs.declared.part.Finished.{Finished}
 use Rattle.chord_team.specs.declared.part.Parcel.{Parcel}
 use Rattle.chord_team.specs.Exchanges.{IsBack}
-use Rattle.chord_team.specs.Outputs.{IsText}
 
 -- so it is with the first n results
 abbrev pub AreBackTo : ℕ → List Finished → List (Option Parcel) → Type 0
@@ -30,18 +28,15 @@ rest_then fs at x rest next a b = ap (λ n. drop n fs) (add-one at) ∙ rest_aft
 pub none_back : (fs : List Finished) (parcels : List (Option Parcel)) → AreBackTo 0 fs parcels
 none_back fs parcels p f lt = absurd (omega (arith, lt))
 
-pub one_back : (fs : List Finished) (parcels : List (Option Parcel)) (at : ℕ) (x : Finished) (rest next : List Finished) (parcel : Parcel)
-    → drop at fs ≡ rest → rest ≡ x ∷ next → at < length parcels → parcel.part.value ≡ x.parcel.part.value → ((sc : Scenario) → IsText sc [] parcel.output)
-    → AreBackTo at fs parcels → AreBackTo (at + 1) fs (set parcels at (Some parcel))
-one_back fs parcels at x rest next parcel a b inside part text back p f lt = ⊎_elim
-    (λ e. (
-      parcel,
-      ap (λ q. get_or (set parcels at (Some parcel)) q None) e ∙ get_or-set_same parcels at (Some parcel) None inside,
-      part ∙ ap (λ (z : Finished). z.parcel.part.value) (sym (ap (λ q. get_or fs q f) e ∙ first_of_rest fs at x next (a ∙ b) f)),
-      text,
-    ))
+pub one_back : (fs : List Finished) (parcels : List (Option Parcel)) (at : ℕ) (x : Finished) (rest next : List Finished) (place : Option Parcel)
+    → drop at fs ≡ rest → rest ≡ x ∷ next → at < length parcels → IsBack x.parcel.part.value place
+    → AreBackTo at fs parcels → AreBackTo (at + 1) fs (set parcels at place)
+one_back fs parcels at x rest next place a b inside here back p f lt = ⊎_elim
+    (λ e. subst (λ (z : Finished). IsBack z.parcel.part.value (get_or (set parcels at place) p None))
+    (sym (ap (λ q. get_or fs q f) e ∙ first_of_rest fs at x next (a ∙ b) f))
+    (subst (IsBack x.parcel.part.value) (sym (ap (λ q. get_or (set parcels at place) q None) e ∙ get_or-set_same parcels at place None inside)) here))
     (λ ne. let differ : p ≢ at = ne in
-    subst (IsBack (get_or fs p f).parcel.part.value) (sym (get_or-set_other parcels at p (Some parcel) None ne)) (back p f (omega (arith, lt, differ))))
+    subst (IsBack (get_or fs p f).parcel.part.value) (sym (get_or-set_other parcels at p place None ne)) (back p f (omega (arith, lt, differ))))
     (cases_eq p at)
 
 pub all_back : (fs : List Finished) (parcels : List (Option Parcel)) (at : ℕ) (rest : List Finished) → drop at fs ≡ rest → length rest ≡ 0

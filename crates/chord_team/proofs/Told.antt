@@ -3,7 +3,7 @@ use Rattle.std.proofs.Common.{◌≡◌, ◌≢◌, ◌∙◌, ◌==◌, ℕ, ze
 use Rattle.std.proofs.lemmas.Bool.Decides.{nat_tests}
 use Rattle.std.proofs.lemmas.List.Elements.{filter-append}
 use Rattle.std.proofs.lemmas.List.Kept.{AllPairs-filter}
-use Rattle.std.specs.List.{AllByRecursion, AllPairs, Contains, filter, flat_map}
+use Rattle.std.specs.List.{AllByRecursion, AllPairs, Contains, flat_map}
 use Rattle.chord_event.specs.declared.block.Block.{Block}
 use Rattle.chord_event.specs.declared.line.Line.{Line}
 use Rattle.chord_event.specs.Keys.{IsBefore}

@@ -11,7 +11,7 @@ ghost use Rattle.chord_window.specs.Worlds.{opening_after};
 
 use crate::audits::swap_states;
 use crate::course::Course;
-use crate::part::{OwnedPart, Parcel};
+use crate::part::Parcel;
 use crate::team::Team;
 use chord_event::{Memory, RunError};
 use chord_output::put_audits;
@@ -19,46 +19,48 @@ use chord_trace::{Report, Tally, Watched};
 use chord_window::join_all;
 use std::alloc::Global;
 use std::io::Write;
+use std::mem;
 
-/// Adds the tally of a part, if the part is here.
-fn push_tally(tallies: &mut Vec<Tally>, place: Option<Parcel>) -> Result<(), Memory>
-    ensures { OnOk result (tallies.new.items ≡ tallies.old.items ++ tallies_in (place ∷ [])) }
+/// Adds the tally of a part, if the part is here. An empty one replaces it.
+fn push_tally(
+    alloc: Global,
+    profile: u32,
+    tallies: &mut Vec<Tally>,
+    place: &mut Option<Parcel>,
+) -> Result<(), Memory>
+    ensures { OnOk result (tallies.new.items ≡ tallies.old.items ++ tallies_in (place.old ∷ [])) }
 {
     if let Some(parcel) = place {
-        let Parcel { part, .. } = parcel;
-        let OwnedPart { tally, .. } = Box::into_inner(part);
-        tallies.push(tally)?;
+        let none = Tally::new(alloc, profile);
+        tallies.push(mem::replace(&mut parcel.part.tally, none))?;
     }
     Ok(())
 }
 
-/// The tally of the audits, and then those of the parts that are here.
-fn all_tallies(
-    alloc: Global,
-    audits: Tally,
-    parcels: Vec<Option<Parcel>>,
-) -> Result<Vec<Tally>, Memory>
-    ensures { IfOk result (λ tallies. tallies.items ≡ audits ∷ tallies_in parcels.items) }
-{
-    let mut tallies = Vec::new(alloc);
-    tallies.push(audits)?;
-    for place in parcels {
-        push_tally(&mut tallies, place)?;
-    }
-    Ok(tallies)
-}
-
 impl Team {
+    /// The tally of the audits, and then those of the parts that are here. Empty ones replace them.
+    fn take_tallies(&mut self, alloc: Global, profile: u32) -> Result<Vec<Tally>, Memory>
+        ensures { IfOk result (λ tallies. tallies.items ≡ self.old.audits ∷ tallies_in self.old.parcels.items) }
+    {
+        let mut tallies = Vec::new(alloc);
+        let none = Tally::new(alloc, profile);
+        tallies.push(mem::replace(&mut self.audits, none))?;
+        for part in 0..self.parcels.len() {
+            push_tally(alloc, profile, &mut tallies, &mut self.parcels[part])?;
+        }
+        Ok(tallies)
+    }
+
     /// Writes the remaining audits, and makes the report.
     pub fn finish<W: Write>(
-        self,
+        &mut self,
         course: &Course<'_>,
         writer: &mut Watched<W>,
     ) -> Result<Report, RunError>
-        requires at { (old : Option (List ℕ)) × IsTeam course.now.scenario.now course.now.layout.now old (W.contents (wrapped writer.old)) self }
-        requires ended { opening_after course.now.scenario.now (history (chord course.now.scenario.now) self.count) ≡ None }
+        requires at { (old : Option (List ℕ)) × IsTeam course.now.scenario.now course.now.layout.now old (W.contents (wrapped writer.old)) self.old }
+        requires ended { opening_after course.now.scenario.now (history (chord course.now.scenario.now) self.old.count) ≡ None }
         requires sound { has_failed writer.old ≡ false }
-        ensures run { (old : Option (List ℕ)) → IsTeam course.now.scenario.now course.now.layout.now old (W.contents (wrapped writer.old)) self → IsRun course.now.scenario.now old (W.contents (wrapped writer.new)) result }
+        ensures run { (old : Option (List ℕ)) → IsTeam course.now.scenario.now course.now.layout.now old (W.contents (wrapped writer.old)) self.old → IsRun course.now.scenario.now old (W.contents (wrapped writer.new)) result }
         ensures writer { has_failed writer.new ≡ is_write result }
         ensures only { IfErr result (λ e. (e ≡ RunError.Memory) ⊎ (e ≡ RunError.Write)) }
     {
@@ -69,25 +71,19 @@ impl Team {
             ..
         } = course;
         scenario.recall_range();
-        let Team {
-            mut parcels,
-            mut clock,
-            mut audits,
-            mut whole,
-            ..
-        } = self;
-        swap_states(&mut parcels, layout, &mut whole);
+        swap_states(&mut self.parcels, layout, &mut self.whole);
         put_audits(
             alloc,
             scenario,
-            whole.as_slice(),
+            self.whole.as_slice(),
             scenario.duration(),
-            &mut clock,
-            &mut audits,
+            &mut self.clock,
+            &mut self.audits,
             writer,
         )?;
-        let tallies = all_tallies(alloc, audits, parcels)?;
-        let tally = join_all(alloc, scenario.profile(), tallies)?;
+        let profile = scenario.profile();
+        let tallies = self.take_tallies(alloc, profile)?;
+        let tally = join_all(alloc, profile, tallies)?;
         Ok(tally.report())
     }
 }

@@ -104,13 +104,8 @@ impl<J: Named> Reply<J> {
         ensures { IfSome result (IsResultOf scenario.now layout.now part count horizon) }
     {
         let left = self.open(scenario, layout);
-        if left.parcel.part.part != part {
-            return None;
-        }
-        if left.parcel.count != count {
-            return None;
-        }
-        if left.parcel.horizon != horizon {
+        let parcel = &left.parcel;
+        if parcel.part.part != part || parcel.count != count || parcel.horizon != horizon {
             return None;
         }
         Some(left)

@@ -55,18 +55,17 @@ fn take_slow<J: Named>(links: &mut Vec<Link<J>>) -> bool {
 fn drive<J: Named, R: Wait, W: Write>(
     rt: &R,
     course: &Course<'_>,
-    team: Team,
+    team: &mut Team,
     links: &mut Vec<Link<J>>,
     writer: &mut Watched<W>,
 ) -> Result<Report, RunError>
     requires named { J.run ≡ Some (course.now.scenario.now, course.now.layout.now) }
-    requires at { IsTeam course.now.scenario.now course.now.layout.now (W.contents (wrapped writer.old)) (W.contents (wrapped writer.old)) team }
+    requires at { IsTeam course.now.scenario.now course.now.layout.now (W.contents (wrapped writer.old)) (W.contents (wrapped writer.old)) team.old }
     requires sound { has_failed writer.old ≡ false }
     ensures run { IsRun course.now.scenario.now (W.contents (wrapped writer.old)) (W.contents (wrapped writer.new)) result }
     ensures writer { has_failed writer.new ≡ is_write result }
     ensures only { IfErr result (λ e. e ≢ RunError.BadDivision) }
 {
-    let mut team = team;
     let mut pace = Pace::new(course.worth);
     let mut events = 0u64;
     while let Some(opening) = team.opening(course) {
@@ -74,7 +73,7 @@ fn drive<J: Named, R: Wait, W: Write>(
         let before = team.count;
         // A window is likely to have as many events as the one before it.
         let others = pace.others(events, links.len());
-        let results = run_window(rt, course, &mut team, first_links(links, others))?;
+        let results = run_window(rt, course, team, first_links(links, others))?;
         pace.learn(events, links.len(), take_slow(links));
         team.put_window(course, results, writer)?;
         events = team.count - before;
@@ -135,7 +134,8 @@ fn start_worker<'s, E, J: Named + Send + Sync + 's, R: Wait + Sync + 's>(
                 parkers,
                 worth,
             };
-            serve(rt, &course, desk, worker)
+            let mut desk = desk;
+            serve(rt, &course, &mut desk, worker)
         },
     );
     match child {
@@ -185,12 +185,12 @@ fn start_and_drive<'s, E, J: Named + Send + Sync + 's, R: Wait + Sync + 's, W: W
     scope: &Scope<'s, E>,
     rt: &'s R,
     course: &Course<'s>,
-    team: Team,
+    team: &mut Team,
     links: &mut Vec<Link<J>>,
     writer: &mut Watched<W>,
 ) -> Result<Report, RunError>
     requires named { J.run ≡ Some (course.now.scenario.now, course.now.layout.now) }
-    requires at { IsTeam course.now.scenario.now course.now.layout.now (W.contents (wrapped writer.old)) (W.contents (wrapped writer.old)) team }
+    requires at { IsTeam course.now.scenario.now course.now.layout.now (W.contents (wrapped writer.old)) (W.contents (wrapped writer.old)) team.old }
     requires sound { has_failed writer.old ≡ false }
     ensures run { IsRun course.now.scenario.now (W.contents (wrapped writer.old)) (W.contents (wrapped writer.new)) result }
     ensures writer { has_failed writer.new ≡ is_write result }
@@ -245,11 +245,14 @@ fn run_standing<J: Named + Send + Sync, R: Threads + Wait + Sync, W: Write>(
                 parkers,
                 worth,
             };
+            let mut team = team;
             let mut links: Vec<Link<J>> = Vec::new(alloc);
-            let outcome = start_and_drive(scope, rt, &course, team, &mut links, &mut *writer);
+            let outcome = start_and_drive(scope, rt, &course, &mut team, &mut links, &mut *writer);
             // No more can come: the workers end, and the scope joins them.
             drop(links);
             wake_all(parkers);
+            // By one call: at the end of a function a struct is dropped field by field.
+            drop(team);
             (outcome, writer)
         },
     );
@@ -272,8 +275,8 @@ fn run_named<J: Named + Send + Sync, R: Threads + Wait + Sync, W: Write>(
     ensures writer { has_failed writer.new ≡ is_write result }
     ensures only { IfErr result (λ e. e ≢ RunError.BadDivision) }
 {
-    let team = Team::start(alloc, scenario, layout)?;
     let parkers = make_parkers(alloc, hands.workers)?;
+    let team = Team::start(alloc, scenario, layout)?;
     let course = Course {
         alloc,
         scenario,

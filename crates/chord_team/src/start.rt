@@ -51,12 +51,14 @@ fn empty_parts(alloc: Global, profile: u32, parts: u32) -> Result<Vec<OwnedPart>
 {
     let mut list = Vec::new(alloc);
     for part in 0..parts {
+        let inbox = empty_lists(alloc, parts)?;
+        let outbox = empty_lists(alloc, parts)?;
         list.push(OwnedPart {
             part,
             states: Vec::new(alloc),
             pending: Pending::new(alloc),
-            inbox: empty_lists(alloc, parts)?,
-            outbox: empty_lists(alloc, parts)?,
+            inbox,
+            outbox,
             tally: Tally::new(alloc, profile),
             spare: Spare::new(alloc),
             apart: [0; 16],
@@ -137,14 +139,17 @@ impl Team {
         let mut parts = empty_parts(alloc, scenario.profile(), layout.division.parts())?;
         deal_states(&mut parts, layout, initial_ring(alloc, scenario)?)?;
         let next = deal_events(&mut parts, layout, scenario.start_events(alloc)?)?;
+        let parcels = parcels_of(alloc, parts)?;
+        let whole = blank_states(alloc, scenario.nodes())?;
+        let clock = AuditClock::start(alloc, scenario)?;
         Ok(Team {
             count: 0,
-            parcels: parcels_of(alloc, parts)?,
+            parcels,
             next,
-            clock: AuditClock::start(alloc, scenario)?,
+            clock,
             audits: Tally::new(alloc, scenario.profile()),
             due: Vec::new(alloc),
-            whole: blank_states(alloc, scenario.nodes())?,
+            whole,
             window: Opening {
                 time: 0,
                 horizon: 0,

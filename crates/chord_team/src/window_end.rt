@@ -1,14 +1,13 @@
 //! The end of a window: the results of the parts become one team again.
-ghost use Rattle.std.specs.Prelude.{◌≡◌, ◌⊎◌, ℕ, ◌+◌, ◌<◌, ◌≤◌, List, [], Option, None, false, length, slice_index_or, OnOk, IfOk, IfErr, IfSome, Err};
+ghost use Rattle.std.specs.Prelude.{◌≡◌, ◌⊎◌, ℕ, ◌+◌, ◌<◌, ◌≤◌, List, Option, None, false, length, slice_index_or, OnOk, IfOk, IfErr, IfSome, Err};
 ghost use Rattle.chord_machine.specs.Run.{HasTooManyEvents};
 ghost use Rattle.chord_output.specs.Runs.{IsBeginning};
 ghost use Rattle.chord_scenario.specs.declared.scenario.Scenario.{Scenario as AScenario};
 ghost use Rattle.chord_event.specs.declared.body.Body.{Body};
 ghost use Rattle.chord_event.specs.declared.event.Event.{Event as AEvent};
 ghost use Rattle.chord_team.specs.declared.layout.Layout.{Layout as ALayout};
-ghost use Rattle.chord_team.specs.Exchanges.{AreBack, AreReady, HasOnlyOutput, HaveCollected, HaveExchanged, IsMailTaken, outputs_of, soonest};
+ghost use Rattle.chord_team.specs.Exchanges.{AreBack, AreReady, HasOnlyOutput, HaveCollected, HaveExchanged, IsBack, IsMailTaken, outputs_of, soonest};
 ghost use Rattle.chord_team.specs.Orders.{AreResults, HaveNoFault};
-ghost use Rattle.chord_team.specs.Outputs.{IsText};
 ghost use Rattle.chord_team.specs.Teams.{AreHere, IsOpened, IsTeam, events_in};
 ghost use Rattle.chord_trace.specs.Watched.{wrapped, has_failed};
 ghost use Rattle.chord_trace.specs.Writing.{is_write};
@@ -39,15 +38,15 @@ fn events_within(room: u64, results: &[Finished]) -> Option<u64>
     Some(events)
 }
 
-/// The parcel with an empty text, and its text.
-fn take_output(alloc: Global, parcel: Parcel) -> (Parcel, Output)
-    ensures part { result.0.part.value ≡ parcel.part.value }
-    ensures empty { (sc : AScenario) → IsText sc [] result.0.output }
-    ensures output { result.1 ≡ parcel.output }
+/// Puts a part into its place with an empty text. Returns the text that it had.
+fn put_part(alloc: Global, place: &mut Option<Parcel>, parcel: Parcel) -> Output
+    ensures back { IsBack parcel.part.value place.new }
+    ensures output { result ≡ parcel.output }
 {
-    let mut emptied = parcel;
-    let output = mem::replace(&mut emptied.output, Output::new(alloc));
-    (emptied, output)
+    let mut parcel = parcel;
+    let output = mem::replace(&mut parcel.output, Output::new(alloc));
+    *place = Some(parcel);
+    output
 }
 
 /// Clears a text, and gives it to a part that is here.
@@ -57,7 +56,7 @@ fn give_output(place: &mut Option<Parcel>, output: Output)
     let mut output = output;
     output.clear();
     if let Some(parcel) = place {
-        parcel.output = output;
+        mem::swap(&mut parcel.output, &mut output);
     }
 }
 
@@ -112,9 +111,8 @@ impl Team {
         let mut at = 0usize;
         for result in results {
             self.next = sooner(self.next, result.next);
-            let (parcel, output) = take_output(alloc, result.parcel);
+            let output = put_part(alloc, &mut self.parcels[at], result.parcel);
             outputs.push(output)?;
-            self.parcels[at] = Some(parcel);
             at += 1;
         }
         Ok(outputs)

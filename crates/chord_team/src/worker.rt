@@ -7,7 +7,7 @@ use crate::named::Named;
 use std::sync::Wait;
 
 /// Runs the parts that come, until no more can come.
-pub fn serve<J: Named, R: Wait>(rt: &R, course: &Course<'_>, desk: Desk<J>, worker: usize)
+pub fn serve<J: Named, R: Wait>(rt: &R, course: &Course<'_>, desk: &mut Desk<J>, worker: usize)
     requires { J.run ≡ Some (course.now.scenario.now, course.now.layout.now) }
 {
     let &Course {
@@ -17,21 +17,17 @@ pub fn serve<J: Named, R: Wait>(rt: &R, course: &Course<'_>, desk: Desk<J>, work
         parkers,
         ..
     } = course;
-    let Desk {
-        mut orders,
-        mut replies,
-    } = desk;
     let (Some(caller), Some(mine)) = (parkers.first(), parkers.get(worker)) else {
         return;
     };
     for _ in rt.forever() {
-        let (order, _turns) = next_item(rt, &mut orders, mine);
+        let (order, _turns) = next_item(rt, &mut desk.orders, mine);
         let Some(order) = order else {
-            return;
+            break;
         };
         let reply = order.run(alloc, scenario, layout);
-        if replies.push(reply).is_err() {
-            return;
+        if desk.replies.push(reply).is_err() {
+            break;
         }
         caller.unpark();
     }

@@ -7,4 +7,4 @@ pub run_standing-requires-clause-at : goal.run_standing-requires-clause-at
 run_standing-requires-clause-at g c _ _ = c.in_ok-team.ensures.at _
 
 pub returns-in_err-parkers-clause-run : goal.returns-in_err-parkers-clause-run
-returns-in_err-parkers-clause-run g c = run_refused c.args.scenario.now _ _ run.Memory (search (rules, c.from_residual-in_err-parkers.ensures)) (λ is. cc)
+returns-in_err-parkers-clause-run g c = run_refused c.args.scenario.now _ _ run.Memory (search (rules, c.from_residual.ensures)) (λ is. cc)

@@ -11,9 +11,9 @@ loop-part-preserved c = parts_more c.args.profile c.args.parts c.loop-part.part 
       part_is = refl;
       no_states = c.new.ensures.items;
       none_pending = c.new-in-loop-part.ensures;
-      in_long = c.in_ok-empty_lists.ensures.long;
-      out_long = c.in_ok-empty_lists-2.ensures.long;
-      none_in = c.in_ok-empty_lists.ensures.none;
-      none_out = c.in_ok-empty_lists-2.ensures.none;
+      in_long = c.in_ok-inbox.ensures.long;
+      out_long = c.in_ok-outbox.ensures.long;
+      none_in = c.in_ok-inbox.ensures.none;
+      none_out = c.in_ok-outbox.ensures.none;
       tallied = c.new-in-loop-part-2.ensures;
     }) c.in_ok-push.ensures.items

@@ -24,14 +24,14 @@ use Rattle.chord_team.proofs.team.Team.finish.Goals as goal
 
 pub swap_states-requires : goal.swap_states-requires
 swap_states-requires g c =
-    let t = c.args.self in
+    let t = c.args.self.now in
     let at = c.requires.at.1 in
     can_swap c.args.course.now.scenario.now c.recall_range.ensures c.args.course.now.layout.now at.layout _ t.parcels.items at.here
     (length t.whole.items) at.whole_long at.parcels_long
 
 pub put_audits-requires-clause-succ : goal.put_audits-requires-clause-succ
 put_audits-requires-clause-succ g c =
-    let t = c.args.self in
+    let t = c.args.self.now in
     let at = c.requires.at.1 in
     let sc = c.args.course.now.scenario.now in
     let past = history (chord sc) t.count in
@@ -42,7 +42,7 @@ put_audits-requires-clause-succ g c =
     t.whole.items c.swap_states.new.parcels.items c.swap_states.new.whole.items c.swap_states.ensures))
 
 pub put_audits-requires-clause-room : goal.put_audits-requires-clause-room
-put_audits-requires-clause-room g c = audits_fit c.args.course.now.scenario.now c.recall_range.ensures c.args.course.now.layout.now _ _ c.args.self
+put_audits-requires-clause-room g c = audits_fit c.args.course.now.scenario.now c.recall_range.ensures c.args.course.now.layout.now _ _ c.args.self.now
     c.requires.at.1
 
 pub returns-in_err-put_audits-clause-run : goal.returns-in_err-put_audits-clause-run
@@ -50,7 +50,7 @@ returns-in_err-put_audits-clause-run g c = λ old at.
     let sc = c.args.course.now.scenario.now in
     let ranges = c.recall_range.ensures in
     let l = c.args.course.now.layout.now in
-    let t = c.args.self in
+    let t = c.args.self.now in
     let S = state (chord sc) (history (chord sc) t.count) in
     let are = subst (λ (ss : List NodeState). AreStates sc ss S) (sym c.as_slice.ensures.value)
     (whole_states sc ranges l at.layout _ t.parcels.items at.here (length t.whole.items) at.whole_long t.whole.items c.swap_states.new.parcels.items
@@ -68,7 +68,7 @@ join_all-requires g c =
     let sc = c.args.course.now.scenario.now in
     let ranges = c.recall_range.ensures in
     let l = c.args.course.now.layout.now in
-    let t = c.args.self in
+    let t = c.args.self.now in
     let S = state (chord sc) (history (chord sc) t.count) in
     let are = subst (λ (ss : List NodeState). AreStates sc ss S) (sym c.as_slice.ensures.value)
     (whole_states sc ranges l at.layout _ t.parcels.items at.here (length t.whole.items) at.whole_long t.whole.items c.swap_states.new.parcels.items
@@ -83,7 +83,7 @@ join_all-requires g c =
     let share = tallied_by sc l.division (history (chord sc) t.count) (audits_in (output (chord sc) (history (chord sc) t.count))
     ++ audits_at sc S (due sc.duration t.clock)) in
     let tallied = end_tallied sc ranges l old _ t at c.requires.ended mid same long c.put_audits.new.tally adds.tallied in
-    let each = subst (λ (p : ℕ). AreTalliesOf p share c.in_ok-tallies.tallies.items) (sym c.profile.ensures)
+    let each = subst (λ (p : ℕ). AreTalliesOf p share c.in_ok-tallies.tallies.items) (sym c.profile-profile.ensures)
     (subst (λ (ts : List Tally). AreTalliesOf sc.profile share ts) (sym c.in_ok-tallies.ensures) tallied) in
     record {
       room = (
@@ -100,7 +100,7 @@ returns-in_err-tallies-clause-run g c = λ old at.
     let sc = c.args.course.now.scenario.now in
     let ranges = c.recall_range.ensures in
     let l = c.args.course.now.layout.now in
-    let t = c.args.self in
+    let t = c.args.self.now in
     let S = state (chord sc) (history (chord sc) t.count) in
     let are = subst (λ (ss : List NodeState). AreStates sc ss S) (sym c.as_slice.ensures.value)
     (whole_states sc ranges l at.layout _ t.parcels.items at.here (length t.whole.items) at.whole_long t.whole.items c.swap_states.new.parcels.items
@@ -116,7 +116,7 @@ returns-in_err-tally-clause-run g c = λ old at.
     let sc = c.args.course.now.scenario.now in
     let ranges = c.recall_range.ensures in
     let l = c.args.course.now.layout.now in
-    let t = c.args.self in
+    let t = c.args.self.now in
     let S = state (chord sc) (history (chord sc) t.count) in
     let are = subst (λ (ss : List NodeState). AreStates sc ss S) (sym c.as_slice.ensures.value)
     (whole_states sc ranges l at.layout _ t.parcels.items at.here (length t.whole.items) at.whole_long t.whole.items c.swap_states.new.parcels.items
@@ -132,7 +132,7 @@ returns-clause-run g c = λ old at.
     let sc = c.args.course.now.scenario.now in
     let ranges = c.recall_range.ensures in
     let l = c.args.course.now.layout.now in
-    let t = c.args.self in
+    let t = c.args.self.now in
     let S = state (chord sc) (history (chord sc) t.count) in
     let are = subst (λ (ss : List NodeState). AreStates sc ss S) (sym c.as_slice.ensures.value)
     (whole_states sc ranges l at.layout _ t.parcels.items at.here (length t.whole.items) at.whole_long t.whole.items c.swap_states.new.parcels.items
@@ -147,11 +147,11 @@ returns-clause-run g c = λ old at.
     let share = tallied_by sc l.division (history (chord sc) t.count) (audits_in (output (chord sc) (history (chord sc) t.count))
     ++ audits_at sc S (due sc.duration t.clock)) in
     let tallied = end_tallied sc ranges l old _ t at c.requires.ended mid same long c.put_audits.new.tally adds.tallied in
-    let each = subst (λ (p : ℕ). AreTalliesOf p share c.in_ok-tallies.tallies.items) (sym c.profile.ensures)
+    let each = subst (λ (p : ℕ). AreTalliesOf p share c.in_ok-tallies.tallies.items) (sym c.profile-profile.ensures)
     (subst (λ (ts : List Tally). AreTalliesOf sc.profile share ts) (sym c.in_ok-tallies.ensures) tallied) in
     let written = end_written sc ranges l old _ t at c.requires.ended _ t.audits c.put_audits.new.tally adds in
-    let joined = subst (λ (p : ℕ). IsTallyOf p (shares_to share (length (c.put_audits.new.tally ∷ tallies_in mid))) c.in_ok-tally.tally) c.profile.ensures
-    (subst (λ (ts : List Tally). IsTallyOf c.profile.result (shares_to share (length ts)) c.in_ok-tally.tally) c.in_ok-tallies.ensures
+    let joined = subst (λ (p : ℕ). IsTallyOf p (shares_to share (length (c.put_audits.new.tally ∷ tallies_in mid))) c.in_ok-tally.tally) c.profile-profile.ensures
+    (subst (λ (ts : List Tally). IsTallyOf c.profile-profile.result (shares_to share (length ts)) c.in_ok-tally.tally) c.in_ok-tallies.ensures
     (c.in_ok-tally.ensures.pieces share each)) in
     let reported = end_reported sc ranges l old _ t at c.requires.ended mid same long c.put_audits.new.tally adds.tallied c.in_ok-tally.tally
     c.report.result joined (c.report.ensures sc.profile) in

@@ -1,4 +1,4 @@
-use Rattle.std.proofs.Common.{◌<◌, ◌∙◌, ◌++◌, ◌∷◌, [], List, Some, ap, append_assoc, arith, length, sym}
+use Rattle.std.proofs.Common.{◌<◌, ◌∙◌, ◌++◌, ◌∷◌, [], List, ap, append_assoc, arith, length, sym}
 use Rattle.std.proofs.lemmas.List.{length-drop, length-set}
 use Rattle.std.specs.Vec.{with_item}
 use Rattle.std.specs.Vec.Iter.{into_iter_items}
@@ -14,7 +14,6 @@ loop-result-preserved c =
     let t = c.loop-result.self in
     let at = c.loop-result.at in
     let f = c.in-Some.result in
-    let parcel = c.take_output-parcel.result.0 in
     let steps = c.in-Some.ensures.steps.0 in
     let before : List Finished = into_iter_items c.loop-result.result-iterator in
     let rest : List Finished = into_iter_items c.next.new.self in
@@ -31,14 +30,14 @@ loop-result-preserved c =
       is_finite = tt;
       rest = rest_then fs at f before rest c.loop-result.invariant.rest steps;
       outputs = ap (λ l. l ++ outputs_of rest) c.in_ok-push.ensures.items
-          ∙ append_assoc c.loop-result.outputs.items (c.take_output-parcel.result.1 ∷ []) (outputs_of rest)
-          ∙ ap (λ o. c.loop-result.outputs.items ++ (o ∷ outputs_of rest)) c.take_output-parcel.ensures.output
+          ∙ append_assoc c.loop-result.outputs.items (c.put_part-output.result ∷ []) (outputs_of rest)
+          ∙ ap (λ o. c.loop-result.outputs.items ++ (o ∷ outputs_of rest)) c.put_part-output.ensures.output
           ∙ ap (λ l. c.loop-result.outputs.items ++ l) (sym (ap outputs_of steps)) ∙ c.loop-result.invariant.outputs;
-      back = one_back fs t.parcels.items at f before rest parcel c.loop-result.invariant.rest steps inside c.take_output-parcel.ensures.part
-          c.take_output-parcel.ensures.empty c.loop-result.invariant.back;
-      long = length-set t.parcels.items at (Some parcel) ∙ c.loop-result.invariant.long;
+      back = one_back fs t.parcels.items at f before rest c.put_part-output.new.place c.loop-result.invariant.rest steps inside
+          c.put_part-output.ensures.back c.loop-result.invariant.back;
+      long = length-set t.parcels.items at c.put_part-output.new.place ∙ c.loop-result.invariant.long;
       next = ap (λ o. soonest o rest) c.sooner-self.ensures ∙ sym (ap (soonest t.next) steps) ∙ c.loop-result.invariant.next;
-      others = ap (λ (u : Team). record u { parcels = with_item t.parcels at (Some parcel); next = c.sooner-self.result }) c.loop-result.invariant.others;
+      others = ap (λ (u : Team). record u { parcels = with_item t.parcels at c.put_part-output.new.place; next = c.sooner-self.result }) c.loop-result.invariant.others;
     }
 
 pub returns-clause-back : goal.returns-clause-back

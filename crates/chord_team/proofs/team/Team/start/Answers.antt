@@ -40,15 +40,15 @@ returns-clause-at c = λ now.
     let empty = c.in_ok-parts.parts.items in
     let stated = c.deal_states.new.parts.items in
     let parts = c.deal_events.new.parts.items in
-    team_at_start sc c.recall_range.ensures l c.requires empty stated parts c.in_ok-parcels_of.field-0.items
+    team_at_start sc c.recall_range.ensures l c.requires empty stated parts c.in_ok-parcels.parcels.items
     (subst (λ p. AreEmptyParts p l.division.parts l.division.parts empty) c.profile.ensures
     (subst (λ n. AreEmptyParts c.profile.result n n empty) c.parts.ensures c.in_ok-parts.ensures))
     (subst (λ (ss : List NodeState). HaveStates l.division ss empty stated) c.in_ok-initial_ring.ensures c.in_ok-deal_states.ensures)
     (subst (λ (es : List (Event Body)). HaveEvents l.division es [] stated parts) c.in_ok-start_events.ensures c.in_ok-next.ensures.dealt)
-    c.in_ok-parcels_of.ensures
-    c.in_ok-parcels_of.field-0 c.in_ok-next.next c.in_ok-start.field-0 c.new.result c.new-2.result c.in_ok-blank_states.field-0
+    c.in_ok-parcels.ensures
+    c.in_ok-parcels.parcels c.in_ok-next.next c.in_ok-clock.clock c.new.result c.new-2.result c.in_ok-whole.whole
     (record { time = 0; horizon = 0 }) now refl
     (subst (λ (es : List (Event Body)). LeastTimeIs es c.in_ok-next.next) c.in_ok-start_events.ensures c.in_ok-next.ensures.first)
-    c.in_ok-start.ensures
+    c.in_ok-clock.ensures
     (subst (λ p. IsTallyOf p [] c.new.result) c.profile-2.ensures c.new.ensures)
-    (c.in_ok-blank_states.ensures ∙ c.nodes.ensures)
+    (c.in_ok-whole.ensures ∙ c.nodes.ensures)
