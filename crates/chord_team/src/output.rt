@@ -1,15 +1,17 @@
 //! The text of a part's window with a mark for each event, and the texts of all parts in one.
 ghost use Rattle.std.specs.Prelude.{◌≡◌, ◌⊎◌, ℕ, ◌<◌, ◌≤◌, ◌++◌, ◌∷◌, [], List, false, length, map, option_map, slice_get, slice_index_or, IfOk, IfErr, OnOk};
-ghost use Rattle.std.proofs.Common.{rules};
+ghost use Rattle.std.proofs.Common.{◌∙◌, refl};
 ghost use Rattle.std.specs.BinaryHeap.{IsHeap, heap_items};
-ghost use Rattle.std.specs.Cmp.{partial_order_from_own_ties};
-ghost use Rattle.std.specs.Cmp.Rules.{comparing};
+ghost use Rattle.std.specs.Cmp.{back_total, on_equiv, on_per, on_total, partial_order_from_agreeing_total};
 ghost use Rattle.std.specs.Io.KnownBytes.{Appends};
 ghost use Rattle.std.specs.List.{AllByRecursion, flat_map};
 ghost use Rattle.std.specs.List.Sorted.{IsPermutation};
 ghost use Rattle.std.specs.Ordering.{on, as_partial_cmp};
 ghost use Rattle.chord_event.specs.declared.block.Block.{Block as ABlock};
 ghost use Rattle.chord_event.specs.Keys.{is_same_key};
+ghost use Rattle.chord_event.specs.contracts.key.KeyPartialEq.TheImpl.Laws.{laws-law as key_alike};
+ghost use Rattle.chord_event.specs.contracts.key.KeyEq.TheImpl.Laws.{laws-law as key_same};
+ghost use Rattle.chord_event.specs.contracts.key.KeyOrd.TheImpl.Laws.{total-law as key_total, matches_eq-law as key_ties};
 ghost use Rattle.chord_scenario.specs.Blocks.{IsBlockOf};
 ghost use Rattle.chord_scenario.specs.Setup.{Setup};
 ghost use Rattle.chord_trace.specs.Texts.{block_text};
@@ -100,7 +102,7 @@ struct Head {
 impl PartialEq for Head {
     ghost eq = { on head_key is_same_key };
 
-    ghost laws = { Prim.search (comparing, rules) };
+    ghost laws = { on_per head_key key_alike };
 
     fn eq(&self, other: &Head) -> bool {
         self.key == other.key
@@ -108,13 +110,13 @@ impl PartialEq for Head {
 }
 
 impl Eq for Head {
-    ghost laws = { Prim.search (comparing, rules) };
+    ghost laws = { on_equiv head_key key_same };
 }
 
 impl PartialOrd for Head {
     ghost partial_cmp = { as_partial_cmp head_cmp };
 
-    ghost laws = { partial_order_from_own_ties (Prim.search (comparing, rules)) (Prim.search (comparing, rules)) };
+    ghost laws = { partial_order_from_agreeing_total head_cmp (on_total head_key (back_total key_total)) (λ a b. refl) (λ a b. key_alike.symm (head_key a) (head_key b) ∙ key_ties (head_key b) (head_key a)) };
 
     fn partial_cmp(&self, other: &Head) -> Option<Ordering> {
         Some(self.cmp(other))
@@ -124,11 +126,11 @@ impl PartialOrd for Head {
 impl Ord for Head {
     ghost cmp = { head_cmp };
 
-    ghost total = { Prim.search (comparing, rules) };
+    ghost total = { on_total head_key (back_total key_total) };
 
-    ghost matches_partial_cmp = { Prim.search (comparing, rules) };
+    ghost matches_partial_cmp = { λ a b. refl };
 
-    ghost matches_eq = { Prim.search (comparing, rules) };
+    ghost matches_eq = { λ a b. key_alike.symm (head_key a) (head_key b) ∙ key_ties (head_key b) (head_key a) };
 
     fn cmp(&self, other: &Head) -> Ordering {
         other.key.cmp(&self.key)
