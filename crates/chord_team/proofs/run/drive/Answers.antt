@@ -1,6 +1,7 @@
-use Rattle.std.proofs.Common.{Err, ap, rules, inl}
+use Rattle.std.proofs.Common.{Err, ap, arith, rules, inl}
 use Rattle.chord_output.proofs.Runs.{run_failed, run_stopped}
 use Rattle.chord_team.proofs.RunCourse.{begin_team, opened_still}
+use Rattle.chord_team.specs.declared.team.Team.{Team}
 use Rattle.chord_team.proofs.run.drive.Goals as goal
 
 pub returns-in_err-open_window-clause-run : goal.returns-in_err-open_window-clause-run
@@ -34,3 +35,30 @@ returns-in_err-put_window-clause-run g c = run_stopped c.args.course.now.scenari
     (c.put_window.ensures.front _
     (opened_still c.args.course.now.scenario.now c.args.course.now.layout.now _ _ _ _ c.in_ok-results.ensures.others c.in_ok-results.ensures.can_send
     (c.in_ok-open_window.ensures.at _ _ c.loop-opening.invariant.at)))
+
+pub loop-opening-init : goal.loop-opening-init
+loop-opening-init g c = record { at = c.requires.at; sound = c.requires.sound }
+
+pub open_window-requires-clause-at : goal.open_window-requires-clause-at
+open_window-requires-clause-at g c = (_, _, c.loop-opening.invariant.at)
+
+pub loop-opening-smaller : goal.loop-opening-smaller
+loop-opening-smaller g c = omega (
+  arith,
+  c.in_ok-put_window.ensures.more,
+  c.in_ok-put_window.ensures.within,
+  ap (λ (t : Team). t.count) c.in_ok-results.ensures.others,
+  c.in_ok-open_window.ensures.count,
+)
+
+pub overflow_sub-events : goal.overflow_sub-events
+overflow_sub-events g c = omega (arith, c.in_ok-put_window.ensures.more, ap (λ (t : Team). t.count) c.in_ok-results.ensures.others)
+
+pub finish-requires-clause-at : goal.finish-requires-clause-at
+finish-requires-clause-at g c = (_, c.loop-opening.invariant.at)
+
+pub returns-clause-run : goal.returns-clause-run
+returns-clause-run g c = c.finish.ensures.run _ c.loop-opening.invariant.at
+
+pub returns-clause-writer : goal.returns-clause-writer
+returns-clause-writer g c = c.finish.ensures.writer

@@ -1,10 +1,33 @@
-use Rattle.std.proofs.Common.{rules}
+use Rattle.std.proofs.Common.{◌≡◌, refl, rules}
+use Rattle.chord_event.specs.declared.error.RunError.{RunError}
 use Rattle.chord_event.specs.declared.error.RunError.TheVariants as run
+use Rattle.chord_machine.specs.Run.{HasTooManyEvents}
 use Rattle.chord_output.proofs.Runs.{run_refused}
+use Rattle.chord_scenario.specs.declared.scenario.Scenario.{Scenario}
 use Rattle.chord_team.proofs.run.run_named.Goals as goal
+
+memory_alone : (sc : Scenario) (e : RunError) → e ≡ run.Memory → e ≡ run.TooManyEvents → HasTooManyEvents sc
+memory_alone sc e is other = cc
 
 pub run_standing-requires-clause-at : goal.run_standing-requires-clause-at
 run_standing-requires-clause-at g c _ _ = c.in_ok-team.ensures.at _
 
 pub returns-in_err-parkers-clause-run : goal.returns-in_err-parkers-clause-run
-returns-in_err-parkers-clause-run g c = run_refused c.args.scenario.now _ _ run.Memory (search (rules, c.from_residual.ensures)) (λ is. cc)
+returns-in_err-parkers-clause-run g c = run_refused c.args.scenario.now _ _ run.Memory
+    (search (rules, c.from_residual.ensures)) (memory_alone c.args.scenario.now run.Memory refl)
+
+pub start-requires : goal.start-requires
+start-requires g c = c.requires.layout
+
+pub returns-in_err-team-clause-run : goal.returns-in_err-team-clause-run
+returns-in_err-team-clause-run g c = run_refused c.args.scenario.now _ _ c.in_err-team.field-0.0
+    (search (rules, c.from_residual-in_err-team.ensures)) (memory_alone c.args.scenario.now c.in_err-team.field-0.0 c.in_err-team.ensures.only)
+
+pub returns-clause-run : goal.returns-clause-run
+returns-clause-run g c = c.run_standing.ensures.run
+
+pub returns-clause-writer : goal.returns-clause-writer
+returns-clause-writer g c = c.run_standing.ensures.writer
+
+pub returns-clause-only : goal.returns-clause-only
+returns-clause-only g c = c.run_standing.ensures.only

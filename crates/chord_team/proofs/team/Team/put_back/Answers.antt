@@ -1,4 +1,4 @@
-use Rattle.std.proofs.Common.{◌<◌, ◌∙◌, ◌++◌, ◌∷◌, [], List, ap, append_assoc, arith, length, sym}
+use Rattle.std.proofs.Common.{◌<◌, ◌∙◌, ◌++◌, ◌∷◌, [], List, ap, append-nil, append_assoc, arith, length, sym}
 use Rattle.std.proofs.lemmas.List.{length-drop, length-set}
 use Rattle.std.specs.Vec.{with_item}
 use Rattle.std.specs.Vec.Iter.{into_iter_items}
@@ -6,6 +6,7 @@ use Rattle.chord_team.specs.declared.part.Finished.{Finished}
 use Rattle.chord_team.specs.declared.team.Team.{Team}
 use Rattle.chord_team.specs.Exchanges.{outputs_of, soonest}
 use Rattle.chord_team.proofs.PutBack.{all_back, one_back, rest_then}
+use Rattle.chord_window.proofs.Sorting.{empty}
 use Rattle.chord_team.proofs.team.Team.put_back.Goals as goal
 
 pub loop-result-preserved : goal.loop-result-preserved
@@ -43,3 +44,39 @@ loop-result-preserved c =
 pub returns-clause-back : goal.returns-clause-back
 returns-clause-back c = all_back c.args.results.items c.loop-result.self.parcels.items c.loop-result.at (into_iter_items c.loop-result.result-iterator)
     c.loop-result.invariant.rest (omega (arith, c.in-None.ensures.steps.0, c.loop-result.result-iterator.rest.ok.0)) c.loop-result.invariant.back
+
+pub overflow_add-at : goal.overflow_add-at
+overflow_add-at c = omega (
+  arith,
+  ap length c.loop-result.invariant.rest,
+  ap length c.in-Some.ensures.steps.0,
+  length-drop c.loop-result.at c.args.results.items,
+  c.args.results.ok.0,
+)
+
+pub index_mut-requires : goal.index_mut-requires
+index_mut-requires c = omega (
+  arith,
+  ap length c.loop-result.invariant.rest,
+  ap length c.in-Some.ensures.steps.0,
+  length-drop c.loop-result.at c.args.results.items,
+  c.loop-result.invariant.long,
+  c.requires,
+)
+
+pub returns-clause-outputs : goal.returns-clause-outputs
+returns-clause-outputs c =
+    let none = empty (into_iter_items c.loop-result.result-iterator) (omega (arith, c.in-None.ensures.steps.0, c.loop-result.result-iterator.rest.ok.0)) in
+    sym (append-nil c.loop-result.outputs.items)
+    ∙ ap (λ (l : List Finished). c.loop-result.outputs.items ++ outputs_of l) (sym none) ∙ c.loop-result.invariant.outputs
+
+pub returns-clause-long : goal.returns-clause-long
+returns-clause-long c = c.loop-result.invariant.long
+
+pub returns-clause-next : goal.returns-clause-next
+returns-clause-next c =
+    let none = empty (into_iter_items c.loop-result.result-iterator) (omega (arith, c.in-None.ensures.steps.0, c.loop-result.result-iterator.rest.ok.0)) in
+    ap (λ (l : List Finished). soonest c.loop-result.self.next l) (sym none) ∙ c.loop-result.invariant.next
+
+pub returns-clause-others : goal.returns-clause-others
+returns-clause-others c = c.loop-result.invariant.others

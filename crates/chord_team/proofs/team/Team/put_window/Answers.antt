@@ -95,3 +95,36 @@ returns-clause-at g c = λ old o.
     c.as_slice-2.ensures.value c.in_ok-write_text.ensures.whole
     (c.in_ok-write_outputs.ensures.whole sc (told (window_blocks sc ranges l t can fs c.requires.results c.requires.no_fault))
     (merged_blocks sc ranges l t can fs c.requires.results c.requires.no_fault c.as_slice-3.result.now (c.as_slice-3.ensures.value ∙ back.outputs)))
+
+pub returns-clause-within : goal.returns-clause-within
+returns-clause-within g c =
+    let fs = c.args.results.items in
+    omega (
+      arith,
+      count_then c.args.self.now c.put_back.new.self c.give_outputs.new.self c.in-Some.events (events_in fs) c.in_ok-outputs.ensures.others
+          c.give_outputs.ensures.others (c.in-Some.ensures.some.0 ∙ ap events_in c.as_slice.ensures.value),
+      c.in-Some.ensures.some.0,
+      ap events_in c.as_slice.ensures.value,
+      c.in-Some.ensures.some.1,
+      c.max_events.ensures,
+      c.requires.at.1.can_send.within,
+    )
+
+pub returns-in_err-outputs-clause-counted_first : goal.returns-in_err-outputs-clause-counted_first
+returns-in_err-outputs-clause-counted_first g c = λ over.
+    absurd (omega (arith, over, c.in-Some.ensures.some.0, c.in-Some.ensures.some.1, ap events_in c.as_slice.ensures.value, c.max_events.ensures, c.requires.at.1.can_send.within))
+
+pub returns-in_err-write_text-clause-counted_first : goal.returns-in_err-write_text-clause-counted_first
+returns-in_err-write_text-clause-counted_first g c = λ over.
+    absurd (omega (arith, over, c.in-Some.ensures.some.0, c.in-Some.ensures.some.1, ap events_in c.as_slice.ensures.value, c.max_events.ensures, c.requires.at.1.can_send.within))
+
+pub returns-in_err-write_outputs-clause-counted_first : goal.returns-in_err-write_outputs-clause-counted_first
+returns-in_err-write_outputs-clause-counted_first g c = λ over.
+    absurd (omega (arith, over, c.in-Some.ensures.some.0, c.in-Some.ensures.some.1, ap events_in c.as_slice.ensures.value, c.max_events.ensures, c.requires.at.1.can_send.within))
+
+pub returns-clause-counted_first : goal.returns-clause-counted_first
+returns-clause-counted_first g c = λ over.
+    absurd (omega (arith, over, c.in-Some.ensures.some.0, c.in-Some.ensures.some.1, ap events_in c.as_slice.ensures.value, c.max_events.ensures, c.requires.at.1.can_send.within))
+
+pub overflow_sub-room : goal.overflow_sub-room
+overflow_sub-room g c = omega (arith, c.max_events.ensures, c.requires.at.1.can_send.within)
