@@ -131,7 +131,9 @@ impl OwnedPart {
         while let Some(event) = made.pop() {
             let to = layout.division.part_of(event.target);
             if to == self.part {
-                if let Err(_refused) = self.pending.insert(event) {
+                if let Err(refused) = self.pending.insert(event) {
+                    // By a call, so that the proof has one case and not one for each kind of body.
+                    drop(refused);
                     return Err(Memory);
                 }
                 self.pending.recall_order();
@@ -204,7 +206,6 @@ impl OwnedPart {
                 unreachable!();
             };
             let made = self.handle(alloc, scenario, layout, &event, output)?;
-            // Dropped by a call, so that the proof has one case and not one for each kind of body.
             drop(event);
             soonest = sooner(soonest, made);
             events += 1;

@@ -150,7 +150,8 @@ returns-clause-run g c = λ old at.
     let each = subst (λ (p : ℕ). AreTalliesOf p share c.in_ok-tallies.tallies.items) (sym c.profile-profile.ensures)
     (subst (λ (ts : List Tally). AreTalliesOf sc.profile share ts) (sym c.in_ok-tallies.ensures) tallied) in
     let written = end_written sc ranges l old _ t at c.requires.ended _ t.audits c.put_audits.new.tally adds in
-    let joined = subst (λ (p : ℕ). IsTallyOf p (shares_to share (length (c.put_audits.new.tally ∷ tallies_in mid))) c.in_ok-tally.tally) c.profile-profile.ensures
+    let joined = subst (λ (p : ℕ). IsTallyOf p (shares_to share (length (c.put_audits.new.tally ∷ tallies_in mid))) c.in_ok-tally.tally)
+    c.profile-profile.ensures
     (subst (λ (ts : List Tally). IsTallyOf c.profile-profile.result (shares_to share (length ts)) c.in_ok-tally.tally) c.in_ok-tallies.ensures
     (c.in_ok-tally.ensures.pieces share each)) in
     let reported = end_reported sc ranges l old _ t at c.requires.ended mid same long c.put_audits.new.tally adds.tallied c.in_ok-tally.tally

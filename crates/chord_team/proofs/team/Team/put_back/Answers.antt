@@ -38,7 +38,8 @@ loop-result-preserved c =
           c.put_part-output.ensures.back c.loop-result.invariant.back;
       long = length-set t.parcels.items at c.put_part-output.new.place ∙ c.loop-result.invariant.long;
       next = ap (λ o. soonest o rest) c.sooner-self.ensures ∙ sym (ap (soonest t.next) steps) ∙ c.loop-result.invariant.next;
-      others = ap (λ (u : Team). record u { parcels = with_item t.parcels at c.put_part-output.new.place; next = c.sooner-self.result }) c.loop-result.invariant.others;
+      others = ap (λ (u : Team). record u { parcels = with_item t.parcels at c.put_part-output.new.place; next = c.sooner-self.result })
+          c.loop-result.invariant.others;
     }
 
 pub returns-clause-back : goal.returns-clause-back

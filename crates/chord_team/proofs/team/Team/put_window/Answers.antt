@@ -1,7 +1,10 @@
 -- A window's parts come back, get their mail, and what they put out is written.
-use Rattle.std.proofs.Common.{◌≡◌, ◌∙◌, ◌+◌, ap, arith, refl}
+use Rattle.std.proofs.Common.{◌≡◌, ◌∙◌, ◌+◌, ap, arith, length, refl}
+use Rattle.std.proofs.lemmas.List.{length-map}
 use Rattle.chord_machine.specs.Chord.{chord}
 use Rattle.chord_model.specs.Histories.{history}
+use Rattle.chord_team.specs.declared.part.Finished.{Finished}
+use Rattle.chord_team.specs.declared.team.Team.{Team}
 use Rattle.chord_team.specs.Outputs.{told}
 use Rattle.chord_team.specs.Teams.{events_in}
 use Rattle.chord_team.proofs.RunCourse.{begin_opened}
@@ -112,19 +115,75 @@ returns-clause-within g c =
 
 pub returns-in_err-outputs-clause-counted_first : goal.returns-in_err-outputs-clause-counted_first
 returns-in_err-outputs-clause-counted_first g c = λ over.
-    absurd (omega (arith, over, c.in-Some.ensures.some.0, c.in-Some.ensures.some.1, ap events_in c.as_slice.ensures.value, c.max_events.ensures, c.requires.at.1.can_send.within))
+    absurd (omega (
+      arith,
+      over,
+      c.in-Some.ensures.some.0,
+      c.in-Some.ensures.some.1,
+      ap events_in c.as_slice.ensures.value,
+      c.max_events.ensures,
+      c.requires.at.1.can_send.within,
+    ))
 
 pub returns-in_err-write_text-clause-counted_first : goal.returns-in_err-write_text-clause-counted_first
 returns-in_err-write_text-clause-counted_first g c = λ over.
-    absurd (omega (arith, over, c.in-Some.ensures.some.0, c.in-Some.ensures.some.1, ap events_in c.as_slice.ensures.value, c.max_events.ensures, c.requires.at.1.can_send.within))
+    absurd (omega (
+      arith,
+      over,
+      c.in-Some.ensures.some.0,
+      c.in-Some.ensures.some.1,
+      ap events_in c.as_slice.ensures.value,
+      c.max_events.ensures,
+      c.requires.at.1.can_send.within,
+    ))
 
 pub returns-in_err-write_outputs-clause-counted_first : goal.returns-in_err-write_outputs-clause-counted_first
 returns-in_err-write_outputs-clause-counted_first g c = λ over.
-    absurd (omega (arith, over, c.in-Some.ensures.some.0, c.in-Some.ensures.some.1, ap events_in c.as_slice.ensures.value, c.max_events.ensures, c.requires.at.1.can_send.within))
+    absurd (omega (
+      arith,
+      over,
+      c.in-Some.ensures.some.0,
+      c.in-Some.ensures.some.1,
+      ap events_in c.as_slice.ensures.value,
+      c.max_events.ensures,
+      c.requires.at.1.can_send.within,
+    ))
 
 pub returns-clause-counted_first : goal.returns-clause-counted_first
 returns-clause-counted_first g c = λ over.
-    absurd (omega (arith, over, c.in-Some.ensures.some.0, c.in-Some.ensures.some.1, ap events_in c.as_slice.ensures.value, c.max_events.ensures, c.requires.at.1.can_send.within))
+    absurd (omega (
+      arith,
+      over,
+      c.in-Some.ensures.some.0,
+      c.in-Some.ensures.some.1,
+      ap events_in c.as_slice.ensures.value,
+      c.max_events.ensures,
+      c.requires.at.1.can_send.within,
+    ))
 
 pub overflow_sub-room : goal.overflow_sub-room
 overflow_sub-room g c = omega (arith, c.max_events.ensures, c.requires.at.1.can_send.within)
+
+pub overflow_add-self : goal.overflow_add-self
+overflow_add-self g c = omega (
+  arith,
+  c.in-Some.ensures.some.1,
+  c.max_events.ensures,
+  c.requires.at.1.can_send.within,
+  c.recall_range.ensures.numbers.max_events_greatest,
+  ap (λ (t : Team). t.count) c.in_ok-outputs.ensures.others,
+)
+
+pub put_back-requires : goal.put_back-requires
+put_back-requires g c = omega (arith, c.requires.results.long, c.requires.at.1.can_send.parcels_long)
+
+pub give_outputs-requires : goal.give_outputs-requires
+give_outputs-requires g c = omega (
+  arith,
+  ap length c.in_ok-outputs.ensures.outputs,
+  length-map c.args.results.items (λ (f : Finished). f.parcel.output),
+  c.exchange_mail.ensures.long,
+  c.in_ok-outputs.ensures.long,
+  c.requires.results.long,
+  c.requires.at.1.can_send.parcels_long,
+)
