@@ -13,3 +13,21 @@ returns-in-Some-clause-of g c =
       horizon_is = c.run.ensures.horizon ∙ order.horizon_is;
       finished = c.run.ensures.finished;
     }
+
+pub returns-in-Some-clause-can_send : goal.returns-in-Some-clause-can_send
+returns-in-Some-clause-can_send g c = c.take_out.ensures.rest c.args.course.now.scenario.now c.args.course.now.layout.now c.requires.can_send
+
+pub returns-in-Some-clause-others : goal.returns-in-Some-clause-others
+returns-in-Some-clause-others g c = c.take_out.ensures.others
+
+pub returns-then-worker-eq0-clause-can_send : goal.returns-then-worker-eq0-clause-can_send
+returns-then-worker-eq0-clause-can_send g c = c.take_out.ensures.rest c.args.course.now.scenario.now c.args.course.now.layout.now c.requires.can_send
+
+pub returns-then-worker-eq0-clause-others : goal.returns-then-worker-eq0-clause-others
+returns-then-worker-eq0-clause-others g c = c.take_out.ensures.others
+
+pub returns-clause-can_send : goal.returns-clause-can_send
+returns-clause-can_send g c = c.take_out.ensures.rest c.args.course.now.scenario.now c.args.course.now.layout.now c.requires.can_send
+
+pub returns-clause-others : goal.returns-clause-others
+returns-clause-others g c = c.take_out.ensures.others

@@ -10,7 +10,6 @@ use Rattle.chord_ops.specs.Rules.{effect}
 use Rattle.chord_trace.specs.Tally.{taken}
 use Rattle.chord_team.specs.Layouts.{slot_of}
 use Rattle.chord_team.specs.Owned.{AreApart}
-use Rattle.chord_team.specs.Running.{state_at}
 use Rattle.chord_team.proofs.part.OwnedPart.handle.Goals as goal
 
 pub returns-clause-handled : goal.returns-clause-handled
