@@ -104,8 +104,13 @@ impl<J: Named> Reply<J> {
         ensures { IfSome result (IsResultOf scenario.now layout.now part count horizon) }
     {
         let left = self.open(scenario, layout);
-        let parcel = &left.parcel;
-        if parcel.part.part != part || parcel.count != count || parcel.horizon != horizon {
+        if left.parcel.part.part != part {
+            return None;
+        }
+        if left.parcel.count != count {
+            return None;
+        }
+        if left.parcel.horizon != horizon {
             return None;
         }
         Some(left)

@@ -56,7 +56,7 @@ fn give_output(place: &mut Option<Parcel>, output: Output)
     let mut output = output;
     output.clear();
     if let Some(parcel) = place {
-        mem::swap(&mut parcel.output, &mut output);
+        parcel.output = output;
     }
 }
 

@@ -1,9 +1,6 @@
-use Rattle.std.proofs.Common.{[], refl, subst, sym}
-use Rattle.chord_team.specs.declared.output.Output.{Output}
-use Rattle.chord_team.specs.Outputs.{IsText}
+use Rattle.std.proofs.Common.{refl}
 use Rattle.chord_team.proofs.TeamMail.{only_output}
 use Rattle.chord_team.proofs.window_end.give_output.Goals as goal
 
 pub returns-in-Some : goal.returns-in-Some
-returns-in-Some c = only_output c.args.place.now c.in-Some.parcel _ c.in-Some.is refl
-    (λ sc. subst (λ (o : Output). IsText sc [] o) (sym c.swap.ensures.x_after) (c.clear.ensures sc))
+returns-in-Some c = only_output c.args.place.now c.in-Some.parcel _ c.in-Some.is refl c.clear.ensures
