@@ -41,6 +41,8 @@ class StudyCompareTest(TestCase):
         found = Pair(first, second).difference("served")
         assert abs((found.mean or 0) - 0.003) < 1e-9 and abs((found.half or 0) - 0.0019632) < 1e-6
         assert Pair(first, second).is_apart("served") and found.told(100) == "0.30 ± 0.20"
+        lines = text_of(Pair(first, second)).splitlines()
+        assert "  served          0.30 ± 0.20 points" in lines and "  messages        0 /member/s  equal" in lines
         assert not Pair(first, second, guarded_level(30)).is_apart("served")
 
     def test_seeds_with_a_dead_ring(self) -> None:

@@ -12,7 +12,7 @@ from chordsim_tools.reference.report import Report
 from chordsim_tools.reference.simulation import Simulation
 from chordsim_tools.scenario.reading import read_scenario
 from chordsim_tools.study.messages import Span, Traffic, exact, message_numbers
-from chordsim_tools.study.page import ERROR
+from chordsim_tools.study.notes import ERROR
 from chordsim_tools.study.served import scope_of
 from chordsim_tools.study.task import events_before
 from chordsim_tools.study.trace import TraceReader

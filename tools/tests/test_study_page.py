@@ -7,7 +7,7 @@ from chordsim_tools.members import Members
 from chordsim_tools.study.page import page
 from chordsim_tools.study.served import Scope
 from chordsim_tools.study.trace import TraceReader
-from tests.support.studies import row, tables_of
+from tests.support.studies import row, table_of, tables_of, unwrapped
 
 LIMIT: dict[str, Any] = {"number": "right_of_begun", "is_least": True, "value": 0.9}
 GOAL: dict[str, Any] = {"limits": [LIMIT], "lost_max": None, "least": "messages"}
@@ -25,15 +25,21 @@ def setting(size: int, right: int, messages: int, seeds: int = 6, dead: int = 0)
 
 
 def told(*settings: list[dict[str, str]], **changes: Any) -> str:
-    """The page of these settings."""
+    """The page of these settings, a paragraph a line."""
     rows = [one for rows in settings for one in rows]
     sizes = list(dict.fromkeys(int(one["list"]) for one in rows))
-    return page(tables_of(rows, vary={"list": sizes}, **changes))
+    return unwrapped(page(tables_of(rows, vary={"list": sizes}, **changes)))
 
 
-def line_of(text: str, label: str) -> list[str]:
-    """The cells of a setting's line of the table."""
-    return next(line for line in text.splitlines() if line.startswith(f"| {label} |"))[2:-2].split(" | ")
+def cells_of(text: str, label: str) -> dict[str, str]:
+    """The cells of a setting by their headers."""
+    return {**table_of(text, "Settings")[label], **table_of(text, "More numbers")[label]}
+
+
+def less_best(text: str, label: str) -> str:
+    """A setting's difference from the best one."""
+    [name] = [name for name in cells_of(text, label) if " less best" in name]
+    return cells_of(text, label)[name]
 
 
 class StudyPageTest(TestCase):
@@ -50,14 +56,16 @@ class StudyPageTest(TestCase):
             reader.read(line)
         numbers = {word: "" if value is None else str(value) for word, value in reader.numbers().items()}
         rows = [{**row(list=1, seed=seed), **numbers} for seed in range(1, 6)]
-        assert line_of(told(rows), "list=1")[3:5] == ["10.01", "100"]
+        cells = cells_of(told(rows), "list=1")
+        assert cells["served, %"] == "10.01" and cells["right of begun, %"] == "100"
 
     def test_dead_rings_are_told(self) -> None:
         """Kept of all with an interval; means say how many rings are in them; served has a range and no interval."""
-        cells = line_of(told(setting(2, 900, 5000), setting(1, 900, 4000, dead=1)), "list=1")
-        assert cells[1] == "5 of 6 (36..100 %)" and cells[2] == "6.8 (0.17..38)"
-        assert cells[3] == "75.3 (0..90.6)" and cells[4].endswith(" (5 of 6)")
-        assert line_of(told(setting(2, 900, 5000)), "list=2")[1:3] == ["6 of 6 (54..100 %)", "below 22"]
+        cells = cells_of(told(setting(2, 900, 5000), setting(1, 900, 4000, dead=1)), "list=1")
+        assert cells["rings kept"] == "5 of 6 (36..100 %)" and cells["rings lost an hour"] == "6.8 (0.17..38)"
+        assert cells["served, %"] == "75.3 (0..90.6)" and cells["right of begun, %"].endswith(" (5 of 6)")
+        kept = cells_of(told(setting(2, 900, 5000)), "list=2")
+        assert kept["rings kept"] == "6 of 6 (54..100 %)" and kept["rings lost an hour"] == "below 22"
 
     def test_answer(self) -> None:
         """The cheapest one that reaches the goal; one that lost a ring is none, however cheap."""
@@ -65,7 +73,7 @@ class StudyPageTest(TestCase):
         first = "**list=2** is the setting with the least messages per member and second"
         assert text.splitlines()[2].startswith(first)
         assert "right of begun of at least 90 % and no ring lost" in text and "rings kept 6 of 6" in text
-        assert line_of(text, "list=2")[-1] == "**best**" and line_of(text, "list=4")[-1] == "1"
+        assert less_best(text, "list=2") == "**best**" and less_best(text, "list=4") == "1"
 
     def test_an_answer_for_each_world(self) -> None:
         """Nobody chooses how many messages are lost: each world has its answer and its best setting."""
@@ -74,14 +82,18 @@ class StudyPageTest(TestCase):
             9: [*setting(2, 900, 3000), *setting(4, 900, 3500)],
         }
         rows = [{**one, "loss_ppm": str(loss)} for loss, rows in worlds.items() for one in rows]
-        text = page(tables_of(rows, vary={"loss_ppm": [0, 9], "list": [2, 4]}, goal=GOAL))
+        text = unwrapped(page(tables_of(rows, vary={"loss_ppm": [0, 9], "list": [2, 4]}, goal=GOAL)))
         lines = text.splitlines()
         assert lines[2].startswith("With loss_ppm=0: **loss_ppm=0, list=4** is the setting with the least messages")
         assert lines[4].startswith("With loss_ppm=9: **loss_ppm=9, list=2** is the setting with the least messages")
-        labels = [f"loss_ppm={loss}, list={size}" for loss in worlds for size in (2, 4)]
-        best = [label for label in labels if line_of(text, label)[-1] == "**best**"]
-        assert best == ["loss_ppm=0, list=4", "loss_ppm=9, list=2"]
-        whole = page(tables_of(rows, vary={"loss_ppm": [0, 9], "list": [2, 4]}, goal=GOAL, world=[]))
+        labels = [f"loss_ppm={loss}: list={size}" for loss in worlds for size in (2, 4)]
+        assert list(table_of(text, "Settings")) == list(table_of(text, "More numbers")) == labels
+        best = [label for label in labels if less_best(text, label) == "**best**"]
+        assert best == ["loss_ppm=0: list=4", "loss_ppm=9: list=2"]
+        assert "this setting less the best one with the same loss_ppm, seed by seed" in text
+        whole = unwrapped(page(tables_of(rows, vary={"loss_ppm": [0, 9], "list": [2, 4]}, goal=GOAL, world=[])))
+        assert list(table_of(whole, "Settings")) == [label.replace(":", ",") for label in labels]
+        assert "this setting less the best one, seed by seed" in whole
         assert whole.splitlines()[2].startswith("**loss_ppm=9, list=2** is the setting")
 
     def test_note(self) -> None:
@@ -118,9 +130,9 @@ class StudyPageTest(TestCase):
     def test_equal_settings_are_not_told_apart(self) -> None:
         """Equal rows are said to be so; nearly equal ones are not told apart; different ones are."""
         text = told(setting(8, 900, 5000), setting(4, 900, 5000), setting(2, 880, 5000))
-        assert line_of(text, "list=8")[-1] == "**best**"
-        assert line_of(text, "list=4")[-1] == "the same run in 6 of 6 seeds"
-        assert line_of(text, "list=2")[-1] == "-2"
+        assert less_best(text, "list=8") == "**best**"
+        assert less_best(text, "list=4") == "the same run in 6 of 6 seeds"
+        assert less_best(text, "list=2") == "-2"
 
     def test_worlds_and_warnings(self) -> None:
         """What is the same in all seeds, by the manifest; commands of a base; few seeds; the end's cut."""
@@ -145,7 +157,7 @@ class StudyPageTest(TestCase):
         """Bytes by the table of sizes: ten messages of each kind in 1,000 s of members."""
         kinds = ("step", "get-state", "get-list", "ping", "notify", "step-reply", "state-reply", "list-reply", "pong")
         text = told(setting(1, 900, 5000), sizes=dict.fromkeys(kinds, 100))
-        assert line_of(text, "list=1")[-1] == "9" and "bytes per member and second" in text
+        assert table_of(text, "More numbers")["list=1"]["bytes /member/s"] == "9"
 
     def test_precision(self) -> None:
         """Whether it was reached."""
@@ -160,4 +172,12 @@ class StudyPageTest(TestCase):
         text = told(setting(2, 900, 5000))
         assert text.startswith("# How?\n")
         assert "chordsim run --scenario FOLDER/done/list=2,seed=1.toml --serial" in text
-        assert "| study.toml | `bad` |" in text and "| the program | `f00` |" in text and "`abc`" in text
+        assert "| study.toml | `bad` |" in text and "| the program | `f00` |" in text
+        later = "This page may have been written by a later `tools/study`."
+        assert f"The tables were made by `tools/study` of commit `abc`. {later}" in text
+        made: dict[str, Any] = {"tool": {"commit": "abc+"}, "program": {"sha256": "f00", "commit": "def"}}
+        text = told(setting(2, 900, 5000), **made)
+        both = "`tools/study` of commit `abc+` and by the program of commit `def`"
+        assert f"The tables were made by {both}. `+` means: with changes since that commit. {later}" in text
+        made = {name: {**one, "commit": None} for name, one in made.items()}
+        assert "The tables were made by" not in told(setting(2, 900, 5000), **made)

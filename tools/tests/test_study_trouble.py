@@ -9,7 +9,7 @@ from chordsim_tools.reference.state import Event, Purpose, Status, Timeout
 from chordsim_tools.scenario.reading import read_scenario
 from chordsim_tools.study.page import page
 from chordsim_tools.study.trouble import Trouble
-from tests.support.studies import row, tables_of
+from tests.support.studies import row, table_of, tables_of
 from tests.support.worlds import EXAMPLES
 
 NAMES = ("timeouts", "timeouts-of-members", "removed-members", "again", "stranded", "join-failed")
@@ -81,10 +81,13 @@ class TroubleTest(TestCase):
         assert counts[0] > 3 * counts[1] > 0
 
     def test_table(self) -> None:
-        """A second table, for each member and hour: the rows have 1,000 seconds of members."""
+        """A third table, for each member and hour: the rows have 1,000 seconds of members."""
         counts = {f"cost-{name}": 10 * number for number, name in enumerate(NAMES)}
         rows = [row(list=2, seed=seed) | {word: str(count) for word, count in counts.items()} for seed in range(1, 6)]
         text = page(tables_of(rows, vary={"list": [2]}))
-        line = text.split("## Who was taken for dead")[1].split("\n")[4]
-        assert line == "| list=2 | 0 | 36 | 72 | 108 | 144 | 180 |"
+        assert table_of(text, "Who was taken for dead")["list=2"] == {
+            "setting": "list=2", "timeouts": "0", "members taken for dead": "36", "removed as successors": "72",
+            "requests sent again": "108", "members stranded": "144", "joins failed": "180",
+        }
+        assert "All numbers are for each member and hour, from the warm-up to the end." in text
         assert "taken for dead" not in page(tables_of([row(list=2, seed=1)], vary={"list": [2]}))

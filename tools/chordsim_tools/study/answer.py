@@ -4,21 +4,15 @@ import math
 
 from chordsim_tools.study.compare import Pair, guarded_level
 from chordsim_tools.study.exact import count_interval, share_interval
-from chordsim_tools.study.goal import SHARES, Goal, Limit
+from chordsim_tools.study.goal import Goal, Limit
 from chordsim_tools.study.interval import LEAST_SEEDS, significant
+from chordsim_tools.study.names import PERCENT, in_words
 from chordsim_tools.study.numbers import TAKES, Summary
-
-NAMES = {
-    "served": "served", "right_of_begun": "right of begun", "defensible": "defensible", "given_up": "given up",
-    "members": "members of the nodes up", "p50_ms": "p50", "p99_ms": "p99",
-    "messages": "messages per member and second", "upkeep": "messages of upkeep per member and second",
-    "events": "events per member and second",
-}
 
 
 def value_told(number: str, value: float) -> str:
     """A value with its unit."""
-    if number in (*SHARES, "members"):
+    if number in PERCENT:
         return f"{significant(value * 100, 4)} %"
     return f"{significant(value, 4)} ms" if number.endswith("_ms") else significant(value, 3)
 
@@ -26,7 +20,7 @@ def value_told(number: str, value: float) -> str:
 def limit_told(limit: Limit) -> str:
     """A limit as the answer names it."""
     bound = "least" if limit.is_least else "most"
-    return f"{NAMES[limit.number]} of at {bound} {value_told(limit.number, limit.value)}"
+    return f"{in_words(limit.number)} of at {bound} {value_told(limit.number, limit.value)}"
 
 
 def goal_told(goal: Goal) -> str:
@@ -107,8 +101,8 @@ def answer(found: list[Summary], goal: Goal) -> str:
         nearest = nearest_of(found, goal, level)
         return f"No setting reaches {goal_told(goal)} {how}; the nearest is {nearest.label}: {reached(nearest, goal)}."
     best = least_of(reaching, goal)
-    cost = best.numbers[goal.least].told(100 if goal.least in (*SHARES, "members") else 1)
-    text = f"**{best.label}** is the setting with the least {NAMES[goal.least]}, {cost}, of those that reach "
+    cost = best.numbers[goal.least].told(100 if goal.least in PERCENT else 1)
+    text = f"**{best.label}** is the setting with the least {in_words(goal.least)}, {cost}, of those that reach "
     text += f"{goal_told(goal)} {how}: {reached(best, goal)}."
     return text + not_apart(best, reaching, goal, len(found))
 
@@ -134,8 +128,8 @@ def nearest_of(found: list[Summary], goal: Goal, level: float) -> Summary:
 def reached(one: Summary, goal: Goal) -> str:
     """The numbers of a setting that the goal is about, and its rings."""
     numbers = [
-        f"{NAMES[limit.number]} {one.numbers[limit.number].told(100 if limit.number in (*SHARES, 'members') else 1)}"
-        + (" %" if limit.number in (*SHARES, "members") else "")
+        f"{in_words(limit.number)} {one.numbers[limit.number].told(100 if limit.number in PERCENT else 1)}"
+        + (" %" if limit.number in PERCENT else "")
         for limit in goal.limits
     ]
     return ", ".join([*numbers, f"rings kept {one.kept_told()}"])

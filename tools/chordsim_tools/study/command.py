@@ -134,13 +134,16 @@ It needs Debian's packages python3-numpy and python3-matplotlib, and Debian's Py
 PATH, `/usr/bin/python3 tools/study plot FOLDER`."""
 
 REPORT_HELP = """\
-Writes the page FOLDER/report.md: the question; the answer to [goal]; what is new in each world and what is the same; a
-line a setting with rings kept, the share served, right answers, times and costs, and its difference from the best one;
-links to the plots, which `tools/study plot` draws; the commands and digests. The page says what each number is."""
+Writes the page FOLDER/report.md: the question; the answer to [goal]; what is new in each world and what is the same;
+three tables with a line a setting; links to the plots, which `tools/study plot` draws; the commands and digests. The
+first table has what a decision rests on: rings kept, served, right of begun, p50, p99, messages, each number that
+[goal] or [precision] names, and the difference from the best setting. The second one has all other numbers, and the
+third one says who was taken for dead. Below each table the page says what its numbers are."""
 COMPARE_HELP = """\
 Compares two settings seed by seed, prints the mean differences of A less B with 95% intervals, and writes them to
 FOLDER/compare.csv. Settings are named by their labels, as "list=4, stabilize_us=1s", or by their numbers in the page's
-table, from 1. Rings that only one of them lost are compared by the exact test of McNemar."""
+first table, from 1. A label has the keys of the world too: "loss_ppm=0, list=4, stabilize_us=1s". Rings that only one
+of them lost are compared by the exact test of McNemar."""
 
 
 def parsed(arguments: list[str]) -> Namespace:

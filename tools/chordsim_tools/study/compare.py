@@ -8,10 +8,12 @@ from chordsim_tools.cli import Refused, write_out
 from chordsim_tools.files import write_whole
 from chordsim_tools.study.exact import mcnemar
 from chordsim_tools.study.interval import Interval, interval
+from chordsim_tools.study.layout import of_each_world
+from chordsim_tools.study.names import NAMES, RATE, RATES, TIMES
 from chordsim_tools.study.numbers import TAKES, Cells, Summary, is_kept, summaries
 from chordsim_tools.study.tables import Tables, csv_text, read_tables
 
-UNITS = {"p50_ms": ("ms", 1.0), "p99_ms": ("ms", 1.0), "messages": ("", 1.0), "upkeep": ("", 1.0), "events": ("", 1.0)}
+UNITS = {**dict.fromkeys(TIMES, ("ms", 1.0)), **dict.fromkeys(RATES, (RATE, 1.0))}
 """The units of the numbers that are no shares, which are told in percent."""
 
 
@@ -74,6 +76,11 @@ def guarded_level(settings: int) -> float:
     return 1 - 0.05 / max(1, settings * (settings - 1) // 2)
 
 
+def settings_of(tables: Tables) -> list[Summary]:
+    """All settings in the order in which the page has them, which their numbers count."""
+    return [one for settings in of_each_world(tables, summaries(tables)).values() for one in settings]
+
+
 def named(found: list[Summary], name: str) -> Summary:
     """The setting of a label or of a number, from 1."""
     for place, one in enumerate(found, start=1):
@@ -117,7 +124,7 @@ def text_of(pair: Pair) -> str:
         apart = "" if found.half is None or abs(found.mean or 0) > found.half else "  not told apart"
         apart = "  equal" if found.mean == found.half == 0 else apart
         unit = "" if found.mean is None else unit
-        text += f"  {number:<15} {found.told(scale)} {unit}".rstrip() + apart + "\n"
+        text += f"  {NAMES[number]:<15} {found.told(scale)} {unit}".rstrip() + apart + "\n"
     return text + (
         "\n± is half of a 95% interval of the mean difference (Student's t) over the seeds in which both kept their "
         "rings.\nEach line is a comparison by itself: of ten numbers that are equal, one or the other may seem to "
@@ -128,7 +135,7 @@ def text_of(pair: Pair) -> str:
 def write_comparison(folder: Path, first: str, second: str) -> None:
     """Prints the comparison and writes compare.csv."""
     tables: Tables = read_tables(folder)
-    found = summaries(tables)
+    found = settings_of(tables)
     pair = Pair(named(found, first), named(found, second))
     if not pair.seeds():
         raise Refused(f"{folder}: {pair.first.label} and {pair.second.label} have no seed in common")

@@ -7,6 +7,7 @@ from chordsim_tools.study.goal import precision_again
 from chordsim_tools.study.interval import LEAST_SEEDS, Interval, interval
 from chordsim_tools.study.numbers import LEAST_FOR_P99, Cells, Summary, ratio
 from chordsim_tools.study.precise import stopped
+from chordsim_tools.study.wrap import note, paragraph
 
 MUCH = 0.001
 """Of more lookups than this share cut off by the end the page warns."""
@@ -102,6 +103,6 @@ def head(manifest: dict[str, Any], found: list[Summary]) -> str:
     """All of it."""
     precise = precision_again(manifest["precision"])
     stop = "" if precise is None else f" {stopped(precise, found)}"
-    text = f"{worlds(manifest)}{stop}\n\n{judged(manifest)} {steadiness(found)}\n\n"
+    texts = (worlds(manifest) + stop, judged(manifest), steadiness(found))
     told = warnings(manifest, found)
-    return text + "".join(f"- Warning: {line}\n" for line in told) + ("\n" if told else "")
+    return "".join(map(paragraph, texts)) + "".join(note(f"Warning: {line}") for line in told) + ("\n" if told else "")

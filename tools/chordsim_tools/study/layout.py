@@ -2,11 +2,13 @@
 
 from chordsim_tools.cli import Refused
 from chordsim_tools.study.looks import Layout, Values
-from chordsim_tools.study.numbers import groups
+from chordsim_tools.study.numbers import Summary, groups, setting_label
 from chordsim_tools.study.tables import Tables
 
 WORLD = ("profile", "duration_us", "latency_us", "loss_ppm", "spread_us", "latency", "base")
 """Keys that no designer chooses: these are worlds, as churn and lookups are, if the study file has no `world`."""
+Worlds = dict[str, list[Summary]]
+"""The settings of each world, by what the world has."""
 
 
 def is_world(key: str, named: list[str] | None) -> bool:
@@ -19,6 +21,26 @@ def worlds_of(tables: Tables) -> list[str]:
     named = tables.manifest.get("world")
     names = list(named) if isinstance(named, list | dict) else None
     return [key for key in varied(tables) if is_world(key, names)]
+
+
+def of_each_world(tables: Tables, found: list[Summary]) -> Worlds:
+    """The settings of each world. Nobody chooses between worlds."""
+    keys = worlds_of(tables)
+    worlds: Worlds = {}
+    for one in found:
+        worlds.setdefault(label_of(tables, one, keys), []).append(one)
+    return worlds
+
+
+def choice_label(tables: Tables, one: Summary) -> str:
+    """What of a setting somebody chooses, as pages name it."""
+    keys = worlds_of(tables)
+    return label_of(tables, one, [key for key in varied(tables) if key not in keys])
+
+
+def label_of(tables: Tables, one: Summary, keys: list[str]) -> str:
+    """A setting by some of its keys."""
+    return setting_label(keys, tuple(one.values[varied(tables).index(key)] for key in keys))
 
 
 def varied(tables: Tables) -> list[str]:

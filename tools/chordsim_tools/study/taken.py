@@ -1,25 +1,35 @@
-"""The page's second table: who was taken for dead, and what came of it."""
+"""The page's third table: who was taken for dead, and what came of it."""
 
 from collections.abc import Callable
+from functools import partial
 
+from chordsim_tools.study.notes import AGAIN
 from chordsim_tools.study.numbers import Cells, Summary
+from chordsim_tools.study.settings_tables import Column, table_text
+from chordsim_tools.study.tables import Tables
+from chordsim_tools.study.wrap import note, paragraph
 
 COLUMNS = (
     ("timeouts", "cost-timeouts"),
     ("members taken for dead", "cost-timeouts-of-members"),
-    ("of these removed as successors", "cost-removed-members"),
+    ("removed as successors", "cost-removed-members"),
     ("requests sent again", "cost-again"),
     ("members stranded", "cost-stranded"),
     ("joins failed", "cost-join-failed"),
 )
-MEANINGS = """\
-- All numbers are for each member and hour, from the warm-up to the end; ± and `(m of n)` are as above.
-- **timeouts**: calls that had no reply in time, to any of their sendings. **members taken for dead**: of these, those
-  to a node that was a member at that time: a message was lost, or the node had only just joined.
-- **removed as successors**: stabilizations whose last request or its reply was lost, so that the nearest successor left
-  the list though it was a member. In all other cases a lookup, a join or a ping went on without the node.
-- **stranded**: members whose successor list ran empty. **joins failed**: times that a join had failed eight times.
-"""
+UNIT = "All numbers are for each member and hour, from the warm-up to the end."
+NOTES = (
+    AGAIN,
+    "**timeouts**: calls that had no reply in time, to any of their sendings.",
+    "**members taken for dead**: timeouts of calls to a node that was a member at that time. A message was lost, or "
+    "the node had only just joined.",
+    "**removed as successors**: of these, stabilizations whose last request or its reply was lost. The nearest "
+    "successor left the list though it was a member. In all other cases a lookup, a join or a ping went on without the "
+    "node.",
+    "**requests sent again**: each time that a request was sent again (`retries`).",
+    "**members stranded**: members whose successor list ran empty.",
+    "**joins failed**: times that a join had failed eight times.",
+)
 
 
 def an_hour(word: str) -> Callable[[Cells], float | None]:
@@ -33,11 +43,15 @@ def an_hour(word: str) -> Callable[[Cells], float | None]:
     return take
 
 
-def taken_table(found: list[Summary]) -> str:
+def cell_of(one: Summary, word: str) -> str:
+    """The cell of a count in a setting's line."""
+    return one.of(an_hour(word)).told()
+
+
+def taken_table(tables: Tables, found: list[Summary]) -> str:
     """The table with its heading; nothing for tables of an older tools/study."""
     if not all(word in one.rows[0] for _, word in COLUMNS for one in found):
         return ""
-    rows = [["setting", *(name for name, _ in COLUMNS)], ["---"] * (1 + len(COLUMNS))]
-    rows += [[one.label, *(one.of(an_hour(word)).told() for _, word in COLUMNS)] for one in found]
-    table = "".join("| " + " | ".join(cells) + " |\n" for cells in rows)
-    return f"## Who was taken for dead\n\n{table}\n{MEANINGS}\n"
+    columns: list[Column] = [(name, partial(cell_of, word=word)) for name, word in COLUMNS]
+    table, notes = table_text(tables, found, columns), "".join(map(note, NOTES))
+    return f"## Who was taken for dead\n\n{paragraph(UNIT)}{table}\n{notes}\n"

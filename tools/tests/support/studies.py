@@ -1,5 +1,6 @@
 """Tables of studies for tests."""
 
+import re
 from typing import Any
 
 from chordsim_tools.study.tables import Tables
@@ -25,6 +26,25 @@ def row(**cells: Any) -> dict[str, str]:
     kinds = ("step", "get-state", "get-list", "ping", "notify", "step-reply", "state-reply", "list-reply", "pong")
     sent = {f"sent-{kind}": 10 for kind in kinds}
     return {word: str(value) for word, value in {**first, **ROW, **sent, **cells}.items()}
+
+
+def unwrapped(page: str) -> str:
+    """A page whose paragraphs and notes are one line each."""
+    return re.sub(r"(?<!\n)(?<!```)\n(?: {2})?(?![\n|#! ]|- |```)", " ", page)
+
+
+def table_of(page: str, heading: str) -> dict[str, dict[str, str]]:
+    """The table below a heading: the cells of each setting by their headers. Settings of a world begin with it."""
+    lines = page.split(f"## {heading}\n", 1)[1].split("\n## ", 1)[0].splitlines()
+    headers, _, *rows = (line[2:-2].split(" | ") for line in lines if line.startswith("|"))
+    found: dict[str, dict[str, str]] = {}
+    world = ""
+    for row_of in rows:
+        if row_of[0].startswith("**"):
+            world = row_of[0].strip("*") + ": "
+        else:
+            found[world + row_of[0]] = dict(zip(headers, row_of, strict=True))
+    return found
 
 
 def tables_of(rows: list[dict[str, str]], **changes: Any) -> Tables:

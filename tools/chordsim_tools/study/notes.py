@@ -1,0 +1,95 @@
+"""The notes below the tables of a page, which say what their columns are. Each stands with the table of its column."""
+
+from chordsim_tools.study.interval import LEAST_SEEDS
+from chordsim_tools.study.names import NAMES, RATE, RATES, TIMES, difference_header
+
+ERROR = "0.5 %"
+"""How far off the estimate of messages was at most; tests/test_study_messages.py looks at it."""
+FIRST = (
+    "**±** is half of a 95 % interval, for each cell by itself: Student's t over the seeds. If it would leave 0 to "
+    f"100 %, it is cut there and written as `(low..high)`. With fewer than {LEAST_SEEDS} seeds there is none.",
+    "**(m of n)**: the mean is of m of the n seeds. A seed is left out if its ring was lost, or if it has no such "
+    "number. `-`: all seeds are left out.",
+    "**rings kept**: seeds in which every audit found a ring. In brackets: the exact interval of their share (Clopper "
+    "and Pearson).",
+)
+AGAIN = "±, `(m of n)` and `-` are as above."
+NOTES = {
+    "rings_lost":
+        "**rings lost an hour**: for each hour that a ring lives. In brackets: the exact interval (Garwood). `below`: "
+        "no ring was lost, and this is the upper bound.",
+    "served":
+        "**served**: right answers, of the lookups wanted. No seed is left out: a lost ring serves none. If rings "
+        "were lost, the brackets have the least and the greatest seed. Wanted are the lookups begun or refused, and "
+        "those that were planned for a node that is up but no member. Such a node also wants one for each mean gap of "
+        "`[lookups]`. A node is up from the start or a join until its crash, even if its join has failed.",
+    "right_of_begun":
+        "**right of begun**: lookups whose answer names the right owner at the time of the answer (the strict view), "
+        "of those that ended while their asker was up.",
+    "defensible":
+        "**defensible**: lookups whose answer named the right owner at some instant while they ran, of the same ones "
+        "as right of begun.",
+    "given_up": "**given up**: lookups that ended without an answer, of the same ones as right of begun.",
+    "cut_off":
+        "**cut off**: lookups whose asker crashed before they ended, of all lookups begun. They are in none of right "
+        "of begun, defensible and given up, but count as wanted.",
+    "members": "**members**: the time that nodes are members, of the time that they are up.",
+    "messages":
+        "**messages**: all messages sent. With `detail = true` they are counted. Without it they are estimated, since "
+        "a trace then has no line for a message that arrives. Every call makes a request, a timeout and mostly a "
+        "reply. So the events that are neither timers nor commands say how many calls there were. In runs that were "
+        f"counted the estimate was off by less than {ERROR}, if the span had 40 timeouts or more and the ring was "
+        "kept.",
+    "upkeep": "**upkeep**: the messages that are no steps of lookups.",
+    "events": "**events**: all events of the run. They are counted.",
+    "bytes": "**bytes**: the messages of each kind times their size in `[sizes]`.",
+}
+"""The notes of the numbers, but for the times. Their order is that of the columns."""
+UNIT = f"**{RATE}**: for each member and second."
+PARTS = {"p50_ms": "50 %", "p99_ms": "99 %"}
+KEPT = "over the seeds in which both kept their rings."
+ALL = (
+    "over all seeds. If one of the two lost its ring in some seeds but not in all, only those seeds count in which "
+    "both kept their rings."
+)
+"""What the differences of served are over; those of all other numbers are over the rings kept."""
+
+
+def times_note(numbers: list[str], above: list[str]) -> str:
+    """The note of the percentiles in a table; in short if the other one has its note in a table above."""
+    names = ", ".join(NAMES[number] for number in numbers)
+    parts = " and ".join(PARTS[number] for number in numbers)
+    text = f"**{names}**: {parts} of all lookups take at most so long"
+    if above:
+        return f"{text}, computed as {NAMES[above[0]]}."
+    return (
+        f"{text}, by the curve of Kaplan and Meier in each run. A lookup that was given up never ends. One that was "
+        "cut off is censored. `never`: fewer lookups ever end. A run with fewer than 1,000 judged lookups has no p99."
+    )
+
+
+def notes_of(numbers: list[str], above: list[str]) -> list[str]:
+    """The notes of these columns of a table; other ones are in a table above."""
+    times, times_above = ([one for one in TIMES if one in table] for table in (numbers, above))
+    told = []
+    for number in NAMES:
+        if number in times[:1]:
+            told.append(times_note(times, times_above))
+        elif number in numbers and number in NOTES:
+            told.append(NOTES[number])
+    if set(RATES) & set(numbers) and not set(RATES) & set(above):
+        told.append(UNIT)
+    return told
+
+
+def difference_note(number: str, settings: int, worlds: list[str]) -> str:
+    """What the column of differences says of this many settings in worlds that these keys tell apart."""
+    pairs = settings * (settings - 1) // 2
+    same = f" with the same {', '.join(worlds)}" if worlds else ""
+    return (
+        f"**{difference_header(number)}**: this setting less the best one{same}, seed by seed, "
+        f"{ALL if number == 'served' else KEPT} The intervals hold for all {pairs} pairs of settings together "
+        "(Bonferroni). The best one is that of the answer above. Without such an answer it is the one that kept most "
+        "rings, and of these served most. `not told apart`: the interval reaches 0 or cannot be computed, and "
+        "McNemar's exact test of the rings lost does not tell the two apart either."
+    )
