@@ -49,6 +49,7 @@ impl AuditClock {
     }
 
     /// Takes the first audit, if it is due by this time.
+    #[inline(always)]
     pub fn take_due(&mut self, time: u64) -> Option<u64>
         ensures { MatchOption result ((self.new ≡ self.old) × AllByRecursion (λ t. time < t) self.old) (λ due. (self.old ≡ due ∷ self.new) × (due ≤ time)) }
     {

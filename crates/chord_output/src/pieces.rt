@@ -46,6 +46,7 @@ pub fn put_block<W: Write>(
 }
 
 /// Makes the audit of a time in microseconds, writes it, and adds it to the tally.
+#[inline(never)]
 fn put_audit<W: Write>(
     alloc: Global,
     scenario: &Scenario,
@@ -72,6 +73,8 @@ fn put_audit<W: Write>(
 
 /// Makes the audits that are due by a time in microseconds, writes them, and adds them to the
 /// tally.
+// Inlined, since few events have an audit that is due: the others then make no call.
+#[inline(always)]
 pub fn put_audits<W: Write>(
     alloc: Global,
     scenario: &Scenario,

@@ -1,7 +1,8 @@
 -- Events by day: what a call does to all of them.
-use Rattle.std.proofs.Common.{◌≡◌, inl, inr, ℕ, suc, ◌+◌, ◌-◌, ◌/◌, ◌<◌, ◌≤◌, false, List, [], ◌∷◌, ◌++◌, map, length, Option, Some, None, IsSome, IsSomeAnd, slice_get, slice_index_or, vec_capacity, refl, sym, ap, ◌∙◌, subst, arith}
+use Rattle.std.proofs.Common.{◌≡◌, ◌≢◌, inl, inr, ℕ, suc, ◌+◌, ◌-◌, ◌/◌, ◌<◌, ◌≤◌, false, List, [], ◌∷◌, ◌++◌, map, length, Option, Some, None, IsSomeAnd, slice_get, slice_index_or, vec_capacity, refl, sym, ap, ◌∙◌, subst, arith}
 use Rattle.std.specs.Global.{Vec}
 use Rattle.std.specs.List.{AllByRecursion}
+use Rattle.std.specs.Vec.{with_item}
 use Rattle.std.specs.List.Sorted.{IsPermutation, IsSorted}
 use Rattle.std.specs.BinaryHeap.{IsUpperBound}
 use Rattle.std.specs.Ordering.{is_lt, nat_cmp, ordering_then}
@@ -9,14 +10,15 @@ use Rattle.std.specs.declared.cmp.Ordering.{Ordering}
 use Rattle.std.specs.declared.cmp.Ordering.TheVariants.{Less, Equal, Greater}
 use Rattle.std.proofs.lemmas.List.Sorted.{IsPermutation-append_left, IsPermutation-map, IsPermutation-to_front, IsPermutation-sym, IsPermutation-trans}
 use Rattle.std.proofs.lemmas.List.{map-append}
-use Rattle.slab.specs.Slab.{ContainsKey, Slab, get, Updates}
+use Rattle.slab.specs.Slab.{Slab, get, Updates}
 use Rattle.chord_event.specs.declared.body.Body.{Body}
 use Rattle.chord_event.specs.declared.event.Event.{Event}
 use Rattle.chord_event.specs.declared.key.Key.{Key}
-use Rattle.chord_event.specs.Keys.{key_cmp}
-use Rattle.chord_event.specs.KeyOrder.{IsNewKey, put_in_order}
+use Rattle.chord_event.specs.Keys.{IsBefore, key_cmp}
+use Rattle.chord_event.specs.KeyOrder.{InKeyOrder, IsNewKey, put_in_order}
 use Rattle.chord_event.proofs.Compare.{compared}
 use Rattle.chord_event.proofs.KeyLists.{IsIn, all_from, all_in}
+use Rattle.chord_event.proofs.Order.{before_not_same}
 use Rattle.chord_queue.specs.Calendar.{AreOrderly, events_of}
 use Rattle.chord_queue.specs.Days.{AllPlaced, AreDays, HaveNone, HasSame, HasTaken, IsInPlace, IsListed, IsOpened, day_of, entries_in, places_in}
 use Rattle.chord_queue.specs.declared.days.Days.{Days}
@@ -24,8 +26,8 @@ use Rattle.chord_queue.specs.EventKey.{event_key}
 use Rattle.chord_queue.specs.Places.{Entry, Events, Held, IsPlaced, entry_at, events_at, in_key_order, key_there, waiting_cmp, waiting_key}
 use Rattle.chord_queue.proofs.Due.{last_greatest, sorted_front}
 use Rattle.chord_queue.proofs.Orders.{all_both, in_left, in_right, put_behind}
-use Rattle.chord_queue.proofs.Placed.{PlaceList, Placing, joined}
-use Rattle.chord_queue.proofs.Places.{changes_by, event_of, held_none, held_permuted, inserted, order_permuted, others_stay, permuted_in, popped}
+use Rattle.chord_queue.proofs.Placed.{PlaceList, Placing, all_set, fit_at, joined, joined_same, placed_same}
+use Rattle.chord_queue.proofs.Places.{changes_by, event_in, event_of, first_out, held_none, held_permuted, held_stays, inserted, of_order_in, order_permuted, ordered, permuted_in, stays}
 
 in_map : {A B : Type 0} (f : A → B) (xs : List A) (x : A) → IsIn x xs → IsIn (f x) (map f xs)
 in_map f [] x h = absurd h
@@ -73,13 +75,18 @@ same_places d r room slots days = record {
   fit = days.fit;
 }
 
--- room was made before an event was put
-pub put_updates : (s r t : Slab (Event Body)) (p q : ℕ) (e : Event Body) → r.slots ≡ s.slots → q ≡ p → get r q ≡ None → Updates r t q (Some e)
-    → (get s p ≡ None) × Updates s t p (Some e)
-put_updates s r t p q e slots same free updates =
-    let here : Updates r t p (Some e) = subst (λ n. Updates r t n (Some e)) same updates in (
-      sym (ap (λ (os : List (Option (Event Body))). at_slots os p) slots) ∙ subst (λ n. get r n ≡ None) same free,
-      record { changed = here.changed; others = λ n ne. here.others n ne ∙ ap (λ (os : List (Option (Event Body))). at_slots os n) slots },
+-- a list has more room, and the same places
+pub kept_list : (d : Days) (r : Slab (Event Body)) (at room : ℕ) (v l : PlaceList) → AreDays d room → r.slots ≡ d.events.slots → at < length d.lists.items
+    → v ≡ slice_index_or d.lists.items at v → l.items ≡ v.items
+    → let new : Days = record d { lists = with_item d.lists at l; events = r } in AreDays new room × HasSame d new
+kept_list d r at room v l days slots lt read items =
+    let same : l.items ≡ (slice_index_or d.lists.items at v).items = ◌∙◌ {A = List ℕ} items (ap (λ (m : PlaceList). m.items) read) in (
+      record {
+        placed = placed_same (IsListed (get r) d.today d.latest) at d.lists.items v l lt same (same_places d r room slots days).placed;
+        fit = all_set (λ (m : PlaceList). length m.items ≤ room) d.lists.items at l days.fit
+            (subst (λ (ps : List ℕ). length ps ≤ room) (sym items) (fit_at room at d.lists.items v v lt read days.fit));
+      },
+      record { today = refl; slots = slots; places = joined_same d.lists.items at v l same },
     )
 
 pub same_orderly : (due new : Vec Entry) (c d : Days) → AreOrderly due c → new.items ≡ due.items → HasSame c d → AreDays d (vec_capacity new)
@@ -163,29 +170,59 @@ first_due due rest d w is last =
           (days_after d w (vec_capacity due) is.days (opened_front d rest w (subst (IsOpened d) last is.opened)).1);
     }
 
--- the last of the due entries is taken, and its event
-pub popped_orderly : (due new : Vec Entry) (c : Days) (t : Slab (Event Body)) (w : Entry) (e : Event Body) → AreOrderly due c
-    → due.items ≡ new.items ++ w ∷ [] → vec_capacity new ≡ vec_capacity due → get c.events w.place ≡ Some e → Updates c.events t w.place None
-    → let d : Days = record c { events = t } in AreOrderly new d × (events_of due.items c ≡ e ∷ events_of new.items d)
-popped_orderly due new c t w e is last room there updates =
-    let s = get c.events in let ws = due.items ++ entries_in c in let rest = new.items ++ entries_in c in
-    let first = first_due due new.items c w is last in
-    let change = changes_by c.events t w.place None updates in
-    let out = popped s (get t) ws rest w e is.held first.moved first.bound there change in
-    let kept : (p : ℕ) → IsIn p (places_in c) → get t p ≡ s p = λ p h. others_stay s (get t) ws rest w e is.held first.moved there change (entry_at s p)
-    (in_right new.items (entries_in c) (entry_at s p) (in_map (entry_at s) (places_in c) p h)) in
-    let same = entries_stay s (get t) (places_in c) kept in (
-      record {
-        held = subst (λ l. Held (get t) (new.items ++ l)) (sym same) out.0;
-        days = record {
-          placed = placed_stay (IsListed s c.today c.latest) (IsListed (get t) c.today c.latest) 0 c.lists.items
-              (λ j n h listed. subst (λ o. IsSomeAnd o (IsInPlace c.today c.latest j)) (sym (kept n h)) listed) is.days.placed;
-          fit = subst (λ r. AllByRecursion (λ (l : PlaceList). length l.items ≤ r) c.lists.items) (sym room) is.days.fit;
-        };
-        opened = (opened_front c new.items w (subst (IsOpened c) last is.opened)).0;
+-- the last of the due entries is taken: what is known of its event, and of those of the other entries
+pub record IsTaken (due new : Vec Entry) (d : Days) (w : Entry) : Type 0 where
+  pub event : Event Body
+  pub there : get d.events w.place ≡ Some event
+  pub rest : AreOrderly new d
+  pub first : events_of due.items d ≡ event ∷ events_of new.items d
+  pub other : IsNewKey event_key event.key (events_of new.items d)
+
+pub taken_due : (due new : Vec Entry) (d : Days) (w : Entry) → AreOrderly due d → due.items ≡ new.items ++ w ∷ [] → vec_capacity new ≡ vec_capacity due
+    → IsTaken due new d w
+taken_due due new d w is last room =
+    let s = get d.events in let ws = due.items ++ entries_in d in let rest = new.items ++ entries_in d in
+    let first = first_due due new.items d w is last in
+    let own = event_of s w (held_permuted s ws (w ∷ rest) first.moved is.held).placed.0 in let e = own.0 in
+    let out = first_out s ws rest w e is.held first.moved first.bound own.1 in
+    let up : InKeyOrder event_key (e ∷ events_of new.items d) = subst (InKeyOrder event_key) out.1 (ordered s ws is.held) in record {
+      event = e;
+      there = own.1;
+      rest = record {
+        held = out.0;
+        days = subst (λ r. AreDays d r) (sym room) is.days;
+        opened = (opened_front d new.items w (subst (IsOpened d) last is.opened)).0;
         sorted = sorted_front new.items w (subst (IsSorted waiting_cmp) last is.sorted);
+      };
+      first = out.1;
+      other = all_from (λ (x : Event Body). event_key x ≢ e.key) (events_of new.items d)
+          (λ x h q. before_not_same e.key x.key (all_in (λ (y : Event Body). IsBefore e.key y.key) (events_of new.items d) up.0 x h) (sym q));
+    }
+
+-- an event is removed that no entry has
+pub freed_orderly : (due : Vec Entry) (d : Days) (t : Slab (Event Body)) (p : ℕ) (e : Event Body) → AreOrderly due d → get d.events p ≡ Some e
+    → IsNewKey event_key e.key (events_of due.items d) → Updates d.events t p None
+    → let new : Days = record d { events = t } in AreOrderly due new × (events_of due.items new ≡ events_of due.items d)
+freed_orderly due d t p e is there other updates =
+    let s = get d.events in let all = due.items ++ entries_in d in
+    let change = changes_by d.events t p None updates in
+    let kept : (v : Entry) → IsIn v all → get t v.place ≡ s v.place = λ v h. change.others v.place (λ q.
+    all_in (λ (x : Event Body). event_key x ≢ e.key) (events_of due.items d) other e
+    (of_order_in (events_at s all) e (event_in s all v e h (ap s q ∙ there))) refl) in
+    let stay : (n : ℕ) → IsIn n (places_in d) → get t n ≡ s n = λ n h. kept (entry_at s n)
+    (in_right due.items (entries_in d) (entry_at s n) (in_map (entry_at s) (places_in d) n h)) in
+    let same = entries_stay s (get t) (places_in d) stay in (
+      record {
+        held = subst (λ l. Held (get t) (due.items ++ l)) (sym same) (held_stays s (get t) all kept is.held);
+        days = record {
+          placed = placed_stay (IsListed s d.today d.latest) (IsListed (get t) d.today d.latest) 0 d.lists.items
+              (λ j n h listed. subst (λ o. IsSomeAnd o (IsInPlace d.today d.latest j)) (sym (stay n h)) listed) is.days.placed;
+          fit = is.days.fit;
+        };
+        opened = is.opened;
+        sorted = is.sorted;
       },
-      out.1 ∙ ap (λ l. e ∷ in_key_order (events_at (get t) (new.items ++ l))) (sym same),
+      ap (λ l. in_key_order (events_at (get t) (due.items ++ l))) same ∙ ap in_key_order (stays s (get t) all kept),
     )
 
 -- an empty list was filled with the entries of a day, and sorted
@@ -221,13 +258,6 @@ none_orderly due d empty none days =
       },
       ap (λ ws. in_key_order (events_at s ws)) all,
     )
-
--- the last due entry has an event
-pub due_there : (due : Vec Entry) (rest : List Entry) (d : Days) (w : Entry) → AreOrderly due d → due.items ≡ rest ++ w ∷ [] → ContainsKey d.events w.place
-due_there due rest d w is last =
-    let s = get d.events in let all = rest ++ entries_in d in
-    let own = event_of s w (held_permuted s (due.items ++ entries_in d) (w ∷ all) (first_due due rest d w is last).moved is.held).placed.0 in
-    subst IsSome (sym own.1) refl
 
 -- a list that has a last element
 pub last_split : {A : Type 0} (es : List A) (e : A) → slice_get es (length es - 1) ≡ Some e → (due : List A) × (es ≡ due ++ e ∷ [])

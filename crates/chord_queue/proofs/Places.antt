@@ -207,11 +207,11 @@ first_out s ws rest w e held p up g =
     )
 
 -- events stay where the entries' places do
-stays : (s t : Events) (ws : List Entry) → ((w : Entry) → IsIn w ws → t w.place ≡ s w.place) → events_at t ws ≡ events_at s ws
+pub stays : (s t : Events) (ws : List Entry) → ((w : Entry) → IsIn w ws → t w.place ≡ s w.place) → events_at t ws ≡ events_at s ws
 stays s t [] f = refl
 stays s t (w ∷ ws) f = let here = f w (inl refl) in let rest = stays s t ws (λ v h. f v (inr h)) in λ i. cons_option (here i) (rest i)
 
-held_stays : (s t : Events) (ws : List Entry) → ((w : Entry) → IsIn w ws → t w.place ≡ s w.place) → Held s ws → Held t ws
+pub held_stays : (s t : Events) (ws : List Entry) → ((w : Entry) → IsIn w ws → t w.place ≡ s w.place) → Held s ws → Held t ws
 held_stays s t ws f held = record {
   placed = all_from (IsPlaced t) ws (λ w h. subst (λ o. IsSomeAnd o (λ e. e.key ≡ waiting_key w)) (sym (f w h)) (all_in (IsPlaced s) ws held.placed w h));
   distinct = held.distinct;
@@ -226,7 +226,7 @@ pub changes_by : (s t : Slab (Event Body)) (place : ℕ) (new : Option (Event Bo
 changes_by s t place new u = record { changed = u.changed; others = u.others }
 
 -- once the event of an entry is taken, the others' places have what they had
-pub others_stay : (s t : Events) (ws rest : List Entry) (w : Entry) (e : Event Body) → Held s ws → IsPermutation ws (w ∷ rest) → s w.place ≡ Some e
+others_stay : (s t : Events) (ws rest : List Entry) (w : Entry) (e : Event Body) → Held s ws → IsPermutation ws (w ∷ rest) → s w.place ≡ Some e
     → ChangesAt s t w.place None → (v : Entry) → IsIn v rest → t v.place ≡ s v.place
 others_stay s t ws rest w e held p g change v h =
     let all = held_permuted s ws (w ∷ rest) p held in

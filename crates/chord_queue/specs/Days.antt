@@ -1,9 +1,9 @@
 -- Events by day.
-use Rattle.std.specs.Prelude.{◌≡◌, ℕ, ◌+◌, ◌/◌, ◌%◌, ◌<◌, ◌≤◌, List, [], ◌∷◌, ⊤, map, length, Some, None, IsSomeAnd}
+use Rattle.std.specs.Prelude.{◌≡◌, ℕ, ◌+◌, ◌/◌, ◌%◌, ◌<◌, ◌≤◌, List, [], ◌∷◌, ⊤, map, length, slice_index_or, vec_len, vec_capacity, Some, None, IsSomeAnd}
 use Rattle.std.specs.List.{AllByRecursion, flat_map}
 use Rattle.std.specs.List.Sorted.{IsPermutation}
 use Rattle.std.specs.Global.{Vec}
-use Rattle.slab.specs.Slab.{get, Updates}
+use Rattle.slab.specs.Slab.{HasRoomFor, get, Updates}
 use Rattle.chord_event.specs.declared.body.Body.{Body}
 use Rattle.chord_event.specs.declared.event.Event.{Event}
 use Rattle.chord_event.specs.declared.key.Key.{Key}
@@ -59,6 +59,16 @@ pub record HasSame (old new : Days) : Type 0 where
   pub today : new.today ≡ old.today
   pub slots : new.events.slots ≡ old.events.slots
   pub places : places_in new ≡ places_in old
+
+-- there is room for an event of this time, and for its place in the list at the index
+pub record MayTake (d : Days) (time at room : ℕ) : Type 0 where
+  pub later : d.today < time / 1024
+  pub soon : time / 1024 < d.today + list_count
+  pub there : (time / 1024) % list_count ≡ at
+  pub listed : at < length d.lists.items
+  pub fit : (l : Vec ℕ) → length (slice_index_or d.lists.items at l).items < room
+  pub free : (l : Vec ℕ) → vec_len (slice_index_or d.lists.items at l) < vec_capacity (slice_index_or d.lists.items at l)
+  pub vacant : HasRoomFor d.events 1
 
 -- the event is at a place that was free, and in a list
 pub record HasTaken (old : Days) (e : Event Body) (new : Days) : Type 0 where

@@ -1,9 +1,9 @@
 //! Events by day, of which those of the opened days are in order.
-ghost use Rattle.std.specs.Prelude.{◌≡◌, [], ◌∷◌, reverse, slice_get, option_map, IfErr, IfOk, MatchOption, OnOk};
+ghost use Rattle.std.specs.Prelude.{◌≡◌, [], ◌∷◌, reverse, slice_get, option_map, vec_capacity, IfErr, IfOk, IfSome, MatchOption, OnOk};
 ghost use Rattle.std.specs.List.Sorted.{IsPermutation};
 ghost use Rattle.chord_event.specs.KeyOrder.{InKeyOrder, IsNewKey, put_in_order, before};
 ghost use Rattle.chord_queue.specs.Calendar.{AreDistinct, AreOrderly, events_of};
-ghost use Rattle.chord_queue.specs.Days.{HaveNone};
+ghost use Rattle.chord_queue.specs.Days.{AreDays, HaveNone, HasSame, MayTake};
 ghost use Rattle.chord_queue.specs.EventKey.{event_key};
 
 use crate::days::Days;
@@ -65,17 +65,17 @@ impl Calendar {
 
     /// Adds an event, or returns it if few events are pending, `others` besides those here, or if
     /// `Days` does not take it.
+    #[inline(always)]
     pub fn insert(&mut self, event: Event, others: usize) -> Result<(), Event>
         requires { IsNewKey event_key event.key self.old }
         ensures ok { OnOk result (self.new ≡ put_in_order event_key event self.old) }
         ensures err { IfErr result (λ back. (back ≡ event) × (self.new ≡ self.old)) }
     {
-        if self.days.events.len().saturating_add(others) < FEW {
+        let time = event.key.time;
+        let Some(at) = list_for(&mut self.due, &mut self.days, time, others, self.alloc) else {
             return Err(event);
-        }
-        self.days.make_lists(&mut self.due, self.alloc);
-        self.days.put(event, self.due.capacity())?;
-        refill(&mut self.due, &mut self.days);
+        };
+        put(&mut self.due, &mut self.days, event, at);
         Ok(())
     }
 
@@ -88,13 +88,14 @@ impl Calendar {
     }
 
     /// Takes the first event.
+    #[inline(always)]
     pub fn pop_first(&mut self) -> Option<Event>
         ensures { MatchOption result ((self.old ≡ []) × (self.new ≡ [])) (λ first. self.old ≡ first ∷ self.new) }
     {
         let waiting = self.due.pop()?;
-        let event = self.days.events.remove(waiting.place);
+        // The event is taken last, so that no call comes between it and the caller.
         refill(&mut self.due, &mut self.days);
-        Some(event)
+        Some(self.days.events.remove(waiting.place))
     }
 
     /// Moves on to the day of a time, if there are no events.
@@ -120,16 +121,69 @@ impl Calendar {
     }
 }
 
+/// The index of the list that takes an event of this time. None if few events are pending, `others`
+/// besides those here, or if `Days` has no list for it.
+#[inline(always)]
+fn list_for(
+    due: &mut Vec<Waiting<usize>>,
+    days: &mut Days,
+    time: u64,
+    others: usize,
+    alloc: Global,
+) -> Option<usize>
+    requires { AreDays days.old (vec_capacity due.old) }
+    ensures days { AreDays days.new (vec_capacity due.new) }
+    ensures same { HasSame days.old days.new }
+    ensures due { due.new.items ≡ due.old.items }
+    ensures takes { IfSome result (λ at. MayTake days.new time at (vec_capacity due.new)) }
+{
+    if days.events.len().saturating_add(others) < FEW {
+        return None;
+    }
+    days.make_lists(due, alloc);
+    days.list_for(time, due.capacity())
+}
+
+/// Adds an event to the list that takes it.
+#[inline(always)]
+fn put(due: &mut Vec<Waiting<usize>>, days: &mut Days, event: Event, at: usize)
+    requires orderly { AreOrderly due.old days.old }
+    requires takes { MayTake days.old event.key.time at (vec_capacity due.old) }
+    requires new { IsNewKey event_key event.key (events_of due.old.items days.old) }
+    ensures orderly { AreOrderly due.new days.new }
+    ensures taken { events_of due.new.items days.new ≡ put_in_order event_key event (events_of due.old.items days.old) }
+    ensures whole { due.new.items ≡ [] → HaveNone days.new }
+{
+    days.put(event, at);
+    refill(due, days);
+}
+
 /// Fills the list of due entries, if it is empty, with those of the next day that has any.
+#[inline(always)]
 fn refill(due: &mut Vec<Waiting<usize>>, days: &mut Days)
     requires { AreOrderly due.old days.old }
     ensures orderly { AreOrderly due.new days.new }
     ensures same { events_of due.new.items days.new ≡ events_of due.old.items days.old }
     ensures whole { due.new.items ≡ [] → HaveNone days.new }
+    ensures kept { days.new.events ≡ days.old.events }
 {
+    // Mostly there are some, so this test is made without a call.
     if due.len() > 0 {
         return;
     }
+    fill(due, days);
+}
+
+/// Fills the empty list of due entries with those of the next day that has any.
+#[inline(never)]
+fn fill(due: &mut Vec<Waiting<usize>>, days: &mut Days)
+    requires orderly { AreOrderly due.old days.old }
+    requires empty { due.old.items ≡ [] }
+    ensures orderly { AreOrderly due.new days.new }
+    ensures same { events_of due.new.items days.new ≡ events_of due.old.items days.old }
+    ensures whole { due.new.items ≡ [] → HaveNone days.new }
+    ensures kept { days.new.events ≡ days.old.events }
+{
     days.open_next(due);
     due.sort_unstable();
 }

@@ -1,9 +1,9 @@
 //! Events by day.
-ghost use Rattle.std.specs.Prelude.{◌≡◌, ℕ, ◌+◌, ◌<◌, ◌≤◌, [], ◌++◌, map, vec_len, vec_capacity, IfErr, OnOk};
+ghost use Rattle.std.specs.Prelude.{◌≡◌, ℕ, ◌+◌, ◌<◌, ◌≤◌, [], ◌++◌, map, vec_len, vec_capacity, IfSome, OnOk};
 ghost use Rattle.std.specs.List.{All, AllByRecursion};
 ghost use Rattle.std.specs.List.Sorted.{IsPermutation};
 ghost use Rattle.slab.specs.Slab.{ContainsKey, get};
-ghost use Rattle.chord_queue.specs.Days.{AreDays, HasSame, HasTaken, HaveNone, IsOpened, entries_in};
+ghost use Rattle.chord_queue.specs.Days.{AreDays, HasSame, HasTaken, HaveNone, IsOpened, MayTake, entries_in};
 ghost use Rattle.chord_queue.specs.Places.{entry_at};
 
 use crate::waiting::Waiting;
@@ -51,6 +51,7 @@ impl Days {
 
     /// Makes the lists if there are none yet, and room in `due` for the events of one of them. There
     /// are fewer lists or none if an allocation fails.
+    #[inline(always)]
     pub fn make_lists(&mut self, due: &mut Vec<Waiting<usize>>, alloc: Global)
         requires { AreDays self.old (vec_capacity due.old) }
         ensures days { AreDays self.new (vec_capacity due.new) }
@@ -60,38 +61,45 @@ impl Days {
         if self.lists.len() > 0 {
             return;
         }
-        if due.reserve(MOST).is_err() {
-            return;
-        }
-        self.lists = empty_lists(alloc);
+        self.add_lists(due, alloc);
     }
 
-    /// Adds an event. Returns it if its day has no list or is too far ahead, if the list has no room,
-    /// or if an allocation fails.
-    pub fn put(&mut self, event: Event, room: usize) -> Result<(), Event>
+    /// The index of the list that takes an event of this time, once there is room for it. None if the
+    /// day of the time has no list or is too far ahead, if the list has no room, or if an allocation
+    /// fails.
+    pub fn list_for(&mut self, time: u64, room: usize) -> Option<usize>
         requires { AreDays self.old room }
         ensures days { AreDays self.new room }
-        ensures ok { OnOk result (HasTaken self.old event self.new) }
-        ensures err { IfErr result (λ back. (back ≡ event) × HasSame self.old self.new) }
+        ensures same { HasSame self.old self.new }
+        ensures takes { IfSome result (λ at. MayTake self.new time at room) }
     {
-        let day = event.key.time / DAY;
+        let day = time / DAY;
         let at = (day % DAYS) as usize;
         if day <= self.today || day - self.today >= DAYS || at >= self.lists.len() {
-            return Err(event);
+            return None;
         }
         if self.lists[at].len() >= room {
-            return Err(event);
+            return None;
         }
-        if self.events.reserve(1).is_err() {
-            return Err(event);
+        if let Err(_refused) = self.events.reserve(1) {
+            return None;
         }
-        let place = self.events.vacant_key();
-        if let Err(_refused) = self.lists[at].push(place) {
-            return Err(event);
+        if let Err(_refused) = self.lists[at].reserve(1) {
+            return None;
         }
-        self.events.insert_reserved(event);
+        Some(at)
+    }
+
+    /// Adds an event to the list that takes it.
+    pub fn put(&mut self, event: Event, at: usize)
+        requires { (room : ℕ) × MayTake self.old event.key.time at room }
+        ensures days { (room : ℕ) → AreDays self.old room → MayTake self.old event.key.time at room → AreDays self.new room }
+        ensures taken { HasTaken self.old event self.new }
+    {
+        let day = event.key.time / DAY;
+        let place = self.events.insert_reserved(event);
+        self.lists[at].push_reserved(place);
         self.latest = self.latest.max(day);
-        Ok(())
     }
 
     /// Moves on to the day of a time. There are no events in the lists.
@@ -130,6 +138,21 @@ impl Days {
             add_entries(&self.events, list, entries);
         }
         Ok(())
+    }
+
+    /// Makes the first lists, and room in `due` for the events of one of them.
+    #[inline(never)]
+    fn add_lists(&mut self, due: &mut Vec<Waiting<usize>>, alloc: Global)
+        requires days { AreDays self.old (vec_capacity due.old) }
+        requires none { self.old.lists.items ≡ [] }
+        ensures days { AreDays self.new (vec_capacity due.new) }
+        ensures same { HasSame self.old self.new }
+        ensures due { due.new.items ≡ due.old.items }
+    {
+        if due.reserve(MOST).is_err() {
+            return;
+        }
+        self.lists = empty_lists(alloc);
     }
 
     /// Opens the next day. The entries of its events go to the empty list `due`.

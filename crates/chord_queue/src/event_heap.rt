@@ -83,6 +83,7 @@ impl EventHeap {
     }
 
     /// Takes the first event.
+    #[inline(never)]
     pub fn pop_first(&mut self) -> Option<Event>
         ensures { MatchOption result ((self.old ≡ []) × (self.new ≡ [])) (λ first. self.old ≡ first ∷ self.new) }
     {

@@ -1,5 +1,5 @@
 //! All events that are still to come.
-ghost use Rattle.std.specs.Prelude.{◌≡◌, ◌≢◌, ◌↔◌, [], ◌∷◌, ◌++◌, slice_get, option_map, IfOk, IfErr, MatchOption, OnOk};
+ghost use Rattle.std.specs.Prelude.{◌≡◌, ◌≢◌, ◌↔◌, [], ◌∷◌, ◌++◌, slice_get, option_map, IfOk, IfErr, MatchOption, OnErr, OnOk};
 ghost use Rattle.std.specs.List.{AllPairs, Contains};
 ghost use Rattle.chord_event.specs.declared.body.Body.{Body as ABody};
 ghost use Rattle.chord_event.specs.declared.event.Event.{Event as AnEvent};
@@ -61,6 +61,7 @@ impl Pending {
     }
 
     /// Adds an event, or returns it if an allocation fails.
+    #[inline(always)]
     pub fn insert(&mut self, event: Event) -> Result<(), Event>
         requires { IsNewKey event_key event.key self.old }
         ensures ok { OnOk result (self.new ≡ put_in_order event_key event self.old) }
@@ -93,7 +94,7 @@ impl Pending {
     {
         while let Some(event) = events.pop() {
             self.recall_order();
-            if let Err(_refused) = self.insert(event) {
+            if let Err(_failed) = self.put(event) {
                 self.recall_order();
                 return Err(Memory);
             }
@@ -124,6 +125,7 @@ impl Pending {
     }
 
     /// Takes the first event.
+    #[inline(always)]
     pub fn pop_first(&mut self) -> Option<Event>
         ensures { MatchOption result ((self.old ≡ []) × (self.new ≡ [])) (λ first. self.old ≡ first ∷ self.new) }
     {
@@ -165,9 +167,24 @@ impl Pending {
             drop(self.pop_first());
         }
     }
+
+    /// Adds an event, or drops it if an allocation fails.
+    #[inline(always)]
+    fn put(&mut self, event: Event) -> Result<(), Memory>
+        requires { IsNewKey event_key event.key self.old }
+        ensures { OnOk result (self.new ≡ put_in_order event_key event self.old) }
+    {
+        // Not by `insert`, each call of which clears the memory of an event that may come back.
+        let Err(back) = self.calendar.insert(event, self.rest.len()) else {
+            return Ok(());
+        };
+        put_in_rest(&mut self.rest, back)?;
+        Ok(())
+    }
 }
 
 /// Takes the first event of the rest, and moves a calendar without events on to its day.
+#[inline(never)]
 fn pop_rest(calendar: &mut Calendar, rest: &mut EventHeap) -> Option<Event>
     ensures popped { MatchOption result ((rest.old ≡ []) × (rest.new ≡ [])) (λ first. rest.old ≡ first ∷ rest.new) }
     ensures same { calendar.new ≡ calendar.old }
@@ -175,4 +192,19 @@ fn pop_rest(calendar: &mut Calendar, rest: &mut EventHeap) -> Option<Event>
     let event = rest.pop_first()?;
     calendar.go_on(event.key.time);
     Some(event)
+}
+
+/// Adds an event to the rest, or drops it if an allocation fails.
+#[inline(never)]
+fn put_in_rest(rest: &mut EventHeap, event: Event) -> Result<(), Memory>
+    requires { IsNewKey event_key event.key rest.old }
+    ensures ok { OnOk result (rest.new ≡ put_in_order event_key event rest.old) }
+    ensures err { OnErr result (rest.new ≡ rest.old) }
+{
+    if let Err(refused) = rest.insert(event) {
+        // By a call, so that the proof has one case and not one for each kind of body.
+        drop(refused);
+        return Err(Memory);
+    }
+    Ok(())
 }

@@ -119,7 +119,8 @@ impl Engine {
         let mut events = events.into_vec();
         self.pending.insert_from(&mut events)?;
         put_block(alloc, scenario, &block, &mut self.tally, writer)?;
-        self.spare = Spare::of(events, block.lines);
+        // What stood in the spare's place has no memory to free.
+        mem::forget(mem::replace(&mut self.spare, Spare::of(events, block.lines)));
         self.count += 1;
         Ok(())
     }

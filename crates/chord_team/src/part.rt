@@ -173,7 +173,8 @@ impl OwnedPart {
         let soonest = self.send(layout, &mut made)?;
         output.put(alloc, scenario, &block)?;
         self.tally.add(&block)?;
-        self.spare = Spare::of(made, block.lines);
+        // What stood in the spare's place has no memory to free.
+        mem::forget(mem::replace(&mut self.spare, Spare::of(made, block.lines)));
         Ok(soonest)
     }
 

@@ -21,6 +21,8 @@ const ROOM_FOR_LINE: usize = 96;
 
 /// Writes the lines of an event. The error is `Memory` if an allocation fails, and `Write` if the
 /// writer fails.
+// Inlined, since most events have no line: they then make no call.
+#[inline(always)]
 pub fn write_block<W: Write>(
     alloc: Global,
     scenario: &Scenario,
@@ -43,6 +45,7 @@ pub fn write_block<W: Write>(
     write_text(text.as_bytes(), writer)
 }
 
+#[inline(never)]
 fn push_block(text: &mut String, scenario: &Scenario, block: &Block) -> Result<(), AllocError>
     requires { IsBlockOf scenario.now block.now }
     ensures { OnOk result (string_bytes text.new ≡ string_bytes text.old ++ block_text scenario.now block.now) }

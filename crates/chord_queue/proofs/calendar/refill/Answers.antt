@@ -1,19 +1,6 @@
-use Rattle.std.proofs.Common.{◌≡◌, arith}
-use Rattle.chord_queue.specs.Calendar.{AreOrderly, events_of}
-use Rattle.chord_queue.proofs.Calendars.{filled_orderly}
+use Rattle.std.proofs.Common.{arith}
 use Rattle.chord_queue.proofs.Inserting.{empty}
 use Rattle.chord_queue.proofs.calendar.refill.Goals as goal
 
-after : (c : goal.After-sort_unstable) → AreOrderly c.sort_unstable.new.self c.open_next.new.self
-    × (events_of c.sort_unstable.new.self.items c.open_next.new.self ≡ events_of c.args.due.now.items c.args.days.now)
-after c =
-    let due = c.args.due.now in let opened = c.open_next.ensures in let sorted = c.sort_unstable.ensures in
-    filled_orderly due c.open_next.new.due c.sort_unstable.new.self c.args.days.now c.open_next.new.self c.requires
-    (empty due.items (omega (arith, c.if-len-gt0.false, c.len.ensures, due.ok.0)))
-    opened.events opened.moved sorted.permutation opened.opened opened.days sorted.capacity sorted.sorted
-
-pub returns-clause-orderly : goal.returns-clause-orderly
-returns-clause-orderly c = (after c).0
-
-pub returns-clause-same : goal.returns-clause-same
-returns-clause-same c = (after c).1
+pub fill-requires-clause-empty : goal.fill-requires-clause-empty
+fill-requires-clause-empty c = let due = c.args.due.now in empty due.items (omega (arith, c.if-len-gt0.false, c.len.ensures, due.ok.0))

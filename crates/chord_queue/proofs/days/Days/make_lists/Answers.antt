@@ -1,22 +1,7 @@
-use Rattle.std.proofs.Common.{◌≡◌, ◌∙◌, [], refl, sym, ap, arith, vec_capacity}
-use Rattle.slab.specs.Slab.{get}
-use Rattle.chord_queue.specs.Days.{IsListed}
+use Rattle.std.proofs.Common.{arith}
 use Rattle.chord_queue.proofs.Inserting.{empty}
-use Rattle.chord_queue.proofs.Placed.{fit_empty, joined, joined_empty, placed_empty}
 use Rattle.chord_queue.proofs.days.Days.make_lists.Goals as goal
 
-pub returns-clause-days : goal.returns-clause-days
-returns-clause-days c =
-    let d = c.args.self.now in record {
-      placed = placed_empty (IsListed (get d.events) d.today d.latest) 0 c.empty_lists.result.items c.empty_lists.ensures;
-      fit = fit_empty (vec_capacity c.reserve.new.self) c.empty_lists.result.items c.empty_lists.ensures;
-    }
-
-pub returns-clause-same : goal.returns-clause-same
-returns-clause-same c =
-    let d = c.args.self.now in
-    let none : d.lists.items ≡ [] = empty d.lists.items (omega (arith, c.if-len-gt0.false, c.len.ensures, d.lists.ok.0)) in record {
-      today = refl;
-      slots = refl;
-      places = joined_empty c.empty_lists.result.items c.empty_lists.ensures ∙ sym (ap joined none);
-    }
+pub add_lists-requires-clause-none : goal.add_lists-requires-clause-none
+add_lists-requires-clause-none c =
+    let lists = c.args.self.now.lists in empty lists.items (omega (arith, c.if-len-gt0.false, c.len.ensures, lists.ok.0))

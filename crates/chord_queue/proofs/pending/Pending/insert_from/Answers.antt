@@ -7,8 +7,8 @@ use Rattle.chord_queue.specs.EventKey.{event_key}
 use Rattle.chord_queue.proofs.Inserting.{AreApart, empty, last_apart, last_new, last_put}
 use Rattle.chord_queue.proofs.pending.Pending.insert_from.Goals as goal
 
-pub insert-requires : goal.insert-requires
-insert-requires c =
+pub put-requires : goal.put-requires
+put-requires c =
     last_new c.in-Some.event c.loop-event.self c.pop.new.self.items (subst (λ es. AreApart (c.loop-event.self ++ es)) c.in-Some.ensures.items
     c.loop-event.invariant.apart)
 
@@ -19,7 +19,7 @@ loop-event-preserved c =
     let whole : List (Event Body) → Type 0 = λ es. (x : Event Body) → Contains es x ↔ Contains (c.args.self.now ++ c.args.events.now.items) x in
     let before : whole (c.loop-event.self ++ (c.pop.new.self.items ++ c.in-Some.event ∷ [])) = subst (λ es. whole (c.loop-event.self ++ es))
     c.in-Some.ensures.items c.loop-event.invariant.same in
-    rw c.in_default-insert.ensures.ok (record {
+    rw c.in_default-put.ensures (record {
       apart = last_apart c.in-Some.event c.loop-event.self c.pop.new.self.items all c.recall_order.ensures;
       same = λ x.
           let moved = last_put c.in-Some.event c.loop-event.self c.pop.new.self.items all x in

@@ -19,7 +19,7 @@ returns-clause-handled c =
     (arith, c.requires.layout.long, c.requires.target)))
     c.index_mut.result.now c.index_mut.ensures.value
     (record c.args.self.now { states = with_item c.args.self.now.states c.index.result.now c.act_with.new.state; spare = c.replace-spare.new.dest })
-    c.send.new.self c.act_with.new.state c.into_vec-made.result.items c.in_ok-events.field-0.block c.add.new.self c.of.result c.args.output.now c.put.new.self
+    c.send.new.self c.act_with.new.state c.into_vec-made.result.items c.in_ok-events.field-0.block c.add.new.self c.replace.new.dest c.args.output.now c.put.new.self
     c.in_ok-soonest.soonest refl refl c.in_ok-events.ensures.state (c.into_vec-made.ensures ∙ c.in_ok-events.ensures.events) c.in_ok-events.ensures.block
     (record { known = c.in_ok-events.ensures.known; short = c.in_ok-events.ensures.short })
     c.in_ok-soonest.ensures.sent c.in_ok-soonest.ensures.states c.in_ok-soonest.ensures.inbox c.in_ok-soonest.ensures.tally
