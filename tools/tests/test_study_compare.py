@@ -11,7 +11,8 @@ from unittest import TestCase
 
 from chordsim_tools.cli import Refused
 from chordsim_tools.study.answer import chosen
-from chordsim_tools.study.compare import Pair, guarded_level, named, text_of, write_comparison
+from chordsim_tools.study.compare import Pair, guarded_level
+from chordsim_tools.study.comparison import named, text_of, write_comparison
 from chordsim_tools.study.numbers import Summary, summaries
 from tests.support.programs import program
 from tests.support.studies import row, tables_of

@@ -72,7 +72,7 @@ class StudyPageTest(TestCase):
         text = told(setting(4, 900, 5000), setting(2, 900, 4000), setting(1, 900, 3000, dead=1), goal=GOAL)
         first = "**list=2** is the setting with the least messages per member and second"
         assert text.splitlines()[2].startswith(first)
-        assert "right of begun of at least 90 % and no ring lost" in text and "rings kept 6 of 6" in text
+        assert "reach at least 90 % right of begun, with no ring lost" in text and "rings kept 6 of 6" in text
         assert less_best(text, "list=2") == "**best**" and less_best(text, "list=4") == "1"
 
     def test_an_answer_for_each_world(self) -> None:
@@ -105,7 +105,7 @@ class StudyPageTest(TestCase):
         """A goal that nothing reaches: the nearest one. Few seeds: none."""
         high = {**GOAL, "limits": [{**LIMIT, "value": 0.99}]}
         text = told(setting(4, 900, 5000), setting(2, 850, 4000), setting(1, 930, 3000, dead=1), goal=high)
-        assert text.splitlines()[2].startswith("No setting reaches right of begun of at least 99 % and no ring lost")
+        assert text.splitlines()[2].startswith("No setting reaches at least 99 % right of begun, with no ring lost")
         assert "the nearest is list=4: right of begun 95.11 ± 0.21 %" in text, text
         assert "No answer: fewer than 5 seeds." in told(setting(4, 900, 5000, seeds=4), goal=GOAL)
 

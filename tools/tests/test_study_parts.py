@@ -10,6 +10,7 @@ from pathlib import Path
 from unittest import SkipTest, TestCase
 
 from chordsim_tools.study.command import main
+from tests.support.programs import ended
 from tests.test_study_run import BASE, STUDY, TOOL, call, runs_called, study_folder
 
 TABLES = ("runs.csv", "series.csv", "cdf.csv", "steps.csv", "manifest.json")
@@ -17,9 +18,8 @@ TABLES = ("runs.csv", "series.csv", "cdf.csv", "steps.csv", "manifest.json")
 
 def merged(*words: Path | str) -> tuple[int, str]:
     """Status and line of `tools/study merge`."""
-    told = io.StringIO()
-    with redirect_stderr(told):
-        return main(["merge", *map(str, words)]), told.getvalue().strip()
+    status, _, told = ended(main, "merge", *map(str, words))
+    return status, told.strip()
 
 
 def run_share(folder: Path, share: str, out: str) -> None:

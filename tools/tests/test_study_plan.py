@@ -12,7 +12,7 @@ from chordsim_tools.scenario.reading import read_scenario
 from chordsim_tools.study.document import toml_text
 from chordsim_tools.study.goal import Goal, Limit, Precision
 from chordsim_tools.study.plan import label, read_study
-from chordsim_tools.study.worlds import latency_of, scenario_of
+from chordsim_tools.study.worlds import argument_traps, latency_of, scenario_of
 from tests.support.programs import checked
 from tests.support.worlds import EXAMPLES, RING
 
@@ -171,6 +171,63 @@ class StudyPlanTest(TestCase):
         limits = (Limit("right_of_begun", True, 0.99), Limit("p99_ms", False, 300.0))
         assert study.goal == Goal(limits, 0.5, "messages")
 
+    def test_times_without_a_unit(self) -> None:
+        """A text that is no time: the line says how one is written; of other numbers it does not."""
+        for value in ('"20"', '"2min"', '"1 s"', "-1", "true"):
+            answer = in_folder(f"{HEAD}{SEEDS}warmup_us = {value}\n")
+            wanted = 'warmup_us has to be an integer, 0 or more, or a time such as "20s" (us, ms, s, m)'
+            assert answer == f"study.toml: {wanted}", answer
+        assert in_folder(HEAD + SEEDS + 'warmup_us = "20us"\n').times()[1] == 20
+
+    def test_what_was_meant(self) -> None:
+        """A key that is like the one of the study file, and what has no such key."""
+        vary = "[vary]\n"
+        for text, wanted in (
+            (MADE + SEEDS + vary + "'generate.--nodez' = [64]",
+             "[vary] generate.--nodez: tools/generate has no --nodez: did you mean `generate.--nodes`?"),
+            (MADE + SEEDS + vary + "'generate.--colour' = [64]",
+             "[vary] generate.--colour: tools/generate has no --colour"),
+            (MADE + SEEDS + vary + "nodes = [64]",
+             "[vary] nodes is no key of a scenario that can be varied: did you mean `generate.--nodes`?"),
+            (HEAD + SEEDS + vary + "stabilise_us = [64]",
+             "[vary] stabilise_us is no key of a scenario that can be varied: did you mean `stabilize_us`?"),
+            (HEAD + SEEDS + vary + "colour = [64]", "[vary] colour is no key of a scenario that can be varied"),
+            (HEAD + SEEDS + "warm_up_us = 5", "no key of a study: warm_up_us: did you mean `warmup_us`?"),
+        ):
+            with self.subTest(study=text):
+                assert in_folder(text) == f"study.toml: {wanted}"
+
+    def test_keys_of_later_profiles(self) -> None:
+        """The base has profile 1. Each key says which profiles have it, also if the profile is varied."""
+        vary = HEAD + SEEDS + "[vary]\n"
+        wanted = {"retries": "3", "join_pause_us": "3", "loss_ppm": "2 or 3", "spread_us": "2 or 3"}
+        for key, profiles in wanted.items():
+            answer = in_folder(f"{vary}{key} = [0, 1]\n")
+            assert answer == f"study.toml: [vary] {key} needs profile = {profiles}; the base has 1", answer
+        answer = in_folder(vary + "detail = [true]\n")
+        assert answer == "study.toml: [vary] detail needs profile = 3; the base has 1"
+        answer = in_folder(vary + "profile = [3, 2]\nretries = [0, 1]\n")
+        setting = "the setting profile=2, retries=0"
+        assert answer == f"study.toml: [vary] retries needs profile = 3; {setting} has 2", answer
+        answer = in_folder(MADE + SEEDS + "[vary]\nretries = [1]\n")
+        assert answer == "study.toml: [vary] retries needs profile = 3; the scenario of generate has 1"
+        for text in (vary + "profile = [3]\nretries = [0, 1]\n", vary + "bits = [16, 17]\n",
+                     MADE + SEEDS + "[vary]\n'generate.--profile' = [3]\nretries = [0, 1]\n"):
+            assert not isinstance(in_folder(text), str), in_folder(text)
+
+    def test_bare_times_of_generate(self) -> None:
+        """What tools/generate warns of by itself, once for all settings and seeds; what is varied counts too."""
+        bare = MADE.replace("exp:20s", "exp:30")
+        wanted = "generate: --lifetime exp:30: 30 without a unit is 30 microseconds; write 30ms, 30s or 30m, or 30us"
+        traps = argument_traps(in_folder(bare + SEEDS + "[vary]\nlist = [1, 2]\n"))
+        assert [trap.startswith(wanted) for trap in traps] == [True]
+        traps = argument_traps(in_folder(MADE + SEEDS + "[vary]\n'generate.--lifetime' = ['exp:30', 'exp:9s']\n"))
+        assert [trap.startswith(wanted) for trap in traps] == [True]
+        traps = argument_traps(in_folder(MADE + PLANE.replace("20ms", "20") + SEEDS))
+        wanted = "latency: --floor 20: 20 without a unit is 20 microseconds"
+        assert [trap.startswith(wanted) for trap in traps] == [True]
+        assert not argument_traps(in_folder(MADE + PLANE + SEEDS)) and not argument_traps(in_folder(HEAD + SEEDS))
+
     def test_faults(self) -> None:
         """Each fault is told with the file and the key."""
         vary = HEAD + SEEDS + "[vary]\n"
@@ -200,8 +257,8 @@ class StudyPlanTest(TestCase):
             (HEAD + SEEDS + "latency = [1]", "study.toml: latency has to be a list of arguments"),
             (MADE + SEEDS + "latency = ['--seed', '4']", "study.toml: latency has --seed, which the study sets"),
             (MADE.replace("--bits", "--bit") + SEEDS, "study.toml: generate: tools/generate: "),
-            (vary + "'generate.--nodes' = [3]", "[vary] generate.--nodes is no key"),
-            (MADE + SEEDS + "[vary]\n'generate.--node' = [3]", "[vary] generate.--node is no key"),
+            (vary + "'generate.--nodes' = [3]", "[vary] generate.--nodes is of a study with `generate`, and this"),
+            (MADE + SEEDS + "[vary]\n'generate.--seed' = [3]", "[vary] generate.--seed: `seeds` sets it"),
             (vary + "list = ['1s']", "study.toml: [vary] list has to be a list"),
             (vary + "join_forever = [0, 1]", "study.toml: [vary] join_forever has to be a list of different booleans"),
             (vary + "join_forever = [true, true]", "study.toml: [vary] join_forever has to be a list of different"),

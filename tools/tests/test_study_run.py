@@ -19,7 +19,7 @@ from unittest.mock import patch
 
 from chordsim_tools.scenario.reading import read_scenario
 from chordsim_tools.study.command import main
-from tests.support.programs import program
+from tests.support.programs import ended, program
 
 TOP = Path(__file__).resolve().parents[2]
 TOOL = TOP / "tools" / "study"
@@ -87,11 +87,15 @@ def words_of(folder: Path, *words: str) -> list[str]:
 
 def call(folder: Path, *words: str, chordsim: Path | None = None) -> tuple[int, str]:
     """The status of `tools/study run`, and the line that it says."""
-    told = io.StringIO()
-    with patch.dict(os.environ, CHORDSIM=str(chordsim or folder / "fake")), redirect_stderr(told):
-        status = main(words_of(folder, *words)[2:])
-    assert told.getvalue().count("\n") <= 1, told.getvalue()
-    return status, told.getvalue().strip()
+    status, _, told = called(folder, *words, chordsim=chordsim)
+    assert told.count("\n") <= 1, told
+    return status, told.strip()
+
+
+def called(folder: Path, *words: str, chordsim: Path | None = None) -> tuple[int, str, str]:
+    """The status of `tools/study run`, and what it writes to its two streams."""
+    with patch.dict(os.environ, CHORDSIM=str(chordsim or folder / "fake")):
+        return ended(main, *words_of(folder, *words)[2:])
 
 
 def call_with_limit(folder: Path, limit: int) -> tuple[int, str]:
@@ -126,9 +130,8 @@ def heed_interrupts() -> None:
 
 def said(word: str, folder: Path) -> tuple[int, str]:
     """Status and line of a command with a folder."""
-    told = io.StringIO()
-    with redirect_stderr(told):
-        return main([word, str(folder)]), told.getvalue().strip()
+    status, _, told = ended(main, word, str(folder))
+    return status, told.strip()
 
 
 def naive_right(scenario: str, trace: list[str]) -> int:
@@ -259,7 +262,7 @@ class StudyRunTest(TestCase):
                 time.sleep(0.02)
             tool.send_signal(signal.SIGINT)
             _, told = tool.communicate(timeout=60)
-            assert (tool.returncode, told) == (130, "interrupted: the same arguments go on\n")
+            assert (tool.returncode, told) == (130, "interrupted: run the same command again to continue\n")
             assert not Path("/proc", (folder / "pid").read_text().strip()).exists()
             assert not (folder / "study" / "runs.csv").exists() and not left_overs(folder)
             (folder / "sleep").write_text("nothing")

@@ -93,8 +93,7 @@ class SoFarTest(TestCase):
             assert said("report", folder / "study") == (0, "")
             page = (folder / "study" / "report.md").read_text()
             assert tables_of(folder / "study").mark == "" and "not done" not in page
-            assert page.count("](network.png)") == page.count("](cdf.png)") == 1
-            assert page.index("](network.png)") < page.index("## Made by") and page.index("](cdf.png)") < len(page)
+            assert page.index("\nNo plots: ") < page.index("## Made by")
 
     def test_more_runs_than_the_tables_have(self) -> None:
         """A third seed is added to a study that was done, and its first run fails: the tables are of four of six."""

@@ -1,13 +1,18 @@
-"""What a page says first: which setting reaches the goal, at the least cost, and which are not told apart from it."""
+"""What a page says first: which setting reaches the goal, at the least cost, what is not told apart and not decided."""
 
 import math
 
+from chordsim_tools.study.bounds import (
+    bound_of, level_of, loss_bounds, loss_slack, misses, missing_level, reaches, slack,
+)
 from chordsim_tools.study.compare import Pair, guarded_level
-from chordsim_tools.study.exact import count_interval, share_interval
 from chordsim_tools.study.goal import Goal, Limit
 from chordsim_tools.study.interval import LEAST_SEEDS, significant
 from chordsim_tools.study.names import PERCENT, in_words
-from chordsim_tools.study.numbers import TAKES, Summary
+from chordsim_tools.study.numbers import Summary
+
+OPEN = "shown neither to reach the goal nor to miss it"
+TELL = "More seeds may decide."
 
 
 def value_told(number: str, value: float) -> str:
@@ -20,55 +25,45 @@ def value_told(number: str, value: float) -> str:
 def limit_told(limit: Limit) -> str:
     """A limit as the answer names it."""
     bound = "least" if limit.is_least else "most"
-    return f"{in_words(limit.number)} of at {bound} {value_told(limit.number, limit.value)}"
+    return f"at {bound} {value_told(limit.number, limit.value)} {in_words(limit.number)}"
 
 
 def goal_told(goal: Goal) -> str:
     """All limits. Without a limit to losses no ring may have been lost."""
-    lost = "no ring lost" if goal.lost_max is None else f"fewer than {goal.lost_max:g} rings lost an hour"
-    return " and ".join([*map(limit_told, goal.limits), lost])
+    lost = "no ring lost" if goal.lost_max is None else f"less than {rings(goal.lost_max)} lost per hour"
+    limits = " and ".join(map(limit_told, goal.limits))
+    return f"{limits}, with {lost}" if limits else lost
 
 
-def slack(one: Summary, limit: Limit, level: float) -> float:
-    """How far the bound of a setting is within a limit; below 0 if it does not reach it."""
-    sign = -1 if limit.is_least else 1
-    bound = one.numbers[limit.number].bound(level, sign)
-    if limit.number == "served" and one.kept < one.seeds:
-        bound = bound_of_mixed(one, level) if limit.is_least else math.inf
-    return sign * (limit.value - bound)
+def rings(count: float) -> str:
+    """A number of rings."""
+    return f"{count:g} ring" + ("" if count == 1 else "s")
 
 
-def bound_of_mixed(one: Summary, level: float) -> float:
-    """A lower bound of the share served if rings were lost: a lost one counts 0.
-
-    It is the bound of the chance that a ring is kept, times that of the mean of those that were kept, each at half the
-    risk."""
-    each = (1 + level) / 2
-    return share_interval(one.kept, one.seeds, 2 * each - 1)[0] * one.of(TAKES["served"]).bound(each, -1)
-
-
-def loss_slack(one: Summary, goal: Goal, level: float) -> float:
-    """The same for the rings lost."""
-    lost = one.seeds - one.kept
-    if goal.lost_max is None:
-        return 0.0 if lost == 0 else -math.inf
-    return goal.lost_max - count_interval(lost, 2 * level - 1)[1] / one.hours
-
-
-def slacks(one: Summary, goal: Goal, level: float) -> list[float]:
-    """How far a setting is within each limit of the goal."""
-    return [slack(one, limit, level) for limit in goal.limits] + [loss_slack(one, goal, level)]
-
-
-def level_of(found: list[Summary]) -> float:
-    """The level of the one-sided bound of each setting, so that all of them hold with 95%."""
-    return 1 - 0.05 / len(found)
+def outward(value: float, digits: int, sign: int) -> float:
+    """A bound with so many significant digits, rounded up for the sign 1 and down for -1, so that it still holds."""
+    if value == 0:
+        return value
+    step = 10.0 ** (math.floor(math.log10(abs(value))) - digits + 1)
+    # A value that has no more digits is not moved by what floating numbers add to it.
+    nearest = round(value / step)
+    if math.isclose(nearest * step, value, rel_tol=1e-12):
+        return float(f"{nearest * step:.12g}")
+    return float(f"{(math.ceil if sign > 0 else math.floor)(value / step) * step:.12g}")
 
 
 def those_that_reach(found: list[Summary], goal: Goal) -> list[Summary]:
     """The settings whose bounds are within all limits."""
     level = level_of(found)
-    return [one for one in found if min(slacks(one, goal, level)) >= 0 and one.numbers[goal.least].mean is not None]
+    return [one for one in found if reaches(one, goal, level)]
+
+
+def undecided(found: list[Summary], goal: Goal) -> tuple[list[Summary], list[Summary]]:
+    """The settings that are shown neither to reach the goal nor to miss it: those with bounds, and those without."""
+    reaching, level = those_that_reach(found, goal), missing_level(found, goal)
+    left = [one for one in found if one not in reaching and not misses(one, goal, level)]
+    bounded = [one for one in left if has_bounds(one, goal)]
+    return bounded, [one for one in left if one not in bounded]
 
 
 def least_of(found: list[Summary], goal: Goal) -> Summary:
@@ -77,7 +72,9 @@ def least_of(found: list[Summary], goal: Goal) -> Summary:
 
 
 def chosen(found: list[Summary], goal: Goal | None) -> Summary | None:
-    """The setting with which the others are compared: that of the answer, else the one that serves most."""
+    """The setting with which the others are compared: that of the answer, else the one that serves most.
+
+    There is none if every ring was lost."""
     reaching = those_that_reach(found, goal) if goal is not None else []
     if goal is not None and reaching:
         return least_of(reaching, goal)
@@ -86,25 +83,48 @@ def chosen(found: list[Summary], goal: Goal | None) -> Summary | None:
         """The rings kept, then the share served."""
         return one.kept / one.seeds, one.numbers["served"].mean or 0.0
 
-    there = [one for one in found if one.numbers["served"].mean is not None]
+    there = [one for one in found if one.kept and one.numbers["served"].mean is not None]
     return max(there, key=serves) if there else None
 
 
 def answer(found: list[Summary], goal: Goal) -> str:
-    """One sentence or two."""
+    """A few sentences, and a paragraph about what is not decided."""
     if min(one.seeds for one in found) < LEAST_SEEDS:
         return f"No answer: fewer than {LEAST_SEEDS} seeds."
-    level = level_of(found)
     reaching = those_that_reach(found, goal)
     how = f"(one-sided bounds, 95 % for all {len(found)} settings together)" if len(found) > 1 else "(one-sided, 95 %)"
     if not reaching:
-        nearest = nearest_of(found, goal, level)
-        return f"No setting reaches {goal_told(goal)} {how}; the nearest is {nearest.label}: {reached(nearest, goal)}."
+        return f"No setting reaches {goal_told(goal)} {how}{why_none(found, goal)}"
     best = least_of(reaching, goal)
-    cost = best.numbers[goal.least].told(100 if goal.least in PERCENT else 1)
-    text = f"**{best.label}** is the setting with the least {in_words(goal.least)}, {cost}, of those that reach "
-    text += f"{goal_told(goal)} {how}: {reached(best, goal)}."
-    return text + not_apart(best, reaching, goal, len(found))
+    text = f"**{best.label}** is the setting with the least {in_words(goal.least)}, {cost_told(best, goal)}, of those "
+    text += f"that reach {goal_told(goal)} {how}: {reached(best, goal)}."
+    return text + not_apart(best, reaching, goal, len(found)) + cheaper(best, found, goal)
+
+
+def why_none(found: list[Summary], goal: Goal) -> str:
+    """Which setting comes nearest to the goal, which limits it is not shown to reach, and what is not decided."""
+    if not any(one.kept for one in found):
+        return ": every ring was lost."
+    level = level_of(found)
+    nearest = nearest_of(found, goal, level)
+    text = f"; the nearest is {nearest.label}: {reached(nearest, goal)}; "
+    text += f"missed: {'; '.join(missed(nearest, goal, level))}."
+    left, more = undecided(found, goal)
+    if left:
+        told = "; ".join(f"{one.label} ({', '.join(open_told(one, goal, level))})" for one in left)
+        return f"{text}\n\nNot decided ({OPEN}): {told}. {TELL}{without_bounds(len(more))}"
+    return text + without_bounds(len(more)) + f" {'All others are' if more else 'Each setting is'} shown to miss it."
+
+
+def has_bounds(one: Summary, goal: Goal) -> bool:
+    """Whether enough seeds of a setting have the numbers of the goal."""
+    return min([one.kept, *(one.numbers[limit.number].count for limit in goal.limits)]) >= LEAST_SEEDS
+
+
+def without_bounds(count: int) -> str:
+    """How many settings have no bounds."""
+    verb = "more has" if count == 1 else "more have"
+    return f" {count} {verb} too few seeds with these numbers for a bound." if count else ""
 
 
 def not_apart(best: Summary, reaching: list[Summary], goal: Goal, settings: int) -> str:
@@ -112,6 +132,21 @@ def not_apart(best: Summary, reaching: list[Summary], goal: Goal, settings: int)
     level = guarded_level(settings)
     alike = [one.label for one in reaching if one is not best and not Pair(best, one, level).is_apart(goal.least)]
     return f" Not told apart from it: {'; '.join(alike)}." if alike else ""
+
+
+def cheaper(best: Summary, found: list[Summary], goal: Goal) -> str:
+    """The settings with a lower mean of what is to be least that are shown neither to reach the goal nor to miss it."""
+    most = cost(best, goal)
+    lower, more = ([one for one in settings if cost(one, goal) < most] for settings in undecided(found, goal))
+    if not lower:
+        return ""
+    told = []
+    for one in sorted(lower, key=lambda one: cost(one, goal)):
+        is_share = goal.least in PERCENT or math.isinf(most)
+        less = "" if is_share else f", {100 * (1 - cost(one, goal) / most):.2g} % less"
+        told.append(f"{one.label} ({cost_told(one, goal)}{less}; {', '.join(open_told(one, goal, level_of(found)))})")
+    head = f"Not decided, with a lower mean of {in_words(goal.least)} ({OPEN})"
+    return f"\n\n{head}: {'; '.join(told)}. {TELL}{without_bounds(len(more))}"
 
 
 def nearest_of(found: list[Summary], goal: Goal, level: float) -> Summary:
@@ -125,11 +160,62 @@ def nearest_of(found: list[Summary], goal: Goal, level: float) -> Summary:
     return min(found, key=gap)
 
 
+def cost(one: Summary, goal: Goal) -> float:
+    """The mean of what is to be least; infinite if there is none."""
+    mean = one.numbers[goal.least].mean
+    return math.inf if mean is None else mean
+
+
+def cost_told(one: Summary, goal: Goal) -> str:
+    """What is to be least, of a setting."""
+    return one.numbers[goal.least].told(100 if goal.least in PERCENT else 1)
+
+
+def number_told(one: Summary, number: str) -> str:
+    """A number of a setting with its name."""
+    if number in PERCENT:
+        value = one.served_told() if number == "served" else one.numbers[number].told(100)
+        return f"{in_words(number)} {value} %"
+    return f"{in_words(number)} {one.numbers[number].told()}"
+
+
 def reached(one: Summary, goal: Goal) -> str:
     """The numbers of a setting that the goal is about, and its rings."""
-    numbers = [
-        f"{in_words(limit.number)} {one.numbers[limit.number].told(100 if limit.number in PERCENT else 1)}"
-        + (" %" if limit.number in PERCENT else "")
-        for limit in goal.limits
-    ]
-    return ", ".join([*numbers, f"rings kept {one.kept_told()}"])
+    return ", ".join([*(number_told(one, limit.number) for limit in goal.limits), f"rings kept {one.kept_told()}"])
+
+
+def missed(one: Summary, goal: Goal, level: float) -> list[str]:
+    """The limits that a setting is not shown to reach, with what is shown."""
+    told = [bound_told(one, limit, level) for limit in goal.limits if slack(one, limit, level) < 0]
+    return told + others_told(one, goal, level)
+
+
+def open_told(one: Summary, goal: Goal, level: float) -> list[str]:
+    """The numbers of a setting that are not shown to be within their limits."""
+    told = [number_told(one, limit.number) for limit in goal.limits if slack(one, limit, level) < 0]
+    return told + others_told(one, goal, level)
+
+
+def others_told(one: Summary, goal: Goal, level: float) -> list[str]:
+    """The rings lost if they are not within their limit, and what is to be least if no seed has it."""
+    told = [losses_told(one, goal, level)] if loss_slack(one, goal, level) < 0 else []
+    return told + ([f"{in_words(goal.least)}, which no seed has"] if one.numbers[goal.least].mean is None else [])
+
+
+def bound_told(one: Summary, limit: Limit, level: float) -> str:
+    """The bound of a number that is not within its limit."""
+    sign = -1 if limit.is_least else 1
+    bound, wanted = bound_of(one, limit.number, level, sign), f"limit {value_told(limit.number, limit.value)}"
+    if math.isinf(bound):
+        return f"{in_words(limit.number)}, which has no bound ({wanted})"
+    scale, unit = (100, " %") if limit.number in PERCENT else (1, " ms" if limit.number.endswith("_ms") else "")
+    shown = f"{outward(bound * scale, 4, sign):g}{unit}"
+    return f"{in_words(limit.number)}, shown to be at {'least' if limit.is_least else 'most'} {shown} ({wanted})"
+
+
+def losses_told(one: Summary, goal: Goal, level: float) -> str:
+    """The bound of the rings lost, or their number if none may be lost."""
+    if goal.lost_max is None:
+        return f"rings lost, {one.seeds - one.kept} of {one.seeds} (limit: none)"
+    bound = outward(loss_bounds(one, level)[1], 2, 1)
+    return f"rings lost, shown to be below {bound:g} an hour (limit {goal.lost_max:g})"

@@ -1,15 +1,16 @@
 """The command tools/study."""
 
 import os
-from argparse import ArgumentTypeError, Namespace
+import shlex
+from argparse import ArgumentParser, ArgumentTypeError, Namespace
 from pathlib import Path
 
-from chordsim_tools.cli import Parser, run
-from chordsim_tools.study.compare import write_comparison
+from chordsim_tools.cli import Parser, run, write_out
+from chordsim_tools.study.comparison import write_comparison
 from chordsim_tools.study.parts import merge, share_of
 from chordsim_tools.study.plan import read_study
 from chordsim_tools.study.plot import Wish, write_plots
-from chordsim_tools.study.runs import run_study
+from chordsim_tools.study.runs import Share, run_study
 from chordsim_tools.study.so_far import write_report
 
 PROG = "tools/study"
@@ -44,14 +45,30 @@ Runs chordsim with many settings and seeds, and makes tables, plots and a page o
 for the page. Both may be left out, and stand above the tables.
 
 The program is that of the variable CHORDSIM, else ./chordsim of the repository."""
-EPILOG = """\
-examples:
+EXAMPLES = {
+    "run": """\
   tools/study run lists.toml                      all runs, into the folder lists
   nice tools/study run lists.toml --jobs 2 -o out two at a time, into the folder out
-  tools/study plot out && tools/study report out  plots and a page of them, also of a study that still runs
   tools/study run lists.toml --part 2/5 -o part2  the second of five shares; docs/clusters.md says more
-  tools/study merge part1 part2 .. -o out         puts them together
-
+""",
+    "merge": """\
+  tools/study merge part1 part2 .. -o out         puts shares together
+""",
+    "plot": """\
+  tools/study plot out                            all plots, also of a study that still runs
+  tools/study plot out --x stabilize_us --by list --panels loss_ppm --y right-of-begun
+  tools/study plot out --y us-p99 losses/lookups
+""",
+    "report": """\
+  tools/study plot out && tools/study report out  plots, and a page with them, also of a study that still runs
+""",
+    "compare": """\
+  tools/study compare out list=4 list=8           two settings by their labels
+  tools/study compare out 3 7                     the third and the seventh one of the page's first table
+""",
+}
+"""The examples of each command."""
+STATUS = """\
 status: 0 all was done; 1 a file is refused, or the program refuses a setting; 2 the arguments are wrong;
 3 something failed: a run, the disk, the program or the Python packages for plots are missing; 130 interrupted"""
 RUN_HELP = """\
@@ -86,7 +103,7 @@ Runs `chordsim run --serial` for each setting and seed and writes into FOLDER:
   manifest.json  what it was made of, with digests and versions; no times and no names of machines, so that the same
                  study gives the same bytes
   done/          each run's scenario and result. What is there is not run again, unless study, files or program changed:
-                 so the same command goes on after an interruption.
+                 so the same command goes on after an interruption. A result that was edited is run again.
   runs.json      which study the folder is of, by digests
 
 The trace is read from the program while it runs and is kept nowhere. A run that is refused or fails stops the study.
@@ -126,19 +143,18 @@ together, else "not told apart". cost is messages per member and second if the t
 run per node of the file and second. The same tables give the same bytes. A study that is not done yet is drawn as far
 as it is, with a mark.
 
-examples:
-  tools/study plot out --x stabilize_us --by list --panels loss_ppm --y right-of-begun
-  tools/study plot out --y us-p99 losses/lookups
+plots.json has the digests of the tables that each plot was drawn of, by which `tools/study report` knows it.
 
 It needs Debian's packages python3-numpy and python3-matplotlib, and Debian's Python: if another one comes first on
 PATH, `/usr/bin/python3 tools/study plot FOLDER`."""
 
 REPORT_HELP = """\
 Writes the page FOLDER/report.md: the question; the answer to [goal]; what is new in each world and what is the same;
-three tables with a line a setting; links to the plots, which `tools/study plot` draws; the commands and digests. The
-first table has what a decision rests on: rings kept, served, right of begun, p50, p99, messages, each number that
-[goal] or [precision] names, and the difference from the best setting. The second one has all other numbers, and the
-third one says who was taken for dead. Below each table the page says what its numbers are."""
+three tables with a line a setting; links to the plots, which `tools/study plot` draws; the commands and digests. A plot
+of other tables is not linked. The first table has what a decision rests on: rings kept, served, right of begun, p50,
+p99, messages, each number that [goal] or [precision] names, and the difference from the best setting. The second one
+has all other numbers, and the third one says who was taken for dead. Below each table the page says what its numbers
+are."""
 COMPARE_HELP = """\
 Compares two settings seed by seed, prints the mean differences of A less B with 95% intervals, and writes them to
 FOLDER/compare.csv. Settings are named by their labels, as "list=4, stabilize_us=1s", or by their numbers in the page's
@@ -146,39 +162,64 @@ first table, from 1. A label has the keys of the world too: "loss_ppm=0, list=4,
 of them lost are compared by the exact test of McNemar."""
 
 
+COMMANDS = {
+    "run": ("run all settings and seeds", RUN_HELP),
+    "merge": ("put shares together", MERGE_HELP),
+    "plot": ("draw plots of a study that was run", PLOT_HELP),
+    "report": ("write a page", REPORT_HELP),
+    "compare": ("compare two settings", COMPARE_HELP),
+}
+"""What each command does, in short and at length."""
+
+
 def parsed(arguments: list[str]) -> Namespace:
     """The arguments of the command line."""
-    parser = Parser(PROG, HELP, EPILOG)
-    words = "run|merge|plot|report|compare"
-    commands = parser.add_subparsers(dest="command", required=True, metavar=words, parser_class=Parser)
-    runs = commands.add_parser("run", help="run all settings and seeds", description=RUN_HELP, epilog=EPILOG)
-    runs.add_argument("study", metavar="STUDY", type=Path, help="the study file (TOML)")
-    runs.add_argument("--jobs", metavar="N", type=positive, help="N runs side by side (default: all processors)")
-    where = "the folder (default: STUDY without .toml)"
-    runs.add_argument("-o", dest="folder", metavar="FOLDER", type=Path, help=where)
-    part = "the Kth of N shares of the runs, without tables"
-    runs.add_argument("--part", metavar="K/N", type=share_of, default=(1, 1), help=part)
-    runs.add_argument("--dask", metavar="ADDRESS", help="the scheduler of a Dask cluster, as tcp://host:8786")
-    both = commands.add_parser("merge", help="put shares together", description=MERGE_HELP, epilog=EPILOG)
+    parser = Parser(PROG, HELP, epilog_of(*EXAMPLES))
+    of_all = parser.add_subparsers(dest="command", required=True, metavar="|".join(COMMANDS), parser_class=Parser)
+    commands = {
+        name: of_all.add_parser(name, help=short, description=long, epilog=epilog_of(name))
+        for name, (short, long) in COMMANDS.items()
+    }
+    add_run(commands["run"])
+    both = commands["merge"]
     both.add_argument("folders", metavar="FOLDER", nargs="+", type=Path, help="a folder of runs")
     both.add_argument("-o", dest="out", metavar="OUT", type=Path, required=True, help="the folder for all")
-    plot = commands.add_parser("plot", help="draw plots of a run study", description=PLOT_HELP, epilog=EPILOG)
-    report = commands.add_parser("report", help="write a page", description=REPORT_HELP, epilog=EPILOG)
-    pair = commands.add_parser("compare", help="compare two settings", description=COMPARE_HELP, epilog=EPILOG)
-    for command in (plot, report, pair):
-        command.add_argument("folder", metavar="FOLDER", type=Path, help="the folder of a study that was run")
-    plot.add_argument("--x", metavar="KEY", help="the varied key along the axis")
-    for option, meaning in (("by", "make lines of these"), ("panels", "make panels of these")):
-        plot.add_argument(f"--{option}", metavar="KEY", nargs="+", help=meaning)
-    most_lost = "the share of seeds whose ring may be lost by a setting on the front (0)"
-    plot.add_argument("--most-lost", metavar="SHARE", type=share, default=0.0, help=most_lost)
-    plot.add_argument("--y", metavar="COLUMN", nargs="+", help="draw these alone")
+    for name in ("plot", "report", "compare"):
+        commands[name].add_argument("folder", metavar="FOLDER", type=Path, help="the folder of a study that was run")
+    add_plot(commands["plot"])
     for name in ("A", "B"):
-        pair.add_argument(name.lower(), metavar=name, help="a setting: its label on the page, or its number, from 1")
-    for command in (both, plot, report):
+        meaning = "a setting: its label on the page, or its number, from 1"
+        commands["compare"].add_argument(name.lower(), metavar=name, help=meaning)
+    for name in ("merge", "plot", "report", "compare"):
         moved = "the study file, if it is no longer in its place"
-        command.add_argument("--study", metavar="STUDY", type=Path, help=moved)
+        commands[name].add_argument("--study", metavar="STUDY", type=Path, help=moved)
     return parser.parse_args(arguments)
+
+
+def epilog_of(*names: str) -> str:
+    """The examples of these commands, and the status."""
+    return "examples:\n" + "".join(EXAMPLES[name] for name in names) + "\n" + STATUS
+
+
+def add_run(parser: ArgumentParser) -> None:
+    """The arguments of `tools/study run`."""
+    parser.add_argument("study", metavar="STUDY", type=Path, help="the study file (TOML)")
+    parser.add_argument("--jobs", metavar="N", type=positive, help="N runs side by side (default: all processors)")
+    where = "the folder (default: STUDY without .toml)"
+    parser.add_argument("-o", dest="folder", metavar="FOLDER", type=Path, help=where)
+    part = "the Kth of N shares of the runs, without tables"
+    parser.add_argument("--part", metavar="K/N", type=share_of, default=(1, 1), help=part)
+    parser.add_argument("--dask", metavar="ADDRESS", help="the scheduler of a Dask cluster, as tcp://host:8786")
+
+
+def add_plot(parser: ArgumentParser) -> None:
+    """The options of `tools/study plot`."""
+    parser.add_argument("--x", metavar="KEY", help="the varied key along the axis")
+    for option, meaning in (("by", "make lines of these"), ("panels", "make panels of these")):
+        parser.add_argument(f"--{option}", metavar="KEY", nargs="+", help=meaning)
+    most_lost = "the share of seeds whose ring may be lost by a setting on the front (0)"
+    parser.add_argument("--most-lost", metavar="SHARE", type=share, default=0.0, help=most_lost)
+    parser.add_argument("--y", metavar="COLUMN", nargs="+", help="draw these alone")
 
 
 def positive(text: str) -> int:
@@ -211,17 +252,28 @@ def work(args: Namespace) -> None:
             folder = args.folder or folder_of(args.study)
             jobs = args.jobs or len(os.sched_getaffinity(0))
             run_study(read_study(args.study), folder, jobs, args.part, args.dask)
+            write_out(run_told(folder, args.part))
         case "merge":
             merge(args.folders, args.out, args.study)
+            write_out(run_told(args.out))
         case "plot":
             write_plots(args.folder, args.study, Wish(args.x, args.by, args.panels, args.y, args.most_lost))
         case "compare":
-            write_comparison(args.folder, args.a, args.b)
+            write_comparison(args.folder, args.a, args.b, args.study)
         case _:
             write_report(args.folder, args.study)
+            write_out(f"page: {args.folder / 'report.md'}\n")
+
+
+def run_told(folder: Path, part: Share = (1, 1)) -> str:
+    """What was written, and the command that comes next."""
+    name = shlex.quote(str(folder))
+    if part[1] > 1:
+        return f"runs in {folder}; next, with the folders of all parts: tools/study merge {name} .. -o OUT\n"
+    return f"tables in {folder}; next: tools/study report {name}\n"
 
 
 def main(arguments: list[str]) -> int:
     """The command."""
     args = parsed(arguments)
-    return run(PROG, lambda: work(args), interrupted="interrupted: the same arguments go on")
+    return run(PROG, lambda: work(args), interrupted="interrupted: run the same command again to continue")

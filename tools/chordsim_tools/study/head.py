@@ -70,13 +70,18 @@ def steadiness(found: list[Summary]) -> str:
         f"{one.label}: {change.told(100)} points" for one, change in drifts
         if change.half is not None and change.mean is not None and abs(change.mean) > change.half
     ]
-    if all(change.half is None for _, change in drifts):
-        return "Whether the judged span is steady cannot be said: too few seeds, or some of them lost their ring."
     if unsteady:
         return f"**Not steady**: served in the first half of the judged span less the second: {'; '.join(unsteady)}."
-    largest = max((change for _, change in drifts if change.half is not None), key=lambda one: abs(one.mean or 0.0))
-    most = largest.told(100)
-    return f"No drift seen: served in the first half of the judged span less the second, {most} points at most."
+    # A dead ring serves nothing in either half.
+    steady = [change for one, change in drifts if one.kept and change.half is not None]
+    if not steady:
+        return "Whether the judged span is steady cannot be said: too few seeds, or some of them lost their ring."
+    most = max(steady, key=lambda one: abs(one.mean or 0.0)).told(100)
+    text = f"No drift seen: the halves of the judged span differ by {most} points at most (share served, first less "
+    text += "second)."
+    left = len(found) - len(steady)
+    why = "they lost rings, or have too few seeds"
+    return text + (f" {left} of {len(found)} settings are left out: {why}." if left else "")
 
 
 def warnings(manifest: dict[str, Any], found: list[Summary]) -> list[str]:

@@ -6,9 +6,10 @@ from pathlib import Path
 from typing import Any
 
 from chordsim_tools.cli import Refused
+from chordsim_tools.explain.hints import close_to
 from chordsim_tools.generate.command import OPTIONS
 from chordsim_tools.messages import MESSAGES
-from chordsim_tools.quantities import time_of
+from chordsim_tools.quantities import UNITS, time_of
 from chordsim_tools.scenario.tables import CHURN, GREATEST_INTEGER, LOOKUPS, THIRD, Key
 
 Value = int | str
@@ -16,6 +17,7 @@ Value = int | str
 BOOLEANS = {key.name for key in THIRD.tables["top"] if key.kind == "boolean"}
 """The keys of a scenario that can be varied and are booleans."""
 MOST_SEEDS = 10_000
+OF_GENERATE = "generate."
 
 
 def varied_keys() -> set[str]:
@@ -61,7 +63,8 @@ def number_of(path: Path, top: dict[str, Any], key: str, least: int, default: An
     """A number of the study file, or what stands for it. Times may be texts with units."""
     value = micros_of(key, top.get(key, default))
     if not is_integer(value) or not least <= value <= GREATEST_INTEGER:
-        raise Refused(f"{path}: {key} has to be an integer, {least} or more")
+        or_time = f', or a time such as "20s" ({", ".join(UNITS)})' if key.endswith("_us") else ""
+        raise Refused(f"{path}: {key} has to be an integer, {least} or more{or_time}")
     return int(value)
 
 
@@ -106,11 +109,31 @@ def vary_of(path: Path, table: Any, is_generated: bool) -> dict[str, list[Value]
     return flat
 
 
+def varied_options() -> set[str]:
+    """The options of tools/generate that can be varied, as [vary] names them."""
+    return {f"{OF_GENERATE}--{name}" for name, *_ in OPTIONS} - {f"{OF_GENERATE}--seed"}
+
+
+def unknown_told(key: str, is_generated: bool) -> str:
+    """Why a key cannot be varied, and which one was likely meant."""
+    if key.startswith(OF_GENERATE) and not is_generated:
+        return f"{key} is of a study with `generate`, and this one has a base"
+    if key == f"{OF_GENERATE}--seed":
+        return f"{key}: `seeds` sets it"
+    head = f"{OF_GENERATE}--"
+    if key.startswith(OF_GENERATE):
+        meant = close_to(key.removeprefix(head), sorted(name.removeprefix(head) for name in varied_options()))
+        hint = "" if meant is None else f": did you mean `{head}{meant}`?"
+        return f"{key}: tools/generate has no {key.removeprefix(OF_GENERATE)}{hint}"
+    meant = head + key if is_generated and head + key in varied_options() else close_to(key, sorted(varied_keys()))
+    return f"{key} is no key of a scenario that can be varied" + ("" if meant is None else f": did you mean `{meant}`?")
+
+
 def values_of(path: Path, key: str, values: Any, is_generated: bool) -> list[Value]:
     """The values of a varied key."""
-    options = {f"generate.--{name}" for name, *_ in OPTIONS} - {"generate.--seed"}
+    options = varied_options()
     if key not in varied_keys() and not (is_generated and key in options):
-        raise Refused(f"{path}: [vary] {key} is no key of a scenario that can be varied")
+        raise Refused(f"{path}: [vary] {unknown_told(key, is_generated)}")
     if key in BOOLEANS:
         return booleans_of(path, key, values)
     found = [micros_of(key, value) for value in values] if isinstance(values, list) else []

@@ -91,5 +91,6 @@ def difference_note(number: str, settings: int, worlds: list[str]) -> str:
         f"{ALL if number == 'served' else KEPT} The intervals hold for all {pairs} pairs of settings together "
         "(Bonferroni). The best one is that of the answer above. Without such an answer it is the one that kept most "
         "rings, and of these served most. `not told apart`: the interval reaches 0 or cannot be computed, and "
-        "McNemar's exact test of the rings lost does not tell the two apart either."
+        "McNemar's exact test of the rings lost does not tell the two apart either. `all rings lost`: the setting has "
+        "no ring to compare, and is never the best one."
     )

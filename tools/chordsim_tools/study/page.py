@@ -8,18 +8,26 @@ from chordsim_tools.study.goal import goal_again
 from chordsim_tools.study.head import head
 from chordsim_tools.study.layout import of_each_world
 from chordsim_tools.study.numbers import Summary, summaries
+from chordsim_tools.study.plot_files import NO_PLOTS
 from chordsim_tools.study.settings_tables import settings_tables
 from chordsim_tools.study.tables import Tables
 from chordsim_tools.study.taken import taken_table
 from chordsim_tools.study.wrap import paragraph, wrapped
 
-PLOTS = (
-    ("times", "Right answers and lookup time, by setting"),
-    ("right", "Right answers and members over time"),
-    ("cost", "Cost against right answers and against lookup time"),
-)
 CHANGED = " `+` means: with changes since that commit."
 LATER = " This page may have been written by a later `tools/study`."
+
+
+def lost_told(tables: Tables, found: list[Summary]) -> str:
+    """In which worlds no setting kept a ring."""
+    worlds = of_each_world(tables, found)
+    lost = [name for name, settings in worlds.items() if not any(one.kept for one in settings)]
+    if not lost:
+        return ""
+    told = "very ring was lost" + (" in every setting" if len(found) > 1 else "")
+    if len(lost) == len(worlds):
+        return paragraph(f"**E{told}.**")
+    return "".join(paragraph(f"With {name}: **e{told}.**") for name in lost)
 
 
 def answers(tables: Tables, found: list[Summary]) -> str:
@@ -29,7 +37,8 @@ def answers(tables: Tables, found: list[Summary]) -> str:
         return ""
     worlds = of_each_world(tables, found)
     heads = {name: f"With {name}: " if len(worlds) > 1 else "" for name in worlds}
-    return "".join(paragraph(f"{heads[name]}{answer(settings, goal)}") for name, settings in worlds.items())
+    texts = (f"{heads[name]}{answer(settings, goal)}" for name, settings in worlds.items())
+    return "".join(paragraph(part) for text in texts for part in text.split("\n\n"))
 
 
 def commands(tables: Tables) -> str:
@@ -75,16 +84,16 @@ def commits(manifest: dict[str, Any]) -> str:
     return "\n" + wrapped(f"The tables were made by {' and by '.join(makers)}.{changed}{LATER}") + "\n"
 
 
-def page(tables: Tables) -> str:
-    """The whole page."""
+def page(tables: Tables, plots: str = NO_PLOTS) -> str:
+    """The whole page, with these links to plots."""
     manifest = tables.manifest
     found = summaries(tables)
-    links = "".join(f"![{title}]({name}.png)\n\n[{title} (SVG)]({name}.svg)\n\n" for name, title in PLOTS)
     return (
         f"# {' '.join(manifest['question'].split())}\n\n"
+        + lost_told(tables, found)
         + answers(tables, found)
         + (f"{manifest['note'].strip()}\n\n" if manifest.get("note") else "")
         + f"{head(manifest, found)}{settings_tables(tables, found)}{taken_table(tables, found)}"
-        f"## Plots\n\n{links}"
+        f"## Plots\n\n{plots}"
         f"## Made by\n\n```\n{commands(tables)}```\n\n{made_for_each_seed(manifest)}{sums(tables)}{commits(manifest)}"
     )

@@ -53,6 +53,7 @@ def check_same(folders: list[Path], records: list[Record]) -> None:
 def taken(run: Run, folders: list[Path]) -> bool:
     """Whether the run's result is in one of the folders; it and its files are then in the new one."""
     if run.read_result() is not None:
+        run.write_files()
         return True
     for folder in folders:
         other = Run(run.study, run.setting, run.seed, folder / "done" / run.stem.name, run.task)

@@ -6,17 +6,21 @@ from pathlib import Path
 from typing import Any
 
 from chordsim_tools.cli import Refused
+from chordsim_tools.explain.hints import close_to
 from chordsim_tools.files import read_input
 from chordsim_tools.quantities import time_text
+from chordsim_tools.scenario.tables import PROFILES
 from chordsim_tools.study.goal import Goal, Precision, goal_of, precision_of
 from chordsim_tools.study.keys import (
-    Value, arguments_of, is_integer, number_of, parsed, seeds_of, sizes_of, text_of, vary_of,
+    OF_GENERATE, Value, arguments_of, is_integer, number_of, parsed, seeds_of, sizes_of, text_of, vary_of,
     world_of,
 )
 
 Setting = tuple[tuple[str, Value], ...]
 """The varied keys and their values, in the order of the study file. Times are in microseconds."""
 
+PROFILE_KEYS = ("profile", f"{OF_GENERATE}--profile")
+"""The keys of [vary] that change the profile. The first one of them counts."""
 GREATEST_STEPS = 100_000
 KEYS = {
     "question", "base", "generate", "latency", "seeds", "window_us", "warmup_us", "cooldown_us", "vary", "precision",
@@ -79,9 +83,7 @@ def read_study(path: Path) -> Study:
     """Reads a study file, its base and its latency file, or stops."""
     content = read_input(path)
     top = parsed(path, content)
-    for key in top:
-        if key not in KEYS:
-            raise Refused(f"{path}: no key of a study: {key}")
+    check_keys(path, top)
     if "base" in top and "generate" in top:
         raise Refused(f"{path}: either base or generate")
     rows = top.get("latency")
@@ -111,6 +113,14 @@ def read_study(path: Path) -> Study:
     return study
 
 
+def check_keys(path: Path, top: dict[str, Any]) -> None:
+    """Fails if the study file has a key that no study has, and says which one was likely meant."""
+    for key in top:
+        if key not in KEYS:
+            meant = close_to(key, sorted(KEYS - set(top)))
+            raise Refused(f"{path}: no key of a study: {key}" + ("" if meant is None else f": did you mean `{meant}`?"))
+
+
 def read_files(study: Study, top: dict[str, Any]) -> None:
     """Reads the files that a study names, and looks at what depends on them."""
     if study.base is not None:
@@ -123,6 +133,7 @@ def read_files(study: Study, top: dict[str, Any]) -> None:
     study.window_us = number_of(study.path, top, "window_us", 1, study.scenario.get("audit_us"))
     for setting in study.settings():
         check_times(study, value_of(study, setting, "duration_us"))
+        check_profile(study, setting)
 
 
 def first_world(study: Study) -> str:
@@ -136,6 +147,21 @@ def first_world(study: Study) -> str:
 def value_of(study: Study, setting: Setting, key: str) -> Any:
     """The value of a key of the top table in a setting."""
     return dict(setting).get(key, study.scenario.get(key))
+
+
+def check_profile(study: Study, setting: Setting) -> None:
+    """Fails if a varied key is none of the profile that a setting has."""
+    varied = dict(setting)
+    has = next((varied[key] for key in PROFILE_KEYS if key in varied), study.scenario.get("profile"))
+    if str(has) not in map(str, PROFILES):
+        return
+    owner = "the base" if study.base is not None else "the scenario of generate"
+    if any(key in varied for key in PROFILE_KEYS):
+        owner = f"the setting {label(setting)}"
+    for key in varied:
+        wanted = [str(number) for number, one in PROFILES.items() if key in (top.name for top in one.tables["top"])]
+        if wanted and str(has) not in wanted:
+            raise Refused(f"{study.path}: [vary] {key} needs profile = {' or '.join(wanted)}; {owner} has {has}")
 
 
 def check_times(study: Study, duration: Any) -> None:

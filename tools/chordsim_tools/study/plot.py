@@ -15,6 +15,7 @@ from chordsim_tools.study.lines import Rows, lines_figure
 from chordsim_tools.study.looks import Layout
 from chordsim_tools.study.numbers import groups
 from chordsim_tools.study.overtime import RIGHT, cdf_figure, network_of, time_figure
+from chordsim_tools.study.plot_files import FORMS, origin_of, write_origins
 from chordsim_tools.study.so_far import Drawn, tables_of
 
 TIMES = ("us-p50", "us-p99")
@@ -43,12 +44,15 @@ def write_plots(folder: Path, named: Path | None = None, wish: Wish | None = Non
     columns = [Column(name, drawn.tables) for name in wish.y or []]
     pyplot = drawing()
     figures = asked(pyplot, drawn, layout, columns) if columns else all_figures(pyplot, drawn, layout, wish.most_lost)
+    names = []
     with Progress("plots", stays=True) as progress:
         for name, figure in figures:
-            for form in ("png", "svg"):
+            for form in FORMS:
                 write_whole(folder / f"{name}.{form}", rendered(figure, form))
                 progress.one_more()
             pyplot.close(figure)
+            names.append(name)
+    write_origins(folder, names, origin_of(drawn.tables.manifest, drawn.mark))
 
 
 def rows_of(drawn: Drawn, layout: Layout) -> Rows:

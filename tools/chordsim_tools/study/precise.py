@@ -34,6 +34,8 @@ def stopped(wanted: Precision, found: list[Summary]) -> str:
     seeds = found[0].seeds
     scale, unit = (100, " points") if wanted.number in (*SHARES, "members") else (1, "")
     half = f"{wanted.number} to ± {wanted.half * scale:g}{unit}"
+    if not any(one.kept == one.seeds for one in found):
+        return f"Stopped at {seeds} seeds: [precision] wants {half}, but every setting has lost rings."
     if all(is_narrow(one, wanted) for one in found):
         return f"Stopped at {seeds} seeds by [precision]: {half} in each setting that lost no ring."
     return f"Stopped at most_seeds, {seeds}: [precision] wants {half}, which some settings do not reach."

@@ -32,10 +32,13 @@ class Program:
         with self.lines("check"):
             pass
 
-    def idents(self) -> dict[str, int]:
-        """The identifier of each node."""
+    def idents(self, names: list[str]) -> dict[str, int]:
+        """The identifier of each node. The program has to give one for each of these names."""
         with self.lines("ids") as lines:
-            return {name: int(ident) for name, ident in (line.split(" ") for line in lines)}
+            idents = {name: int(ident) for name, ident in (line.split(" ") for line in lines)}
+        if idents.keys() != set(names):
+            raise self.wrong("ids")
+        return idents
 
     def run(self, read: Callable[[str], None]) -> dict[str, int]:
         """Runs the scenario: each line of the trace to a reader; gives the report."""
@@ -47,7 +50,13 @@ class Program:
                 else:
                     word, number = line.split(" ")
                     report[word] = int(number)
+        if "events" not in report:
+            raise self.wrong("run")
         return report
+
+    def wrong(self, command: str) -> Failure:
+        """What stops the study if a command of the program ends well and writes something else than chordsim."""
+        return Failure(3, f"{self.path} {command}: the output is not that of chordsim")
 
     @contextmanager
     def lines(self, *arguments: str) -> Iterator[Iterator[str]]:
@@ -75,7 +84,7 @@ class Program:
         except OSError as fault:
             raise Failure(3, f"cannot run {self.path}: {reason(fault)}") from None
         if wrong:
-            raise Failure(3, f"{self.path} {arguments[0]}: the output is not that of chordsim")
+            raise self.wrong(arguments[0])
 
 
 def started(command: list[str], errors: IO[bytes]) -> subprocess.Popen[str]:

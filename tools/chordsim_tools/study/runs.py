@@ -8,10 +8,12 @@ from pathlib import Path
 from typing import Any
 
 from chordsim_tools.cli import Failure, Refused
+from chordsim_tools.explain.traps import warn
 from chordsim_tools.files import make_folder, read_input, sum_of, write_whole
 from chordsim_tools.program import find_program
 from chordsim_tools.study.curves import write_results
 from chordsim_tools.study.dask_runs import run_by_dask
+from chordsim_tools.study.interval import LEAST_SEEDS
 from chordsim_tools.study.plan import Setting, Study, label
 from chordsim_tools.study.pool import work_all
 from chordsim_tools.study.precise import more_seeds
@@ -20,10 +22,12 @@ from chordsim_tools.study.progress import RunProgress
 from chordsim_tools.study.record import write_record
 from chordsim_tools.study.setting_traps import tell_traps
 from chordsim_tools.study.task import Task, result_of
-from chordsim_tools.study.worlds import latency_of, scenario_of
+from chordsim_tools.study.worlds import argument_traps, latency_of, scenario_of
 
 READING = 4
 """Goes up if a trace is read in another way, so that no older result is taken for a new one."""
+DIGEST = "sha256"
+"""The key of a result's digest. It is of all other keys."""
 Share = tuple[int, int]
 """The part of a study that is done here, from 1, and how many parts there are."""
 
@@ -55,23 +59,46 @@ class Run:
         return self.stem.with_name(self.stem.name + ".csv")
 
     def write_files(self) -> None:
-        """Writes the scenario, and the latency file if it is the run's own."""
-        write_whole(self.scenario(), self.task.scenario)
+        """Writes the scenario, and the latency file if it is the run's own, unless they are there and the same."""
+        write_if_other(self.scenario(), self.task.scenario.encode())
         latency = self.latency()
         if latency is not None and self.task.latency is not None and latency.parent == self.stem.parent:
-            write_whole(latency, self.task.latency)
+            write_if_other(latency, self.task.latency)
 
-    def read_result(self) -> dict[str, Any] | None:
-        """The result, if there is one that was made of the same."""
+    def found_result(self) -> dict[str, Any] | None:
+        """The result that is there, if it says that it was made of the same."""
         try:
             result = json.loads(self.result().read_bytes())
         except (OSError, ValueError):
             return None
         return result if isinstance(result, dict) and result.get("made_of") == self.task.made_of else None
 
+    def read_result(self) -> dict[str, Any] | None:
+        """The result, if there is one that was made of the same and is as it was written."""
+        result = self.found_result()
+        return None if result is None or is_changed(result) else result
+
     def write_result(self, result: dict[str, Any]) -> None:
-        """Keeps the result."""
-        write_whole(self.result(), json.dumps(result) + "\n")
+        """Keeps the result with its digest."""
+        write_whole(self.result(), json.dumps({**result, DIGEST: digest_of(result)}) + "\n")
+
+
+def digest_of(result: dict[str, Any]) -> str:
+    """The digest of all of a result but the digest itself."""
+    return sum_of(json.dumps({key: value for key, value in result.items() if key != DIGEST}))
+
+
+def is_changed(result: dict[str, Any]) -> bool:
+    """Whether a result was changed after it was written. One of an older tools/study has no digest, and is believed."""
+    return DIGEST in result and result[DIGEST] != digest_of(result)
+
+
+def write_if_other(path: Path, content: bytes) -> None:
+    """Writes a file, unless it has this content."""
+    with contextlib.suppress(OSError):
+        if path.read_bytes() == content:
+            return
+    write_whole(path, content)
 
 
 def run_study(study: Study, folder: Path, jobs: int, share: Share = (1, 1), dask: str | None = None) -> None:
@@ -83,6 +110,7 @@ def run_study(study: Study, folder: Path, jobs: int, share: Share = (1, 1), dask
     if study.precision is not None and share[1] > 1:
         raise Refused(f"{study.path}: [precision] looks at all runs, so that there are no parts")
     make_folder(folder / "done")
+    warn([*few_seeds(study), *argument_traps(study)])
     told: set[str] = set()
     while True:
         runs = runs_of(study, folder / "done", program_sum)[share[0] - 1 :: share[1]]
@@ -98,12 +126,19 @@ def run_study(study: Study, folder: Path, jobs: int, share: Share = (1, 1), dask
         study.seeds += more
 
 
+def few_seeds(study: Study) -> list[str]:
+    """That a goal will have no answer."""
+    if study.goal is None or len(study.seeds) >= LEAST_SEEDS:
+        return []
+    return [f"[goal] will have no answer: it needs {LEAST_SEEDS} seeds or more, and seeds has {len(study.seeds)}"]
+
+
 def do_left(
     runs: list[Run], program: Path, program_sum: str, jobs: int, dask: str | None, told: set[str]
 ) -> None:
     """Does those of the runs that are not done yet, and warns of traps that were not told before."""
     remove_parts(runs)
-    left = [run for run in runs if run.read_result() is None]
+    left = look_at(runs)
     check_settings(left, program)
     firsts: dict[Setting, Task] = {}
     for run in left:
@@ -114,6 +149,21 @@ def do_left(
             do_runs(left, program, program_sum, jobs, dask, progress)
     finally:
         remove_parts(runs)
+
+
+def look_at(runs: list[Run]) -> list[Run]:
+    """The runs that are to be done. The files of the others are written again if they were changed."""
+    left = []
+    for run in runs:
+        if run.read_result() is None:
+            left.append(run)
+        else:
+            run.write_files()
+    changed = [run.result() for run in left if run.found_result() is not None]
+    if changed:
+        more = "" if len(changed) == 1 else f" (and of {len(changed) - 1} more)"
+        warn([f"{changed[0]} was changed since it was written: its run is done again{more}"])
+    return left
 
 
 def do_runs(

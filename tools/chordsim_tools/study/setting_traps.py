@@ -28,7 +28,7 @@ def tell_traps(tasks: Iterable[Task], program: Path, told: set[str]) -> None:
     for kind, traps in found.items():
         if kind not in told:
             others = len(traps) - 1
-            lines.append(traps[0] + (f" (and in {others} more settings)" if others else ""))
+            lines.append(traps[0] + (f" (and in {others} more setting{'' if others == 1 else 's'})" if others else ""))
     told |= set(found)
     warn(lines)
 

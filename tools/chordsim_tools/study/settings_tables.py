@@ -19,6 +19,7 @@ FILL = ("served", "right_of_begun", "messages", "p99_ms", "p50_ms")
 """What the first table has, in this order, besides the numbers that the study names."""
 MOST = 5
 """So many numbers it has, unless the study names more: with setting, rings kept and difference it has 8 columns."""
+ALL_LOST = "all rings lost"
 Column = tuple[str, Callable[[Summary], str]]
 """A column of a table: its header, and its cell for a setting."""
 
@@ -85,8 +86,10 @@ def compared_number(worlds: Worlds, goal: Goal | None) -> str:
 def from_best(one: Summary, best: Summary | None, number: str, settings: int) -> str:
     """The difference from the best setting, and whether the two can be told apart."""
     if best is None or one is best:
-        return "**best**" if best is one else "-"
+        return "**best**" if best is one else ALL_LOST if one.kept == 0 else "-"
     pair = Pair(one, best, guarded_level(settings))
+    if one.kept == 0 and pair.difference(number).mean is None:
+        return ALL_LOST
     if pair.equal() == len(pair.seeds()):
         return f"the same run in {pair.equal()} of {len(pair.seeds())} seeds"
     apart = "" if pair.is_apart(number) else ", not told apart"

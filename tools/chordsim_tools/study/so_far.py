@@ -9,6 +9,7 @@ from chordsim_tools.files import write_whole
 from chordsim_tools.study.curves import CDF, STEPS, write_results
 from chordsim_tools.study.numbers import Cells
 from chordsim_tools.study.page import page
+from chordsim_tools.study.plot_files import plots_text
 from chordsim_tools.study.record import NAME, Record, read_record, study_of
 from chordsim_tools.study.runs import runs_of
 from chordsim_tools.study.tables import Tables, checked_table, read_tables
@@ -34,6 +35,15 @@ def tables_of(folder: Path, named: Path | None = None) -> Drawn:
         if is_of(drawn.tables, record):
             return drawn
     return tables_so_far(folder, record, named)
+
+
+def whole_tables(folder: Path, named: Path | None = None) -> Tables:
+    """The tables of a folder, if all its runs are done."""
+    drawn = tables_of(folder, named)
+    if drawn.mark:
+        parts = "`tools/study run` goes on, and `tools/study merge` puts parts together"
+        raise Refused(f"{folder}: {drawn.mark} are done; compare needs all: {parts}")
+    return drawn.tables
 
 
 def drawn_of(folder: Path) -> Drawn:
@@ -66,18 +76,10 @@ def tables_so_far(folder: Path, record: Record, named: Path | None) -> Drawn:
     return drawn
 
 
-def further_links(drawn: Drawn, text: str) -> str:
-    """Links to the plots of curves, which older studies do not have, unless the page has them."""
-    plots = (("network", "Timeouts and lost messages over time"), ("cdf", "How lookup times and hops are distributed"))
-    there = [plot for plot, lines in zip(plots, (drawn.steps, drawn.cdf), strict=True) if lines]
-    new = [(name, title) for name, title in there if f"({name}.png)" not in text]
-    return "".join(f"![{title}]({name}.png)\n\n[{title} (SVG)]({name}.svg)\n\n" for name, title in new)
-
-
 def write_report(folder: Path, named: Path | None = None) -> None:
     """Writes report.md, with a mark if the study is not done."""
     drawn = tables_of(folder, named)
-    title, rest = page(drawn.tables).split("\n", 1)
-    rest = rest.replace("## Made by\n", f"{further_links(drawn, rest)}## Made by\n", 1)
+    plots = plots_text(folder, drawn.tables.manifest, drawn.mark)
+    title, rest = page(drawn.tables, plots).split("\n", 1)
     told = f"\n**{drawn.mark}: the study is not done.** What follows is of the runs that are.\n" if drawn.mark else ""
     write_whole(folder / "report.md", f"{title}\n{told}{rest}")

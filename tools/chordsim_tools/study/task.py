@@ -55,7 +55,8 @@ def result_of(task: Task, program: Path, scenario: Path, latency: Path | None) -
     """Runs the program with the task's two files, and gives the result as `done/` keeps it."""
     caller = Program(program, scenario, latency)
     top = tomllib.loads(task.scenario)
-    reader, curves, trouble = readers_of(task, top, caller.idents())
+    idents = caller.idents([node["name"] for node in top["node"]])
+    reader, curves, trouble = readers_of(task, top, idents)
 
     def read(line: str) -> None:
         """Each reader takes a line."""

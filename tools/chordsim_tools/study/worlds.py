@@ -2,25 +2,25 @@
 
 import hashlib
 import io
-from collections.abc import Callable
+from collections.abc import Callable, Mapping, Sequence
 from contextlib import redirect_stderr
 from dataclasses import replace
 from functools import lru_cache
 from pathlib import Path
 from typing import Any, TypeVar
 
-from chordsim_tools.cli import Failure, Refused
+from chordsim_tools.cli import Failure, Parser, Refused
 from chordsim_tools.generate import command as generate
 from chordsim_tools.generate import plan as generate_plan
+from chordsim_tools.generate.bare import LIMITS, bare_traps
 from chordsim_tools.generate.text import key_text
 from chordsim_tools.latency import command as latency
 from chordsim_tools.places import PlacesFile
 from chordsim_tools.study.document import toml_text
-from chordsim_tools.study.keys import BOOLEANS, parsed
+from chordsim_tools.study.keys import BOOLEANS, OF_GENERATE, parsed
 from chordsim_tools.study.plan import Setting, Study
 
 T = TypeVar("T")
-OF_GENERATE = "generate."
 
 
 def scenario_of(study: Study, setting: Setting, seed: int) -> str:
@@ -90,6 +90,24 @@ def text_of(path: str, arguments: tuple[str, ...]) -> str:
     return called(f"{path}: generate", work)
 
 
+def argument_traps(study: Study) -> list[str]:
+    """Times without a unit in the arguments of a study, each once. `tell_traps` has the traps of scenarios."""
+    told: list[str] = []
+    if study.generate is not None:
+        for setting in study.settings():
+            told += bare_times(study, generate.parser_of(), arguments_of(study, setting, study.seeds[0]), LIMITS)
+    if study.latency_arguments is not None:
+        told += bare_times(study, latency.parser_of(), study.latency_arguments, latency.TIMES)
+    return list(dict.fromkeys(told))
+
+
+def bare_times(study: Study, parser: Parser, arguments: Sequence[str], limits: Mapping[str, int]) -> list[str]:
+    """What a tool warns of that has these arguments."""
+    name = parser.prog.removeprefix("tools/")
+    args = called(f"{study.path}: {name}", lambda: parser.parse_args(list(arguments)))
+    return [f"{name}: {trap}" for trap in bare_traps(args, limits)]
+
+
 def called(name: str, work: Callable[[], T]) -> T:
     """Calls a tool in this process. What it says of its arguments becomes the reason of a refusal."""
     said = io.StringIO()
@@ -144,8 +162,6 @@ def rows_text(path: str, folder: str, arguments: tuple[str, ...]) -> bytes:
         return latency.rows_text(names, latency.latencies(options, len(names))).encode()
 
     return called(f"{path}: latency", work)
-
-
 
 
 def rows_of(study: Study, arguments: tuple[str, ...], nodes: int, seed: int) -> bytes:

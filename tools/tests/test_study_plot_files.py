@@ -1,0 +1,131 @@
+"""Which plots a page links: those that are there and are of its tables."""
+
+import json
+import os
+from pathlib import Path
+from unittest import TestCase
+
+from chordsim_tools.study.plot_files import FORMS, NAME, PLOTS, origin_of, write_origins
+from chordsim_tools.study.so_far import tables_of
+from tests.test_study_plot import plot, python_with_packages
+from tests.test_study_run import STUDY, TOP, call, said, study_folder
+
+NONE = "No plots: `tools/study plot FOLDER` draws them."
+OTHER = f"No plots of these tables: those in the folder are of other ones, or older. {NONE.removeprefix('No plots: ')}"
+
+
+def page_of(folder: Path) -> str:
+    """The page, in one line."""
+    assert said("report", folder / "study") == (0, "")
+    return " ".join((folder / "study" / "report.md").read_text().split())
+
+
+def linked(text: str) -> list[str]:
+    """The plots that a page links, as a picture and as SVG."""
+    pictures = [name for name in PLOTS if f"]({name}.png)" in text]
+    assert pictures == [name for name in PLOTS if f"]({name}.svg)" in text]
+    return pictures
+
+
+def put_plots(folder: Path, *names: str) -> None:
+    """Writes files in the place of plots."""
+    for name in names:
+        for form in FORMS:
+            (folder / "study" / f"{name}.{form}").write_text("a plot")
+
+
+def draw(folder: Path, *names: str) -> None:
+    """The same, and notes which tables they are of, as `tools/study plot` does."""
+    put_plots(folder, *names)
+    drawn = tables_of(folder / "study")
+    write_origins(folder / "study", list(names), origin_of(drawn.tables.manifest, drawn.mark))
+
+
+class PlotFilesTest(TestCase):
+    """Links of a page."""
+
+    def test_no_plots(self) -> None:
+        """None was drawn: a line says so, and there is no link."""
+        with study_folder() as folder:
+            call(folder)
+            text = page_of(folder)
+            assert f"## Plots {NONE} ## Made by" in text and "![" not in text
+
+    def test_plots_of_another_study(self) -> None:
+        """The study is changed and run again: the plots of before are not linked. Back again, they are."""
+        with study_folder() as folder:
+            call(folder)
+            draw(folder, *PLOTS)
+            assert linked(page_of(folder)) == list(PLOTS)
+            (folder / "study.toml").write_text(STUDY.replace("list = [1, 2]", "list = [1, 3]"))
+            call(folder)
+            text = page_of(folder)
+            assert linked(text) == [] and OTHER in text
+            draw(folder, "times", "cost")
+            text = page_of(folder)
+            assert linked(text) == ["times", "cost"]
+            assert "Plots that are not there or are of other tables: right, network, cdf. `tools/study plot" in text
+            (folder / "study.toml").write_text(STUDY)
+            call(folder)
+            assert linked(page_of(folder)) == ["right", "network", "cdf"]
+
+    def test_a_file_that_is_gone(self) -> None:
+        """A plot needs both of its files."""
+        with study_folder() as folder:
+            call(folder)
+            draw(folder, *PLOTS)
+            (folder / "study" / "right.svg").unlink()
+            assert linked(page_of(folder)) == ["times", "cost", "network", "cdf"]
+
+    def test_plots_of_an_older_tool(self) -> None:
+        """Without plots.json those count that are no older than runs.csv."""
+        with study_folder() as folder:
+            call(folder)
+            put_plots(folder, *PLOTS)
+            assert linked(page_of(folder)) == list(PLOTS)
+            time = (folder / "study" / "runs.csv").stat().st_mtime - 60
+            os.utime(folder / "study" / "times.png", (time, time))
+            assert linked(page_of(folder)) == list(PLOTS)[1:]
+            (folder / "study" / NAME).write_text("[]")
+            assert linked(page_of(folder)) == list(PLOTS)[1:]
+
+    def test_study_that_is_not_done(self) -> None:
+        """Plots of fewer runs of the same study are linked, and the page says of how many; not once it is done."""
+        with study_folder() as folder:
+            (folder / "fail").write_text("list = 2")
+            call(folder)
+            draw(folder, *PLOTS)
+            assert "The plots were drawn of" not in page_of(folder)
+            (folder / "fail").write_text("seed = 2")
+            (folder / "study" / "done" / "list=1,seed=2.json").unlink()
+            call(folder)
+            text = page_of(folder)
+            assert "**1 of 4 runs: the study is not done.**" in text and "The plots were drawn of 2 of 4 runs." in text
+            assert linked(text) == list(PLOTS)
+            (folder / "fail").write_text("nothing")
+            call(folder)
+            assert linked(page_of(folder)) == [] and OTHER in page_of(folder)
+
+    def test_plot_command(self) -> None:
+        """It notes the plots that it draws, and leaves those of a column out of the page."""
+        python = python_with_packages()
+        with study_folder() as folder:
+            call(folder)
+            assert plot(python, folder) == (0, "")
+            assert linked(page_of(folder)) == list(PLOTS)
+            before = (folder / "study" / NAME).read_bytes()
+            assert set(json.loads(before)) == set(PLOTS)
+            assert plot(python, folder) == (0, "") and (folder / "study" / NAME).read_bytes() == before
+            assert plot(python, folder, "--y", "us-p99") == (0, "")
+            assert set(json.loads((folder / "study" / NAME).read_bytes())) == {*PLOTS, "us-p99"}
+            assert linked(page_of(folder)) == list(PLOTS)
+
+    def test_examples(self) -> None:
+        """Their plots are of their tables."""
+        for name in ("study", "loss", "retries"):
+            folder = TOP / "examples" / name
+            drawn = tables_of(folder)
+            origins = json.loads((folder / NAME).read_text())
+            wanted = origin_of(drawn.tables.manifest, "")
+            assert [origins[plot]["tables"] for plot in PLOTS] == [wanted.tables] * len(PLOTS)
+            assert linked((folder / "report.md").read_text()) == list(PLOTS)
