@@ -49,3 +49,8 @@ has_changed_since() {
 is_of_sources() {
     [ -x "$1/chordsim" ] && [ "$(cat "$1/chordsim.sources" 2> /dev/null)" = "$2" ]
 }
+
+# Whether the program that the repository keeps can be run, and has the digest that is kept beside it.
+is_release_whole() {
+    [ -x "$release/chordsim" ] && (cd "$release" && sha256sum --check --status chordsim.sha256 2> /dev/null)
+}

@@ -6,6 +6,7 @@ import subprocess
 import tempfile
 import time
 import unittest
+from collections.abc import Callable
 from pathlib import Path
 
 TOP = Path(__file__).resolve().parents[2]
@@ -116,12 +117,70 @@ class Launcher(unittest.TestCase):
         self.change("low", "lib.rt", "second\n")
         stale = self.start("chordsim", "ids")
         self.assertEqual((stale.returncode, stale.stdout), (125, ""))
+        self.assertIn("the sources have changed since", stale.stderr)
         self.assertIn("no rt", stale.stderr)
         for asked in (["--help"], ["run", "--help"], ["--version"], ["help", "run"]):
             with self.subTest(asked=asked):
                 text = f"built of first: {' '.join(asked)}\n"
                 self.assertEqual(self.start("chordsim", *asked).stdout, text)
         self.assertEqual(self.builds(), 1)
+
+    def test_damaged_release(self) -> None:
+        """A release that is empty, cut, longer, not executable, missing or without a digest is never started.
+
+        The line names the remedy. A program of these sources that was built here is started in its place."""
+        self.start("tools/renew_release")
+        self.without_rt()
+        release = self.top / "release" / "x86_64-linux"
+        kept = self.folder / "kept"
+        shutil.copytree(release, kept)
+        program, built = release / "chordsim", self.top / "out"
+        whole = program.read_bytes()
+        damages: dict[str, Callable[[], object]] = {
+            "empty": lambda: program.write_bytes(b""),
+            "cut": lambda: program.write_bytes(whole[:-1]),
+            "longer": lambda: program.write_bytes(whole + b"#"),
+            "not executable": lambda: program.chmod(0o644),
+            "missing": program.unlink,
+            "without a digest": (release / "chordsim.sha256").unlink,
+            "with an empty digest": lambda: (release / "chordsim.sha256").write_bytes(b""),
+            "without its folder": lambda: shutil.rmtree(release),
+        }
+        for name, damage in damages.items():
+            shutil.rmtree(release, ignore_errors=True)
+            shutil.copytree(kept, release)
+            damage()
+            with self.subTest(name):
+                self.assertEqual(self.start("chordsim", "ids").stdout, "built of first: ids\n")
+                self.assertEqual(self.start("chordsim", "--where").stdout, f"{built / 'chordsim'}\n")
+                built.rename(self.folder / "away")
+                for arguments in (["ids"], ["--help"], ["--where"], ["--build"]):
+                    refused = self.start("chordsim", *arguments)
+                    self.assertEqual((refused.returncode, refused.stdout), (125, ""), arguments)
+                    first = refused.stderr.splitlines()[0]
+                    remedy = f"run git checkout -- release in {self.top}"
+                    self.assertEqual(first, f"chordsim: the release in {release} is missing or damaged: {remedy}")
+                (self.folder / "away").rename(built)
+        self.assertEqual(self.builds(), 1)
+
+    def test_damaged_release_is_not_built_unasked(self) -> None:
+        """If there is rt, a start of a damaged release names the remedies, --build builds, and renew_release mends it."""
+        self.start("tools/renew_release")
+        shutil.rmtree(self.top / "out")
+        program = self.top / "release" / "x86_64-linux" / "chordsim"
+        program.write_bytes(b"")
+        refused = self.start("chordsim", "ids")
+        self.assertEqual((refused.returncode, refused.stdout), (125, ""))
+        self.assertIn("is missing or damaged: run git checkout -- release", refused.stderr)
+        self.assertIn("./chordsim --build", refused.stderr)
+        self.assertEqual(self.builds(), 1)
+        self.assertEqual(self.start("chordsim", "--build").returncode, 0)
+        self.assertEqual(self.start("chordsim", "ids").stdout, "built of first: ids\n")
+        self.assertEqual(self.start("tools/check_release").returncode, 1)
+        self.assertEqual(self.start("tools/renew_release").returncode, 0)
+        self.assertEqual(self.start("tools/check_release").returncode, 0)
+        self.assertEqual(self.start("chordsim", "--where").stdout, f"{program}\n")
+        self.assertEqual(self.builds(), 2)
 
     def test_stale_release(self) -> None:
         """Where there is rt, sources that differ from the release's are built."""
