@@ -2,7 +2,9 @@
 
 import argparse
 import errno
+import io
 import os
+import re
 import sys
 import time
 from collections.abc import Callable
@@ -36,6 +38,7 @@ class Refused(Failure):
 
 def run(prog: str, work: Callable[[], int | None], interrupted: str = "interrupted") -> int:
     """Does a command's work. Returns its status, else prints one line to standard error and returns 1, 2, 3 or 130."""
+    buffer_output()
     try:
         return work() or 0
     except Failure as fault:
@@ -69,8 +72,17 @@ def say(text: str) -> None:
         close_quietly(2)
 
 
+def buffer_output() -> None:
+    """Gives standard output a buffer, which writes all of a text or fails.
+
+    If PYTHONUNBUFFERED is set it has none, and Python forgets what a write to a full disk left over."""
+    out = sys.stdout
+    if isinstance(out, io.TextIOWrapper) and isinstance(out.buffer, io.RawIOBase):
+        sys.stdout = open(out.fileno(), "w", encoding=out.encoding, errors=out.errors, closefd=False)
+
+
 def write_out(text: str) -> None:
-    """Writes a whole text to standard output."""
+    """Writes a whole text to standard output, and what is in its buffer."""
     if sys.stdout is None:
         raise OSError(errno.EBADF, os.strerror(errno.EBADF))
     try:
@@ -106,6 +118,8 @@ class Parser(argparse.ArgumentParser):
         """A parser whose help keeps its own line breaks."""
         style = argparse.RawDescriptionHelpFormatter
         super().__init__(prog, description=description, epilog=epilog, formatter_class=style, allow_abbrev=not strict)
+        # A value such as -5s is one that its option refuses, and no option.
+        self._negative_number_matcher = re.compile("-[0-9]")
         if strict:
             self.register("action", None, Once)
 

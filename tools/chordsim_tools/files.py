@@ -2,6 +2,7 @@
 
 import hashlib
 import os
+from collections.abc import Iterable
 from pathlib import Path
 
 from chordsim_tools.cli import Failure, Refused, write_out
@@ -60,6 +61,23 @@ def replace(target: Path, data: bytes) -> None:
     except BaseException:
         part.unlink(missing_ok=True)
         raise
+
+
+def check_output(option: str, written: str | None, read: Iterable[str | None]) -> None:
+    """Refuses an option that names a file to write, if that is one that is read. Devices and pipes may be both."""
+    if written is None or not os.path.isfile(written):
+        return
+    for name in read:
+        if name is not None and os.path.exists(name) and os.path.samefile(name, written):
+            raise Failure(2, f"{option}: {written} is a file that is read")
+
+
+def check_apart(option: str, written: str | None, other: str, first: str | None) -> None:
+    """Refuses an option that names a file to write, if another option names it too."""
+    if written is None or first is None or is_stream(written):
+        return
+    if os.path.realpath(written) == os.path.realpath(first):
+        raise Failure(2, f"{option}: {written} is the file of {other}")
 
 
 def make_folder(path: Path) -> None:

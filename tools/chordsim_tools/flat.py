@@ -3,7 +3,7 @@
 from collections.abc import Iterator
 
 from chordsim_tools.cli import Parser, run
-from chordsim_tools.files import put, read_input
+from chordsim_tools.files import check_output, put, read_input
 from chordsim_tools.known import known
 from chordsim_tools.scenario.reading import Command, Scenario, read_scenario
 from chordsim_tools.scenario.tables import GREATEST_SIZE
@@ -84,6 +84,7 @@ def action_of(command: Command) -> list[int | str]:
 
 def write(scenario: str, latency: str | None, file: str | None) -> None:
     """Writes the flat form of the two files."""
+    check_output("-o", file, (scenario, latency))
     rows = b"" if latency is None else read_input(latency, GREATEST_SIZE, reasons=False)
     put(flat_form(read_scenario(read_input(scenario, GREATEST_SIZE, reasons=False), rows)), file)
 

@@ -6,7 +6,7 @@ from dataclasses import dataclass
 from typing import Generic, NoReturn, TypeVar
 
 from chordsim_tools.cli import Parser
-from chordsim_tools.quantities import time_of, time_text, whole_of
+from chordsim_tools.quantities import UNIT_NAMES, integer_of, time_of, time_text, whole_of
 
 T = TypeVar("T")
 GREATEST_SEED = 2**63 - 1
@@ -40,17 +40,18 @@ def whole(least: int, greatest: int) -> Callable[[str], Given[int]]:
 
 def a_whole() -> Callable[[str], Given[int]]:
     """A number whose range depends on other options, so that `Options.whole` looks at it."""
-    return value(whole_of, "a whole number")
+    return value(integer_of, "a whole number")
 
 
 def duration(least: int, greatest: int) -> Callable[[str], Given[int]]:
     """A time in a range, in microseconds."""
-    return value(within(time_of, least, greatest), f"a time of {time_text(least)} to {time_text(greatest)}")
+    wanted = f"a time of {time_text(least)} to {time_text(greatest)} ({UNIT_NAMES})"
+    return value(within(time_of, least, greatest), wanted)
 
 
 def a_time() -> Callable[[str], Given[int]]:
     """A time whose range depends on other options, so that `Options.time` looks at it."""
-    return value(time_of, "a time")
+    return value(time_of, f"a time ({UNIT_NAMES})")
 
 
 def choice(*choices: str) -> Callable[[str], Given[str]]:

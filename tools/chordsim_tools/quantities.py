@@ -5,12 +5,18 @@ from decimal import Decimal
 
 UNITS = {"us": 1, "ms": 1000, "s": 1_000_000, "m": 60_000_000}
 """The units of times, in microseconds."""
+UNIT_NAMES = "us, ms, s or m"
 BILLION = 1_000_000_000
 
 
 def whole_of(text: str) -> int | None:
     """A whole number of at most 19 decimal digits, or nothing."""
     return int(text) if re.fullmatch(r"[0-9]{1,19}", text) else None
+
+
+def integer_of(text: str) -> int | None:
+    """A whole number, which may be negative or of thousands of digits, or nothing."""
+    return int(text) if re.fullmatch(r"-?[0-9]{1,4000}", text) else None
 
 
 def decimal_of(text: str) -> Decimal | None:

@@ -127,6 +127,7 @@ class OtherTrapsTest(TestCase):
             ("--lifetime exp:600", "--lifetime exp:600: 600 without a unit"),
             ("--churn-uniform 30..90s 5s..15s", "--churn-uniform 30..90s 5s..15s: 30 without"),
             ("--latency 60 --timeout 1s", "--latency 60: 60 without a unit"),
+            ("--spread 1 --profile 2", "--spread 1: 1 without a unit is 1 microsecond; write 1ms, 1s or 1m, or 1us"),
             ("--timeout 39ms", "timeout_us = 39000 (39ms) is below the greatest round trip, 40000 (40ms)"),
             ("--profile 2 --spread 81ms", "timeout_us = 200000 (200ms) is below the greatest round trip, 202000"),
             ("--profile 3 --spread 81ms --retries 1", "timeout_us = 200000 (200ms) is below the greatest round trip,"),
@@ -153,13 +154,26 @@ class OtherTrapsTest(TestCase):
             assert status == 0 and "warning" not in err
             assert "warning" not in ended(latency, *words[:3], "--nodes", "3", "--unit", "ms")[2]
 
+    def test_bare_times_of_latency(self) -> None:
+        """Short numbers without a unit, by rows and by coordinates."""
+        plane = "--plane 60: 60 without a unit is 60 microseconds; write 60ms, 60s or 60m, or 60us for this"
+        floor = "--floor 5: 5 without a unit is 5 microseconds; write 5ms, 5s or 5m, or 5us for this"
+        cases: tuple[tuple[str, list[str]], ...] = (
+            ("--plane 60", [plane]), ("--plane 999us --floor 5", [floor]), ("--plane 60 --floor 5", [plane, floor]),
+            ("--king --floor 5", [floor]), ("--plane 1000 --floor 5us", []),
+        )
+        for words, wanted in cases:
+            with self.subTest(words=words):
+                status, _, err = ended(latency, *words.split(), "--nodes", "3")
+                assert (status, err.splitlines()[1:]) == (0, [f"warning: {one}" for one in wanted])
+
     def test_study(self) -> None:
         """Each kind once, with the first setting and how many more have it; the study is run."""
         with study_folder(STUDY.replace("list = [1, 2]", "timeout_us = [30000, 39999, 40000]")) as folder:
             status, line = call(folder)
             assert status == 0 and line.startswith("warning: timeout_us=30"), line
             assert "seed=1: timeout_us = 30000 (30ms) is below the greatest round trip, 40000" in line
-            assert line.endswith("(and in 1 more settings)")
+            assert line.endswith("(and in 1 more setting)")
             assert (folder / "study" / "manifest.json").exists()
             assert call(folder) == (0, "")
 
@@ -177,7 +191,7 @@ class OtherTrapsTest(TestCase):
             assert status == 0 and line == (
                 "warning: stabilize_us=24ms, seed=1: max_events = 11000, and the run is likely to need about 12,000 "
                 "(tried: its first 3s have 1000 and its first 6s 3000, and so on): it would end with "
-                "`3 TooManyEvents`, without a report (and in 1 more settings)"
+                "`3 TooManyEvents`, without a report (and in 1 more setting)"
             )
         with study_folder(STUDY.replace("list = [1, 2]", "stabilize_us = [250000, 25000, 24000]")) as folder:
             (folder / "base.toml").write_text(base.replace("max_events = 11000", "max_events = 12400"))

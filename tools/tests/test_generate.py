@@ -19,6 +19,14 @@ from tests.support.programs import checked, ended, program
 TOOL = Path(__file__).resolve().parents[1] / "generate"
 REFUSED = [
     ("--nodes 1", "--nodes: 2 to 512"),
+    ("--nodes -5", "--nodes: 2 to 512 (at most 512 in profile 1, and 2^32, by --bits), not '-5'"),
+    ("--nodes 99999999999999999999", "--nodes: 2 to 512 (at most 512 in profile 1, and 2^32, by --bits), not '999999"),
+    ("--bits -1", "--bits: 3 to 64 (in profile 1), not '-1'"),
+    ("--nodes many", "--nodes: a whole number, not 'many'"),
+    ("--duration 5h", "--duration: a time of 1us to 1000000s (us, ms, s or m), not '5h'"),
+    ("--duration -5s", "--duration: a time of 1us to 1000000s (us, ms, s or m), not '-5s'"),
+    ("--window 1h", "--window: a time (us, ms, s or m), not '1h'"),
+    ("--lookup-gap -1s..2s", "--lookup-gap: none or MIN..MAX, each 1us to 1000s, not '-1s..2s'"),
     ("--nodes 513 --bits 64", "--nodes: 2 to 512"),
     ("--bits 3 --nodes 9", "--nodes: 2 to 8"),
     ("--bits 2", "--bits: 3 to 64"),
@@ -389,6 +397,20 @@ class GenerateTest(TestCase):
             (Path(folder) / "x.toml").mkdir()
             assert ended(main, "-o", f"{folder}/x.toml")[0] == 3
             assert list(Path(folder).iterdir()) == [Path(folder) / "x.toml"]
+
+    def test_files_that_are_read_or_written_twice(self) -> None:
+        """The file of coordinates is not written over, and the two files of a random scenario are two: status 2."""
+        with tempfile.TemporaryDirectory() as folder:
+            places, x = Path(folder) / "p.csv", f"{folder}/x"
+            places.write_text("n0,0,0,1000\nn1,5,0,1000\n")
+            words = ["--profile", "3", "--nodes", "2", "--coordinates", f"file:{places}", "-o", str(places)]
+            line = f"tools/generate: -o: {places} is a file that is read (see tools/generate --help)\n"
+            assert ended(main, *words) == (2, "", line)
+            assert places.read_text() == "n0,0,0,1000\nn1,5,0,1000\n"
+            line = f"tools/generate: --links: {folder}/./x is the file of -o (see tools/generate --help)\n"
+            assert ended(main, "--random", "3", "--links", f"{folder}/./x", "-o", x) == (2, "", line)
+            assert list(Path(folder).iterdir()) == [places]
+            assert ended(main, "--random", "3", "--links", "/dev/null", "-o", "/dev/null") == (0, "", "")
 
     def test_disk_that_fills_up(self) -> None:
         """Only 512 or 1024 bytes fit in a file: status 3, and of the part that was written nothing is left."""

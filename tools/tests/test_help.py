@@ -92,6 +92,13 @@ class Help(unittest.TestCase):
                 self.assertEqual(set(self.completed(command, "--")), options_of(command))
         for option in CHOICES:
             self.assertEqual(self.completed("run", option, ""), values_of(option))
+            self.assertEqual(self.completed("run", option, "="), values_of(option))
+            first = values_of(option)[0]
+            self.assertEqual(self.completed("run", option, "=", first[:1]), [first])
+            self.assertEqual(set(self.completed("run", option, "=", first, "--")), options_of("run"))
+        for option in ("--scenario", "--latency", "--trace"):
+            for words in ((option, f"{TOP}/docs/rul"), (option, "=", f"{TOP}/docs/rul")):
+                self.assertEqual(self.completed("run", *words), [f"{TOP}/docs/rules.md"])
         self.assertEqual(self.completed("run", "--sp"), ["--split"])
 
     def test_zsh(self) -> None:

@@ -152,7 +152,8 @@ class LatencyTest(TestCase):
             ("1 2\n3\n", "matrix", "FILE: line 2: 1 values, where the first row has 2"),
             ("1 2 3\n1 2 3\n", "matrix", "FILE: no square matrix: 3 values a row, and not as many rows"),
             ("1 2\n1 2\n1 2\n", "matrix", "FILE: no square matrix: 2 values a row, and not as many rows"),
-            ("", "matrix", "FILE: no square matrix: 0 values a row, and not as many rows"),
+            ("", "matrix", "FILE: there is no round trip"),
+            ("# none\n\n", "lines", "FILE: there is no round trip"),
             ("1 x\n1 2\n", "matrix", "FILE: line 1: 'x' is no number"),
             ("1 nan\n1 2\n", "matrix", "FILE: line 1: 'nan' is no number"),
             ("1 2\n-2 2\n", "matrix", "FILE: line 2: -2 is no round trip of at most 2000 seconds, and no gap"),
@@ -167,17 +168,33 @@ class LatencyTest(TestCase):
                 assert written(text, "--form", form, "--nodes", "3") == (1, "", f"refused: {reason}\n")
         assert ended(main, "/nowhere/x") == (1, "", "refused: cannot read /nowhere/x\n")
 
+    def test_hosts_that_are_taken(self) -> None:
+        """Without --nodes 64 of more hosts are taken, and it says so; fewer hosts are refused with the remedy."""
+        for hosts, words, told in (
+            (65, (), "hosts 64 of 65 (give --nodes for more), gaps filled 0, "), (64, (), "hosts 64, gaps filled 0, "),
+            (65, ("--nodes", "64"), "hosts 64, gaps filled 0, "),
+            (65, ("--names", str(EXAMPLES / "ring.toml")), "hosts 3, gaps filled 0, "),
+        ):
+            with self.subTest(hosts=hosts, words=words):
+                status, _, err = written(f"{'1 ' * hosts}\n" * hosts, "--unit", "ms", *words)
+                assert status == 0 and err.startswith(told), err
+        assert written(MATRIX) == (1, "", "refused: FILE: 4 hosts, fewer than the 64 nodes: give --nodes 4\n")
+        assert "give --nodes" not in written("7\n")[2]
+
     def test_refused_words(self) -> None:
         """One line that names the option and its range; status 2."""
         for words, text in [
-            ("", "--plane: one of this, --fit, --king and a file MEASURED"),
-            ("king --plane 1s", "--plane: one of this, --fit, --king and a file MEASURED"),
-            ("--king --plane 1s", "--plane: one of this, --fit, --king and a file MEASURED"),
-            ("--king --fit rows", "--plane: one of this, --fit, --king and a file MEASURED"),
+            ("", "give exactly one of MEASURED, --plane, --fit and --king"),
+            ("king --plane 1s", "give exactly one of MEASURED, --plane, --fit and --king"),
+            ("--king --plane 1s", "give exactly one of MEASURED, --plane, --fit and --king"),
+            ("--king --fit rows", "give exactly one of MEASURED, --plane, --fit and --king"),
             ("king --floor 1ms", "--floor: only with --plane, --fit or --king"),
             ("--fit rows --nodes 3", "--nodes: only with a file MEASURED, --plane or --king"),
             ("--king --unit ms", "--unit: only with a file MEASURED"),
             ("--king --nodes 65537", "--nodes: 2 to 65536"),
+            ("--king --nodes -5", "--nodes: 2 to 65536, not '-5'"),
+            (f"--king --nodes 5 --names {EXAMPLES}/ring.toml", "--nodes: 3, as --names has, not '5'"),
+            ("--plane 1h", "--plane: a time of 1us to 600s (us, ms, s or m), not '1h'"),
             ("--plane 1s --gaps fill", "--gaps: only with a file MEASURED"),
             ("--plane 0", "--plane: a time of 1us to 600s"),
             ("--plane 601s", "--plane: a time of 1us to 600s"),
@@ -216,6 +233,39 @@ class LatencyTest(TestCase):
                 assert ended(main, name, "--nodes", "4", "-o", str(kept))[0] == 0
             assert kept.read_text() == ROWS
             assert list(Path(folder).iterdir()) == [kept]
+
+    def test_files_that_are_read(self) -> None:
+        """None of them is written over, by another path or a link either; status 2, and each is as it was."""
+        with tempfile.TemporaryDirectory() as name:
+            folder = Path(name)
+            texts = {"m3": "0 1 2\n1 0 3\n2 3 0\n", "ring.toml": (EXAMPLES / "ring.toml").read_text(), "rows": ROWS}
+            for file, text in texts.items():
+                (folder / file).write_text(text)
+            (folder / "link").symlink_to("ring.toml")
+            for words, target in (
+                (("m3", "--nodes", "3"), "m3"), (("m3", "--names", "ring.toml"), "link"),
+                (("--plane", "60ms", "--names", "ring.toml"), "../" + folder.name + "/ring.toml"),
+                (("--king", "--names", "link"), "ring.toml"), (("--fit", "rows"), "rows"),
+            ):
+                with self.subTest(words=words):
+                    files = [str(folder / word) if (folder / word).exists() else word for word in words]
+                    status, out, err = ended(main, *files, "-o", str(folder / target))
+                    line = f"tools/latency: -o: {folder / target} is a file that is read (see tools/latency --help)\n"
+                    assert (status, out, err) == (2, "", line)
+            assert {file: (folder / file).read_text() for file in texts} == texts
+
+    def test_output_that_is_cut(self) -> None:
+        """Only 512 or 1024 bytes fit into standard output: status 3, whether Python buffers it or not."""
+        tool = Path(__file__).resolve().parents[1] / "latency"
+        for value in ("", "1"):
+            with self.subTest(PYTHONUNBUFFERED=value), tempfile.TemporaryDirectory() as folder:
+                line = f"ulimit -f 1; exec {tool} --plane 60ms --nodes 64 > {folder}/x.csv"
+                environment = os.environ | {"PYTHONUNBUFFERED": value}
+                done = subprocess.run(
+                    ["sh", "-c", line], env=environment, stderr=subprocess.PIPE, text=True, check=False
+                )
+                assert (done.returncode, done.stderr) == (3, "failed: standard output: File too large\n")
+                assert (Path(folder) / "x.csv").stat().st_size <= 1024
 
     def test_program_accepts(self) -> None:
         """The rows are accepted with the greatest window that the tool says, and not with one more."""

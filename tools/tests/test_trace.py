@@ -8,7 +8,7 @@ from unittest import TestCase
 from chordsim_tools.cli import Refused
 from chordsim_tools.scenario.reading import read_scenario
 from chordsim_tools.trace.reading import Run, read_report, read_run
-from chordsim_tools.trace.summary import summary
+from chordsim_tools.trace.summary import doubts, summary
 from chordsim_tools.trace.tables import node_rows, step_rows
 from chordsim_tools.trace.text import summary_text
 
@@ -218,9 +218,44 @@ class Nodes(TestCase):
             audit(500, 3), "600 b crash", audit(700, 2, "dead=1 ring=1 ordered=yes"), "700 a crash",
             audit(1000, 1, "dead=1 ring=0 ordered=yes"),
         )["audits"]
-        self.assertEqual([audits[word] for word in ("all", "whole", "torn", "lost")], [3, 1, 2, 1])
+        self.assertEqual([audits[word] for word in ("all", "whole", "partial", "torn", "lost")], [3, 1, 0, 2, 1])
         self.assertEqual((audits["first_torn"]["at_us"], audits["first_torn"]["members"]), (700, ["a", "c"]))
         self.assertEqual((audits["first_lost"]["at_us"], audits["first_lost"]["members"]), (1000, ["c"]))
+
+    def test_audits_add_up(self) -> None:
+        """Of four rings one is whole, one lacks a member, one is out of order and one is lost, which is torn too."""
+        facts = facts_of(
+            audit(100, 3), audit(200, 3, "dead=0 ring=2 ordered=yes"), audit(300, 3, "dead=0 ring=3 ordered=no"),
+            audit(1000, 3, "dead=0 ring=0 ordered=yes"),
+        )
+        audits = facts["audits"]
+        self.assertEqual([audits[word] for word in ("whole", "partial", "torn", "lost")], [1, 1, 2, 1])
+        told = "\n".join(summary_text(facts))
+        self.assertIn("""
+audits                  4
+  ring whole            1 (25.00 %)
+  not all on it         1 (25.00 %); the ring skips a member, such as one that has just joined
+  ring torn             2 (50.00 %)
+    ring lost           1 (25.00 %)
+""", told)
+
+    def test_doubts(self) -> None:
+        """Key 15 is b's. Of twenty answers eleven name c, and two of three audits find a ring in order."""
+        def answer(time: int, owner: str) -> list[str]:
+            """A lookup that ends at once."""
+            return [f"{time} a lookup 15", f"{time} a found 15 {owner} hops=0 timeouts=0 us=0"]
+
+        audits = (audit(100, 3), audit(200, 3), audit(300, 3, "dead=0 ring=3 ordered=no"))
+        for right, wrong, there, doubted in ((9, 11, audits, 1), (10, 10, audits, 0), (8, 11, audits, 0),
+                                             (9, 11, audits[1:], 0), (0, 20, audits[2:], 0)):
+            with self.subTest(right=right, wrong=wrong, audits=len(there)):
+                owners = ["b"] * right + ["c"] * wrong
+                lines = [line for at, owner in enumerate(owners) for line in answer(at, owner)]
+                self.assertEqual(len(doubts(run_of(*lines, *there))), doubted)
+        self.assertEqual(doubts(run_of(*(line for at in range(20) for line in answer(at, "c")), audits[0])), [
+            "100.00 % of the audits find a ring in order, and 100.00 % of the answers are wrong: "
+            "are trace and scenario of one run?"
+        ])
 
     def test_steps(self) -> None:
         """A step has its first instant; members are those at its end."""
@@ -270,16 +305,24 @@ class Files(TestCase):
         self.assertRaises(Refused, run_of_text, whole + "audits 3\n")
         with tempfile.TemporaryDirectory() as folder:
             report = Path(folder) / "report"
-            for text in ("lookups 1\n", "lookups many\n"):
+            for text in ("lookups 1\n", "lookups many\n", ""):
                 report.write_text(text)
                 self.assertRaises(Refused, read_report, str(report), run_of_text(whole))
+        with self.assertRaises(Refused) as caught:
+            run_of_text(whole + "events 7\n8 a crash\n")
+        self.assertIn("(a line of the report has WORD NUMBER)", caught.exception.text)
 
     def test_lines_that_do_not_fit(self) -> None:
         """Each is refused, and named by its number."""
         for line, word in (
-            ("x", "no line"), ("10 e crash", "unknown"), ("10 a found 5 a hops=1 timeouts=0 us=20", "begins"),
+            ("x", "(a line has TIME NAME WORD)"), ("10 e crash", "(no node e)"), ("10", "(a line has TIME NAME WORD)"),
+            ("10 a timeout e", "(no node e)"), ("10 a drop song b", "(no line drop song)"),
+            ("10 a found", "(it has too few words)"), ("10 audit b", "(it is no audit line)"),
+            ("10 audit members=3", "(it is no audit line)"), ("profile = 1", "(a line has TIME NAME WORD)"),
+            ("10 a found 5 a hops=1 timeouts=0 us=20", "begins"),
             ("10 d member a", "down"), ("10 a join b", "not down"), (audit(10, 4), "leave 3 members"),
-            ("4 a crash", "below"), ("10 a crash now", "3 words"), ("10 a", "index"), ("10 a sings", "unknown"),
+            ("4 a crash", "below"), ("10 a crash now", "3 words"), ("10 a", "(a line has TIME NAME WORD)"),
+            ("10 a sings", "(no line sings)"),
             ("1O a crash", "number"), ("10 a audit b", "more words"), ("10 a lookup 5 b", "4 words"),
             ("10 a lookup 64", "not below 64"), ("10 a busy 64", "not below 64"),
             ("30 a found 5 a is hops=1 timeouts=0 us=25", "other words"),

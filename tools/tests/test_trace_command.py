@@ -158,12 +158,15 @@ class Commands(TestCase):
     def test_statuses(self) -> None:
         """1 for files, 2 for arguments, one line each."""
         trace, scenario = str(self.folder / "a.trace"), str(self.folder / "a.toml")
+        long = self.write("long.toml", SCENARIO.replace("duration_us = 1000", "duration_us = 1000000"))
+        self.write("a.trace", "".join(line + "\n" for line in [*LINES, audit(1_000_000, 3)]))
         for arguments, status, word in (
             (["none", scenario], 1, "refused: cannot read none: No such file"),
             ([trace, "none"], 1, "refused: cannot read none"),
             ([scenario, scenario], 1, "line 1 is no line of a trace"),
             ([trace, trace], 1, "refused: S1 NotToml"),
             ([trace, scenario, "--report", scenario], 1, "is no line of a report"),
+            ([trace, scenario, "--report", self.write("empty", "")], 1, f"refused: {self.folder}/empty has no report"),
             ([trace], 2, "SCENARIO"),
             ([trace, scenario, "--node", "x"], 2, "no node 'x'"),
             ([trace, scenario, "--lookup", "4"], 2, "not from 1 to 3"),
@@ -173,6 +176,8 @@ class Commands(TestCase):
             ([trace, scenario, "--removed", "a"], 2, "has no `detail = true`"),
             ([trace, scenario, "--join", "a"], 2, "a never joins"),
             ([trace, scenario, "--over-time", "0s"], 2, "no time above 0"),
+            ([trace, long, "--over-time", "5"], 2, "--over-time: 200000 steps of 5us; 100000 at most"),
+            ([trace, scenario, "--over-time", "-5s"], 2, "--over-time: '-5s' is no time above 0"),
             ([trace, scenario, "--worst", "0"], 2, "no integer from 1 up"),
             ([trace, scenario, "--html", trace], 2, "is a file that is read"),
             ([trace, scenario, "--html", f"{self.folder}/../{self.folder.name}/a.toml"], 2, "is a file that is read"),
@@ -181,6 +186,15 @@ class Commands(TestCase):
                 ended_with, told = self.refused(*arguments)
                 self.assertEqual(ended_with, status)
                 self.assertIn(word, told)
+
+    def test_trace_of_another_run(self) -> None:
+        """A trace whose answers are wrong by the scenario: the numbers are there, with a warning and status 0."""
+        lines = [f"{at} a lookup 15\n{at} a found 15 c hops=0 timeouts=0 us=0\n" for at in range(20)]
+        trace = self.write("a.trace", "".join(lines) + audit(1000, 3) + "\n")
+        status, out, err = ended(main, trace, str(self.folder / "a.toml"))
+        self.assertEqual((status, err.count("\n")), (0, 1))
+        self.assertTrue(err.startswith("warning: ") and err.endswith(": are trace and scenario of one run?\n"), err)
+        self.assertIn("wrong, strict         20 (100.00 %)", out)
 
     def test_wording(self) -> None:
         """Times with all digits; shares that are neither none nor all are never 0 or 100."""

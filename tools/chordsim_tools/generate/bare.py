@@ -1,6 +1,7 @@
 """Numbers without a unit where a time is asked for: they are microseconds, which is hardly meant."""
 
 from argparse import Namespace
+from collections.abc import Mapping
 
 from chordsim_tools.options import Given
 
@@ -13,18 +14,20 @@ LIMITS = {
     **dict.fromkeys(("lookup-gap", "timeout", "join-pause", "check"), LONG),
     **dict.fromkeys(("window", "latency", "jitter", "spread", "coordinates"), SHORT),
 }
+"""The options of tools/generate that are times, or have times in them."""
 
 
-def bare_traps(args: Namespace) -> list[str]:
-    """A line for each option with such a number."""
+def bare_traps(args: Namespace, limits: Mapping[str, int]) -> list[str]:
+    """A line for each of these options that has such a number below its limit."""
     traps = []
-    for name, limit in LIMITS.items():
+    for name, limit in limits.items():
         given: Given[object] | list[Given[object]] | None = getattr(args, name.replace("-", "_"))
         texts = [one.text for one in (given if isinstance(given, list) else [given] if given is not None else [])]
         bare = next((number for text in texts for number in bare_numbers(text, limit)), None)
         if bare is not None:
             units = f"write {bare}ms, {bare}s or {bare}m, or {bare}us for this"
-            traps.append(f"--{name} {' '.join(texts)}: {bare} without a unit is {bare} microseconds; {units}")
+            told = f"{bare} microsecond{'' if int(bare) == 1 else 's'}"
+            traps.append(f"--{name} {' '.join(texts)}: {bare} without a unit is {told}; {units}")
     return traps
 
 

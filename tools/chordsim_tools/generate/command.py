@@ -5,8 +5,8 @@ from argparse import Namespace
 from chordsim_tools.cli import Failure, Parser, run
 from chordsim_tools.draws import distribution_of
 from chordsim_tools.explain.traps import duration_traps, timeout_trap, warn
-from chordsim_tools.files import put
-from chordsim_tools.generate.bare import bare_traps
+from chordsim_tools.files import check_output, check_apart, put
+from chordsim_tools.generate.bare import LIMITS, bare_traps
 from chordsim_tools.generate.commands import Streams, commands_of, initial_nodes, lives_of
 from chordsim_tools.generate.plan import (
     LENGTHS, LIVES, MOST_KEYS, RATES, Plan, check, gap_of, keys_wanted, law_of, length_span_of, rate_of,
@@ -14,7 +14,7 @@ from chordsim_tools.generate.plan import (
 from chordsim_tools.generate.random_scenario import scenario_files
 from chordsim_tools.generate.text import text_of
 from chordsim_tools.options import GREATEST_SEED, Given, Options, a_time, a_whole, choice, duration, value, whole
-from chordsim_tools.places import LAWS, law_of_places
+from chordsim_tools.places import LAWS, Law, PlacesFile, law_of_places
 from chordsim_tools.quantities import BILLION, span_of
 from chordsim_tools.scenario.coordinates import greatest_latency
 from chordsim_tools.scenario.tables import GREATEST_SIZE
@@ -105,7 +105,7 @@ OPTIONS = (
     ("finger", "TIME", LENGTH, "1us to 1000s (250ms)"),
     ("jitter", "TIME", duration(0, BILLION), "0us to 1000s (50ms)"),
     ("max-events", "N", a_whole(), "1 to 50000000, in profile 3 to 100000000000 (50000000)"),
-    ("loss", "N", whole(0, 1_000_000), "profiles 2 and 3: messages lost of a million, 0 to 1000000 (0)"),
+    ("loss", "N", whole(0, 1_000_000), "profiles 2 and 3: messages lost per million, 0 to 1000000 (0)"),
     ("spread", "TIME", duration(0, BILLION),
      "profiles 2 and 3: up to this much is added to each latency, 0us to 1000s (0us)"),
     ("retries", "N", whole(0, 3),
@@ -188,6 +188,7 @@ def check_random(args: Namespace, parser: Parser) -> None:
 
 def write_random(seed: int, file: str | None, links: str | None) -> None:
     """Writes a random scenario, and its latency file if one is named."""
+    check_apart("--links", links, "-o", file)
     scenario, rows = scenario_files(seed)
     if links is not None:
         put(rows, links)
@@ -200,7 +201,14 @@ def write_planned(plan: Plan, args: Namespace) -> None:
     latency = greatest_latency(plan.places) if plan.places else plan.top["latency_us"]
     slowest = latency + plan.top.get("spread_us", 0)
     traps = timeout_trap(plan.top["timeout_us"], slowest, plan.top.get("retries", 0))
-    warn([*bare_traps(args), *traps, *duration_traps(plan.top)])
+    warn([*bare_traps(args, LIMITS), *traps, *duration_traps(plan.top)])
+
+
+def write_scenario(args: Namespace, parser: Parser) -> None:
+    """Writes the scenario that the arguments ask for."""
+    law: Law | None = Options(args, parser).get("coordinates", None)
+    check_output("-o", args.file, [law.name] if isinstance(law, PlacesFile) else [])
+    write_planned(check(args, parser), args)
 
 
 def main(arguments: list[str]) -> int:
@@ -210,4 +218,4 @@ def main(arguments: list[str]) -> int:
     check_random(args, parser)
     if args.random is not None:
         return run(PROG, lambda: write_random(args.random.value, args.file, args.links))
-    return run(PROG, lambda: write_planned(check(args, parser), args))
+    return run(PROG, lambda: write_scenario(args, parser))

@@ -10,7 +10,8 @@ from statistics import median_low
 from chordsim_tools.cli import Failure, Parser, Refused, run, say
 from chordsim_tools.draws import Draws
 from chordsim_tools.explain.traps import timeout_trap, warn
-from chordsim_tools.files import put, read_input
+from chordsim_tools.files import check_output, put, read_input
+from chordsim_tools.generate.bare import SHORT, bare_traps
 from chordsim_tools.latency.coordinates import Placed, placed_by_fit, placed_by_king
 from chordsim_tools.latency.measured import UNITS, Latencies, latencies_of, read_lines, read_matrix
 from chordsim_tools.options import GREATEST_SEED, Options, a_whole, choice, duration, whole
@@ -75,6 +76,8 @@ status: 0 the file is written; 1 a file is refused; 2 the arguments are wrong; 3
 interrupted. A file is whole or not there."""
 UNIT_LIMIT = 1000
 """A median latency below this many microseconds is hardly one of the Internet."""
+TIMES = {"plane": SHORT, "floor": SHORT}
+"""The options that are times, with the microseconds below which a number without a unit is hardly meant."""
 MOST_NODES = THIRD.greatest("node")
 """The most nodes of a scenario."""
 
@@ -106,7 +109,7 @@ def check(args: Namespace, parser: Parser) -> Options:
     """The options. If they do not fit together the parser ends with the first one that does not."""
     options = Options(args, parser)
     if [args.measured is not None, options.has("plane"), args.fit is not None, args.king].count(True) != 1:
-        options.refuse("plane", "one of this, --fit, --king and a file MEASURED")
+        parser.error("give exactly one of MEASURED, --plane, --fit and --king")
     options.only_with("floor", args.measured is None, "--plane, --fit or --king")
     options.only_with("nodes", args.fit is None, "a file MEASURED, --plane or --king")
     for name in ("form", "unit", "gaps"):
@@ -139,7 +142,7 @@ def nodes_of(options: Options) -> list[str]:
     if options.args.names is None:
         return [f"n{i}" for i in range(options.get("nodes", 64))]
     names = names_of(options.args.names)
-    options.whole("nodes", len(names), len(names), len(names), ", as many as --names has")
+    options.in_range("nodes", len(names), len(names), len(names), f"{len(names)}, as --names has")
     return names
 
 
@@ -162,8 +165,16 @@ def latencies(options: Options, count: int) -> Latencies:
     if measured is None:
         return plane(options.get("plane", 0), options.get("floor", 1000), count, draws)
     unit = UNITS[options.get("unit", "us")]
-    read = read_matrix if options.get("form", "matrix") == "matrix" else read_lines
-    return latencies_of(read(measured, unit), count, options.get("gaps", "fill") == "fill", draws)
+    trips = (read_matrix if options.get("form", "matrix") == "matrix" else read_lines)(measured, unit)
+    if is_count_open(options) and 2 <= len(trips.hosts) < count:
+        told = f"{len(trips.hosts)} hosts, fewer than the {count} nodes"
+        raise Refused(f"{measured}: {told}: give --nodes {len(trips.hosts)}")
+    return latencies_of(trips, count, options.get("gaps", "fill") == "fill", draws)
+
+
+def is_count_open(options: Options) -> bool:
+    """Whether no argument says how many nodes there are."""
+    return not options.has("nodes") and options.args.names is None
 
 
 def check_size(count: int, size: int) -> None:
@@ -180,11 +191,12 @@ def rows_text(names: list[str], result: Latencies) -> str:
     return text.getvalue()
 
 
-def facts(count: int, result: Latencies) -> str:
-    """What is said at the end."""
+def facts(count: int, result: Latencies, is_open: bool) -> str:
+    """What is said at the end. If no argument says how many nodes there are, also how many hosts there were."""
     times = [micros for _, _, micros in result.micros]
+    more = f" of {result.hosts} (give --nodes for more)" if is_open and result.hosts > count else ""
     return (
-        f"hosts {count}, gaps filled {result.filled}, least {min(times)} us, median {median_low(times)} us, "
+        f"hosts {count}{more}, gaps filled {result.filled}, least {min(times)} us, median {median_low(times)} us, "
         f"greatest {max(times)} us; window_us may be at most {min(times)}\n"
     )
 
@@ -203,12 +215,14 @@ def write_coordinates(options: Options) -> None:
     result = placed(options)
     put(places_text(result.names, result.places), options.args.file)
     say(result.facts())
-    warn(timeout_traps(options, greatest_latency(result.places)))
+    warn([*bare_traps(options.args, TIMES), *timeout_traps(options, greatest_latency(result.places))])
 
 
 def write(options: Options) -> None:
     """Writes the file that the arguments ask for."""
-    if options.args.king or options.args.fit is not None:
+    args = options.args
+    check_output("-o", args.file, (args.measured, args.names, args.fit))
+    if args.king or args.fit is not None:
         write_coordinates(options)
     else:
         write_rows(options)
@@ -223,14 +237,14 @@ def write_rows(options: Options) -> None:
     text = rows_text(names, result)
     check_size(len(names), len(text))
     put(text, options.args.file)
-    say(facts(len(names), result))
+    say(facts(len(names), result, is_count_open(options)))
     warn(traps(options, result))
 
 
 def traps(options: Options, result: Latencies) -> list[str]:
     """What is hardly meant: milliseconds that were read as microseconds, and a scenario with too short a timeout."""
     times = [micros for _, _, micros in result.micros]
-    found = []
+    found = bare_traps(options.args, TIMES)
     if options.args.measured is not None and not options.has("unit") and median_low(times) < UNIT_LIMIT:
         found.append(
             f"the median latency is {median_low(times)} us, below 1 ms: are the round trips in milliseconds "

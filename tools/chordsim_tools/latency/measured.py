@@ -78,8 +78,10 @@ def read_matrix(file: str, unit: int) -> RoundTrips:
             progress.one_more()
             if len(rows) > width:
                 break
-    if not rows or len(rows) != len(rows[0]):
-        raise Refused(f"{file}: no square matrix: {len(rows[0]) if rows else 0} values a row, and not as many rows")
+    if not rows:
+        raise Refused(f"{file}: there is no round trip")
+    if len(rows) != len(rows[0]):
+        raise Refused(f"{file}: no square matrix: {len(rows[0])} values a row, and not as many rows")
     return RoundTrips(file, [str(i + 1) for i in range(len(rows))], rows)
 
 
@@ -100,6 +102,8 @@ def read_lines(file: str, unit: int) -> RoundTrips:
         if pair in trips:
             raise Refused(f"{place}: the round trip from {pair[0]} to {pair[1]} stands there twice")
         trips[pair] = trips_of(values[2:], unit, place)[0]
+    if not trips:
+        raise Refused(f"{file}: there is no round trip")
     hosts = sorted({host for pair in trips for host in pair})
     check_hosts(file, len(hosts))
     places = {host: place for place, host in enumerate(hosts)}
@@ -133,10 +137,13 @@ def choose(gaps: list[int], count: int, draws: Draws) -> list[int]:
 
 @dataclass
 class Latencies:
-    """The latencies a, b, microseconds of all nodes a below b, in this order; and how many of them were filled in."""
+    """The latencies a, b, microseconds of all nodes a below b, in this order; and how many of them were filled in.
+
+    If they were measured, also how many hosts the file has."""
 
     micros: list[tuple[int, int, int]]
     filled: int
+    hosts: int = 0
 
 
 def latencies_of(trips: RoundTrips, count: int, fill: bool, draws: Draws) -> Latencies:
@@ -160,4 +167,4 @@ def latencies_of(trips: RoundTrips, count: int, fill: bool, draws: Draws) -> Lat
         (a, b, -(-sums[a][b] // 4000) or -(-(medians[a] + medians[b]) // 8000))
         for a in range(count) for b in range(a + 1, count)
     ]
-    return Latencies(micros, len(gaps))
+    return Latencies(micros, len(gaps), len(trips.hosts))

@@ -6,8 +6,8 @@ from collections.abc import Iterable, Iterator
 from itertools import zip_longest
 from typing import TextIO
 
-from chordsim_tools.cli import Failure, Parser, Refused, run
-from chordsim_tools.files import read_input
+from chordsim_tools.cli import Failure, Parser, Refused, close_quietly, run, write_out
+from chordsim_tools.files import check_output, read_input
 from chordsim_tools.reference.report import Report
 from chordsim_tools.reference.simulation import Simulation
 from chordsim_tools.reference.state import KINDS
@@ -62,18 +62,16 @@ def simulate(scenario: Scenario, trace: TextIO | None, messages: bool) -> None:
         report.read(line)
         if trace is not None:
             trace.write(line + "\n")
-    print(report.text(simulation.events), end="")
-    if messages:
-        print_messages(simulation, report)
+    write_out(report.text(simulation.events) + (messages_text(simulation, report) if messages else ""))
 
 
-def print_messages(simulation: Simulation, report: Report) -> None:
+def messages_text(simulation: Simulation, report: Report) -> str:
     """Counts the messages made by kind, the lost ones with them; after the first profile also the lost ones alone."""
-    for kind in KINDS.values():
-        print(f"sent {kind} {simulation.messages[kind] + report.lost_messages[kind]}")
+    lost = report.lost_messages
+    text = "".join(f"sent {kind} {simulation.messages[kind] + lost[kind]}\n" for kind in KINDS.values())
     if report.profile >= 2:
-        for kind in KINDS.values():
-            print(f"lost {kind} {report.lost_messages[kind]}")
+        text += "".join(f"lost {kind} {lost[kind]}\n" for kind in KINDS.values())
+    return text
 
 
 def compare(ours: Iterable[str], theirs: Iterable[str]) -> int:
@@ -81,21 +79,23 @@ def compare(ours: Iterable[str], theirs: Iterable[str]) -> int:
     count = 0
     for count, (our_line, their_line) in enumerate(zip_longest(ours, theirs), start=1):
         if our_line != their_line:
-            print(f"line {count} differs")
-            print(f"reference: {'(the trace has ended)' if our_line is None else our_line}")
-            print(f"the file:  {'(the trace has ended)' if their_line is None else their_line}")
+            ours_told, theirs_told = ("(the trace has ended)" if one is None else one for one in (our_line, their_line))
+            write_out(f"line {count} differs\nreference: {ours_told}\nthe file:  {theirs_told}\n")
             return 1
-    print(f"equal: {count} lines")
+    write_out(f"equal: {count} lines\n")
     return 0
 
 
 def work(args: Namespace) -> int:
     """Does what the arguments ask for, and returns the status."""
+    check_output("--trace", args.trace, (args.scenario, args.latency))
     latency = read_input(args.latency, GREATEST_SIZE, reasons=False) if args.latency is not None else b""
     scenario = read_scenario(read_input(args.scenario, GREATEST_SIZE, reasons=False), latency)
     try:
         return write(scenario, args)
     except OSError:
+        if args.trace is None:
+            close_quietly(1)
         # This is what chordsim answers when its writer fails.
         raise Failure(3, "4 Write") from None
 

@@ -1,12 +1,12 @@
 """The command tools/trace."""
 
 import json
-import os
 import re
 from argparse import ArgumentTypeError, Namespace
 
 from chordsim_tools.cli import Failure, Parser, run
-from chordsim_tools.files import read_input
+from chordsim_tools.explain.traps import warn
+from chordsim_tools.files import check_output, read_input
 from chordsim_tools.quantities import time_of
 from chordsim_tools.scenario.reading import Scenario, read_scenario
 from chordsim_tools.scenario.tables import GREATEST_SIZE
@@ -14,7 +14,7 @@ from chordsim_tools.trace.detail import join_story, removal_story
 from chordsim_tools.trace.messages import message_table
 from chordsim_tools.trace.reading import Run, read_report, read_run
 from chordsim_tools.trace.stories import lookup_story, node_story
-from chordsim_tools.trace.summary import Facts, summary
+from chordsim_tools.trace.summary import Facts, doubts, summary
 from chordsim_tools.trace.tables import node_rows, node_table, step_rows, step_table, worst_rows, worst_table
 from chordsim_tools.trace.text import summary_text
 from chordsim_tools.trace.wording import show
@@ -28,8 +28,8 @@ it prints a summary. docs/trace.md says what each number means.
 An answer is right, strictly, if the node that it names is the first member at or after the key, clockwise, when the
 answer arrives. It is defensible if the node was that at some instant while the lookup ran. Members are the initial
 nodes and those with a line `member`, until their line `crash` or `stranded`. A trace that ends early, as that of a run
-that failed, is told as far as it goes, with a report of its lines: all numbers of the report but `events`. A trace that
-does not fit the scenario is refused, and so is a report of another run.
+that failed, is told as far as it goes, with a report of its lines: all numbers of the report but `events`. A trace with
+a line that cannot be of a run of the scenario is refused, and so is a report that is empty or of another run.
 
 If the scenario has `detail = true`, the summary counts the messages of each kind, and the stories name each request."""
 EXAMPLES = """\
@@ -87,22 +87,13 @@ def scenario_of(args: Namespace) -> Scenario:
     return read_scenario(read_input(args.scenario, GREATEST_SIZE), latency)
 
 
-def check_page(args: Namespace) -> None:
-    """Refuses to write the page over a file that is read."""
-    if not os.path.isfile(args.html):
-        return
-    for name in (args.trace, args.scenario, args.latency, args.report):
-        if name is not None and os.path.exists(name) and os.path.samefile(name, args.html):
-            raise Failure(2, f"--html: {args.html} is a file that is read")
-
-
 def work(args: Namespace) -> None:
     """Reads the run, and prints or writes what the arguments ask for."""
-    if args.html is not None:
-        check_page(args)
+    check_output("--html", args.html, (args.trace, args.scenario, args.latency, args.report))
     one = read_run(args.trace, scenario_of(args))
     if args.report is not None:
         read_report(args.report, one)
+    warn(doubts(one))
     for option, name in (("node", args.node), ("removed", args.removed)):
         if name is not None and name not in one.history.numbers:
             raise Failure(2, f"--{option}: the scenario has no node {name!r}")

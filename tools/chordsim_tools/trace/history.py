@@ -212,17 +212,25 @@ class History:
 
     def audit(self, time: int, line: str, fields: list[str]) -> None:
         """An audit. It must count the members that the lines before it leave."""
-        facts = dict(word.split("=") for word in fields[2:])
-        one = Audit(
-            time, whole(facts["members"]), whole(facts["dead"]), whole(facts["ring"]), facts["ordered"] == "yes",
-            whole(facts["principals"]), facts["sufficient"] == "yes",
-        )
-        if one.text() != line:
+        one = audit_of(time, fields)
+        if one is None or one.text() != line:
             raise ValueError("it is no audit line")
         if one.members != len(self.members.places):
             raise ValueError(f"the lines before it leave {len(self.members.places)} members")
         self.lines.append(time, NOBODY, CODES["audit"], len(self.lines.audits))
         self.lines.audits.append(one)
+
+
+def audit_of(time: int, fields: list[str]) -> Audit | None:
+    """The audit that these words tell of, or nothing."""
+    try:
+        facts = dict(word.split("=") for word in fields[2:])
+        return Audit(
+            time, whole(facts["members"]), whole(facts["dead"]), whole(facts["ring"]), facts["ordered"] == "yes",
+            whole(facts["principals"]), facts["sufficient"] == "yes",
+        )
+    except (LookupError, ValueError):
+        return None
 
 
 def value_of(name: str, word: str) -> str:

@@ -71,17 +71,37 @@ def read_line(run: Run, number: int, line: str) -> None:
         if line[:1].isdigit() and not run.report:
             run.history.read(line)
         else:
-            word, count = line.split(" ")
-            run.report[word] = int(count)
+            take_number(run, line)
     except (ValueError, LookupError) as fault:
-        why = f"unknown: {fault}" if isinstance(fault, KeyError) else str(fault)
         told = f"{run.name} line {number} is no line of a trace of this scenario"
-        raise Refused(f"{told}: {line[:120]!r} ({why})") from None
+        raise Refused(f"{told}: {line[:120]!r} ({why(fault, line)})") from None
+
+
+def take_number(run: Run, line: str) -> None:
+    """Takes a line of the report after a trace."""
+    word, _, count = line.partition(" ")
+    if not count.isdecimal():
+        raise ValueError("a line of the report has WORD NUMBER" if run.report else "a line has TIME NAME WORD")
+    run.report[word] = int(count)
+
+
+def why(fault: Exception, line: str) -> str:
+    """Why a line was not taken. What was looked for in vain is a kind of line, or else a node."""
+    if isinstance(fault, KeyError):
+        sought = str(fault.args[0])
+        is_kind = " " in sought or line.split(" ")[2:3] == [sought]
+        return f"no line {sought}" if is_kind else f"no node {sought}"
+    if isinstance(fault, IndexError):
+        return "a line has TIME NAME WORD" if line.count(" ") < 2 else "it has too few words"
+    return str(fault)
 
 
 def read_report(name: str, run: Run) -> None:
     """Reads the report of a run from a file of its own."""
-    for number, line in enumerate(read_input(name, 1 << 20).decode("utf-8", "replace").splitlines(), start=1):
+    lines = read_input(name, 1 << 20).decode("utf-8", "replace").splitlines()
+    if not lines:
+        raise Refused(f"{name} has no report")
+    for number, line in enumerate(lines, start=1):
         word, _, count = line.partition(" ")
         if not count.isdecimal():
             raise Refused(f"{name} line {number} is no line of a report: {line[:120]!r}")

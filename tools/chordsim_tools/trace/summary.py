@@ -10,8 +10,11 @@ from chordsim_tools.trace.history import Join
 from chordsim_tools.trace.lines import Audit, Lookup
 from chordsim_tools.trace.messages import message_counts
 from chordsim_tools.trace.reading import Run, line_counts, report_of_lines
+from chordsim_tools.trace.wording import share
 
 SHARES = (50, 90, 99)
+FEWEST_ANSWERS = 20
+"""Fewer answers may be wrong by chance."""
 Facts = dict[str, Any]
 
 
@@ -48,9 +51,24 @@ def summary(run: Run) -> Facts:
     }
 
 
+def doubts(run: Run) -> list[str]:
+    """That trace and scenario are hardly of one run: most audits find a ring in order, and most answers are wrong."""
+    audits = run.history.lines.audits
+    ordered = sum(audit.is_ordered for audit in audits)
+    answers = answer_facts(run.history.lines.lookups)
+    wrong = answers["wrong_strict"]
+    found = wrong + answers["right_strict"]
+    if found < FEWEST_ANSWERS or 2 * wrong <= found or 2 * ordered <= len(audits):
+        return []
+    return [
+        f"{share(ordered, len(audits))} of the audits find a ring in order, and {share(wrong, found)} of the answers "
+        "are wrong: are trace and scenario of one run?"
+    ]
+
+
 def percentiles(values: list[int]) -> Facts:
     """By nearest rank; none of no values."""
-    return {f"p{share}": percentile(values, share) for share in SHARES}
+    return {f"p{one}": percentile(values, one) for one in SHARES}
 
 
 def lookup_facts(lookups: list[Lookup], lines: Counter[str]) -> Facts:
@@ -88,7 +106,7 @@ def time_facts(lookups: list[Lookup], reached: int) -> Facts:
     everything.lost = sum(one.outcome == "lost" for one in lookups)
     return {
         "found": percentiles(everything.ended),
-        "all": {f"p{share}": everything.percentile(share) for share in SHARES},
+        "all": {f"p{one}": everything.percentile(one) for one in SHARES},
     }
 
 
@@ -123,6 +141,7 @@ def audit_facts(run: Run) -> Facts:
     return {
         "all": len(audits),
         "whole": sum(audit.is_whole for audit in audits),
+        "partial": sum(not audit.is_whole and not audit.is_torn for audit in audits),
         "torn": sum(audit.is_torn for audit in audits),
         "lost": sum(audit.ring == 0 for audit in audits),
         "first_torn": first(lambda audit: audit.is_torn),

@@ -3,6 +3,7 @@
 from typing import Any
 
 from chordsim_tools.cli import Failure
+from chordsim_tools.quantities import time_text
 from chordsim_tools.trace.lines import CRASH, MEMBER, NOBODY, TIMEOUT, Lookup
 from chordsim_tools.trace.reading import Run
 from chordsim_tools.trace.wording import counted, seconds, share, table
@@ -16,7 +17,7 @@ def step_rows(run: Run, width: int) -> Rows:
     end = run.history.scenario.duration_us if run.is_whole else run.reached + 1
     count = -(-end // width)
     if count > MOST_STEPS:
-        raise Failure(2, f"--over-time: {count} steps; {MOST_STEPS} at most")
+        raise Failure(2, f"--over-time: {count} steps of {time_text(width)}; {MOST_STEPS} at most")
     words = ("begun", "found", "right", "lost", "timeouts", "members", "crashes", "joined")
     rows: Rows = [{"from_us": at * width, **dict.fromkeys(words, 0)} for at in range(count)]
     for one in run.history.lines.lookups:

@@ -109,8 +109,13 @@ def audit_text(facts: Facts) -> Iterator[str]:
     audits = facts["audits"]
     yield ""
     yield line("audits", counted(audits["all"]))
-    for word in ("whole", "torn", "lost"):
-        yield line(f"  ring {word}", f"{counted(audits[word])} ({share(audits[word], audits['all'])})")
+    for key, head, *meaning in (
+        ("whole", "  ring whole"),
+        ("partial", "  not all on it", "the ring skips a member, such as one that has just joined"),
+        ("torn", "  ring torn"),
+        ("lost", "    ring lost"),
+    ):
+        yield line(head, f"{counted(audits[key])} ({share(audits[key], audits['all'])})", *meaning)
     torn, lost = audits["first_torn"], audits["first_lost"]
     if torn is not None:
         head = "first torn, and lost" if torn == lost else "first torn"
