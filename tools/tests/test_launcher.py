@@ -169,10 +169,12 @@ class Launcher(unittest.TestCase):
         shutil.rmtree(self.top / "out")
         program = self.top / "release" / "x86_64-linux" / "chordsim"
         program.write_bytes(b"")
-        refused = self.start("chordsim", "ids")
-        self.assertEqual((refused.returncode, refused.stdout), (125, ""))
-        self.assertIn("is missing or damaged: run git checkout -- release", refused.stderr)
-        self.assertIn("./chordsim --build", refused.stderr)
+        for removed in ("nothing else", "chordsim.sources"):
+            (program.parent / removed).unlink(missing_ok=True)
+            refused = self.start("chordsim", "ids")
+            self.assertEqual((refused.returncode, refused.stdout), (125, ""), removed)
+            self.assertIn("is missing or damaged: run git checkout -- release", refused.stderr)
+            self.assertIn("./chordsim --build", refused.stderr)
         self.assertEqual(self.builds(), 1)
         self.assertEqual(self.start("chordsim", "--build").returncode, 0)
         self.assertEqual(self.start("chordsim", "ids").stdout, "built of first: ids\n")
