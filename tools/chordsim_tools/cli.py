@@ -123,6 +123,15 @@ class Parser(argparse.ArgumentParser):
         if strict:
             self.register("action", None, Once)
 
+    def print_help(self, file: Any = None) -> None:
+        """Writes the help to standard output as all tools write: whole, or it ends with status 3."""
+        if file is not None:
+            super().print_help(file)
+            return
+        status = run(self.prog, lambda: write_out(self.format_help()))
+        if status:
+            self.exit(status)
+
     def error(self, message: str) -> NoReturn:
         """Ends with status 2."""
         # All tools name an option by itself, as `--seed: given twice`.

@@ -179,7 +179,7 @@ class LatencyTest(TestCase):
                 status, _, err = written(f"{'1 ' * hosts}\n" * hosts, "--unit", "ms", *words)
                 assert status == 0 and err.startswith(told), err
         assert written(MATRIX) == (1, "", "refused: FILE: 4 hosts, fewer than the 64 nodes: give --nodes 4\n")
-        assert "give --nodes" not in written("7\n")[2]
+        assert written("7\n") == (1, "", "refused: FILE: 1 host, fewer than the 64 nodes\n")
 
     def test_refused_words(self) -> None:
         """One line that names the option and its range; status 2."""

@@ -9,14 +9,15 @@ from unittest import TestCase
 from unittest.mock import patch
 
 from chordsim_tools.cli import Failure
-from chordsim_tools.program import find_program
+from chordsim_tools.program import DAMAGED, find_program
+from chordsim_tools.program import LAUNCHER as LAUNCHER_FILE
 
 LAUNCHER = """\
 #!/bin/sh
 here=$(dirname "$0")
 echo "$1" >> "$here/calls"
 case $1 in
---where) [ -e "$here/built" ] || exit 125 ;;
+--where) cat "$here/reason" >&2; [ -e "$here/built" ] || exit 125 ;;
 --build) [ ! -e "$here/broken" ] || exit 125; touch "$here/built" ;;
 esac
 echo "$here/built"
@@ -30,6 +31,7 @@ def launcher(named: str = "") -> Iterator[Path]:
         script = Path(name).resolve() / "chordsim"
         script.write_text(LAUNCHER, encoding="utf-8")
         script.chmod(0o755)
+        (script.parent / "reason").write_text("chordsim: the sources have changed\n", encoding="utf-8")
         named = named.replace("LAUNCHER", str(script))
         with patch("chordsim_tools.program.LAUNCHER", script), patch.dict(os.environ, CHORDSIM=named):
             yield script.parent
@@ -57,6 +59,25 @@ class ProgramTest(TestCase):
             find_program(build=False)
         told = "the program is missing: CHORDSIM=/nowhere/chordsim is no file that can be run"
         assert (caught.exception.status, caught.exception.text) == (3, told)
+
+    def test_damaged_release(self) -> None:
+        """Nothing is built unasked; the line names both remedies. A program that was built is taken."""
+        with launcher() as folder:
+            reason = "the release in R is missing or damaged: run git checkout -- release in T"
+            told = f"chordsim: {reason}\nchordsim: there is no program of these sources: ./chordsim --build makes it\n"
+            (folder / "reason").write_text(told, encoding="utf-8")
+            with self.assertRaises(Failure) as caught:
+                find_program(build=True)
+            remedy = f"or let {folder}/chordsim --build prove and build the program in its place"
+            assert (caught.exception.status, caught.exception.text) == (3, f"{reason}, {remedy}")
+            assert (folder / "calls").read_text(encoding="utf-8") == "--where\n"
+            assert find_program(build=False) is None
+            (folder / "built").touch()
+            assert find_program(build=True) == folder / "built"
+
+    def test_words_of_the_launcher(self) -> None:
+        """./chordsim says so of a release that is damaged."""
+        assert f'echo "the release in $release {DAMAGED}: ' in LAUNCHER_FILE.read_text(encoding="utf-8")
 
     def test_build_that_fails(self) -> None:
         """Status 3 if the launcher does not build it, and if there is no launcher."""

@@ -9,10 +9,12 @@ from chordsim_tools.study.bounds import level_of, misses, missing_level, reaches
 from chordsim_tools.study.goal import Goal, Limit
 from chordsim_tools.study.numbers import Summary, summaries
 from chordsim_tools.study.page import page
+from chordsim_tools.study.survival import NEVER
 from tests.support.studies import table_of, tables_of, unwrapped
 from tests.test_study_compare import rights, settings
 from tests.test_study_page import GOAL, LIMIT, less_best, setting, told
 
+FEW = "too few seeds with these numbers for a bound."
 OPEN = "(shown neither to reach the goal nor to miss it)"
 
 
@@ -68,7 +70,18 @@ class MissedGoalTest(TestCase):
         """Four of six rings lost: two have numbers. The answer counts such settings and does not say that they miss."""
         rows = setting(4, 850, 5000), setting(2, 900, 4000, dead=4)
         text = told(*rows, goal=goal(0.99, lost_max=1000.0))
-        assert "1 more has too few seeds with these numbers for a bound. All others are shown to miss it." in text
+        assert f"1 of 2 settings has {FEW} All others are shown to miss it." in text
+
+    def test_nearest_without_a_bound(self) -> None:
+        """It is counted too. Without any other setting nothing is said of others."""
+        few = setting(2, 900, 4000, dead=4)
+        text = told(few, goal=goal(0.99, lost_max=1000.0))
+        assert "the nearest is list=2" in text and f"1 of 1 setting has {FEW}" in text and "to miss it" not in text
+        text = told(few, setting(4, 900, 5000, dead=4), goal=goal(0.99, lost_max=1000.0))
+        assert f"2 of 2 settings have {FEW}" in text and "to miss it" not in text
+        # Six rings of 30 s, all lost: at 98.75 % more than 37 an hour.
+        text = told(setting(2, 900, 4000, dead=2), dead(1), goal=goal(0.9, lost_max=30.0))
+        assert "the nearest is list=2" in text and f"1 of 2 settings has {FEW} All others are shown to miss it." in text
 
     def test_what_is_shown_holds_together(self) -> None:
         """The true means lie on both limits. In about one study of twenty anything is shown wrongly, either way."""
@@ -87,6 +100,17 @@ class MissedGoalTest(TestCase):
         one = summary_of(dead(1))
         for value, wanted in ((0.46, True), (0.459, False)):
             assert misses(one, Goal((Limit("served", True, value),), 1000.0, "messages"), 0.95) == wanted
+
+    def test_units(self) -> None:
+        """Times in ms and shares in %: 10 of 950 are given up. `never` and `-` have no unit."""
+        rows = setting(4, 900, 5000)
+        slowest = {"number": "p99_ms", "is_least": False, "value": 3000}
+        for least, value in (("p99_ms", "p99, 2000 ms"), ("p50_ms", "p50, 500 ms"), ("given_up", "given up, 1.053 %")):
+            text = told(rows, goal=goal(0.9, least=least, limits=[LIMIT, slowest]))
+            assert f"the least {value}, of those" in text and "): right of begun 95.11 ± 0.21 %, p99 2000 ms," in text
+        for value, wanted in ((NEVER, "p99 never, rings kept"), ("", "p99 -, rings kept")):
+            text = told([one | {"all-us-p99": value} for one in rows], goal=goal(0.9, limits=[slowest]))
+            assert f": {wanted} 6 of 6" in text
 
     def test_rounded_outward(self) -> None:
         """A bound that is written still holds."""
@@ -139,6 +163,7 @@ class DeadRingsTest(TestCase):
         text = told(setting(4, 900, 5000), dead(1), goal=GOAL)
         assert less_best(text, "list=4") == "**best**" and less_best(text, "list=1") == "all rings lost"
         assert "`all rings lost`: the setting has no ring to compare" in text
+        assert "No seed is left out: once lost, a ring serves none." in text
         assert less_best(told(setting(4, 900, 5000), dead(1)), "list=1") == "-90.35 ± 0.20"
         mixed = told(setting(4, 900, 5000, dead=1), dead(1))
         assert less_best(mixed, "list=4") == "**best**" and less_best(mixed, "list=1") == "all rings lost"

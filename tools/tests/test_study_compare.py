@@ -57,6 +57,10 @@ class StudyCompareTest(TestCase):
         all_dead, alive = settings([dead] * 6, rights(*[900] * 6))
         assert Pair(all_dead, alive).difference("served").mean == -0.9 and Pair(all_dead, alive).is_apart("messages")
         assert Pair(all_dead, alive).difference("messages").mean is None
+        # Served is over all six seeds, in none of which both kept their rings.
+        assert "  served          -90 points" in text_of(Pair(all_dead, alive)).splitlines()
+        rule = "\nof served over all seeds, unless A or B lost its ring in some seeds but not in all.\n"
+        assert rule in text_of(Pair(all_dead, alive)) and rule in text_of(pair)
 
     def test_equal_runs(self) -> None:
         """Rows that are equal but for the setting: said so, with what ten such seeds bound."""

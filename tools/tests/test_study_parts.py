@@ -61,7 +61,7 @@ class PartsTest(TestCase):
         """How many are missing, and the first of them. What is there is kept, and can be plotted."""
         with study_folder() as folder:
             run_share(folder, "1/2", "part1")
-            told = "refused: 2 of 4 runs are in no folder, the first of them list=1, seed=2"
+            told = "refused: 2 of 4 runs are in no folder, or were changed there, the first of them list=1, seed=2"
             assert merged(folder / "part1", "-o", folder / "all") == (1, told)
             assert len(list((folder / "all" / "done").glob("*.json"))) == 2
 

@@ -2,9 +2,13 @@
 
 import json
 import os
+from collections.abc import Iterator
 from pathlib import Path
+from typing import Any
 from unittest import TestCase
+from unittest.mock import Mock, patch
 
+from chordsim_tools.study.plot import write_plots
 from chordsim_tools.study.plot_files import FORMS, NAME, PLOTS, origin_of, write_origins
 from chordsim_tools.study.so_far import tables_of
 from tests.test_study_plot import plot, python_with_packages
@@ -105,6 +109,35 @@ class PlotFilesTest(TestCase):
             (folder / "fail").write_text("nothing")
             call(folder)
             assert linked(page_of(folder)) == [] and OTHER in page_of(folder)
+
+    def test_results_that_are_gone(self) -> None:
+        """Plots of all runs, of which one is gone: the page says that they are of all."""
+        with study_folder() as folder:
+            call(folder)
+            draw(folder, *PLOTS)
+            (folder / "study" / "manifest.json").unlink()
+            (folder / "study" / "done" / "list=1,seed=2.json").unlink()
+            text = page_of(folder)
+            assert "**3 of 4 runs: the study is not done.**" in text and "The plots were drawn of all runs." in text
+            assert linked(text) == list(PLOTS)
+
+    def test_plots_that_were_interrupted(self) -> None:
+        """The first plot is of the tables that are there; the second one, which was not reached, of those of before."""
+
+        def figures(*_: Any) -> Iterator[tuple[str, Any]]:
+            """One figure, and then Ctrl-C."""
+            yield "times", None
+            raise KeyboardInterrupt
+
+        with study_folder() as folder:
+            call(folder)
+            draw(folder, *PLOTS)
+            (folder / "study.toml").write_text(STUDY.replace("list = [1, 2]", "list = [1, 3]"))
+            call(folder)
+            names: dict[str, Any] = {"drawing": Mock(), "all_figures": figures, "rendered": lambda *_: b"a plot"}
+            with patch.multiple("chordsim_tools.study.plot", **names), self.assertRaises(KeyboardInterrupt):
+                write_plots(folder / "study")
+            assert linked(page_of(folder)) == ["times"]
 
     def test_plot_command(self) -> None:
         """It notes the plots that it draws, and leaves those of a column out of the page."""

@@ -63,7 +63,8 @@ class ResultsTest(TestCase):
             (folder / "part1" / "manifest.json").unlink()
             change(folder / "part1" / "done" / RESULT, right=7)
             status, told = merged(folder / "part1", "-o", folder / "all")
-            assert status == 1 and "1 of 4 runs are in no folder, the first of them list=1, seed=2" in told
+            wanted = "1 of 4 runs are in no folder, or were changed there, the first of them list=1, seed=2"
+            assert (status, told) == (1, f"refused: {wanted}")
 
     def test_edited_scenario_is_written_again(self) -> None:
         """Of a run that is done too, and nothing is run. One that is gone is there again."""

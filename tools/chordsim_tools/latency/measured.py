@@ -149,7 +149,8 @@ class Latencies:
 def latencies_of(trips: RoundTrips, count: int, fill: bool, draws: Draws) -> Latencies:
     """Half the mean of the two directions, rounded up; for a gap half the mean of the two hosts' medians."""
     if len(trips.hosts) < count:
-        raise Refused(f"{trips.file}: {len(trips.hosts)} hosts, fewer than the {count} nodes")
+        told = "1 host" if len(trips.hosts) == 1 else f"{len(trips.hosts)} hosts"
+        raise Refused(f"{trips.file}: {told}, fewer than the {count} nodes")
     hosts = choose(gaps_of(trips), count, draws)
     sums = [[trips.doubled(a, b) for b in hosts] for a in hosts]
     gaps = [(a, b) for a in range(count) for b in range(a + 1, count) if sums[a][b] == 0]

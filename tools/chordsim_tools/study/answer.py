@@ -113,7 +113,7 @@ def why_none(found: list[Summary], goal: Goal) -> str:
     if left:
         told = "; ".join(f"{one.label} ({', '.join(open_told(one, goal, level))})" for one in left)
         return f"{text}\n\nNot decided ({OPEN}): {told}. {TELL}{without_bounds(len(more))}"
-    return text + without_bounds(len(more)) + f" {'All others are' if more else 'Each setting is'} shown to miss it."
+    return text + rest_told(len(more), len(found))
 
 
 def has_bounds(one: Summary, goal: Goal) -> bool:
@@ -125,6 +125,15 @@ def without_bounds(count: int) -> str:
     """How many settings have no bounds."""
     verb = "more has" if count == 1 else "more have"
     return f" {count} {verb} too few seeds with these numbers for a bound." if count else ""
+
+
+def rest_told(more: int, settings: int) -> str:
+    """How many of these settings have no bounds, if all others are shown to miss the goal."""
+    if not more:
+        return " Each setting is shown to miss it."
+    noun, verb = "setting" if settings == 1 else "settings", "has" if more == 1 else "have"
+    text = f" {more} of {settings} {noun} {verb} too few seeds with these numbers for a bound."
+    return text + (" All others are shown to miss it." if more < settings else "")
 
 
 def not_apart(best: Summary, reaching: list[Summary], goal: Goal, settings: int) -> str:
@@ -168,15 +177,21 @@ def cost(one: Summary, goal: Goal) -> float:
 
 def cost_told(one: Summary, goal: Goal) -> str:
     """What is to be least, of a setting."""
-    return one.numbers[goal.least].told(100 if goal.least in PERCENT else 1)
+    return one.numbers[goal.least].told(100 if goal.least in PERCENT else 1) + unit_of(one, goal.least)
+
+
+def unit_of(one: Summary, number: str) -> str:
+    """The unit behind a number of a setting. Rates have theirs in their names, and `never` and `-` have none."""
+    mean = one.numbers[number].mean
+    if mean is None or math.isinf(mean):
+        return ""
+    return " %" if number in PERCENT else " ms" if number.endswith("_ms") else ""
 
 
 def number_told(one: Summary, number: str) -> str:
     """A number of a setting with its name."""
-    if number in PERCENT:
-        value = one.served_told() if number == "served" else one.numbers[number].told(100)
-        return f"{in_words(number)} {value} %"
-    return f"{in_words(number)} {one.numbers[number].told()}"
+    value = one.served_told() if number == "served" else one.numbers[number].told(100 if number in PERCENT else 1)
+    return f"{in_words(number)} {value}{unit_of(one, number)}"
 
 
 def reached(one: Summary, goal: Goal) -> str:

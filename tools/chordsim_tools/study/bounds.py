@@ -4,7 +4,7 @@ A setting is shown to reach a goal if the one-sided bound of each number is with
 that each bound may have the whole risk of the setting. It is shown to miss the goal if the bound to the other side of
 any number is beyond its limit. Each of these bounds has its share of the risk, as one of them is enough. A setting
 either reaches the goal or misses it, so that only one of the two can be shown wrongly. So all that is shown of the
-settings of a page holds together with 95 %."""
+settings of a world holds together with 95 %."""
 
 import math
 

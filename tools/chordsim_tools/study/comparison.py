@@ -53,8 +53,8 @@ def text_of(pair: Pair) -> str:
         text += f"  {NAMES[number]:<15} {found.told(scale)} {unit}".rstrip() + apart + "\n"
     return text + (
         "\n± is half of a 95% interval of the mean difference (Student's t) over the seeds in which both kept their "
-        "rings.\nEach line is a comparison by itself: of ten numbers that are equal, one or the other may seem to "
-        "differ.\n"
+        "rings;\nof served over all seeds, unless A or B lost its ring in some seeds but not in all.\nEach line is a "
+        "comparison by itself: of ten numbers that are equal, one or the other may seem to differ.\n"
     )
 
 

@@ -104,9 +104,9 @@ def warnings(manifest: dict[str, Any], found: list[Summary]) -> list[str]:
     return told
 
 
-def head(manifest: dict[str, Any], found: list[Summary]) -> str:
-    """All of it."""
-    precise = precision_again(manifest["precision"])
+def head(manifest: dict[str, Any], found: list[Summary], is_done: bool) -> str:
+    """All of it. A study that is not done has not been stopped by [precision]."""
+    precise = precision_again(manifest["precision"]) if is_done else None
     stop = "" if precise is None else f" {stopped(precise, found)}"
     texts = (worlds(manifest) + stop, judged(manifest), steadiness(found))
     told = warnings(manifest, found)

@@ -19,10 +19,10 @@ NOTES = {
         "**rings lost an hour**: for each hour that a ring lives. In brackets: the exact interval (Garwood). `below`: "
         "no ring was lost, and this is the upper bound.",
     "served":
-        "**served**: right answers, of the lookups wanted. No seed is left out: a lost ring serves none. If rings "
-        "were lost, the brackets have the least and the greatest seed. Wanted are the lookups begun or refused, and "
-        "those that were planned for a node that is up but no member. Such a node also wants one for each mean gap of "
-        "`[lookups]`. A node is up from the start or a join until its crash, even if its join has failed.",
+        "**served**: right answers, of the lookups wanted. No seed is left out: once lost, a ring serves none. If "
+        "rings were lost, the brackets have the least and the greatest seed. Wanted are the lookups begun or refused, "
+        "and those that were planned for a node that is up but no member. Such a node also wants one for each mean gap "
+        "of `[lookups]`. A node is up from the start or a join until its crash, even if its join has failed.",
     "right_of_begun":
         "**right of begun**: lookups whose answer names the right owner at the time of the answer (the strict view), "
         "of those that ended while their asker was up.",

@@ -84,8 +84,8 @@ def commits(manifest: dict[str, Any]) -> str:
     return "\n" + wrapped(f"The tables were made by {' and by '.join(makers)}.{changed}{LATER}") + "\n"
 
 
-def page(tables: Tables, plots: str = NO_PLOTS) -> str:
-    """The whole page, with these links to plots."""
+def page(tables: Tables, plots: str = NO_PLOTS, is_done: bool = True) -> str:
+    """The whole page, with these links to plots, of a study that is done or not."""
     manifest = tables.manifest
     found = summaries(tables)
     return (
@@ -93,7 +93,7 @@ def page(tables: Tables, plots: str = NO_PLOTS) -> str:
         + lost_told(tables, found)
         + answers(tables, found)
         + (f"{manifest['note'].strip()}\n\n" if manifest.get("note") else "")
-        + f"{head(manifest, found)}{settings_tables(tables, found)}{taken_table(tables, found)}"
+        + f"{head(manifest, found, is_done)}{settings_tables(tables, found)}{taken_table(tables, found)}"
         f"## Plots\n\n{plots}"
         f"## Made by\n\n```\n{commands(tables)}```\n\n{made_for_each_seed(manifest)}{sums(tables)}{commits(manifest)}"
     )

@@ -8,8 +8,10 @@ from chordsim_tools.cli import Refused
 from chordsim_tools.files import make_folder
 from chordsim_tools.study.curves import write_results
 from chordsim_tools.study.plan import Study
+from chordsim_tools.study.precise import more_seeds
 from chordsim_tools.study.record import Record, read_record, study_of, write_record
 from chordsim_tools.study.runs import READING, Run, Share, runs_of, whole_result
+from chordsim_tools.study.tables import Row
 
 
 def share_of(text: str) -> Share:
@@ -26,18 +28,28 @@ def merge(folders: list[Path], out: Path, named: Path | None = None) -> None:
     check_same(folders, records)
     study = study_of(folders[0], records[0], named)
     make_folder(out / "done")
-    runs = runs_of(study, out / "done", records[0].program)
-    missing = [run for run in runs if not taken(run, folders)]
-    write_record(study, out, records[0].program_path(), records[0].program, READING)
+    program, program_sum = records[0].program_path(), records[0].program
+    write_record(study, out, program, program_sum, READING)
+    write_results(study, out, program, program_sum, taken_rows(study, folders, out / "done", program_sum))
+
+
+def taken_rows(study: Study, folders: list[Path], done: Path, program: str) -> list[Row]:
+    """The results of all runs, which are taken from the folders. With [precision] they say how many seeds there are."""
+    while True:
+        runs = runs_of(study, done, program)
+        check_whole(runs, [run for run in runs if not taken(run, folders)])
+        rows = [(run.setting, run.seed, whole_result(run)) for run in runs]
+        more = more_seeds(study, rows)
+        if not more:
+            return rows
+        study.seeds += more
+
+
+def check_whole(runs: list[Run], missing: list[Run]) -> None:
+    """Fails if runs are missing, and says how many."""
     if missing:
-        raise Refused(f"{len(missing)} of {len(runs)} runs are in no folder, the first of them {missing[0].task.name}")
-    write_all(study, out, records[0], runs)
-
-
-def write_all(study: Study, out: Path, record: Record, runs: list[Run]) -> None:
-    """Writes the tables of all runs."""
-    rows = [(run.setting, run.seed, whole_result(run)) for run in runs]
-    write_results(study, out, record.program_path(), record.program, rows)
+        count, first = f"{len(missing)} of {len(runs)} runs", missing[0].task.name
+        raise Refused(f"{count} are in no folder, or were changed there, the first of them {first}")
 
 
 def check_same(folders: list[Path], records: list[Record]) -> None:

@@ -44,15 +44,16 @@ def write_plots(folder: Path, named: Path | None = None, wish: Wish | None = Non
     columns = [Column(name, drawn.tables) for name in wish.y or []]
     pyplot = drawing()
     figures = asked(pyplot, drawn, layout, columns) if columns else all_figures(pyplot, drawn, layout, wish.most_lost)
-    names = []
+    origin = origin_of(drawn.tables.manifest, drawn.mark)
     with Progress("plots", stays=True) as progress:
         for name, figure in figures:
-            for form in FORMS:
-                write_whole(folder / f"{name}.{form}", rendered(figure, form))
-                progress.one_more()
+            # Both are drawn first, so that there is little time to interrupt between a file and its origin.
+            contents = {form: rendered(figure, form) for form in FORMS}
             pyplot.close(figure)
-            names.append(name)
-    write_origins(folder, names, origin_of(drawn.tables.manifest, drawn.mark))
+            for form, content in contents.items():
+                write_whole(folder / f"{name}.{form}", content)
+                progress.one_more()
+            write_origins(folder, [name], origin)
 
 
 def rows_of(drawn: Drawn, layout: Layout) -> Rows:

@@ -92,7 +92,7 @@ def plots_text(folder: Path, manifest: dict[str, Any], mark: str) -> str:
     drawn = [name for name in names if is_drawn(folder, name, wanted, origins.get(name))]
     left = [name for name in names if name not in drawn]
     marks = {origins[name].mark for name in drawn if name in origins} - {mark}
-    told = [f"The plots were drawn of {' and of '.join(sorted(marks))}."] if marks else []
+    told = [f"The plots were drawn of {' and of '.join(sorted(one or 'all runs' for one in marks))}."] if marks else []
     if left:
         is_any_there = any((folder / f"{name}.{form}").exists() for name in left for form in FORMS)
         told.append(missing_told(left, not drawn, is_any_there))

@@ -9,10 +9,12 @@ from chordsim_tools.files import write_whole
 from chordsim_tools.study.curves import CDF, STEPS, write_results
 from chordsim_tools.study.numbers import Cells
 from chordsim_tools.study.page import page
+from chordsim_tools.study.plan import Study
 from chordsim_tools.study.plot_files import plots_text
+from chordsim_tools.study.precise import more_seeds
 from chordsim_tools.study.record import NAME, Record, read_record, study_of
 from chordsim_tools.study.runs import runs_of
-from chordsim_tools.study.tables import Tables, checked_table, read_tables
+from chordsim_tools.study.tables import Row, Tables, checked_table, read_tables
 
 
 @dataclass
@@ -64,22 +66,34 @@ def is_of(tables: Tables, record: Record) -> bool:
 def tables_so_far(folder: Path, record: Record, named: Path | None) -> Drawn:
     """Tables of the results that are there."""
     study = study_of(folder, record, named)
-    runs = runs_of(study, folder / "done", record.program)
-    results = [(run, run.read_result()) for run in runs]
-    rows = [(run.setting, run.seed, result) for run, result in results if result is not None]
+    rows, count = rows_so_far(study, folder / "done", record.program)
     if not rows:
-        raise Refused(f"{folder}: none of {len(runs)} runs is done")
+        raise Refused(f"{folder}: none of {count} runs is done")
     with tempfile.TemporaryDirectory() as made:
         write_results(study, Path(made), record.program_path(), record.program, rows)
         drawn = drawn_of(Path(made))
-    drawn.mark = "" if len(rows) == len(runs) else f"{len(rows)} of {len(runs)} runs"
+    drawn.mark = "" if len(rows) == count else f"{len(rows)} of {count} runs"
     return drawn
+
+
+def rows_so_far(study: Study, done: Path, program: str) -> tuple[list[Row], int]:
+    """The results that are there, and how many runs the study has. With [precision] it has the seeds that they ask for.
+
+    As long as one of them is missing, it is open which seeds come next."""
+    while True:
+        runs = runs_of(study, done, program)
+        results = [(run, run.read_result()) for run in runs]
+        rows = [(run.setting, run.seed, result) for run, result in results if result is not None]
+        more = more_seeds(study, rows) if len(rows) == len(runs) else []
+        if not more:
+            return rows, len(runs)
+        study.seeds += more
 
 
 def write_report(folder: Path, named: Path | None = None) -> None:
     """Writes report.md, with a mark if the study is not done."""
     drawn = tables_of(folder, named)
     plots = plots_text(folder, drawn.tables.manifest, drawn.mark)
-    title, rest = page(drawn.tables, plots).split("\n", 1)
+    title, rest = page(drawn.tables, plots, not drawn.mark).split("\n", 1)
     told = f"\n**{drawn.mark}: the study is not done.** What follows is of the runs that are.\n" if drawn.mark else ""
     write_whole(folder / "report.md", f"{title}\n{told}{rest}")
