@@ -150,8 +150,8 @@ class LatencyTest(TestCase):
         """One line with the file's name, the line and the reason; status 1."""
         for text, form, reason in [
             ("1 2\n3\n", "matrix", "FILE: line 2: 1 values, where the first row has 2"),
-            ("1 2 3\n1 2 3\n", "matrix", "FILE: no square matrix: 3 values a row, and not as many rows"),
-            ("1 2\n1 2\n1 2\n", "matrix", "FILE: no square matrix: 2 values a row, and not as many rows"),
+            ("1 2 3\n1 2 3\n", "matrix", "FILE: no square matrix: 3 values in a row, and not as many rows"),
+            ("1 2\n1 2\n1 2\n", "matrix", "FILE: no square matrix: 2 values in a row, and not as many rows"),
             ("", "matrix", "FILE: there is no round trip"),
             ("# none\n\n", "lines", "FILE: there is no round trip"),
             ("1 x\n1 2\n", "matrix", "FILE: line 1: 'x' is no number"),

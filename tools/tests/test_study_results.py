@@ -34,7 +34,7 @@ class ResultsTest(TestCase):
             assert runs_called(folder) == 5 and runs.read_bytes() == before
             for path in done.glob("*.json"):
                 change(path, right=7)
-            assert call(folder)[1].endswith(f"/list=1,seed=1.json {changed} (and of 3 more)")
+            assert call(folder)[1].endswith(f"/list=1,seed=1.json {changed}, and so are those of 3 more")
             assert runs_called(folder) == 9 and call(folder) == (0, "") and runs_called(folder) == 9
 
     def test_result_of_an_older_tool(self) -> None:

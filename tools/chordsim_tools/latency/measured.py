@@ -81,7 +81,7 @@ def read_matrix(file: str, unit: int) -> RoundTrips:
     if not rows:
         raise Refused(f"{file}: there is no round trip")
     if len(rows) != len(rows[0]):
-        raise Refused(f"{file}: no square matrix: {len(rows[0])} values a row, and not as many rows")
+        raise Refused(f"{file}: no square matrix: {len(rows[0])} values in a row, and not as many rows")
     return RoundTrips(file, [str(i + 1) for i in range(len(rows))], rows)
 
 

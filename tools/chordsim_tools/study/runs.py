@@ -161,7 +161,7 @@ def look_at(runs: list[Run]) -> list[Run]:
             run.write_files()
     changed = [run.result() for run in left if run.found_result() is not None]
     if changed:
-        more = "" if len(changed) == 1 else f" (and of {len(changed) - 1} more)"
+        more = "" if len(changed) == 1 else f", and so are those of {len(changed) - 1} more"
         warn([f"{changed[0]} was changed since it was written: its run is done again{more}"])
     return left
 
