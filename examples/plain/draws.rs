@@ -8,7 +8,7 @@ use crate::scenario::Profile;
 /// The 32-bit words of a block of the cipher.
 const BLOCK_WORDS: usize = 16;
 
-/// The words of a draw of the third profile, and how many draws share a block.
+/// The words of a draw of the extended profile, and how many draws share a block.
 const OWN_WORDS: usize = 4;
 const BLOCK_DRAWS: u64 = (BLOCK_WORDS / OWN_WORDS) as u64;
 
@@ -33,7 +33,7 @@ impl Span {
     }
 }
 
-/// What is drawn. In the third profile this number is the upper half of the stream's number.
+/// What is drawn. In the extended profile this number is the upper half of the stream's number.
 #[derive(Clone, Copy, PartialEq)]
 pub enum Subject {
     StabilizeTick = 1,
@@ -55,7 +55,7 @@ pub enum Draws {
 impl Draws {
     /// The draws of a node, before its first one.
     pub fn new(profile: Profile, seed: u64, node: u32) -> Self {
-        if profile == Profile::Third {
+        if profile == Profile::Extended {
             Self::OwnWords(OwnWords::new(seed, node))
         } else {
             Self::Stream(Stream::new(seed, node))
@@ -136,7 +136,7 @@ impl Stream {
     }
 }
 
-/// A node's streams of the third profile. The last block of the messages is kept, since the next
+/// A node's streams of the extended profile. The last block of the messages is kept, since the next
 /// messages are mostly in it too.
 pub struct OwnWords {
     seed: u64,

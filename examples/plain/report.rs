@@ -32,11 +32,11 @@ pub struct Report {
     losses: u64,
     again: u64,
     forgotten: u64,
-    /// Whether the losses are printed, as they are in the second and third profile.
+    /// Whether the losses are printed, as they are in the second and the extended profile.
     pub has_losses: bool,
     /// Whether the requests that were sent again and the predecessors that were forgotten are printed,
-    /// as they are in the third profile.
-    pub is_third: bool,
+    /// as they are in the extended profile.
+    pub is_extended: bool,
 }
 
 impl Report {
@@ -115,7 +115,7 @@ impl Report {
             ("insufficient", self.insufficient),
         ];
         rows.extend(self.has_losses.then_some(("losses", self.losses)));
-        if self.is_third {
+        if self.is_extended {
             rows.extend([("again", self.again), ("forgotten", self.forgotten)]);
         }
         rows

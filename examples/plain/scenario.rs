@@ -18,7 +18,7 @@ pub enum Profile {
     Second,
     /// So it may here. A request may be sent again, a node may pause between attempts to join and check
     /// its predecessor, lines may tell of each message, and each draw has words of its own.
-    Third,
+    Extended,
 }
 
 /// How long a churn node is up, and then down.
@@ -250,7 +250,7 @@ impl<'a> Words<'a> {
         match self.word() {
             "1" => Profile::First,
             "2" => Profile::Second,
-            _ => Profile::Third,
+            _ => Profile::Extended,
         }
     }
 

@@ -42,7 +42,7 @@ impl<'a> Simulation<'a> {
     /// The run at its start. The trace is empty.
     pub fn new(scenario: &'a Scenario, mut trace: Trace) -> Self {
         trace.report.has_losses = scenario.profile != Profile::First;
-        trace.report.is_third = scenario.profile == Profile::Third;
+        trace.report.is_extended = scenario.profile == Profile::Extended;
         let mut simulation = Self {
             scenario,
             nodes: first_states(scenario),

@@ -38,6 +38,19 @@ def whole(least: int, greatest: int) -> Callable[[str], Given[int]]:
     return value(within(whole_of, least, greatest), f"{least} to {greatest}")
 
 
+def one_of(*numbers: int) -> Callable[[str], Given[int]]:
+    """One of a few numbers, in ascending order."""
+    *others, last = numbers
+    wanted = f"{', '.join(map(str, others))} or {last}"
+
+    def chosen(text: str) -> int | None:
+        """The number, if it is one of them."""
+        number = whole_of(text)
+        return number if number in numbers else None
+
+    return value(chosen, wanted)
+
+
 def a_whole() -> Callable[[str], Given[int]]:
     """A number whose range depends on other options, so that `Options.whole` looks at it."""
     return value(integer_of, "a whole number")

@@ -1,4 +1,4 @@
-"""Checks of the predecessor by hand, at n0, n1 and n3 of examples/ring.toml in the third profile.
+"""Checks of the predecessor by hand, at n0, n1 and n3 of examples/ring.toml in the extended profile.
 
 The seed of the ring is 1. The stream (node, kind) of n0's CheckTick is (n0, 8). Its first two words on two occasions k:
 
@@ -15,12 +15,12 @@ from chordsim_tools.reference.state import (
 )
 from tests.support.worlds import EXAMPLES
 from tests.test_second_profile import CRASH, happen, ran
-from tests.test_third_profile import LONGER, SPANS, numbers_of, third, world_of
+from tests.test_extended_profile import LONGER, SPANS, numbers_of, extended, world_of
 
 
 def quiet(*keys: str) -> str:
     """The ring with these keys and without its lookup, for 400 us."""
-    return third(*keys, changes=LONGER).partition("[[command]]")[0]
+    return extended(*keys, changes=LONGER).partition("[[command]]")[0]
 
 
 def checking(*keys: str) -> tuple[World, Node]:

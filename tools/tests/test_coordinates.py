@@ -7,14 +7,14 @@ from chordsim_tools.scenario.coordinates import Coordinates, greatest_latency, l
 from chordsim_tools.scenario.reading import read_scenario
 from tests.support.worlds import fault
 from tests.test_second_profile import AUDIT, ran
-from tests.test_third_profile import third
+from tests.test_extended_profile import extended
 
 NODES = ("n0", "n1", "n3")
 
 
-def placed(*keys: str, of_profile: int = 3, window: int = 1) -> str:
+def placed(*keys: str, of_profile: int = 4, window: int = 1) -> str:
     """The ring, with these lines for each of its three nodes."""
-    text = third().replace("profile = 3", f"profile = {of_profile}").replace("window_us = 10", f"window_us = {window}")
+    text = extended().replace("profile = 4", f"profile = {of_profile}").replace("window_us = 10", f"window_us = {window}")
     for name, lines in zip(NODES, keys, strict=True):
         text = text.replace(f'name = "{name}"', f'name = "{name}"\n{lines}', 1)
     return text

@@ -1,6 +1,6 @@
 """Lines that tell of messages, by hand: n0, n1 and n3 of examples/ring.toml with `detail = true` (rules, section 8.2).
 
-The chances of losses are those that tests.test_third_profile works out: of a million, message 3 of n3 has x = 20386 and
+The chances of losses are those that tests.test_extended_profile works out: of a million, message 3 of n3 has x = 20386 and
 message 2 of n0 has x = 400.
 """
 
@@ -17,7 +17,7 @@ from chordsim_tools.reference.state import (
 from chordsim_tools.scenario.reading import read_scenario
 from tests.support.worlds import with_detail
 from tests.test_second_profile import AUDIT, PLAIN, fault, happen, ran
-from tests.test_third_profile import third, world_of
+from tests.test_extended_profile import extended, world_of
 
 DETAIL = "detail = true"
 REQUESTS = ("step", "get-state", "get-list", "ping")
@@ -37,7 +37,7 @@ class LookupTest(TestCase):
 
     def test_request_and_reply(self) -> None:
         """The step arrives at 110, and its reply at 120."""
-        assert told(third(DETAIL)) == [
+        assert told(extended(DETAIL)) == [
             "100 n3 lookup 1",
             "100 n3 ask step n0 call=3 key=1 since=100",
             "110 n0 send step-reply n3",
@@ -47,7 +47,7 @@ class LookupTest(TestCase):
 
     def test_lost_request(self) -> None:
         """The line `lose` is made within the call. At 140 the step is sent again, as message 5 of the call 3."""
-        assert told(third("loss_ppm = 20387", "retries = 1", DETAIL)) == [
+        assert told(extended("loss_ppm = 20387", "retries = 1", DETAIL)) == [
             "100 n3 lookup 1",
             "100 n3 lose step n0",
             "100 n3 ask step n0 call=3 key=1 since=100",
@@ -60,7 +60,7 @@ class LookupTest(TestCase):
 
     def test_all_sendings_are_lost(self) -> None:
         """A request that is sent again and lost has all three lines. The end of the lookup needs no message."""
-        assert told(third("loss_ppm = 1000000", "retries = 1", DETAIL)) == [
+        assert told(extended("loss_ppm = 1000000", "retries = 1", DETAIL)) == [
             "100 n3 lookup 1",
             "100 n3 lose step n0",
             "100 n3 ask step n0 call=3 key=1 since=100",
@@ -164,21 +164,21 @@ class KeyTest(TestCase):
     """The key `detail`."""
 
     def test_limits(self) -> None:
-        """It is a boolean of the third profile, and the last key of its kind."""
-        assert fault(third("detail = false")) == fault(third(DETAIL)) == "accepted"
+        """It is a boolean of the extended profile, and the last key of its kind."""
+        assert fault(extended("detail = false")) == fault(extended(DETAIL)) == "accepted"
         for value in ("1", '"true"', "1.0", "[true]"):
-            assert fault(third(f"detail = {value}")) == "S4 WrongType top detail"
-        assert fault(third("detail = 1", "check_us = true")) == "S4 WrongType top check_us"
+            assert fault(extended(f"detail = {value}")) == "S4 WrongType top detail"
+        assert fault(extended("detail = 1", "check_us = true")) == "S4 WrongType top check_us"
         for profile in (1, 2):
             assert fault(PLAIN.replace("profile = 2", f"profile = {profile}\n{DETAIL}")) == "S2 UnknownKey top"
 
     def test_default(self) -> None:
         """Without the key there are no such lines."""
-        assert ran(third()) == ran(third("detail = false")) and len(ran(third())[0]) == 3
+        assert ran(extended()) == ran(extended("detail = false")) and len(ran(extended())[0]) == 3
 
 
 class RandomScenariosTest(TestCase):
-    """Random scenarios of the third profile, with detail and without."""
+    """Random scenarios of the extended profile, with detail and without."""
 
     def test_lines_and_messages(self) -> None:
         """The other lines and the report stay as they are, and the lines tell of as many messages as were made."""
@@ -194,7 +194,7 @@ class RandomScenariosTest(TestCase):
                 assert len(lines) == made[kind] + (lost[kind] if word == "ask" else 0)
 
     def test_some_have_the_key(self) -> None:
-        """A third of those of the third profile."""
+        """A third of those of the extended profile."""
         having = []
         for seed in range(60):
             toml, csv = scenario_files(seed)

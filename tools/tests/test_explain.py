@@ -174,12 +174,12 @@ class ExplainTest(TestCase):
         assert found.hints == ["`spread_us` is a key of the top: put it above the first heading"]
         unknown, wrong = faults(changed(("profile = 1", 'profile = "2"\nloss_ppm = 5')))
         assert (unknown.fault, wrong.fault) == ("S2 UnknownKey top", "S4 WrongType top profile")
-        assert (wrong.allowed, wrong.hints) == ("an integer from 1 to 3", ["without quotes: profile = 2"])
+        assert (wrong.allowed, wrong.hints) == ("the integers 1, 2 and 4", ["without quotes: profile = 2"])
         assert faults(changed(("profile = 1", "profile = 2\nloss_ppm = 5\nspread_us = 5"))) == []
 
-    def test_keys_of_the_third_profile(self) -> None:
+    def test_keys_of_the_extended_profile(self) -> None:
         """Its own key in other profiles, misspelled, below a heading, out of range; other ranges are the second's."""
-        hint = "profile 3 has `retries`: write profile = 3"
+        hint = "profile 4 has `retries`: write profile = 4"
         for profile in (1, 2):
             (found,) = faults(changed(("profile = 1", f"profile = {profile}\nretries = 1")))
             assert (found.fault, found.line, found.hints) == ("S2 UnknownKey top", 2, [hint])
@@ -187,12 +187,12 @@ class ExplainTest(TestCase):
         assert found.hints == [f"did you mean `retries`? {hint}"]
         (found,) = faults(changed(("profile = 1", "profile = 2"), ("[churn]", "[churn]\nretries = 1")))
         assert found.hints == [f"{hint}, and put it above the first heading"]
-        (found,) = faults(changed(("profile = 1", "profile = 3"), ("[churn]", "[churn]\nretries = 1")))
+        (found,) = faults(changed(("profile = 1", "profile = 4"), ("[churn]", "[churn]\nretries = 1")))
         assert found.hints == ["`retries` is a key of the top: put it above the first heading"]
-        (found,) = faults(changed(("profile = 1", "profile = 3\nretries = 4")))
+        (found,) = faults(changed(("profile = 1", "profile = 4\nretries = 4")))
         assert (found.fault, found.allowed) == ("S5 OutOfRange top retries", "an integer from 0 to 3")
-        assert faults(changed(("profile = 1", "profile = 3\nloss_ppm = 5\nspread_us = 5\nretries = 3"))) == []
-        (found,) = faults(changed(("profile = 1", "profile = 3"), ("bits = 3", "bits = 129")))
+        assert faults(changed(("profile = 1", "profile = 4\nloss_ppm = 5\nspread_us = 5\nretries = 3"))) == []
+        (found,) = faults(changed(("profile = 1", "profile = 4"), ("bits = 3", "bits = 129")))
         assert (found.allowed, found.hints) == ("an integer from 3 to 128", [])
 
     def test_ranges_of_both_profiles(self) -> None:
@@ -219,8 +219,17 @@ class ExplainTest(TestCase):
             "S5 OutOfRange top node", ["profile 2 allows up to 4096 tables: write profile = 2"]
         )
         assert faults(changed(second, ("[[command]]", more + "[[command]]"), ("bits = 3", "bits = 64"))) == []
-        (found,) = faults(changed(("profile = 1", "profile = 4")))
-        assert (found.fault, found.allowed) == ("S5 OutOfRange top profile", "an integer from 1 to 3")
+        (found,) = faults(changed(("profile = 1", "profile = 5")))
+        assert (found.fault, found.allowed) == ("S5 OutOfRange top profile", "the integers 1, 2 and 4")
+        assert found.hints == []
+
+    def test_number_that_is_not_in_use(self) -> None:
+        """There is no profile 3: the file says so whether the number itself or a key of profile 4 is refused first."""
+        hint = ["the number 3 is not in use: the profile after 2 is 4, so write profile = 4"]
+        (found,) = faults(changed(("profile = 1", "profile = 3")))
+        assert (found.fault, found.hints) == ("S5 OutOfRange top profile", hint)
+        found = faults(changed(("profile = 1", "profile = 3\nretries = 1")))[0]
+        assert (found.fault, found.hints) == ("S2 UnknownKey top", hint)
 
     def test_window_and_spread(self) -> None:
         """A spread does not make a latency long enough."""

@@ -1,6 +1,6 @@
-"""What tools/explain says of the later keys of the third profile: coordinates, pauses and checks.
+"""What tools/explain says of the later keys of the extended profile: coordinates, pauses and checks.
 
-The nodes n0, n1 and n3 begin at the lines 17, 21 and 25; in profile 3 nothing else is changed but what a test says.
+The nodes n0, n1 and n3 begin at the lines 17, 21 and 25; in profile 4 nothing else is changed but what a test says.
 """
 
 from unittest import TestCase
@@ -8,14 +8,14 @@ from unittest import TestCase
 from tests.test_explain import SOUND, changed, faults
 from tests.test_explain_traps import spoken
 
-THIRD = ("profile = 1", "profile = 3")
+EXTENDED = ("profile = 1", "profile = 4")
 IDS = ("id = 0", "id = 1", "id = 3")
 
 
 def placed(*lines: str, window: int = 1) -> str:
-    """The world in profile 3, with these lines behind the identifiers of its three nodes."""
+    """The world in profile 4, with these lines behind the identifiers of its three nodes."""
     changes = [(ident, f"{ident}\n{line}") for ident, line in zip(IDS, lines, strict=True) if line]
-    return changed(THIRD, ("window_us = 10", f"window_us = {window}"), *changes)
+    return changed(EXTENDED, ("window_us = 10", f"window_us = {window}"), *changes)
 
 
 class ExplainCoordinatesTest(TestCase):
@@ -31,8 +31,8 @@ class ExplainCoordinatesTest(TestCase):
         assert (found[0].line, found[0].hints, found[0].allowed) == (17, [hint], "an integer from 0 to 500000000")
 
     def test_other_profiles(self) -> None:
-        """The keys belong to profile 3, also if they are misspelled or in another table."""
-        hint = "profile 3 has `height_us`: write profile = 3"
+        """The keys belong to profile 4, also if they are misspelled or in another table."""
+        hint = "profile 4 has `height_us`: write profile = 4"
         for profile in (1, 2):
             (found,) = faults(changed(("profile = 1", f"profile = {profile}"), ("id = 1", "id = 1\nheight_us = 5")))
             assert (found.fault, found.line, found.hints) == ("S2 UnknownKey node 2", 24, [hint])
@@ -40,7 +40,7 @@ class ExplainCoordinatesTest(TestCase):
         assert found.hints == [f"did you mean `height_us`? {hint}"]
         (found,) = faults(changed(("seed = 1", "seed = 1\nheight_us = 5")))
         assert found.hints == [f"{hint}, and put it below a heading [[node]]"]
-        (found,) = faults(changed(THIRD, ("seed = 1", "seed = 1\nheight_us = 5")))
+        (found,) = faults(changed(EXTENDED, ("seed = 1", "seed = 1\nheight_us = 5")))
         assert found.hints == ["`height_us` is a key of [[node]]"]
 
     def test_low_heights(self) -> None:
@@ -68,30 +68,30 @@ class ExplainLaterTest(TestCase):
         """Each is named with its profile, and checked in it."""
         for key in ("join_pause_us", "join_forever", "check_us", "detail"):
             (found,) = faults(changed(("seed = 1", f"seed = 1\n{key} = 1")))
-            assert found.hints == [f"profile 3 has `{key}`: write profile = 3"]
-        (found,) = faults(changed(THIRD, ("seed = 1", "seed = 1\njoin_forever = 1")))
+            assert found.hints == [f"profile 4 has `{key}`: write profile = 4"]
+        (found,) = faults(changed(EXTENDED, ("seed = 1", "seed = 1\njoin_forever = 1")))
         assert (found.fault, found.hints) == ("S4 WrongType top join_forever", ["join_forever = true"])
-        (found,) = faults(changed(THIRD, ("seed = 1", 'seed = 1\ndetail = "yes"')))
+        (found,) = faults(changed(EXTENDED, ("seed = 1", 'seed = 1\ndetail = "yes"')))
         assert (found.fault, found.hints) == ("S4 WrongType top detail", ["detail = true"])
-        (found,) = faults(changed(THIRD, ("seed = 1", 'seed = 1\ncheck_us = "5s"')))
+        (found,) = faults(changed(EXTENDED, ("seed = 1", 'seed = 1\ncheck_us = "5s"')))
         assert (found.fault, found.hints) == ("S4 WrongType top check_us", ["in microseconds: 5000000"])
 
     def test_wider_ranges(self) -> None:
-        """Events and nodes that profile 3 allows, from profile 1 and 2; and those that no profile allows."""
+        """Events and nodes that profile 4 allows, from profile 1 and 2; and those that no profile allows."""
         for profile in (1, 2):
             lines = f"profile = {profile}\nmax_events = 50000001"
             (found,) = faults(changed(("profile = 1", lines)))
-            assert found.hints == ["profile 3 allows up to 100000000000: write profile = 3"]
+            assert found.hints == ["profile 4 allows up to 100000000000: write profile = 4"]
         nodes = "".join(f'[[node]]\nname = "x{i}"\n' for i in range(4094))
         second = ("profile = 1", "profile = 2"), ("bits = 3", "bits = 64")
         (found,) = faults(changed(*second, ("[[command]]", nodes + "[[command]]")))
-        assert found.hints == ["profile 3 allows up to 65536 tables: write profile = 3"]
+        assert found.hints == ["profile 4 allows up to 65536 tables: write profile = 4"]
         (found,) = faults(changed(("seed = 1", "seed = 1\nmax_events = 100000000001")))
         assert (found.fault, found.hints) == ("S5 OutOfRange top max_events", [])
 
     def test_timeout_of_coordinates(self) -> None:
         """n0 and n3 are farthest from each other, with 5 + 9 + 7: a round trip of 42 is above the timeout of 40."""
-        text = SOUND.replace("profile = 1", "profile = 3")
+        text = SOUND.replace("profile = 1", "profile = 4")
         for ident, line in zip(IDS, ("x_us = 0\ny_us = 0\nheight_us = 9", "x_us = 1\ny_us = 1\nheight_us = 9",
                                      "x_us = 3\ny_us = 4\nheight_us = 7"), strict=True):
             text = text.replace(ident, f"{ident}\n{line}", 1)
@@ -101,9 +101,9 @@ class ExplainLaterTest(TestCase):
 
     def test_duration(self) -> None:
         """A run that is shorter than a check or a pause."""
-        (line,) = spoken(SOUND.replace("profile = 1", "profile = 3\ncheck_us = 9001\njoin_pause_us = 9002"))
+        (line,) = spoken(SOUND.replace("profile = 1", "profile = 4\ncheck_us = 9001\njoin_pause_us = 9002"))
         assert line.startswith(
             "duration_us = 9000 (9ms) is below check_us = 9001 (no predecessor is checked), "
             "join_pause_us = 9002 (no join is tried again)"
         )
-        assert spoken(SOUND.replace("profile = 1", "profile = 3\ncheck_us = 9000\njoin_pause_us = 0")) == []
+        assert spoken(SOUND.replace("profile = 1", "profile = 4\ncheck_us = 9000\njoin_pause_us = 0")) == []

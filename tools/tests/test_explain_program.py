@@ -26,7 +26,7 @@ class ExplainProgramTest(TestCase):
 
     def test_the_good_world_is_accepted(self) -> None:
         """Else the spoiled files would say nothing."""
-        for profile in (1, 2, 3):
+        for profile in (1, 2, 4):
             files = good_world(profile).scenario().encode(), good_world(profile).latency().encode()
             assert answer(*files) == answer_of(program(), *files) == "accepted: 5 nodes, 4 commands"
 

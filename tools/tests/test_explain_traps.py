@@ -46,10 +46,10 @@ class ExplainTrapsTest(TestCase):
 
     def test_timeout_with_retries(self) -> None:
         """A call lasts for three timeouts, 120: a round trip of 120 is answered late, and one of 122 never."""
-        third = SOUND.replace("profile = 1", "profile = 3\nretries = 2")
-        assert spoken(third, "n0,n1,20\n") == []
-        assert spoken(third, "n0,n1,60\n")[0].endswith("120 (120us): calls between such nodes are always sent again")
-        assert spoken(third, "n0,n1,61\n")[0].endswith("122 (122us): calls between such nodes always time out")
+        extended = SOUND.replace("profile = 1", "profile = 4\nretries = 2")
+        assert spoken(extended, "n0,n1,20\n") == []
+        assert spoken(extended, "n0,n1,60\n")[0].endswith("120 (120us): calls between such nodes are always sent again")
+        assert spoken(extended, "n0,n1,61\n")[0].endswith("122 (122us): calls between such nodes always time out")
 
     def test_duration(self) -> None:
         """Below a period: each one that is longer is named."""
@@ -95,7 +95,7 @@ class EventsTrapTest(TestCase):
 
     def test_profile_that_allows_more(self) -> None:
         """3 s have 10,000,000 events and 6 s 20,000,000: 20 s need 66,666,666. Profiles 1 and 2 allow 50,000,000."""
-        for profile, hint in ((1, "; profile 3 allows up to 100000000000"), (3, "")):
+        for profile, hint in ((1, "; profile 4 allows up to 100000000000"), (4, "")):
             top = parse_toml(BASE.encode()) | {"profile": profile, "stabilize_us": 100, "max_events": 50_000_000}
             with patch("chordsim_tools.explain.traps.events_until", side_effect=(10_000_000, 20_000_000)):
                 lines = events_trap(Path("/none"), top, b"")
@@ -130,7 +130,7 @@ class OtherTrapsTest(TestCase):
             ("--spread 1 --profile 2", "--spread 1: 1 without a unit is 1 microsecond; write 1ms, 1s or 1m, or 1us"),
             ("--timeout 39ms", "timeout_us = 39000 (39ms) is below the greatest round trip, 40000 (40ms)"),
             ("--profile 2 --spread 81ms", "timeout_us = 200000 (200ms) is below the greatest round trip, 202000"),
-            ("--profile 3 --spread 81ms --retries 1", "timeout_us = 200000 (200ms) is below the greatest round trip,"),
+            ("--profile 4 --spread 81ms --retries 1", "timeout_us = 200000 (200ms) is below the greatest round trip,"),
             ("--duration 400ms", "duration_us = 400000 (400ms) is below stabilize_us = 500000"),
         ):
             with self.subTest(words=words):

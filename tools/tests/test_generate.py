@@ -43,32 +43,32 @@ REFUSED = [
     ("--audit 119us", "--audit: a time of 120us to 1000s"),
     ("--jitter 1001s", "--jitter: a time of 0us to 1000s"),
     ("--max-events 50000001", "--max-events: 1 to 50000000"),
-    ("--profile 4", "--profile: 1 to 3"),
+    ("--profile 3", "--profile: 1, 2 or 4, not '3'"),
     ("--profile 2 --bits 129", "--bits: 3 to 128"),
     ("--profile 2 --nodes 4097", "--nodes: 2 to 4096"),
     ("--profile 2 --loss 1000001", "--loss: 0 to 1000000"),
     ("--profile 2 --spread 1001s", "--spread: a time of 0us to 1000s"),
-    ("--loss 0", "--loss: only with --profile 2 or 3"),
-    ("--profile 1 --spread 1ms", "--spread: only with --profile 2 or 3"),
-    ("--profile 3 --bits 129", "--bits: 3 to 128"),
-    ("--profile 3 --nodes 65537", "--nodes: 2 to 65536"),
-    ("--profile 3 --retries 4", "--retries: 0 to 3"),
-    ("--profile 2 --retries 0", "--retries: only with --profile 3"),
-    ("--join-pause 0", "--join-pause: only with --profile 3"),
-    ("--profile 2 --join-forever", "--join-forever: only with --profile 3"),
-    ("--profile 2 --check 1s", "--check: only with --profile 3"),
-    ("--profile 2 --detail", "--detail: only with --profile 3"),
-    ("--profile 3 --check 1001s", "--check: a time of 0us to 1000s"),
-    ("--profile 3 --join-pause 1001s", "--join-pause: a time of 0us to 1000s"),
-    ("--profile 3 --max-events 100000000001", "--max-events: 1 to 100000000000"),
-    ("--profile 2 --coordinates square:1s:1us..1us", "--coordinates: only with --profile 3"),
-    ("--profile 3 --coordinates square:501s:1us..1us", "--coordinates: square:SIDE:MIN..MAX (SIDE 0us to 500s"),
-    ("--profile 3 --coordinates square:1s:0us..1us", "--coordinates: square:SIDE:MIN..MAX"),
-    ("--profile 3 --coordinates square:1s:1us..101s", "--coordinates: square:SIDE:MIN..MAX"),
-    ("--profile 3 --coordinates circle:1s:1us..1us", "--coordinates: square:SIDE:MIN..MAX"),
-    ("--profile 3 --coordinates king:1s", "king, or file:NAME, not 'king:1s'"),
-    ("--profile 3 --coordinates file:", "--coordinates: square:SIDE:MIN..MAX"),
-    ("--profile 3 --coordinates square:1s:5ms..5ms --window 10001us", "--window: a time of 1us to 10ms (the sum of"),
+    ("--loss 0", "--loss: only with --profile 2 or 4"),
+    ("--profile 1 --spread 1ms", "--spread: only with --profile 2 or 4"),
+    ("--profile 4 --bits 129", "--bits: 3 to 128"),
+    ("--profile 4 --nodes 65537", "--nodes: 2 to 65536"),
+    ("--profile 4 --retries 4", "--retries: 0 to 3"),
+    ("--profile 2 --retries 0", "--retries: only with --profile 4"),
+    ("--join-pause 0", "--join-pause: only with --profile 4"),
+    ("--profile 2 --join-forever", "--join-forever: only with --profile 4"),
+    ("--profile 2 --check 1s", "--check: only with --profile 4"),
+    ("--profile 2 --detail", "--detail: only with --profile 4"),
+    ("--profile 4 --check 1001s", "--check: a time of 0us to 1000s"),
+    ("--profile 4 --join-pause 1001s", "--join-pause: a time of 0us to 1000s"),
+    ("--profile 4 --max-events 100000000001", "--max-events: 1 to 100000000000"),
+    ("--profile 2 --coordinates square:1s:1us..1us", "--coordinates: only with --profile 4"),
+    ("--profile 4 --coordinates square:501s:1us..1us", "--coordinates: square:SIDE:MIN..MAX (SIDE 0us to 500s"),
+    ("--profile 4 --coordinates square:1s:0us..1us", "--coordinates: square:SIDE:MIN..MAX"),
+    ("--profile 4 --coordinates square:1s:1us..101s", "--coordinates: square:SIDE:MIN..MAX"),
+    ("--profile 4 --coordinates circle:1s:1us..1us", "--coordinates: square:SIDE:MIN..MAX"),
+    ("--profile 4 --coordinates king:1s", "king, or file:NAME, not 'king:1s'"),
+    ("--profile 4 --coordinates file:", "--coordinates: square:SIDE:MIN..MAX"),
+    ("--profile 4 --coordinates square:1s:5ms..5ms --window 10001us", "--window: a time of 1us to 10ms (the sum of"),
     ("--lookup-gap 2s..1s", "--lookup-gap: none or MIN..MAX"),
     ("--lookup-gap 0..1s", "--lookup-gap: none or MIN..MAX"),
     ("--churn-uniform 1s..2s 0..1s", "--churn-uniform: two spans"),
@@ -122,7 +122,7 @@ def ups(scenario: Scenario) -> dict[int, int]:
 
 def random_arguments(random: Random) -> list[str]:
     """Words that the tool takes."""
-    profile = random.choice((1, 2, 3))
+    profile = random.choice((1, 2, 4))
     bits = random.choice((3, 4, 8, 31, 32, 33, 63, 64) if profile == 1 else (3, 8, 64, 65, 96, 97, 127, 128))
     nodes = random.randint(2, min(60, 2**bits))
     initial = random.randint(2, nodes)
@@ -147,7 +147,7 @@ def random_arguments(random: Random) -> list[str]:
         given += ["--arrive", f"0..{duration - 1}us"]
     if random.random() < 0.5:
         given += ["--lookups", random.choice(("0.5", "3.25")), "--keys", random.choice(("uniform", "zipf:0.8:7"))]
-    if profile == 3 and random.random() < 0.7:
+    if profile == 4 and random.random() < 0.7:
         given += ["--retries", str(random.randint(0, 3))]
     if profile >= 2 and random.random() < 0.7:
         given += ["--loss", random.choice(("0", "1000000", "20000")), "--spread", random.choice(("0", "3us", "1000s"))]
@@ -199,55 +199,55 @@ class GenerateTest(TestCase):
         assert (plain["loss_ppm"], plain["spread_us"]) == (0, 0)
         assert text_of("--profile 1 --seed 1").split("\n", 4)[4] == text_of("--seed 1").split("\n", 4)[4]
 
-    def test_third_profile(self) -> None:
+    def test_extended_profile(self) -> None:
         """`retries` stands behind loss and spread, and is 0 if it is not given."""
-        ring = tomllib.loads(text_of("--profile 3 --bits 100 --loss 20000 --retries 2"))
-        assert [ring[key] for key in ("profile", "bits", "loss_ppm", "spread_us", "retries")] == [3, 100, 20_000, 0, 2]
+        ring = tomllib.loads(text_of("--profile 4 --bits 100 --loss 20000 --retries 2"))
+        assert [ring[key] for key in ("profile", "bits", "loss_ppm", "spread_us", "retries")] == [4, 100, 20_000, 0, 2]
         assert list(ring)[12:16] == ["max_events", "loss_ppm", "spread_us", "retries"]
-        second, third = (tomllib.loads(text_of(f"--profile {profile} --seed 1")) for profile in (2, 3))
-        assert third == second | {"profile": 3, "retries": 0}
+        second, extended = (tomllib.loads(text_of(f"--profile {profile} --seed 1")) for profile in (2, 4))
+        assert extended == second | {"profile": 4, "retries": 0}
 
     def test_joins_and_checks(self) -> None:
         """The keys stand behind `retries` if they are given, and only then."""
-        arguments = "--profile 3 --check 1s --join-forever --join-pause 5s"
+        arguments = "--profile 4 --check 1s --join-forever --join-pause 5s"
         ring = tomllib.loads(text_of(arguments))
         wanted = [("retries", 0), ("join_pause_us", 5_000_000), ("join_forever", True), ("check_us", 1_000_000)]
         assert list(ring.items())[15:19] == wanted
-        plain = tomllib.loads(text_of("--profile 3 --check 0"))
+        plain = tomllib.loads(text_of("--profile 4 --check 0"))
         assert plain["check_us"] == 0 and "join_pause_us" not in plain and "join_forever" not in plain
-        assert text_of(arguments).splitlines()[2].endswith("--profile 3 --join-pause 5s --join-forever --check 1s")
+        assert text_of(arguments).splitlines()[2].endswith("--profile 4 --join-pause 5s --join-forever --check 1s")
 
     def test_detail(self) -> None:
-        """It stands behind the others, in the third profile alone."""
-        ring = tomllib.loads(text_of("--profile 3 --detail --check 1s"))
+        """It stands behind the others, in the extended profile alone."""
+        ring = tomllib.loads(text_of("--profile 4 --detail --check 1s"))
         assert list(ring.items())[16:18] == [("check_us", 1_000_000), ("detail", True)]
-        assert "detail" not in tomllib.loads(text_of("--profile 3"))
+        assert "detail" not in tomllib.loads(text_of("--profile 4"))
 
     def test_coordinates(self) -> None:
         """Places of the square and heights of the span, both to their ends; the window is the two least heights."""
-        arguments = "--profile 3 --nodes 300 --coordinates square:9us:3us..7us"
+        arguments = "--profile 4 --nodes 300 --coordinates square:9us:3us..7us"
         ring = made(arguments)
         places = [known(node.coordinates) for node in ring.nodes]
         assert {place.x_us for place in places} == {place.y_us for place in places} == set(range(10))
         assert {place.height_us for place in places} == set(range(3, 8))
         assert ring.window_us == 6 and made(f"{arguments} --window 2us").window_us == 2
-        alike = made("--profile 3 --nodes 2 --coordinates square:0:4ms..4ms")
+        alike = made("--profile 4 --nodes 2 --coordinates square:0:4ms..4ms")
         assert [node.coordinates for node in alike.nodes] == [Coordinates(0, 0, 4000)] * 2
         assert alike.window_us == 8000
 
     def test_coordinates_of_their_own(self) -> None:
         """More nodes, churn and lookups leave the coordinates of a node; a seed gives others."""
-        arguments = "--profile 3 --coordinates square:1s:1ms..9ms"
+        arguments = "--profile 4 --coordinates square:1s:1ms..9ms"
         few = [node.coordinates for node in made(f"{arguments} --nodes 20").nodes]
         more = made(f"{arguments} --nodes 30 --lifetime exp:20s --lookups 0.1 --bits 64")
         assert [node.coordinates for node in more.nodes][:20] == few
         assert [node.coordinates for node in made(f"{arguments} --nodes 20 --seed 2").nodes] != few
-        other = made("--profile 3 --nodes 30 --lifetime exp:20s --lookups 0.1 --bits 64")
+        other = made("--profile 4 --nodes 30 --lifetime exp:20s --lookups 0.1 --bits 64")
         assert other.commands == more.commands
 
     def test_many_nodes(self) -> None:
         """65,536 nodes are written. More bytes than the program reads are refused."""
-        text = text_of("--profile 3 --nodes 65536 --coordinates square:60ms:1ms..5ms")
+        text = text_of("--profile 4 --nodes 65536 --coordinates square:60ms:1ms..5ms")
         assert text.count("[[node]]") == text.count("height_us = ") == 65_536 and len(text) < 16_777_216
         with mock.patch("chordsim_tools.generate.command.GREATEST_SIZE", len(text_of(""))):
             assert ended(main)[0] == 0
@@ -403,7 +403,7 @@ class GenerateTest(TestCase):
         with tempfile.TemporaryDirectory() as folder:
             places, x = Path(folder) / "p.csv", f"{folder}/x"
             places.write_text("n0,0,0,1000\nn1,5,0,1000\n")
-            words = ["--profile", "3", "--nodes", "2", "--coordinates", f"file:{places}", "-o", str(places)]
+            words = ["--profile", "4", "--nodes", "2", "--coordinates", f"file:{places}", "-o", str(places)]
             line = f"tools/generate: -o: {places} is a file that is read (see tools/generate --help)\n"
             assert ended(main, *words) == (2, "", line)
             assert places.read_text() == "n0,0,0,1000\nn1,5,0,1000\n"
@@ -462,7 +462,7 @@ class GenerateTest(TestCase):
         """Both files of a seed are read, and are the same each time; two of six seeds have each profile."""
         with tempfile.TemporaryDirectory() as folder:
             rows = Path(folder) / "links.csv"
-            for seed, profile in enumerate((1, 1, 2, 2, 3, 3, 1)):
+            for seed, profile in enumerate((1, 1, 2, 2, 4, 4, 1)):
                 with self.subTest(seed=seed):
                     status, text, err = ended(main, "--random", str(seed), "--links", str(rows))
                     assert (status, err, (text, rows.read_text())) == (0, "", scenario_files(seed))

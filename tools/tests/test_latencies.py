@@ -1,6 +1,6 @@
 """Latencies by the program: of coordinates, of a row in a large ring, and of a row for each pair of nodes.
 
-In the third profile with detail a lookup of one hop shows the time of its request and that of its reply.
+In the extended profile with detail a lookup of one hop shows the time of its request and that of its reply.
 """
 
 from tests.support.rings import IN_THE_PLANE, ONE_HOP, SETTINGS, THREE, TOP, Example, ProgramTest, of_profile, ring_of
@@ -44,14 +44,14 @@ class Latencies(ProgramTest):
 
     def test_coordinates(self) -> None:
         """Trace and report by each engine, and each latency of the ring in the plane, in both directions."""
-        self.all_leave(FOUND_BY_PLACE.text("profile = 3"), FOUND_BY_PLACE.trace, FOUND_BY_PLACE.report)
+        self.all_leave(FOUND_BY_PLACE.text("profile = 4"), FOUND_BY_PLACE.trace, FOUND_BY_PLACE.report)
         for node, key, asked, owner, latency in (
             ("n0", 2, "n1", "n3", 16),
             ("n1", 4, "n3", "n0", 15),
             ("n3", 1, "n0", "n1", 14),
         ):
             with self.subTest(node=node, asked=asked):
-                text = of_profile("profile = 3\ndetail = true", TOP + SETTINGS + IN_THE_PLANE + lookup_of(node, key))
+                text = of_profile("profile = 4\ndetail = true", TOP + SETTINGS + IN_THE_PLANE + lookup_of(node, key))
                 trace = one_hop(node, key, asked, owner, latency)
                 trace += "200 audit members=3 dead=0 ring=3 ordered=yes principals=3 sufficient=yes\n"
                 self.assertEqual(self.left(text).trace, trace)
@@ -70,7 +70,7 @@ class Latencies(ProgramTest):
         for nodes, rows in ((IN_THE_PLANE, ""), (THREE, "n0,n1,16\nn1,n3,15\nn3,n0,14\n")):
             with self.subTest(rows):
                 text = TOP + settings + "finger_us = 1000\n" + nodes + crashes
-                lines = self.left(of_profile("profile = 3\ndetail = true", text), rows).trace.splitlines()
+                lines = self.left(of_profile("profile = 4\ndetail = true", text), rows).trace.splitlines()
                 self.assertIn("230 n0 ask get-state n0 call=15", lines)
                 self.assertIn("231 n0 send state-reply n0", lines)
 
@@ -79,7 +79,7 @@ class Latencies(ProgramTest):
         ring, row = ring_of(12, 4096, 3000), "n1,n4095,25\n"
         self.has_answer(ring, row, "ok nodes=4096 commands=1")
         # 25 each way are more than the timeout of this ring.
-        text = ring.replace("profile = 2", "profile = 3\ndetail = true").replace("timeout_us = 40", "timeout_us = 60")
+        text = ring.replace("profile = 2", "profile = 4\ndetail = true").replace("timeout_us = 40", "timeout_us = 60")
         nodes = text.partition("[[command]]")[0]
         for key, asked, owner, latency in ((2, "n1", "n2", 25), (1, "n0", "n1", 10)):
             with self.subTest(asked=asked):
@@ -98,7 +98,7 @@ class Latencies(ProgramTest):
         self.has_answer(text, rows, "ok nodes=512 commands=0")
         for word in ("duration_us", "audit_us", "stabilize_us", "finger_us"):
             text = text.replace(f"{word} = 10\n", f"{word} = 3000\n")
-        text = of_profile("profile = 3\ndetail = true", text)
+        text = of_profile("profile = 4\ndetail = true", text)
         for node, key, asked, owner, latency in (
             ("n0", 2, "n1", "n2", 11),
             ("n510", 0, "n511", "n0", 1031),

@@ -176,7 +176,7 @@ class KingTest(Folder):
     def test_generate(self) -> None:
         """The law of tools/generate is the same, and so is a file of the tool."""
         places = self.file("places.csv", ended(main, "--king", "--nodes", "20", "--seed", "3")[1])
-        arguments = ("--profile", "3", "--nodes", "20", "--seed", "3", "--timeout", "1s", "--coordinates")
+        arguments = ("--profile", "4", "--nodes", "20", "--seed", "3", "--timeout", "1s", "--coordinates")
         made = [ended(generate, *arguments, law) for law in ("king", f"file:{places}")]
         for status, text, err in made:
             assert (status, err) == (0, "")
@@ -190,7 +190,7 @@ class PlacesFileTest(Folder):
     def generated(self, text: str) -> tuple[int, str]:
         """The status of tools/generate for two nodes with such a file, and what it says."""
         name = self.file("places.csv", text)
-        arguments = f"--profile 3 --nodes 2 --list 1 --latency 9s --coordinates file:{name}".split()
+        arguments = f"--profile 4 --nodes 2 --list 1 --latency 9s --coordinates file:{name}".split()
         status, _, err = ended(generate, *arguments)
         # Nodes that are so far from each other have too short a timeout.
         return status, "" if err.startswith("warning: timeout_us") else err.replace(name, "FILE")
@@ -211,7 +211,7 @@ class PlacesFileTest(Folder):
     def test_study(self) -> None:
         """A study names the file relative to its own. Coordinates are no latency file."""
         self.file("places.csv", "n0,1,2,3\nn1,4,5,6\n")
-        arguments = "--profile 3 --nodes 2 --list 1 --coordinates file:places.csv --duration 1s".split()
+        arguments = "--profile 4 --nodes 2 --list 1 --coordinates file:places.csv --duration 1s".split()
         text = f'question = "?"\nseeds = 1\ngenerate = {arguments}\n'
         study = read_study(Path(self.file("study.toml", text)))
         nodes = read_scenario(generated(study, (), 1).encode(), b"").nodes

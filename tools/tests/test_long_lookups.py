@@ -63,7 +63,7 @@ class LongLookups(ProgramTest):
         for profile, last in (
             ("profile = 1", ""),
             ("profile = 2", "losses 0\n"),
-            ("profile = 3", "losses 0\nagain 0\nforgotten 0\n"),
+            ("profile = 4", "losses 0\nagain 0\nforgotten 0\n"),
         ):
             with self.subTest(profile):
                 self.all_leave(of_profile(profile, text_of_three(61 * ONE_HOP)), trace, SIXTY_REPORT + last)

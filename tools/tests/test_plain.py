@@ -24,8 +24,8 @@ NAMES = (
 )
 # Of all profiles. Some have commands, some rows of latencies, and some more events than they allow.
 SEEDS = range(12)
-# Of the third profile, with pauses between joins and checks in most of them.
-THIRD_SEEDS = [seed for seed in range(60) if seed // 2 % 3 == 2]
+# Of the extended profile, with pauses between joins and checks in most of them.
+EXTENDED_SEEDS = [seed for seed in range(60) if seed // 2 % 3 == 2]
 FLAT_RING = """\
 1 0 0 0 0 0 0 0
 3 2 1 200 40 200 1000 1000 0 50000000 10
@@ -98,15 +98,15 @@ class ReferenceTest(Built):
         longer, shorter = sorted((plain.trace, trace), key=len, reverse=True)
         self.assertTrue(longer.startswith(shorter) if report is None else longer == shorter, "another trace")
 
-    def test_third_profile(self) -> None:
+    def test_extended_profile(self) -> None:
         """Random scenarios."""
-        for seed in THIRD_SEEDS:
+        for seed in EXTENDED_SEEDS:
             with self.subTest(seed=seed):
                 self.compare(*scenario_files(seed))
 
     def test_detail(self) -> None:
         """Random scenarios and an example whose traces tell of each message."""
-        for seed in THIRD_SEEDS[::2]:
+        for seed in EXTENDED_SEEDS[::2]:
             toml, csv = scenario_files(seed)
             with self.subTest(seed=seed):
                 self.compare(with_detail(toml), csv)
@@ -115,7 +115,7 @@ class ReferenceTest(Built):
     def test_coordinates(self) -> None:
         """Latencies by coordinates, which are near, or of two nodes so far that 2000^2 + 2000000^2 is 2000001^2 - 1."""
         places = iter(("x_us = 0\ny_us = 0\nheight_us = 10", "x_us = 2000\ny_us = 2000000\nheight_us = 5"))
-        arguments = "--profile 3 --nodes 24 --coordinates square:90ms:10us..20ms --window 10us"
+        arguments = "--profile 4 --nodes 24 --coordinates square:90ms:10us..20ms --window 10us"
         arguments += " --duration 9s --check 500ms"
         text = generated(arguments)
         far = re.sub("x_us = .*\ny_us = .*\nheight_us = .*", lambda found: next(places, found.group()), text)
@@ -125,7 +125,7 @@ class ReferenceTest(Built):
 
     def test_many_rows(self) -> None:
         """Rows of a latency file for more nodes than are in a table."""
-        text = generated("--profile 3 --nodes 4097 --latency 2s --window 1ms --duration 10ms --lookups 0.5")
+        text = generated("--profile 4 --nodes 4097 --latency 2s --window 1ms --duration 10ms --lookups 0.5")
         rows = "".join(f"n{i},n{(7 * i + 1) % 4097},{1000 + i}\n" for i in range(1, 600))
         plain, (trace, report) = self.plain(text, rows), expected(text, rows)
         self.assertEqual((plain.report, plain.trace), (report, trace))
@@ -197,12 +197,12 @@ class FlattenTest(TestCase):
     def test_coordinates(self) -> None:
         """The flat form of coordinates, with and without a height, and of the keys of joins and checks."""
         keys = "retries = 1\njoin_pause_us = 70\njoin_forever = true\ncheck_us = 90\ndetail = true"
-        changes = [("profile = 1", f"profile = 3\n{keys}")]
+        changes = [("profile = 1", f"profile = 4\n{keys}")]
         changes += [(f'"{name}"', f'"{name}"\nx_us = {x}\ny_us = 2\n{height}') for name, x, height in (
             ("n0", 1, "height_us = 9"), ("n1", 3, "height_us = 10"), ("n3", 5, "height_us = 8"),
         )]
         flat = flat_form(ring(*changes, ("window_us = 10", "window_us = 8"), ("height_us = 8", "")))
-        self.assertTrue(flat.startswith("3 0 0 1 70 1 90 1\n3 2 1"))
+        self.assertTrue(flat.startswith("4 0 0 1 70 1 90 1\n3 2 1"))
         self.assertIn("\nn3 3 1 0\n0\n1\n1 2 9\n3 2 10\n5 2 0\n1\n100 0", flat)
 
     def test_command(self) -> None:

@@ -42,8 +42,9 @@ TYPES: tuple[Change, ...] = (
 TOP_KEYS: tuple[Change, ...] = (
     ("profile = 1", "profile = 0", "S5 OutOfRange top profile"),
     ("profile = 1", "profile = 2", GOOD),
-    ("profile = 1", "profile = 3", GOOD),
-    ("profile = 1", "profile = 4", "S5 OutOfRange top profile"),
+    ("profile = 1", "profile = 4", GOOD),
+    ("profile = 1", "profile = 3", "S5 OutOfRange top profile"),
+    ("profile = 1", "profile = 5", "S5 OutOfRange top profile"),
     ("bits = 3", "bits = 2", "S5 OutOfRange top bits"),
     ("bits = 3", "bits = 64", GOOD),
     ("bits = 3", "bits = 65", "S5 OutOfRange top bits"),
@@ -276,7 +277,7 @@ SECOND: tuple[Change, ...] = (
     ("key = 1", 'key = "000000000000000000000000000000001"', "S5 OutOfRange command 1 key"),
 )
 """The ring of three with one lookup in the second profile, one text replaced by another, and the result."""
-THIRD: tuple[Change, ...] = (
+EXTENDED: tuple[Change, ...] = (
     ("seed = 1", "seed = 1\nloss_ppm = 0\nspread_us = 0\nretries = 0", GOOD),
     ("seed = 1", "seed = 1\nretries = 3", GOOD),
     ("seed = 1", "seed = 1\nretries = 4", "S5 OutOfRange top retries"),
@@ -284,17 +285,17 @@ THIRD: tuple[Change, ...] = (
     ("seed = 1", "seed = 1\nretries = true", "S4 WrongType top retries"),
     ("seed = 1", "seed = 1\nmax_events = 100000000000", GOOD),
     ("seed = 1", "seed = 1\nmax_events = 100000000001", "S5 OutOfRange top max_events"),
-    ("profile = 3", "profile = 2\nretries = 0", "S2 UnknownKey top"),
-    ("profile = 3", "profile = 2\ncheck_us = 0", "S2 UnknownKey top"),
+    ("profile = 4", "profile = 2\nretries = 0", "S2 UnknownKey top"),
+    ("profile = 4", "profile = 2\ncheck_us = 0", "S2 UnknownKey top"),
     ("seed = 1", "seed = 1\njoin_pause_us = 1000000000\njoin_forever = false\ncheck_us = 1000000000", GOOD),
     ("seed = 1", "seed = 1\njoin_pause_us = 1000000001\ncheck_us = 1000000001", "S5 OutOfRange top join_pause_us"),
     ("seed = 1", "seed = 1\njoin_forever = 1\ncheck_us = 1000000001", "S4 WrongType top join_forever"),
     ("seed = 1", 'seed = 1\ndetail = "yes"', "S4 WrongType top detail"),
-    ("profile = 3", "profile = 1\ndetail = false", "S2 UnknownKey top"),
+    ("profile = 4", "profile = 1\ndetail = false", "S2 UnknownKey top"),
     ("bits = 3", "bits = 128", GOOD),
     ("key = 1", 'key = "00000000000000000000000000000001"', GOOD),
 )
-"""The ring of three with one lookup in the third profile, one text replaced by another, and the result."""
+"""The ring of three with one lookup in the extended profile, one text replaced by another, and the result."""
 PLACED: tuple[Change, ...] = (
     ("", "", GOOD),
     ("height_us = 7\n", "", "S15 LatencyBelowWindow n3 n0"),
@@ -307,7 +308,7 @@ PLACED: tuple[Change, ...] = (
     ("x_us = 3", "x_us = 500000000", GOOD),
     ("x_us = 3", "x_us = 500000001", "S5 OutOfRange node 2 x_us"),
     ("height_us = 7", "height_us = 100000001", "S5 OutOfRange node 3 height_us"),
-    ("profile = 3", "profile = 2", "S2 UnknownKey node 1"),
+    ("profile = 4", "profile = 2", "S2 UnknownKey node 1"),
 )
 """The ring of three in the plane, one text replaced by another, and the result."""
 
@@ -451,13 +452,13 @@ class RefusedTexts(ProgramTest):
         """Its keys and ranges."""
         self.have_results(of_profile("profile = 2", text_of_three(NO_HOP)), SECOND)
 
-    def test_third_profile(self) -> None:
+    def test_extended_profile(self) -> None:
         """Its keys and ranges."""
-        self.have_results(of_profile("profile = 3", text_of_three(NO_HOP)), THIRD)
+        self.have_results(of_profile("profile = 4", text_of_three(NO_HOP)), EXTENDED)
 
     def test_coordinates(self) -> None:
         """Its keys of nodes. If a row is there too, a fault of the heights comes first."""
-        base = of_profile("profile = 3", TOP + SETTINGS + IN_THE_PLANE + ONE_HOP)
+        base = of_profile("profile = 4", TOP + SETTINGS + IN_THE_PLANE + ONE_HOP)
         self.have_results(base, PLACED)
         self.has_answer(base, "n0,n3,20", "S16 RowsAndCoordinates")
         self.has_answer(base.replace("height_us = 5", "", 1), "n0,n3,20", "S15 LatencyBelowWindow n0 n1")

@@ -1,6 +1,6 @@
-"""Requests that are sent again in the third profile, and draws of their own, by the program.
+"""Requests that are sent again in the extended profile, and draws of their own, by the program.
 
-Traces and reports were computed by hand, those with draws from words of the streams, which test_third_profile.py lists.
+Traces and reports were computed by hand, those with draws from words of the streams, which test_extended_profile.py lists.
 """
 
 from tests.support.rings import ONE_HOP, SETTINGS, THREE, Example, ProgramTest
@@ -99,16 +99,16 @@ class SentAgain(ProgramTest):
     def test_sent_again(self) -> None:
         """A request is sent again as often as the scenario says. A reply to any of its sendings is one to the call."""
         for profile, example in (
-            ("profile = 3\nloss_ppm = 20387\nretries = 1", FOUND_AGAIN),
-            ("profile = 3\nretries = 2", TAKEN_FOR_DEAD),
-            ("profile = 3\nretries = 3", LATE_REPLY),
+            ("profile = 4\nloss_ppm = 20387\nretries = 1", FOUND_AGAIN),
+            ("profile = 4\nretries = 2", TAKEN_FOR_DEAD),
+            ("profile = 4\nretries = 3", LATE_REPLY),
         ):
             with self.subTest(profile):
                 self.all_leave(example.text(profile), example.trace, example.report)
 
     def test_detail(self) -> None:
         """With detail each message has a line, and the report is as without."""
-        toml = FOUND_AGAIN.text("profile = 3\nloss_ppm = 20387\nretries = 1\ndetail = true")
+        toml = FOUND_AGAIN.text("profile = 4\nloss_ppm = 20387\nretries = 1\ndetail = true")
         self.all_leave(toml, TOLD_AGAIN, FOUND_AGAIN.report)
 
     def test_spreads_have_words_of_their_own(self) -> None:
@@ -121,4 +121,4 @@ class SentAgain(ProgramTest):
             "127 n3 found 1 n1 hops=1 timeouts=0 us=27\n"
             "200 audit members=3 dead=0 ring=3 ordered=yes principals=3 sufficient=yes\n"
         )
-        self.all_write(FOUND_AGAIN.text("profile = 3\nspread_us = 5"), trace)
+        self.all_write(FOUND_AGAIN.text("profile = 4\nspread_us = 5"), trace)

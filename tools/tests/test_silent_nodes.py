@@ -1,4 +1,4 @@
-"""Silent nodes in the third profile, by the program: predecessors that are forgotten, and joins that are tried again.
+"""Silent nodes in the extended profile, by the program: predecessors that are forgotten, and joins that are tried again.
 
 Traces and reports were computed by hand.
 """
@@ -131,17 +131,17 @@ TOLD_CHECKS = (
 class SilentNodes(ProgramTest):
     """Traces and reports, by each engine."""
 
-    def test_keys_of_the_third_profile(self) -> None:
+    def test_keys_of_the_extended_profile(self) -> None:
         """A silent predecessor is forgotten, attempts to join are a pause apart, and a join may go on without end."""
         for profile, example in (
-            ("profile = 3\ncheck_us = 100", SILENT_PREDECESSOR),
-            ("profile = 3\njoin_pause_us = 25", PAUSE_IN_A_JOIN),
-            ("profile = 3\njoin_pause_us = 5\njoin_forever = true", JOIN_WITHOUT_END),
+            ("profile = 4\ncheck_us = 100", SILENT_PREDECESSOR),
+            ("profile = 4\njoin_pause_us = 25", PAUSE_IN_A_JOIN),
+            ("profile = 4\njoin_pause_us = 5\njoin_forever = true", JOIN_WITHOUT_END),
         ):
             with self.subTest(profile):
                 self.all_leave(example.text(profile), example.trace, example.report)
 
     def test_detail(self) -> None:
         """With detail each message has a line, and the report is as without."""
-        toml = SILENT_PREDECESSOR.text("profile = 3\ncheck_us = 100\ndetail = true")
+        toml = SILENT_PREDECESSOR.text("profile = 4\ncheck_us = 100\ndetail = true")
         self.all_leave(toml, TOLD_CHECKS, SILENT_PREDECESSOR.report)

@@ -73,7 +73,7 @@ class StudyMessagesTest(TestCase):
 
     def test_requests_sent_again(self) -> None:
         """A tenth of the messages lost, and each request sent again up to twice."""
-        text = shortened("lossy64.toml", 20_000_000).replace("profile = 2", "profile = 3\nretries = 2", 1)
+        text = shortened("lossy64.toml", 20_000_000).replace("profile = 2", "profile = 4\nretries = 2", 1)
         self.check(text.replace("loss_ppm = 20000", "loss_ppm = 100000", 1))
 
     def test_joins_that_pause_and_checks(self) -> None:
@@ -88,7 +88,7 @@ class StudyMessagesTest(TestCase):
 
     def test_detail(self) -> None:
         """The lines of a run with detail give the numbers themselves."""
-        text = shortened("lossy64.toml", 12_000_000).replace("profile = 2", "profile = 3\ndetail = true", 1)
+        text = shortened("lossy64.toml", 12_000_000).replace("profile = 2", "profile = 4\ndetail = true", 1)
         found, made = counted(text.replace("life_min_us = 20", "life_min_us = 2"))
         assert found == made and min(made.values()) > 0, (found, made)
 

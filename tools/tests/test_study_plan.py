@@ -105,7 +105,7 @@ class StudyPlanTest(TestCase):
 
     def test_booleans(self) -> None:
         """`join_forever` is varied as a boolean, and named as it is written."""
-        study = in_folder(HEAD + SEEDS + "[vary]\njoin_forever = [false, true]\n", BASE.replace("= 1", "= 3", 1))
+        study = in_folder(HEAD + SEEDS + "[vary]\njoin_forever = [false, true]\n", BASE.replace("= 1", "= 4", 1))
         assert [label(one) for one in study.settings()] == ["join_forever=false", "join_forever=true"]
         texts = [scenario_of(study, setting, 1) for setting in study.settings()]
         assert [read_scenario(text.encode(), b"").join_forever for text in texts] == [False, True]
@@ -200,19 +200,19 @@ class StudyPlanTest(TestCase):
     def test_keys_of_later_profiles(self) -> None:
         """The base has profile 1. Each key says which profiles have it, also if the profile is varied."""
         vary = HEAD + SEEDS + "[vary]\n"
-        wanted = {"retries": "3", "join_pause_us": "3", "loss_ppm": "2 or 3", "spread_us": "2 or 3"}
+        wanted = {"retries": "4", "join_pause_us": "4", "loss_ppm": "2 or 4", "spread_us": "2 or 4"}
         for key, profiles in wanted.items():
             answer = in_folder(f"{vary}{key} = [0, 1]\n")
             assert answer == f"study.toml: [vary] {key} needs profile = {profiles}; the base has 1", answer
         answer = in_folder(vary + "detail = [true]\n")
-        assert answer == "study.toml: [vary] detail needs profile = 3; the base has 1"
-        answer = in_folder(vary + "profile = [3, 2]\nretries = [0, 1]\n")
+        assert answer == "study.toml: [vary] detail needs profile = 4; the base has 1"
+        answer = in_folder(vary + "profile = [4, 2]\nretries = [0, 1]\n")
         setting = "the setting profile=2, retries=0"
-        assert answer == f"study.toml: [vary] retries needs profile = 3; {setting} has 2", answer
+        assert answer == f"study.toml: [vary] retries needs profile = 4; {setting} has 2", answer
         answer = in_folder(MADE + SEEDS + "[vary]\nretries = [1]\n")
-        assert answer == "study.toml: [vary] retries needs profile = 3; the scenario of generate has 1"
-        for text in (vary + "profile = [3]\nretries = [0, 1]\n", vary + "bits = [16, 17]\n",
-                     MADE + SEEDS + "[vary]\n'generate.--profile' = [3]\nretries = [0, 1]\n"):
+        assert answer == "study.toml: [vary] retries needs profile = 4; the scenario of generate has 1"
+        for text in (vary + "profile = [4]\nretries = [0, 1]\n", vary + "bits = [16, 17]\n",
+                     MADE + SEEDS + "[vary]\n'generate.--profile' = [4]\nretries = [0, 1]\n"):
             assert not isinstance(in_folder(text), str), in_folder(text)
 
     def test_bare_times_of_generate(self) -> None:

@@ -57,11 +57,11 @@ run)
     if grep -qsx "$(cat "$here/sleep")" "$3"; then echo $$ > "$here/pid"; exec sleep 60; fi
     if grep -qsx "$(cat "$here/fail")" "$3"; then echo '5 n0 loo'; echo 'failed: 3 TooManyEvents' >&2; exit 3; fi
     printf '10 n0 lookup 11\\n30 n0 found 11 n1 hops=1 timeouts=0 us=20\\n'
-    if grep -qx 'profile = [23]' "$3"; then echo '40 n0 lose step n1'; fi
-    if grep -qx 'profile = 3' "$3"; then printf '50 n0 again step n1\\n60 n0 forget n1\\n'; fi
+    if grep -qx 'profile = [24]' "$3"; then echo '40 n0 lose step n1'; fi
+    if grep -qx 'profile = 4' "$3"; then printf '50 n0 again step n1\\n60 n0 forget n1\\n'; fi
     printf 'events 4\\nlookups 1\\nfound 1\\nringless 0\\n'
-    if grep -qx 'profile = [23]' "$3"; then echo 'losses 1'; fi
-    if grep -qx 'profile = 3' "$3"; then printf 'again 1\\nforgotten 2\\n'; fi ;;
+    if grep -qx 'profile = [24]' "$3"; then echo 'losses 1'; fi
+    if grep -qx 'profile = 4' "$3"; then printf 'again 1\\nforgotten 2\\n'; fi ;;
 esac
 """
 
@@ -189,12 +189,12 @@ class StudyRunTest(TestCase):
         with study_folder(STUDY.replace("list = [1, 2]", "profile = [1]")) as folder:
             assert call(folder) == (0, "") and "losses" not in table(folder, "runs.csv")[0]
 
-    def test_numbers_of_the_third_profile(self) -> None:
-        """Columns `losses`, `again` and `forgotten` if a run has the third profile; 0 in the runs of the others."""
+    def test_numbers_of_the_extended_profile(self) -> None:
+        """Columns `losses`, `again` and `forgotten` if a run has the extended profile; 0 in the runs of the others."""
         for study, wanted in (
-            (STUDY.replace("list = [1, 2]", "profile = [1, 2, 3]"), ["00", "00", "10", "10", "11", "11"]),
-            (STUDY.replace("list = [1, 2]", "profile = [3, 1]"), ["11", "11", "00", "00"]),
-            (STUDY.replace("list = [1, 2]", "profile = [3]\nretries = [0, 3]"), ["11", "11", "11", "11"]),
+            (STUDY.replace("list = [1, 2]", "profile = [1, 2, 4]"), ["00", "00", "10", "10", "11", "11"]),
+            (STUDY.replace("list = [1, 2]", "profile = [4, 1]"), ["11", "11", "00", "00"]),
+            (STUDY.replace("list = [1, 2]", "profile = [4]\nretries = [0, 3]"), ["11", "11", "11", "11"]),
         ):
             with study_folder(study) as folder:
                 assert call(folder) == (0, "")
@@ -213,7 +213,7 @@ class StudyRunTest(TestCase):
     def test_boolean_that_is_varied(self) -> None:
         """Its values are as they are written, in the table and in the names of files."""
         with study_folder(STUDY.replace("list = [1, 2]", "join_forever = [true, false]")) as folder:
-            (folder / "base.toml").write_text(BASE.replace("profile = 1", "profile = 3"))
+            (folder / "base.toml").write_text(BASE.replace("profile = 1", "profile = 4"))
             assert call(folder) == (0, "")
             rows = table(folder, "runs.csv")
             assert [row["join_forever"] for row in rows] == ["true", "true", "false", "false"]
@@ -373,10 +373,10 @@ class StudyRunTest(TestCase):
             assert call(folder, chordsim=chordsim) == (0, "")
             assert [row["losses"] for row in table(folder, "runs.csv")] == ["0"] * 4
 
-    def test_third_profile_with_the_program(self) -> None:
+    def test_extended_profile_with_the_program(self) -> None:
         """The columns `again` and `forgotten` count lines of their kinds."""
         chordsim = program()
-        base = BASE.replace("profile = 1", "profile = 3\nloss_ppm = 20000\nretries = 2\ncheck_us = 1000000")
+        base = BASE.replace("profile = 1", "profile = 4\nloss_ppm = 20000\nretries = 2\ncheck_us = 1000000")
         with study_folder(STUDY.replace("list = [1, 2]", "retries = [0, 2]")) as folder:
             (folder / "base.toml").write_text(base)
             assert call(folder, chordsim=chordsim) == (0, "")

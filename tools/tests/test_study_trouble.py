@@ -61,10 +61,10 @@ class TroubleTest(TestCase):
     def test_as_the_reference_simulator_removes_them(self) -> None:
         """A tenth of the messages lost: the members that leave lists, with and without requests sent again."""
         text = (EXAMPLES / "lossy64.toml").read_text().replace("duration_us = 120000000", "duration_us = 20000000")
-        text = text.replace("loss_ppm = 20000", "loss_ppm = 100000").replace("profile = 2", "profile = 3")
+        text = text.replace("loss_ppm = 20000", "loss_ppm = 100000").replace("profile = 2", "profile = 4")
         counts = []
         for retries in (0, 1):
-            changed = text.replace("profile = 3", f"profile = 3\nretries = {retries}")
+            changed = text.replace("profile = 4", f"profile = 4\nretries = {retries}")
             scenario, top = read_scenario(changed.encode(), b""), tomllib.loads(changed)
             idents = {node.name: node.ident for node in scenario.nodes}
             members = Members(idents, [node.name for node in scenario.nodes if node.initial])

@@ -156,7 +156,7 @@ class Nodes(TestCase):
             "10 d join a", "20 b stranded a", "40 d join-failed", "50 b join-failed", "60 b crash", "70 d join-failed",
             "90 d member a", audit(500, 3), audit(1000, 3),
         ))
-        forever = SCENARIO.replace("profile = 1", "profile = 3\njoin_forever = true")
+        forever = SCENARIO.replace("profile = 1", "profile = 4\njoin_forever = true")
         run = run_of_text(text, forever)
         facts = summary(run)
         self.assertEqual(facts["joins"], {"begun": 1, "done": 1, "failed": 0, "cut_by_crash": 0, "open_at_end": 0,
@@ -174,9 +174,9 @@ class Nodes(TestCase):
             self.assertRaises(Refused, run_of_text, line, forever)
 
     def test_forgotten_predecessors(self) -> None:
-        """They are counted in the third profile, and compared with the report. A line names one node."""
+        """They are counted in the extended profile, and compared with the report. A line names one node."""
         text = "50 c timeout b\n50 c forget b\n" + "".join(audit(time, 3) + "\n" for time in (500, 1000))
-        for profile, wanted in ((1, None), (2, None), (3, 1)):
+        for profile, wanted in ((1, None), (2, None), (4, 1)):
             run = run_of_text(text, SCENARIO.replace("profile = 1", f"profile = {profile}"))
             self.assertEqual(summary(run)["forgotten"], wanted)
         self.assertIn("predecessors forgotten  1", list(summary_text(summary(run))))
@@ -189,7 +189,7 @@ class Nodes(TestCase):
     def test_many_nodes(self) -> None:
         """Nodes beyond the first 32,768 keep their names."""
         more = "".join(f'[[node]]\nname = "n{i}"\n' for i in range(33_000))
-        scenario = SCENARIO.replace("profile = 1", "profile = 3").replace("bits = 6", "bits = 64") + more
+        scenario = SCENARIO.replace("profile = 1", "profile = 4").replace("bits = 6", "bits = 64") + more
         run = run_of_text("10 n32999 join n32998\n20 n32999 drop step n32998\n", scenario)
         self.assertEqual([run.history.lines.text(at) for at in range(2)],
                          ["10 n32999 join n32998", "20 n32999 drop step n32998"])
@@ -201,7 +201,7 @@ class Nodes(TestCase):
             audit(500, 3), audit(1000, 3),
         )
         text = "".join(line + "\n" for line in lines)
-        for profile, wanted in ((1, [1, None, None]), (2, [1, 1, None]), (3, [1, 1, 3])):
+        for profile, wanted in ((1, [1, None, None]), (2, [1, 1, None]), (4, [1, 1, 3])):
             facts = summary(run_of_text(text, SCENARIO.replace("profile = 1", f"profile = {profile}")))
             self.assertEqual([facts[word] for word in ("timeouts", "losses", "again")], wanted)
         told = list(summary_text(facts))

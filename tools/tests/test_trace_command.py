@@ -95,9 +95,9 @@ class Commands(TestCase):
         self.assertNotIn("report", self.trace().partition("\n")[2])
         self.assertIsNone(json.loads(self.trace("--json"))["report_of_lines"])
 
-    def test_cut_trace_of_the_third_profile(self) -> None:
+    def test_cut_trace_of_the_extended_profile(self) -> None:
         """The three numbers that it has more."""
-        self.write("a.toml", SCENARIO.replace("profile = 1", "profile = 3"))
+        self.write("a.toml", SCENARIO.replace("profile = 1", "profile = 4"))
         self.write("a.trace", "10 a lose step b\n50 a again step b\n90 a timeout b\n90 a forget b\n")
         self.assertIn("\n  losses          1\n  again           1, requests sent again\n"
                       "  forgotten       1, predecessors that did not reply to a check\n", self.trace())

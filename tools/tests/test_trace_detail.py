@@ -26,8 +26,8 @@ from chordsim_tools.trace.summary import summary
 from tests.support.worlds import with_detail
 from tests.test_trace import SCENARIO, audit, run_of_text
 
-DETAIL = SCENARIO.replace("profile = 1", "profile = 3\ndetail = true\nretries = 1")
-LATE = DETAIL.replace("profile = 3", "profile = 3\nspread_us = 5")
+DETAIL = SCENARIO.replace("profile = 1", "profile = 4\ndetail = true\nretries = 1")
+LATE = DETAIL.replace("profile = 4", "profile = 4\nspread_us = 5")
 LOOKUP = (
     "20 a lookup 35",
     "20 a lose step c", "20 a ask step c call=7 key=35 since=20",

@@ -26,16 +26,16 @@ module _ (profile bits : ℕ) (needs : Needs) where
   place_fits (place.Command n) ms is sound = absurd (false≢true is)
   place_fits (place.Row n) ms is sound = absurd (false≢true is)
   place_fits (place.Node n) ms is sound =
-      elim (cases_Bool (profile == 3)) [
-        | inl third ↦ record {
-          x = listed_fits sound key.XUs 500000000 ForCoordinates (rw third refl);
-          y = listed_fits sound key.YUs 500000000 ForCoordinates (rw third refl);
-          height = listed_fits sound key.HeightUs 100000000 Optional (rw third refl);
+      elim (cases_Bool (profile == 4)) [
+        | inl extended ↦ record {
+          x = listed_fits sound key.XUs 500000000 ForCoordinates (rw extended refl);
+          y = listed_fits sound key.YUs 500000000 ForCoordinates (rw extended refl);
+          height = listed_fits sound key.HeightUs 100000000 Optional (rw extended refl);
         }
-        | inr not_third ↦ record {
-          x = omega (arith, unlisted_default sound key.XUs 0 (rw not_third refl));
-          y = omega (arith, unlisted_default sound key.YUs 0 (rw not_third refl));
-          height = omega (arith, unlisted_default sound key.HeightUs 0 (rw not_third refl));
+        | inr not_extended ↦ record {
+          x = omega (arith, unlisted_default sound key.XUs 0 (rw not_extended refl));
+          y = omega (arith, unlisted_default sound key.YUs 0 (rw not_extended refl));
+          height = omega (arith, unlisted_default sound key.HeightUs 0 (rw not_extended refl));
         }
       ]
 

@@ -6,54 +6,55 @@ use Rattle.std.proofs.lemmas.Bool.{cases_Bool}
 use Rattle.std.proofs.lemmas.Option.{same_Some}
 use Rattle.toml.specs.Data.{Data, as_bool}
 use Rattle.chord_scenario.specs.declared.key.FileKey.{FileKey}
+use Rattle.chord_scenario.specs.declared.key.FileKey.TheVariants as key
 use Rattle.chord_scenario.specs.declared.key.Entry.{Entry}
 use Rattle.chord_scenario.specs.declared.key.Presence.{Presence}
 use Rattle.chord_scenario.specs.declared.keys_check.Needs.{Needs}
-use Rattle.chord_scenario.specs.declared.key.Form.TheVariants.{Whole}
+use Rattle.chord_scenario.specs.declared.key.Form.TheVariants.{Whole, Profile}
 use Rattle.chord_scenario.specs.FileKeys.{key_name, required, optional, keys_at}
 use Rattle.chord_scenario.specs.declared.key.Place.TheVariants as place
 use Rattle.chord_scenario.specs.KeyFaults.{is_listed, is_required, is_missing, has_wrong_type, is_out_of_range}
 use Rattle.chord_scenario.specs.Sections.{Section}
 use Rattle.chord_scenario.specs.Settings.{number_or}
-use Rattle.chord_scenario.specs.Values.{data_at, number_at, truth_at, as_whole, has_type, is_in_range, agrees}
+use Rattle.chord_scenario.specs.Values.{data_at, number_at, truth_at, as_whole, has_type, is_profile, is_in_range, agrees}
 use Rattle.chord_scenario.proofs.KeyFaults.{unlisted-none}
-use Rattle.chord_scenario.proofs.SoundSections.{IsSound, Fits, number_fits, default_fits, number_agrees, there_typed}
+use Rattle.chord_scenario.proofs.SoundSections.{IsSound, Fits, number_fits, profile_fits, default_fits, number_agrees, there_typed}
 
 -- the entry of a key among those of a table; at a table of the file format it computes
 abbrev pub entry_of : FileKey → List Entry → Option Entry
 entry_of k es = find (λ e. bytes_eq (key_name k) (key_name e.0)) es
 
--- a profile is the third or the second, or counts as the first
-abbrev pub IsThird : (profile : ℕ) → Type 0
-IsThird profile = (profile == 3) ≡ true
+-- a profile is the extended or the second one, or counts as the first
+abbrev pub IsExtended : (profile : ℕ) → Type 0
+IsExtended profile = (profile == 4) ≡ true
 
 pub record IsSecond (profile : ℕ) : Type 0 where
-  pub not_third : (profile == 3) ≡ false
+  pub not_extended : (profile == 4) ≡ false
   pub second : (profile == 2) ≡ true
 
 pub record IsFirst (profile : ℕ) : Type 0 where
-  pub not_third : (profile == 3) ≡ false
+  pub not_extended : (profile == 4) ≡ false
   pub not_second : (profile == 2) ≡ false
 
-pub profile_cases : (profile : ℕ) → IsThird profile ⊎ (IsSecond profile ⊎ IsFirst profile)
+pub profile_cases : (profile : ℕ) → IsExtended profile ⊎ (IsSecond profile ⊎ IsFirst profile)
 profile_cases profile =
-    elim (cases_Bool (profile == 3)) [
-      | inl third ↦ inl third
-      | inr not_third ↦
+    elim (cases_Bool (profile == 4)) [
+      | inl extended ↦ inl extended
+      | inr not_extended ↦
           elim (cases_Bool (profile == 2)) [
-            | inl second ↦ inr (inl (record { not_third = not_third; second = second }))
-            | inr not_second ↦ inr (inr (record { not_third = not_third; not_second = not_second }))
+            | inl second ↦ inr (inl (record { not_extended = not_extended; second = second }))
+            | inr not_second ↦ inr (inr (record { not_extended = not_extended; not_second = not_second }))
           ]
     ]
 
 -- the entry of a key at top is that of each profile
-pub in_each : (profile : ℕ) {e : Entry} → entry_of e.0 (keys_at 3 place.Top) ≡ Some e → entry_of e.0 (keys_at 2 place.Top) ≡ Some e
+pub in_each : (profile : ℕ) {e : Entry} → entry_of e.0 (keys_at 4 place.Top) ≡ Some e → entry_of e.0 (keys_at 2 place.Top) ≡ Some e
     → entry_of e.0 (keys_at 1 place.Top) ≡ Some e → entry_of e.0 (keys_at profile place.Top) ≡ Some e
-in_each profile in_third in_second in_first =
+in_each profile in_extended in_second in_first =
     elim (profile_cases profile) [
-      | inl third ↦ rw third in_third
-      | inr (inl is) ↦ rw (is.not_third, is.second) in_second
-      | inr (inr is) ↦ rw (is.not_third, is.not_second) in_first
+      | inl extended ↦ rw extended in_extended
+      | inr (inl is) ↦ rw (is.not_extended, is.second) in_second
+      | inr (inr is) ↦ rw (is.not_extended, is.not_second) in_first
     ]
 
 -- what holds of every entry holds of one that is found
@@ -89,6 +90,11 @@ module _ {profile bits : ℕ} {needs : Needs} {s : Section} (sound : IsSound pro
   required_agrees k least greatest is =
       let e = required k (Whole least greatest) in
       number_agrees (is_in_range bits (Whole least greatest)) (agrees s.members k) (data_at k s.members) (not_missing e is) (not_out e is)
+
+  pub required_profile : Lists (required key.Profile Profile) → is_profile (number_at key.Profile s.members) ≡ true
+  required_profile is =
+      let e = required key.Profile Profile in
+      profile_fits bits (λ d. agrees s.members key.Profile (unwrap_or (as_whole d) 0)) (data_at key.Profile s.members) (not_missing e is) (not_out e is)
 
   -- an optional number is in range if its default is
   pub optional_fits : (k : FileKey) (least greatest default : ℕ) → Lists (optional k (Whole least greatest)) → Fits least greatest default

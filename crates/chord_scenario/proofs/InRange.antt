@@ -30,7 +30,7 @@ use Rattle.chord_scenario.proofs.FirstRepeat.{mapped_none}
 use Rattle.chord_scenario.proofs.LatencyFacts.{first_of, latencies_fit}
 use Rattle.chord_scenario.proofs.NodeFacts.{no_repeat, enough_initial, a_node_churns, commands_fit}
 use Rattle.chord_scenario.proofs.SoundSections.{IsSound, sound_sections, holds_in_file}
-use Rattle.chord_scenario.proofs.TopFacts.{profile_fits, bits_fit, numbers_fit, churn_there, churn_in_range, lookups_in_range, few_nodes, few_commands}
+use Rattle.chord_scenario.proofs.TopFacts.{profile_known, profile_small, bits_fit, numbers_fit, churn_there, churn_in_range, lookups_in_range, few_nodes, few_commands}
 
 -- no question finds a fault
 answers_none : (qs : List (Option ScenarioFault)) → first_answer qs ≡ None → AllByRecursion (λ q. q ≡ None) qs
@@ -57,7 +57,7 @@ faultless top rows own late =
 
 -- what the questions of keys say
 pub record KeysFit (top : Members) : Type 0 where
-  pub profile : number_at key.Profile top ≤ 3
+  pub profile : number_at key.Profile top ≤ 4
   pub least : 3 ≤ number_at key.Bits top
   pub greatest : number_at key.Bits top ≤ 128
   pub nodes : length (nodes_in top) ≤ 65536
@@ -67,7 +67,7 @@ keys_fit profile bits top h =
     let needs = needs_of (sections top) in
     let s = (holds_in_file (IsSound profile bits needs) top (sound_sections profile bits (sections top) h)).top in
     record {
-      profile = (profile_fits profile bits needs top s).high;
+      profile = profile_small (number_at key.Profile top) (profile_known profile bits needs top s);
       least = (bits_fit profile bits needs top s).low;
       greatest = (bits_fit profile bits needs top s).high;
       nodes = few_nodes profile bits needs top s (number_at key.Bits top);

@@ -9,10 +9,10 @@ use Rattle.chord_scenario.specs.declared.key.FileKey.TheVariants as key
 use Rattle.chord_scenario.specs.declared.key.Group.TheVariants.{Nodes, Commands}
 use Rattle.chord_scenario.specs.declared.key.Entry.{Entry}
 use Rattle.chord_scenario.specs.declared.keys_check.Needs.{Needs}
-use Rattle.chord_scenario.specs.declared.key.Form.TheVariants.{Whole}
+use Rattle.chord_scenario.specs.declared.key.Form.TheVariants.{Whole, Profile}
 use Rattle.chord_scenario.specs.declared.fault.ScenarioFault.TheVariants.{UnknownKey, MissingKey, WrongType, OutOfRange}
 use Rattle.chord_scenario.specs.FileKeys.{keys_at}
-use Rattle.chord_scenario.specs.Values.{data_at, as_whole, is_within, is_in_range}
+use Rattle.chord_scenario.specs.Values.{data_at, as_whole, is_within, is_profile, is_in_range}
 use Rattle.chord_scenario.specs.Sections.{Section, table_at, tables_of, sections}
 use Rattle.chord_scenario.specs.Search.{first_some}
 use Rattle.chord_scenario.specs.KeyFaults.{
@@ -118,15 +118,16 @@ holds_in_file P file h =
     let (of_top, of_churn) = all-append P first churn to_churn in
     record { top = of_top.0; churn = of_churn; lookups = of_lookups }
 
+-- what a test of whole numbers says
+tested : (test : ℕ → Bool) (default : ℕ) (o : Option ℕ) → option_map_or test o false ≡ true → test (unwrap_or o default) ≡ true
+tested test default None h = absurd (false≢true h)
+tested test default (Some n) h = h
+
 -- a whole number that is in range
 whole_fits : (bits least greatest default : ℕ) (d : Data) → is_in_range bits (Whole least greatest) d ≡ true
     → is_within least greatest (unwrap_or (as_whole d) default) ≡ true
 unfolding is_in_range
-whole_fits bits least greatest default d h = by_case (as_whole d) h
-  where
-    by_case : (o : Option ℕ) → option_map_or (is_within least greatest) o false ≡ true → is_within least greatest (unwrap_or o default) ≡ true
-    by_case None g = absurd (false≢true g)
-    by_case (Some n) g = g
+whole_fits bits least greatest default d h = tested (is_within least greatest) default (as_whole d) h
 
 not_false : (b : Bool) → not b ≡ false → b ≡ true
 not_false true h = refl
@@ -149,6 +150,15 @@ number_fits bits least greatest agrees None there h = absurd (false≢true (sym 
 number_fits bits least greatest agrees (Some d) there h =
     let (fits, agree) = and_parts (is_in_range bits (Whole least greatest) d) (agrees d) (not_false _ h) in
     between-fits least greatest (unwrap_or (as_whole d) 0) (whole_fits bits least greatest 0 d fits)
+
+-- the number of a profile
+pub profile_fits : (bits : ℕ) (agrees : Data → Bool) (o : Option Data) → is_none o ≡ false
+    → option_map_or (λ d. not (is_in_range bits Profile d && agrees d)) o false ≡ false → is_profile (unwrap_or (option_and_then as_whole o) 0) ≡ true
+unfolding is_in_range
+profile_fits bits agrees None there h = absurd (false≢true (sym there))
+profile_fits bits agrees (Some d) there h =
+    let (fits, agree) = and_parts (is_in_range bits Profile d) (agrees d) (not_false _ h) in
+    tested is_profile 0 (as_whole d) fits
 
 -- and an optional one, with its default
 pub default_fits : (bits least greatest default : ℕ) (agrees : Data → Bool) (o : Option Data) → Fits least greatest default

@@ -37,6 +37,7 @@ use Rattle.std.proofs.Common.{
 use Rattle.std.specs.Option.{option_map_or, option_and_then, is_some}
 use Rattle.std.specs.List.{AllByRecursion}
 use Rattle.std.proofs.lemmas.Bool.{cases_Bool, and_parts, eqb-true, false≢true, leb-true}
+use Rattle.std.proofs.lemmas.Bool.Decides.{nat_tests}
 use Rattle.std.proofs.lemmas.List.{length-map}
 use Rattle.std.proofs.lemmas.List.Elements.{filter-append}
 use Rattle.toml.specs.Data.{Data, string, integer, float, boolean, datetime, array, table, Items, no_items, item, Members, as_table}
@@ -52,29 +53,33 @@ use Rattle.chord_scenario.specs.declared.key.Group.TheVariants.{Nodes, Commands}
 use Rattle.chord_scenario.specs.declared.setting.Command.{Command}
 use Rattle.chord_scenario.specs.declared.setting.Node.{Node}
 use Rattle.chord_scenario.specs.FileKeys.{required, optional}
-use Rattle.chord_scenario.specs.Values.{data_at, number_at, truth_at, has_type, is_within, item_count, is_in_range}
+use Rattle.chord_scenario.specs.Values.{data_at, number_at, truth_at, has_type, is_within, item_count, is_profile, is_in_range}
 use Rattle.chord_scenario.specs.Sections.{Section, place_in, table_at, tables_among, tables_of, sections}
 use Rattle.chord_scenario.specs.Settings.{number_or, is_node, is_command, node_of, nodes_of, command_of, commands_of, churn_of, lookups_of}
 use Rattle.chord_scenario.specs.Accepted.{setup_with}
 use Rattle.chord_scenario.specs.Range.{IsSpan, IsChurn, IsInterval, NumbersInRange, most_events}
 use Rattle.chord_scenario.proofs.SoundSections.{IsSound, Fits, HoldsInFile}
-use Rattle.chord_scenario.proofs.Entries.{Lists, in_each, profile_cases, required_fits, required_agrees, optional_fits, unlisted_default, unlisted_false, has_typed, not_out}
+use Rattle.chord_scenario.proofs.Entries.{Lists, in_each, profile_cases, required_fits, required_profile, required_agrees, optional_fits, unlisted_default, unlisted_false, has_typed, not_out}
 
 -- a number of microseconds that is at least 1
 interval : {n : ℕ} → Fits 1 1000000000 n → IsInterval n
 interval f = record { least = f.low; greatest = f.high }
 
+-- the numbers of the profiles are small
+pub profile_small : (n : ℕ) → is_profile n ≡ true → n ≤ 4
+profile_small n known = grind (arith, nat_tests, known)
+
 module _ (profile bits : ℕ) (needs : Needs) (top : Members) (s : IsSound profile bits needs (record { at = place.Top; members = top })) where
-  pub profile_fits : Fits 1 3 (number_at key.Profile top)
-  profile_fits = required_fits s key.Profile 1 3 (in_each profile refl refl refl)
+  pub profile_known : is_profile (number_at key.Profile top) ≡ true
+  profile_known = required_profile s (in_each profile refl refl refl)
 
   pub bits_fit : Fits 3 128 (number_at key.Bits top)
   bits_fit =
       elim (profile_cases profile) [
-        | inl third ↦ required_fits s key.Bits 3 128 (rw third refl)
-        | inr (inl is) ↦ required_fits s key.Bits 3 128 (rw (is.not_third, is.second) refl)
+        | inl extended ↦ required_fits s key.Bits 3 128 (rw extended refl)
+        | inr (inl is) ↦ required_fits s key.Bits 3 128 (rw (is.not_extended, is.second) refl)
         | inr (inr is) ↦
-            let fits = required_fits s key.Bits 3 64 (rw (is.not_third, is.not_second) refl) in
+            let fits = required_fits s key.Bits 3 64 (rw (is.not_extended, is.not_second) refl) in
             record { low = fits.low; high = omega (arith, fits.high) }
       ]
 
@@ -93,9 +98,9 @@ module _ (profile bits : ℕ) (needs : Needs) (top : Members) (s : IsSound profi
   max_events_fits : Fits 1 most_events (number_or 50000000 key.MaxEvents top)
   max_events_fits =
       elim (profile_cases profile) [
-        | inl third ↦ optional_fits s key.MaxEvents 1 most_events 50000000 (rw third refl) (record { low = omega arith; high = omega arith })
-        | inr (inl is) ↦ fewer (optional_fits s key.MaxEvents 1 50000000 50000000 (rw (is.not_third, is.second) refl) few)
-        | inr (inr is) ↦ fewer (optional_fits s key.MaxEvents 1 50000000 50000000 (rw (is.not_third, is.not_second) refl) few)
+        | inl extended ↦ optional_fits s key.MaxEvents 1 most_events 50000000 (rw extended refl) (record { low = omega arith; high = omega arith })
+        | inr (inl is) ↦ fewer (optional_fits s key.MaxEvents 1 50000000 50000000 (rw (is.not_extended, is.second) refl) few)
+        | inr (inr is) ↦ fewer (optional_fits s key.MaxEvents 1 50000000 50000000 (rw (is.not_extended, is.not_second) refl) few)
       ]
     where
       few : Fits 1 50000000 50000000
@@ -112,71 +117,71 @@ module _ (profile bits : ℕ) (needs : Needs) (top : Members) (s : IsSound profi
   loss_fits : number_or 0 key.LossPpm top ≤ 1000000
   loss_fits =
       elim (profile_cases profile) [
-        | inl third ↦ (optional_fits s key.LossPpm 0 1000000 0 (rw third refl) zero_fits).high
-        | inr (inl is) ↦ (optional_fits s key.LossPpm 0 1000000 0 (rw (is.not_third, is.second) refl) zero_fits).high
-        | inr (inr is) ↦ omega (arith, unlisted_default s key.LossPpm 0 (rw (is.not_third, is.not_second) refl))
+        | inl extended ↦ (optional_fits s key.LossPpm 0 1000000 0 (rw extended refl) zero_fits).high
+        | inr (inl is) ↦ (optional_fits s key.LossPpm 0 1000000 0 (rw (is.not_extended, is.second) refl) zero_fits).high
+        | inr (inr is) ↦ omega (arith, unlisted_default s key.LossPpm 0 (rw (is.not_extended, is.not_second) refl))
       ]
 
   spread_fits : number_or 0 key.SpreadUs top ≤ 1000000000
   spread_fits =
       elim (profile_cases profile) [
-        | inl third ↦ (optional_fits s key.SpreadUs 0 1000000000 0 (rw third refl) zero_fits).high
-        | inr (inl is) ↦ (optional_fits s key.SpreadUs 0 1000000000 0 (rw (is.not_third, is.second) refl) zero_fits).high
-        | inr (inr is) ↦ omega (arith, unlisted_default s key.SpreadUs 0 (rw (is.not_third, is.not_second) refl))
+        | inl extended ↦ (optional_fits s key.SpreadUs 0 1000000000 0 (rw extended refl) zero_fits).high
+        | inr (inl is) ↦ (optional_fits s key.SpreadUs 0 1000000000 0 (rw (is.not_extended, is.second) refl) zero_fits).high
+        | inr (inr is) ↦ omega (arith, unlisted_default s key.SpreadUs 0 (rw (is.not_extended, is.not_second) refl))
       ]
 
-  -- a number that the third profile alone has is in its range, and 0 in the others
-  record IsOwnOfThird (most number : ℕ) : Type 0 where
+  -- a number that the extended profile alone has is in its range, and 0 in the others
+  record IsOwnOfExtended (most number : ℕ) : Type 0 where
     within : number ≤ most
     absent : profile ≤ 2 → number ≡ 0
 
-  third_number : (k : FileKey) (most : ℕ) → (profile == 3 ≡ true → Lists s (optional k (Whole 0 most)))
-      → (profile == 3 ≡ false → (profile == 2 ≡ true) ⊎ (profile == 2 ≡ false) → number_or 0 k top ≡ 0) → IsOwnOfThird most (number_or 0 k top)
-  third_number k most listed unlisted =
+  extended_number : (k : FileKey) (most : ℕ) → (profile == 4 ≡ true → Lists s (optional k (Whole 0 most)))
+      → (profile == 4 ≡ false → (profile == 2 ≡ true) ⊎ (profile == 2 ≡ false) → number_or 0 k top ≡ 0) → IsOwnOfExtended most (number_or 0 k top)
+  extended_number k most listed unlisted =
       elim (profile_cases profile) [
-        | inl third ↦ record {
-          within = (optional_fits s k 0 most 0 (listed third) zero_fits).high;
-          absent = λ early. let is : profile ≡ 3 = eqb-true profile 3 third in absurd (omega (arith, early, is));
+        | inl extended ↦ record {
+          within = (optional_fits s k 0 most 0 (listed extended) zero_fits).high;
+          absent = λ early. let is : profile ≡ 4 = eqb-true profile 4 extended in absurd (omega (arith, early, is));
         }
-        | inr (inl is) ↦ let zero = unlisted is.not_third (inl is.second) in record { within = omega (arith, zero); absent = λ early. zero }
-        | inr (inr is) ↦ let zero = unlisted is.not_third (inr is.not_second) in record { within = omega (arith, zero); absent = λ early. zero }
+        | inr (inl is) ↦ let zero = unlisted is.not_extended (inl is.second) in record { within = omega (arith, zero); absent = λ early. zero }
+        | inr (inr is) ↦ let zero = unlisted is.not_extended (inr is.not_second) in record { within = omega (arith, zero); absent = λ early. zero }
       ]
 
-  retries_fit : IsOwnOfThird 3 (number_or 0 key.Retries top)
+  retries_fit : IsOwnOfExtended 3 (number_or 0 key.Retries top)
   retries_fit =
-      third_number key.Retries 3 (λ third. rw third refl) (λ not_third second. elim second [
-        | inl is ↦ unlisted_default s key.Retries 0 (rw (not_third, is) refl)
-        | inr is ↦ unlisted_default s key.Retries 0 (rw (not_third, is) refl)
+      extended_number key.Retries 3 (λ extended. rw extended refl) (λ not_extended second. elim second [
+        | inl is ↦ unlisted_default s key.Retries 0 (rw (not_extended, is) refl)
+        | inr is ↦ unlisted_default s key.Retries 0 (rw (not_extended, is) refl)
       ])
 
-  pause_fits : IsOwnOfThird 1000000000 (number_or 0 key.JoinPauseUs top)
+  pause_fits : IsOwnOfExtended 1000000000 (number_or 0 key.JoinPauseUs top)
   pause_fits =
-      third_number key.JoinPauseUs 1000000000 (λ third. rw third refl) (λ not_third second. elim second [
-        | inl is ↦ unlisted_default s key.JoinPauseUs 0 (rw (not_third, is) refl)
-        | inr is ↦ unlisted_default s key.JoinPauseUs 0 (rw (not_third, is) refl)
+      extended_number key.JoinPauseUs 1000000000 (λ extended. rw extended refl) (λ not_extended second. elim second [
+        | inl is ↦ unlisted_default s key.JoinPauseUs 0 (rw (not_extended, is) refl)
+        | inr is ↦ unlisted_default s key.JoinPauseUs 0 (rw (not_extended, is) refl)
       ])
 
-  check_fits : IsOwnOfThird 1000000000 (number_or 0 key.CheckUs top)
+  check_fits : IsOwnOfExtended 1000000000 (number_or 0 key.CheckUs top)
   check_fits =
-      third_number key.CheckUs 1000000000 (λ third. rw third refl) (λ not_third second. elim second [
-        | inl is ↦ unlisted_default s key.CheckUs 0 (rw (not_third, is) refl)
-        | inr is ↦ unlisted_default s key.CheckUs 0 (rw (not_third, is) refl)
+      extended_number key.CheckUs 1000000000 (λ extended. rw extended refl) (λ not_extended second. elim second [
+        | inl is ↦ unlisted_default s key.CheckUs 0 (rw (not_extended, is) refl)
+        | inr is ↦ unlisted_default s key.CheckUs 0 (rw (not_extended, is) refl)
       ])
 
   gives_up : profile ≤ 2 → truth_at key.JoinForever top ≡ false
   gives_up early =
       elim (profile_cases profile) [
-        | inl third ↦ let is : profile ≡ 3 = eqb-true profile 3 third in absurd (omega (arith, early, is))
-        | inr (inl is) ↦ unlisted_false s key.JoinForever (rw (is.not_third, is.second) refl)
-        | inr (inr is) ↦ unlisted_false s key.JoinForever (rw (is.not_third, is.not_second) refl)
+        | inl extended ↦ let is : profile ≡ 4 = eqb-true profile 4 extended in absurd (omega (arith, early, is))
+        | inr (inl is) ↦ unlisted_false s key.JoinForever (rw (is.not_extended, is.second) refl)
+        | inr (inr is) ↦ unlisted_false s key.JoinForever (rw (is.not_extended, is.not_second) refl)
       ]
 
   tells_nothing : profile ≤ 2 → truth_at key.Detail top ≡ false
   tells_nothing early =
       elim (profile_cases profile) [
-        | inl third ↦ let is : profile ≡ 3 = eqb-true profile 3 third in absurd (omega (arith, early, is))
-        | inr (inl is) ↦ unlisted_false s key.Detail (rw (is.not_third, is.second) refl)
-        | inr (inr is) ↦ unlisted_false s key.Detail (rw (is.not_third, is.not_second) refl)
+        | inl extended ↦ let is : profile ≡ 4 = eqb-true profile 4 extended in absurd (omega (arith, early, is))
+        | inr (inl is) ↦ unlisted_false s key.Detail (rw (is.not_extended, is.second) refl)
+        | inr (inr is) ↦ unlisted_false s key.Detail (rw (is.not_extended, is.not_second) refl)
       ]
 
   no_loss : profile ≡ 1 → (number_or 0 key.LossPpm top ≡ 0) × (number_or 0 key.SpreadUs top ≡ 0)
@@ -184,7 +189,7 @@ module _ (profile bits : ℕ) (needs : Needs) (top : Members) (s : IsSound profi
 
   pub numbers_fit : profile ≡ number_at key.Profile top → (nodes : List Node) (commands : List Command) (latencies : List ℕ)
       → NumbersInRange (setup_with top nodes commands latencies)
-  numbers_fit is_profile nodes commands latencies = record {
+  numbers_fit named nodes commands latencies = record {
     bits_least = bits_fit.low;
     bits_greatest = bits_fit.high;
     list_least = list_fits.low;
@@ -206,13 +211,12 @@ module _ (profile bits : ℕ) (needs : Needs) (top : Members) (s : IsSound profi
     retries = retries_fit.within;
     join_pause = pause_fits.within;
     check = check_fits.within;
-    profile_least = profile_fits.low;
-    profile_greatest = profile_fits.high;
-    lossless = λ is_first. no_loss (is_profile ∙ is_first);
-    asked_once = λ early. retries_fit.absent (omega (arith, is_profile, early));
-    joined_at_once = λ early. (pause_fits.absent (omega (arith, is_profile, early)), gives_up (omega (arith, is_profile, early)));
-    unchecked = λ early. check_fits.absent (omega (arith, is_profile, early));
-    undetailed = λ early. tells_nothing (omega (arith, is_profile, early));
+    known = profile_known;
+    lossless = λ is_first. no_loss (named ∙ is_first);
+    asked_once = λ early. retries_fit.absent (omega (arith, named, early));
+    joined_at_once = λ early. (pause_fits.absent (omega (arith, named, early)), gives_up (omega (arith, named, early)));
+    unchecked = λ early. check_fits.absent (omega (arith, named, early));
+    undetailed = λ early. tells_nothing (omega (arith, named, early));
   }
 
   -- the file has a churn table if a node churns
@@ -391,9 +395,9 @@ module _ (profile bits : ℕ) (needs : Needs) (top : Members) (s : IsSound profi
   nodes_fit : length (filter (λ s. is_node s.at) (tables_of Nodes (data_at key.Node top))) ≤ 65536
   nodes_fit =
       elim (profile_cases profile) [
-        | inl third ↦ most_nodes 65536 (rw third refl)
-        | inr (inl is) ↦ omega (arith, most_nodes 4096 (rw (is.not_third, is.second) refl))
-        | inr (inr is) ↦ omega (arith, most_nodes 512 (rw (is.not_third, is.not_second) refl))
+        | inl extended ↦ most_nodes 65536 (rw extended refl)
+        | inr (inl is) ↦ omega (arith, most_nodes 4096 (rw (is.not_extended, is.second) refl))
+        | inr (inr is) ↦ omega (arith, most_nodes 512 (rw (is.not_extended, is.not_second) refl))
       ]
     where
       most_nodes : (most : ℕ) → Lists s (required key.Node (Tables 2 most)) → length (filter (λ s. is_node s.at) (tables_of Nodes (data_at key.Node top))) ≤ most

@@ -1,5 +1,6 @@
--- What a node draws. In the first two profiles each draw takes the next words of the node's one stream. In the third each
--- draw has a group of words of its own, by the purpose and the occasion, so that no draw depends on earlier ones.
+-- What a node draws. In the first two profiles each draw takes the next words of the node's one stream. In the extended
+-- profile each draw has a group of words of its own, by the purpose and the occasion, so that no draw depends on earlier
+-- ones.
 use Rattle.std.specs.Prelude.{ℕ, ◌==◌, ◌+◌, ◌-◌, ◌%◌, if◌then◌else◌}
 use Rattle.chord_event.specs.declared.body.Body.{Body}
 use Rattle.chord_event.specs.declared.body.Body.TheVariants as body
@@ -38,7 +39,7 @@ drawn sc n place bound = word sc.seed n place % bound
 -- the number that decides how long a timer takes which node n sets
 abbrev pub timer_number : Setup → (n place time : ℕ) → Body → (bound : ℕ) → ℕ
 timer_number sc n place time timer bound =
-    if sc.profile == 3
+    if sc.profile == 4
     then first_number sc.seed (own_stream n (timer_purpose timer)) (timer_occasion time timer) bound
     else drawn sc n place bound
 
@@ -50,12 +51,12 @@ delay sc n place time span timer = span.least + timer_number sc n place time tim
 -- the latency it takes
 abbrev pub chance : Setup → (n place number : ℕ) → ℕ
 chance sc n place number =
-    if sc.profile == 3
+    if sc.profile == 4
     then first_number sc.seed (own_stream n message_purpose) number 1000000
     else drawn sc n place 1000000
 
 abbrev pub extra : Setup → (n place number : ℕ) → ℕ
 extra sc n place number =
-    if sc.profile == 3
+    if sc.profile == 4
     then second_number sc.seed (own_stream n message_purpose) number (sc.spread + 1)
     else drawn sc n (place + 1) (sc.spread + 1)

@@ -5,7 +5,7 @@ use Rattle.chord_scenario.specs.declared.key.Place.TheVariants as place
 use Rattle.chord_scenario.specs.declared.key.FileKey.{FileKey}
 use Rattle.chord_scenario.specs.declared.key.FileKey.TheVariants as key
 use Rattle.chord_scenario.specs.declared.key.Form.{Form}
-use Rattle.chord_scenario.specs.declared.key.Form.TheVariants.{Whole, Text, Operation, Boolean, Identifier, Table, Tables}
+use Rattle.chord_scenario.specs.declared.key.Form.TheVariants.{Whole, Profile, Text, Operation, Boolean, Identifier, Table, Tables}
 use Rattle.chord_scenario.specs.declared.key.Presence.TheVariants.{Required, Optional, ForChurn, ForCoordinates, ForJoin, ForLookup}
 use Rattle.chord_scenario.specs.declared.key.Entry.{Entry}
 
@@ -66,7 +66,7 @@ interval = Whole 1 1000000000
 -- only this profile has
 abbrev pub top_keys_of : (most_bits most_nodes most_events : ℕ) → (own : List Entry) → List Entry
 top_keys_of most_bits most_nodes most_events own =
-    required key.Profile (Whole 1 3)
+    required key.Profile Profile
     ∷ required key.Bits (Whole 3 most_bits)
     ∷ required key.List (Whole 1 16)
     ∷ required key.Seed (Whole 0 9223372036854775807)
@@ -90,9 +90,9 @@ top_keys_of most_bits most_nodes most_events own =
 abbrev pub network_keys_and : List Entry → List Entry
 network_keys_and more = optional key.LossPpm (Whole 0 1000000) ∷ optional key.SpreadUs (Whole 0 1000000000) ∷ more
 
--- the keys that the third profile adds to these
-abbrev pub deployed_keys : List Entry
-deployed_keys =
+-- the keys that the extended profile adds to these
+abbrev pub extended_keys : List Entry
+extended_keys =
     optional key.Retries (Whole 0 3)
     ∷ optional key.JoinPauseUs (Whole 0 1000000000)
     ∷ optional key.JoinForever Boolean
@@ -102,7 +102,7 @@ deployed_keys =
 
 abbrev pub top_keys : (profile : ℕ) → List Entry
 top_keys profile =
-    if profile == 3 then top_keys_of 128 65536 100000000000 (network_keys_and deployed_keys)
+    if profile == 4 then top_keys_of 128 65536 100000000000 (network_keys_and extended_keys)
     else if profile == 2 then top_keys_of 128 4096 50000000 (network_keys_and [])
     else top_keys_of 64 512 50000000 []
 
@@ -119,7 +119,7 @@ lookups_keys = required key.GapMinUs interval ∷ required key.GapMaxUs interval
 
 -- whether identifiers have up to 128 bits
 abbrev pub is_wide : (profile : ℕ) → Bool
-is_wide profile = profile == 2 || profile == 3
+is_wide profile = profile == 2 || profile == 4
 
 -- the most digits that an identifier is written in
 abbrev pub most_digits : (profile : ℕ) → ℕ
@@ -139,7 +139,7 @@ node_keys profile =
     ∷ optional key.Id (Identifier (most_digits profile))
     ∷ optional key.Initial Boolean
     ∷ optional key.Churn Boolean
-    ∷ (if profile == 3 then coordinate_keys else [])
+    ∷ (if profile == 4 then coordinate_keys else [])
 
 abbrev pub command_keys : (profile : ℕ) → List Entry
 command_keys profile =
@@ -150,7 +150,7 @@ command_keys profile =
     ∷ record { 0 = key.Key; 1 = Identifier (most_digits profile); 2 = ForLookup }
     ∷ []
 
--- the keys of the table at a place; a profile other than the numbers 2 and 3 has the keys of the first
+-- the keys of the table at a place; a profile other than the numbers 2 and 4 has the keys of the first
 abbrev pub keys_at : (profile : ℕ) → Place → List Entry
 keys_at profile place.Top = top_keys profile
 keys_at profile place.Churn = churn_keys

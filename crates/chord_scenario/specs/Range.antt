@@ -1,4 +1,4 @@
--- What holds of every scenario. The greatest numbers are those of the third profile: no engine has a use for the
+-- What holds of every scenario. The greatest numbers are those of the extended profile: no engine has a use for the
 -- tighter ones of the others.
 use Rattle.std.specs.Prelude.{ℕ, ◌≡◌, ◌≢◌, ◌⊎◌, ◌+◌, ◌*◌, ◌<◌, ◌≤◌, ◌^◌, true, false, [], length, count_by, IfSome, IsSome}
 use Rattle.std.specs.List.{All}
@@ -9,6 +9,7 @@ use Rattle.chord_scenario.specs.declared.setting.Command.{Command}
 use Rattle.chord_scenario.specs.declared.setting.Span.{Span}
 use Rattle.chord_scenario.specs.Distances.{IsPlace}
 use Rattle.chord_scenario.specs.Setup.{Setup}
+use Rattle.chord_scenario.specs.Values.{is_profile}
 use Rattle.chord_scenario.specs.World.{node_count, ident_of, is_churn_node, latency}
 
 -- a span of times from at least one microsecond to at most this many
@@ -47,7 +48,7 @@ abbrev pub most_events : ℕ
 most_events = 100000000000
 
 -- the numbers of a scenario are in the ranges of the file format; in the first profile messages are neither lost nor
--- delayed at random, and in the third alone are requests sent again, joins paused, predecessors checked
+-- delayed at random, and in the extended profile alone are requests sent again, joins paused, predecessors checked
 -- and messages told of
 pub record NumbersInRange (sc : Setup) : Type 0 where
   pub bits_least : 3 ≤ sc.bits
@@ -71,8 +72,7 @@ pub record NumbersInRange (sc : Setup) : Type 0 where
   pub retries : sc.retries ≤ 3
   pub join_pause : sc.join_pause ≤ 1000000000
   pub check : sc.check ≤ 1000000000
-  pub profile_least : 1 ≤ sc.profile
-  pub profile_greatest : sc.profile ≤ 3
+  pub known : is_profile sc.profile ≡ true
   pub lossless : sc.profile ≡ 1 → (sc.loss ≡ 0) × (sc.spread ≡ 0)
   pub asked_once : sc.profile ≤ 2 → sc.retries ≡ 0
   pub joined_at_once : sc.profile ≤ 2 → (sc.join_pause ≡ 0) × (sc.join_forever ≡ false)

@@ -27,14 +27,14 @@ pub record Setup : Type 0 where
   -- may take
   pub loss : ℕ
   pub spread : ℕ
-  -- in the third profile: how often a request without a reply in time is sent again
+  -- in the extended profile: how often a request without a reply in time is sent again
   pub retries : ℕ
-  -- in the third profile: how long a node waits between its attempts to join, and whether it never gives up
+  -- in the extended profile: how long a node waits between its attempts to join, and whether it never gives up
   pub join_pause : ℕ
   pub join_forever : Bool
-  -- in the third profile: the time from one check of a node's predecessor to the next, and 0 if there are none
+  -- in the extended profile: the time from one check of a node's predecessor to the next, and 0 if there are none
   pub check : ℕ
-  -- in the third profile: whether the messages that are made leave lines
+  -- in the extended profile: whether the messages that are made leave lines
   pub detail : Bool
   pub churn : Option Churn
   pub lookups : Option Span

@@ -10,6 +10,7 @@ use Rattle.std.specs.Prelude.{
   false,
   ◌&&◌,
   ◌||◌,
+  ◌==◌,
   List,
   length,
   nat_le,
@@ -29,7 +30,7 @@ use Rattle.toml.specs.Data.{Data, string, integer, Items, no_items, item, Member
 use Rattle.chord_scenario.specs.declared.key.FileKey.{FileKey}
 use Rattle.chord_scenario.specs.declared.key.FileKey.TheVariants as key
 use Rattle.chord_scenario.specs.declared.key.Form.{Form}
-use Rattle.chord_scenario.specs.declared.key.Form.TheVariants.{Whole, Text, Operation, Boolean, Identifier, Table, Tables}
+use Rattle.chord_scenario.specs.declared.key.Form.TheVariants.{Whole, Profile, Text, Operation, Boolean, Identifier, Table, Tables}
 use Rattle.chord_scenario.specs.FileKeys.{key_name}
 use Rattle.chord_scenario.specs.Operations.{operation_named}
 
@@ -68,6 +69,7 @@ item_count (item d ds) = 1 + item_count ds
 -- the value has the type that the form wants
 unfoldable pub has_type : Form → Data → Bool
 has_type (Whole least greatest) d = is_some (as_integer d)
+has_type Profile d = is_some (as_integer d)
 has_type Text d = is_some (as_str d)
 has_type Operation d = is_some (as_str d)
 has_type Boolean d = is_some (as_bool d)
@@ -98,9 +100,14 @@ has_digits most d = option_map_or (λ digits. nat_le (length digits) most) (as_s
 abbrev pub is_within : ℕ → ℕ → ℕ → Bool
 is_within least greatest n = nat_le least n && nat_le n greatest
 
+-- the number is that of a profile: 1 and 2, or 4, the extended one
+abbrev pub is_profile : ℕ → Bool
+is_profile n = n == 1 || n == 2 || n == 4
+
 -- the value is one of those that the form allows, on a circle of this many bits
 unfoldable pub is_in_range : ℕ → Form → Data → Bool
 is_in_range bits (Whole least greatest) d = option_map_or (is_within least greatest) (as_whole d) false
+is_in_range bits Profile d = option_map_or is_profile (as_whole d) false
 is_in_range bits Text d = true
 is_in_range bits Operation d = option_map_or (λ word. is_some (operation_named word)) (as_str d) false
 is_in_range bits Boolean d = true

@@ -1,18 +1,18 @@
 //! What nodes draw. In the first two profiles each draw takes the next words of the node's one stream.
-//! In the third each draw has words of its own, so that no draw depends on earlier ones.
+//! In the extended profile each draw has words of its own, so that no draw depends on earlier ones.
 ghost use Rattle.std.specs.Prelude.{◌≡◌, ◌+◌, ◌-◌, ◌^◌, ◌<◌, ◌≤◌};
 ghost use Rattle.chord_scenario.specs.Draws.{chance, delay, extra, timer_number, timer_occasion, timer_purpose};
 ghost use Rattle.chord_scenario.specs.Range.{IsSpanUpTo};
 
-use crate::scenario::Scenario;
+use crate::scenario::{EXTENDED_PROFILE, Scenario};
 use crate::setting::Span;
 use chord_event::Body;
 use chord_stream::Stream;
 
-/// The purpose of the words from which a random key is made, in the third profile.
+/// The purpose of the words from which a random key is made, in the extended profile.
 pub const KEY_PURPOSE: u32 = 6;
 
-/// The purpose of the words that decide what becomes of a message, in the third profile.
+/// The purpose of the words that decide what becomes of a message, in the extended profile.
 const MESSAGE_PURPOSE: u32 = 7;
 
 /// Who draws and when: the node, how many words of its stream it has drawn, and the time in
@@ -24,7 +24,7 @@ pub struct Drawer {
     pub time: u64,
 }
 
-/// The purpose of the words from which a timer's delay is made, in the third profile.
+/// The purpose of the words from which a timer's delay is made, in the extended profile.
 fn timer_purpose(timer: &Body) -> u32
     ensures { result ≡ timer_purpose timer.now }
 {
@@ -39,7 +39,7 @@ fn timer_purpose(timer: &Body) -> u32
     }
 }
 
-/// Which of the delays of its kind a timer has, in the third profile.
+/// Which of the delays of its kind a timer has, in the extended profile.
 fn timer_occasion(time: u64, timer: &Body) -> u64
     ensures { result ≡ timer_occasion time timer.now }
 {
@@ -56,7 +56,7 @@ impl Scenario {
         ensures value { result ≡ timer_number self.now drawer.node drawer.place drawer.time timer.now bound }
         ensures below { result < bound }
     {
-        if self.profile() == 3 {
+        if self.profile() == EXTENDED_PROFILE {
             let stream = Stream::for_purpose(self.seed(), drawer.node, timer_purpose(timer));
             return stream.number_in(timer_occasion(drawer.time, timer), bound);
         }
@@ -85,7 +85,7 @@ impl Scenario {
     {
         self.recall_range();
         let bounds = (1_000_000, self.spread() + 1);
-        if self.profile() == 3 {
+        if self.profile() == EXTENDED_PROFILE {
             let stream = Stream::for_purpose(self.seed(), drawer.node, MESSAGE_PURPOSE);
             return stream.numbers_in(number, bounds);
         }

@@ -134,6 +134,8 @@ impl FileKey {
 pub(crate) enum Form {
     /// A whole number from the first to the second.
     Whole(u64, u64),
+    /// The number of a profile.
+    Profile,
     Text,
     /// One of `join`, `crash` and `lookup`.
     Operation,
@@ -196,7 +198,7 @@ pub(crate) struct Entry(pub FileKey, pub Form, pub Presence);
 /// A number of microseconds that is at least 1.
 const INTERVAL: Form = Form::Whole(1, 1_000_000_000);
 
-const PROFILE: Entry = Entry(FileKey::Profile, Form::Whole(1, 3), Presence::Required);
+const PROFILE: Entry = Entry(FileKey::Profile, Form::Profile, Presence::Required);
 
 const BITS: Entry = Entry(FileKey::Bits, Form::Whole(3, 64), Presence::Required);
 
@@ -240,7 +242,7 @@ const MAX_EVENTS: Entry = Entry(
     Presence::Optional,
 );
 
-/// The most events of a run in the third profile.
+/// The most events of a run in the extended profile.
 const LONG_RUN: Entry = Entry(
     FileKey::MaxEvents,
     Form::Whole(1, 100_000_000_000),
@@ -306,8 +308,8 @@ static NETWORK_TOP_KEYS: [Entry; 19] = [
     JITTER, MAX_EVENTS, LOSS, SPREAD, CHURN, LOOKUPS, MANY_NODES, COMMANDS,
 ];
 
-/// The keys at top in the third profile.
-static DEPLOYED_TOP_KEYS: [Entry; 24] = [
+/// The keys at top in the extended profile.
+static EXTENDED_TOP_KEYS: [Entry; 24] = [
     PROFILE,
     WIDE_BITS,
     LIST,
@@ -349,7 +351,7 @@ static LOOKUPS_KEYS: [Entry; 2] = [
 /// An identifier of the first profile.
 const IDENTIFIER: Form = Form::Identifier(16);
 
-/// An identifier of the second and third profile.
+/// An identifier of the second and the extended profile.
 const LONG_IDENTIFIER: Form = Form::Identifier(32);
 
 const NAME: Entry = Entry(FileKey::Name, Form::Text, Presence::Required);
@@ -381,7 +383,7 @@ const HEIGHT: Entry = Entry(
     Presence::Optional,
 );
 
-/// The keys of a node in the third profile.
+/// The keys of a node in the extended profile.
 static PLACED_NODE_KEYS: [Entry; 7] = [NAME, LONG_ID, INITIAL, CHURNS, X, Y, HEIGHT];
 
 const AT: Entry = Entry(
@@ -403,14 +405,14 @@ const LONG_KEY: Entry = Entry(FileKey::Key, LONG_IDENTIFIER, Presence::ForLookup
 /// The keys of a command in the first profile.
 static COMMAND_KEYS: [Entry; 5] = [AT, DO, NODE, VIA, KEY];
 
-/// The keys of a command in the second and third profile.
+/// The keys of a command in the second and the extended profile.
 static LONG_COMMAND_KEYS: [Entry; 5] = [AT, DO, NODE, VIA, LONG_KEY];
 
 /// Whether a profile has identifiers of up to 128 bits.
 fn is_wide(profile: u64) -> bool
     ensures { result ≡ is_wide profile }
 {
-    profile == 2 || profile == 3
+    profile == 2 || profile == 4
 }
 
 /// The keys at top in a profile.
@@ -418,8 +420,8 @@ fn top_keys(profile: u64) -> &'static [Entry]
     ensures { result.now ≡ top_keys profile }
 {
     match profile {
-        3 => &DEPLOYED_TOP_KEYS,
         2 => &NETWORK_TOP_KEYS,
+        4 => &EXTENDED_TOP_KEYS,
         _ => &TOP_KEYS,
     }
 }
@@ -429,13 +431,13 @@ fn node_keys(profile: u64) -> &'static [Entry]
     ensures { result.now ≡ node_keys profile }
 {
     match profile {
-        3 => &PLACED_NODE_KEYS,
         2 => &LONG_NODE_KEYS,
+        4 => &PLACED_NODE_KEYS,
         _ => &NODE_KEYS,
     }
 }
 
-/// The keys of the table at a place, in order. A `profile` other than the numbers 2 and 3 is checked
+/// The keys of the table at a place, in order. A `profile` other than the numbers 2 and 4 is checked
 /// with the keys of the first profile.
 pub(crate) fn keys_at(profile: u64, place: Place) -> &'static [Entry]
     ensures { result.now ≡ keys_at profile place }

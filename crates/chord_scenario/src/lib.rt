@@ -29,5 +29,5 @@ pub use fault::ScenarioFault;
 pub use key::{FileKey, Place};
 pub use name::Name;
 pub use reader::read_scenario;
-pub use scenario::Scenario;
+pub use scenario::{EXTENDED_PROFILE, Scenario};
 pub use setting::{Action, Churn, Command, Coordinates, Node, Span};

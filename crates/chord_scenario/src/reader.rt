@@ -248,7 +248,7 @@ fn scenario_of(alloc: Global, top: &Table, csv: &[u8]) -> Result<Scenario, Scena
 /// The scenario of a table, its nodes, and what links them.
 fn assembled(circle: Circle, top: &Table, nodes: Vec<Node>, linked: Linked) -> Scenario
     requires circle { circle ≡ number_at key.Bits (table_view top.now) }
-    requires profile { number_at key.Profile (table_view top.now) ≤ 3 }
+    requires profile { number_at key.Profile (table_view top.now) ≤ 4 }
     requires coordinates { linked.distances.coordinates.items ≡ coordinates_of (sections (table_view top.now)) }
     requires in_range { IsInRange (setup_with (table_view top.now) nodes.items linked.commands.items (square_or_zeros (length nodes.items) linked.distances.cells.items)) }
     ensures { result ≡ setup_with (table_view top.now) nodes.items linked.commands.items (square_or_zeros (length nodes.items) linked.distances.cells.items) }

@@ -8,6 +8,9 @@ use crate::setting::{Churn, Command, Coordinates, Node, Span};
 use chord_circle::{Circle, Ident};
 use std::marker::Model;
 
+/// The number of the extended profile.
+pub const EXTENDED_PROFILE: u32 = 4;
+
 /// A scenario that the file format allows, with all that a run of it needs. Contracts see it as
 /// what it sets; times are in microseconds.
 #[derive(Drop)]
@@ -64,9 +67,9 @@ impl Scenario {
         let _ = &self.circle;
     }
 
-    /// The profile: 1 is a lossless network with fixed latencies, 2 adds loss and delay, and 3 adds
-    /// requests that are sent again, pauses of joins, checks of predecessors, coordinates, detail,
-    /// and draws that do not depend on earlier ones.
+    /// The profile: 1 is a lossless network with fixed latencies, 2 adds loss and delay, and 4, the
+    /// extended profile, adds requests that are sent again, pauses of joins, checks of
+    /// predecessors, coordinates, detail, and draws that do not depend on earlier ones.
     pub fn profile(&self) -> u32
         ensures { result ≡ self.now.profile }
     {

@@ -3,7 +3,7 @@
 ghost use Rattle.std.specs.Prelude.{◌≡◌, ◌^◌, nat_lt, option_map, option_copied};
 ghost use Rattle.std.specs.List.{list_all};
 ghost use Rattle.toml.specs.View.{table_view, view, items_view};
-ghost use Rattle.chord_scenario.specs.Values.{data_at, number_at, truth_at, text_at, as_whole, are_tables, has_type, hexadecimal, is_hexadecimal_digit, is_within, identifier_of, has_digits, is_in_range, agrees};
+ghost use Rattle.chord_scenario.specs.Values.{data_at, number_at, truth_at, text_at, as_whole, are_tables, has_type, hexadecimal, is_hexadecimal_digit, is_within, is_profile, identifier_of, has_digits, is_in_range, agrees};
 
 use crate::key::{FileKey, Form};
 use crate::operation::operation_named;
@@ -75,7 +75,7 @@ pub(crate) fn has_type(form: Form, value: &Value) -> bool
     ensures { result ≡ has_type form (view value.now) }
 {
     match form {
-        Form::Whole(_, _) => value.is_integer(),
+        Form::Whole(_, _) | Form::Profile => value.is_integer(),
         Form::Text | Form::Operation => value.is_str(),
         Form::Boolean => value.is_bool(),
         Form::Identifier(_) => value.is_integer() || value.is_str(),
@@ -135,6 +135,13 @@ fn is_within(least: u64, greatest: u64, number: u64) -> bool
     least <= number && number <= greatest
 }
 
+/// Whether a number is that of a profile: 1 and 2, or 4, the extended one.
+fn is_profile(number: u64) -> bool
+    ensures { result ≡ is_profile number }
+{
+    number == 1 || number == 2 || number == 4
+}
+
 /// Whether a value is no text of more than this many digits.
 fn has_digits(most: usize, value: &Value) -> bool
     ensures { result ≡ has_digits most (view value.now) }
@@ -160,6 +167,10 @@ pub(crate) fn is_in_range(bits: u64, form: Form, value: &Value) -> bool
     match form {
         Form::Whole(least, greatest) => match whole(value) {
             Some(number) => is_within(least, greatest, number),
+            None => false,
+        },
+        Form::Profile => match whole(value) {
+            Some(number) => is_profile(number),
             None => false,
         },
         Form::Operation => match value.as_str() {

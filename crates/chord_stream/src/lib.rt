@@ -1,5 +1,5 @@
 //! The random words of the nodes. Each node draws from its own stream, at places that it counts. In
-//! the third profile it has a stream for each purpose, and each draw has a group of four words.
+//! the extended profile it has a stream for each purpose, and each draw has a group of four words.
 #![tactic(auto)]
 
 ghost use Rattle.std.specs.Prelude.{◌≡◌, ℕ, ◌+◌, ◌*◌, ◌%◌, ◌^◌, ◌<◌, ◌≤◌, slice_index};

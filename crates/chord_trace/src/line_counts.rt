@@ -18,9 +18,9 @@ pub struct LineCounts {
     pub ignored: u64,
     /// Lost messages. The first profile has none.
     pub losses: u64,
-    /// Requests that were sent again. Only the third profile has them.
+    /// Requests that were sent again. Only the extended profile has them.
     pub again: u64,
-    /// Predecessors that were forgotten. Only the third profile has them.
+    /// Predecessors that were forgotten. Only the extended profile has them.
     pub forgotten: u64,
 }
 

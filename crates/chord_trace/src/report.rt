@@ -13,6 +13,7 @@ use crate::line_counts::LineCounts;
 use crate::watched::Watched;
 use crate::writing::write_text;
 use chord_event::RunError;
+use chord_scenario::EXTENDED_PROFILE;
 use std::alloc::{AllocError, Global};
 use std::fmt::Write as _;
 use std::io::Write;
@@ -54,8 +55,8 @@ impl Report {
     {
         push_numbers(text, &self.numbers())?;
         push_if(text, self.profile > 1, "losses", self.lines.losses)?;
-        push_if(text, self.profile == 3, "again", self.lines.again)?;
-        push_if(text, self.profile == 3, "forgotten", self.lines.forgotten)
+        push_if(text, self.profile == EXTENDED_PROFILE, "again", self.lines.again)?;
+        push_if(text, self.profile == EXTENDED_PROFILE, "forgotten", self.lines.forgotten)
     }
 
     fn numbers(&self) -> [(&'static str, u128); 24]

@@ -90,6 +90,14 @@ def integers(least: int, greatest: int) -> str:
     return f"the integer {least}" if least == greatest else f"an integer from {least} to {greatest}"
 
 
+def integers_at(key: Key) -> str:
+    """The integers that are allowed at a key, in words: one by one if the range has gaps."""
+    if not key.missing:
+        return integers(key.least, key.greatest)
+    *others, last = (str(number) for number in range(key.least, key.greatest + 1) if number not in key.missing)
+    return f"the integers {', '.join(others)} and {last}"
+
+
 def allowed_at(key: Key, bits: int | None) -> str:
     """What is allowed at a key."""
     if key.name == "do":
@@ -97,7 +105,7 @@ def allowed_at(key: Key, bits: int | None) -> str:
     if key.name == "name":
         return "a text of 1 to 32 letters, digits, `.`, `_` and `-`, but not \"audit\""
     if key.kind == "integer":
-        return integers(key.least, key.greatest)
+        return integers_at(key)
     if key.kind == "id":
         greatest = GREATEST_INTEGER if bits is None else 2**bits - 1
         least = f"an integer from 0 to {min(greatest, GREATEST_INTEGER)}"

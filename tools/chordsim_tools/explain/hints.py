@@ -168,10 +168,17 @@ def of_digits(text: str, bits: int | None, digits: int) -> list[str]:
     return ["write small letters"] if is_hexadecimal(text.lower(), digits) else []
 
 
+def of_profile_number(number: Any) -> list[str]:
+    """That a number of a profile is not in use, and which profile was likely meant."""
+    return ["the number 3 is not in use: the profile after 2 is 4, so write profile = 4"] if number == 3 else []
+
+
 def of_profile(value: Any, key: Key, place: str) -> list[str]:
     """The first later profile that allows a value that this one does not."""
     if is_in_own_range(value, key):
         return []
+    if key.name == "profile":
+        return of_profile_number(value)
     # Each profile has all keys of the earlier ones, with ranges that are no narrower.
     for number, other in PROFILES.items():
         wider = next((one for one in other.tables[place.split()[0]] if one.name == key.name), key)

@@ -11,7 +11,7 @@ from chordsim_tools.cli import say
 from chordsim_tools.known import known
 from chordsim_tools.quantities import time_text
 from chordsim_tools.scenario import coordinates
-from chordsim_tools.scenario.tables import PROFILES, rows_of
+from chordsim_tools.scenario.tables import EXTENDED, PROFILES, rows_of
 from chordsim_tools.study.document import toml_text
 
 MOST_EVENTS = 50_000_000
@@ -122,13 +122,13 @@ def events_trap(program: Path, top: dict[str, Any], latency: bytes) -> list[str]
 
 
 def events_told(top: dict[str, Any], need: Need) -> str:
-    """That a run is likely to need more events than it may have, and that profile 3 allows more, if it alone does."""
-    greatest = PROFILES[3].greatest("max_events")
+    """That a run is likely to need more events than it may have, and that profile 4 allows more, if it alone does."""
+    greatest = EXTENDED.greatest("max_events")
     is_beyond = PROFILES[top["profile"]].greatest("max_events") < need.events <= greatest
     return (
         f"max_events = {most_events(top)}, and the run is likely to need about {rounded(need.events)} ({need.told}): "
         "it would end with `3 TooManyEvents`, without a report"
-        + (f"; profile 3 allows up to {greatest}" if is_beyond else "")
+        + (f"; profile 4 allows up to {greatest}" if is_beyond else "")
     )
 
 

@@ -9,7 +9,7 @@ from chordsim_tools.explain.hints import heading_of, shown
 from chordsim_tools.explain.positions import Position
 from chordsim_tools.known import known
 from chordsim_tools.scenario.faults import Fault
-from chordsim_tools.scenario.tables import ACTIONS, BILLION, COORDINATES, Key
+from chordsim_tools.scenario.tables import ACTIONS, BILLION, COORDINATES, Key, is_in_own_range
 
 Parts = tuple[str, str, str, list[str]]
 """What is wrong, what is there, what is allowed, and what was likely meant."""
@@ -57,7 +57,8 @@ def unknown_key(fault: Fault, files: Files) -> Parts:
     """S2."""
     place = files.place(fault.place)
     allowed = "the keys " + ", ".join(key.name for key in place.keys)
-    likely = hints.of_unknown_key(fault.key, fault.place, place.table, files.document.profile)
+    likely = hints.of_profile_number(files.document.top.table.get("profile"))
+    likely = likely or hints.of_unknown_key(fault.key, fault.place, place.table, files.document.profile)
     return f"`{shown(fault.key)}` is no key of {heading_of(fault.place)}", f"`{shown(fault.key)}`", allowed, likely
 
 
@@ -93,11 +94,11 @@ def out_of_range(fault: Fault, files: Files) -> Parts:
     if key.kind == "id":
         likely = hints.of_id(value, files.document.top.usable("bits"), key.greatest)
         return f"`{key.name}` is no identifier on this circle", written, allowed, likely + wider
-    if key.least <= value <= key.greatest and key.name == "audit_us":
+    if is_in_own_range(value, key) and key.name == "audit_us":
         least = -(-table["duration_us"] // 1_000_000)
         likely = [f"a run has at most 1000000 audits, so for duration_us = {table['duration_us']} {least} is the least"]
         return "there would be more than 1000000 audits", written, integers(least, BILLION), likely
-    if key.least <= value <= key.greatest:
+    if is_in_own_range(value, key):
         other = key.name.replace("_max_", "_min_")
         likely = [f"{other} = {table[other]} stands at {files.line(fault.place, other)}"]
         return f"`{key.name}` is below `{other}`", written, integers(table[other], BILLION), likely

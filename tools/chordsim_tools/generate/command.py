@@ -13,7 +13,7 @@ from chordsim_tools.generate.plan import (
 )
 from chordsim_tools.generate.random_scenario import scenario_files
 from chordsim_tools.generate.text import text_of
-from chordsim_tools.options import GREATEST_SEED, Given, Options, a_time, a_whole, choice, duration, value, whole
+from chordsim_tools.options import GREATEST_SEED, Given, Options, a_time, a_whole, choice, duration, one_of, value, whole
 from chordsim_tools.places import LAWS, Law, PlacesFile, law_of_places
 from chordsim_tools.quantities import BILLION, span_of
 from chordsim_tools.scenario.coordinates import greatest_latency
@@ -61,7 +61,7 @@ way between their places; --latency only makes the default of --timeout.
 
 A small random scenario, which tries out as much as possible in little time: --random SEED, alone. It has 3 to 16 nodes,
 2 to 8 ms, mostly much churn and calls that time out; of six seeds the first two have profile 1, the next two profile 2
-and the last two profile 3. Most have also a latency file of some pairs, which --links writes; without it the scenario
+and the last two profile 4. Most have also a latency file of some pairs, which --links writes; without it the scenario
 stands by itself. The same SEED makes the same bytes.
 
 examples:
@@ -71,10 +71,10 @@ examples:
   tools/generate --nodes 200 --lifetime exp:10m --down exp:1m --stay 0 --stationary --lookups 0.2 --duration 30m
   tools/generate --initial 8 --arrive 5s..5055ms --duration 1m  a storm of joins
   tools/generate --profile 2 --loss 20000 --spread 5ms          two messages of a hundred are lost, the others late
-  tools/generate --profile 3 --loss 20000 --retries 2           the same loss, and requests that are sent again
-  tools/generate --profile 3 --lifetime exp:10m --join-pause 5s --join-forever --check 1s
+  tools/generate --profile 4 --loss 20000 --retries 2           the same loss, and requests that are sent again
+  tools/generate --profile 4 --lifetime exp:10m --join-pause 5s --join-forever --check 1s
                                                                 joins that do not end, and checks of predecessors
-  tools/generate --profile 3 --nodes 4096 --coordinates king --timeout 1s
+  tools/generate --profile 4 --nodes 4096 --coordinates king --timeout 1s
   tools/generate --lookups 0.5 --keys zipf:0.9:1000 --seed 3
   tools/generate --random 7 --links links.csv -o any.toml
 A scenario that is run with a latency file wants a --window of at most the file's least latency and a --timeout above
@@ -86,13 +86,13 @@ status: 0 the scenario is written; 2 the arguments are wrong, or ask for more th
 LENGTH = duration(1, BILLION)
 LIFE = value(distribution_of, LIVES)
 OPTIONS = (
-    ("profile", "N", whole(1, 3),
-     "the set of rules: 1; 2 for a network with loss and spread, wider identifiers and more nodes; 3 for this, "
+    ("profile", "N", one_of(1, 2, 4),
+     "the set of rules: 1; 2 for a network with loss and spread, wider identifiers and more nodes; 4 for this, "
      "requests that are sent again, pauses between joins, checks of predecessors, coordinates and still more nodes "
      "(1)"),
-    ("nodes", "N", a_whole(), "2 to 512 nodes, in profile 2 to 4096, in profile 3 to 65536, and at most 2^BITS (64)"),
+    ("nodes", "N", a_whole(), "2 to 512 nodes, in profile 2 to 4096, in profile 4 to 65536, and at most 2^BITS (64)"),
     ("initial", "N", a_whole(), "how many of them, the first ones, are members at the start: 2 to NODES (all)"),
-    ("bits", "N", a_whole(), "bits of an identifier: 3 to 64, in profiles 2 and 3 to 128 (32)"),
+    ("bits", "N", a_whole(), "bits of an identifier: 3 to 64, in profiles 2 and 4 to 128 (32)"),
     ("list", "N", a_whole(),
      "entries of a successor list: 1 to 16, and below the initial nodes (4, or as many as may be)"),
     ("duration", "TIME", duration(1, 1000 * BILLION), "1us to 1000000s (120s)"),
@@ -104,20 +104,20 @@ OPTIONS = (
     ("stabilize", "TIME", LENGTH, "1us to 1000s (500ms)"),
     ("finger", "TIME", LENGTH, "1us to 1000s (250ms)"),
     ("jitter", "TIME", duration(0, BILLION), "0us to 1000s (50ms)"),
-    ("max-events", "N", a_whole(), "1 to 50000000, in profile 3 to 100000000000 (50000000)"),
-    ("loss", "N", whole(0, 1_000_000), "profiles 2 and 3: messages lost per million, 0 to 1000000 (0)"),
+    ("max-events", "N", a_whole(), "1 to 50000000, in profile 4 to 100000000000 (50000000)"),
+    ("loss", "N", whole(0, 1_000_000), "profiles 2 and 4: messages lost per million, 0 to 1000000 (0)"),
     ("spread", "TIME", duration(0, BILLION),
-     "profiles 2 and 3: up to this much is added to each latency, 0us to 1000s (0us)"),
+     "profiles 2 and 4: up to this much is added to each latency, 0us to 1000s (0us)"),
     ("retries", "N", whole(0, 3),
-     "profile 3 alone: how often a request is sent again before its node is taken for dead, 0 to 3 (0)"),
+     "profile 4 alone: how often a request is sent again before its node is taken for dead, 0 to 3 (0)"),
     ("join-pause", "TIME", duration(0, BILLION),
-     "profile 3 alone: how long a node waits after a failed attempt to join, 0us to 1000s (0us)"),
+     "profile 4 alone: how long a node waits after a failed attempt to join, 0us to 1000s (0us)"),
     ("join-forever", "", None,
-     "profile 3 alone: a node whose join has failed eight times begins again, after eight pauses"),
+     "profile 4 alone: a node whose join has failed eight times begins again, after eight pauses"),
     ("check", "TIME", duration(0, BILLION),
-     "profile 3 alone: time between a node's checks of its predecessor, 0us to 1000s, 0us for none (0us)"),
-    ("detail", "", None, "profile 3 alone: the trace has lines that tell of each message"),
-    ("coordinates", "LAW", value(law_of_places, LAWS), f"profile 3 alone: latencies by coordinates: {LAWS} (none)"),
+     "profile 4 alone: time between a node's checks of its predecessor, 0us to 1000s, 0us for none (0us)"),
+    ("detail", "", None, "profile 4 alone: the trace has lines that tell of each message"),
+    ("coordinates", "LAW", value(law_of_places, LAWS), f"profile 4 alone: latencies by coordinates: {LAWS} (none)"),
     ("seed", "N", whole(0, GREATEST_SEED),
      "of the simulated streams, and of all that is drawn here: 0 to 9223372036854775807 (1)"),
     ("churn-uniform", "SPAN", value(length_span_of, f"two spans {LENGTHS}"),

@@ -92,7 +92,7 @@ def is_stationary(options: Options) -> bool:
 
 def coordinates_of(options: Options, profile: int, nodes: int) -> tuple[Coordinates, ...]:
     """The coordinates of the nodes, if they have any."""
-    options.only_with("coordinates", profile == 3, "--profile 3")
+    options.only_with("coordinates", profile == 4, "--profile 4")
     law: Law | None = options.get("coordinates", None)
     return () if law is None else places_of(law, options.get("seed", 1), [name_of(node) for node in range(nodes)])
 
@@ -138,11 +138,11 @@ def top_of(
 
 
 def network_of(options: Options, profile: int) -> dict[str, int]:
-    """The keys of loss and spread, which profiles 2 and 3 have, and those that profile 3 alone has."""
+    """The keys of loss and spread, which profiles 2 and 4 have, and those that profile 4 alone has."""
     for name in ("loss", "spread"):
-        options.only_with(name, profile >= 2, "--profile 2 or 3")
+        options.only_with(name, profile >= 2, "--profile 2 or 4")
     for name in ("retries", "join-pause", "join-forever", "check", "detail"):
-        options.only_with(name, profile == 3, "--profile 3")
+        options.only_with(name, profile == 4, "--profile 4")
     if profile == 1:
         return {}
     network = {"loss_ppm": options.get("loss", 0), "spread_us": options.get("spread", 0)}

@@ -3,7 +3,7 @@
 from random import Random
 
 WIDE = [3, 4, 5, 6, 8, 32, 33, 64, 65, 96, 97, 127, 128]
-BITS = {1: [3, 4, 5, 6, 8, 16, 31, 32, 33, 63, 64], 2: WIDE, 3: WIDE}
+BITS = {1: [3, 4, 5, 6, 8, 16, 31, 32, 33, 63, 64], 2: WIDE, 4: WIDE}
 """The bits of the scenarios of each profile."""
 
 
@@ -13,7 +13,7 @@ def scenario_files(seed: int) -> tuple[str, str]:
     Of six seeds in a row two have each profile, one of them an even seed and one an odd one.
     """
     dice = Random(seed)
-    profile = 1 + seed // 2 % 3
+    profile = (1, 2, 4)[seed // 2 % 3]
     bits = dice.choice(BITS[profile])
     nodes = dice.randint(3, min(2**bits, dice.choice([4, 8, 16])))
     entries = dice.randint(1, min(16, nodes - 1, dice.choice([1, 2, 3, 5])))
@@ -31,8 +31,8 @@ def scenario_files(seed: int) -> tuple[str, str]:
     node_tables = [node_table(dice, i, ident, i in initial, is_churning) for i, ident in enumerate(idents)]
     commands = "".join(command_table(dice, nodes, duration, 2**bits) for _ in range(dice.choice([0, 5, 20, 60])))
     links = rows(dice, nodes, window)
-    # What came to the third profile later is drawn last, so that all else stays as it was.
-    if profile == 3:
+    # What came to the extended profile later is drawn last, so that all else stays as it was.
+    if profile == 4:
         top |= patience_of(dice)
         if dice.random() < 0.4:
             node_tables = [table + coordinates(dice, window) for table in node_tables]
@@ -75,12 +75,12 @@ def settings(
 def network_of(dice: Random, latency: int, profile: int) -> dict[str, int]:
     """Loss and spread, if the scenario has them: all messages lost, some or none, and late by some latencies.
 
-    In the third profile also how often a request is sent again.
+    In the extended profile also how often a request is sent again.
     """
     loss = dice.choice([0, 1_000_000, dice.randint(1, 200_000), dice.randint(1, 50_000), dice.randint(1, 50_000)])
     spread = dice.choice([0, 1, dice.randint(0, latency), dice.randint(0, 5 * latency)])
     keys = {"loss_ppm": loss, "spread_us": spread}
-    if profile == 3:
+    if profile == 4:
         keys["retries"] = dice.randint(0, 3)
     return {key: value for key, value in keys.items() if dice.random() < 0.85}
 

@@ -17,7 +17,7 @@ from chordsim_tools.latency.measured import UNITS, Latencies, latencies_of, read
 from chordsim_tools.options import GREATEST_SEED, Options, a_whole, choice, duration, whole
 from chordsim_tools.places import places_text
 from chordsim_tools.scenario.coordinates import greatest_latency
-from chordsim_tools.scenario.tables import GREATEST_SIZE, THIRD, parse_toml
+from chordsim_tools.scenario.tables import EXTENDED, GREATEST_SIZE, parse_toml
 
 PROG = "tools/latency"
 HELP = """\
@@ -52,11 +52,11 @@ the row, as a share of the latter. No height is below half the --floor, so that 
 --king: coordinates that are made in the manner of the King data set, and not measured: places in three clusters, and
 heights that are nearly log-normal. docs/tools.md says how they are drawn.
 
-tools/generate --coordinates file:NAME takes such a file. It is for profile 3.
+tools/generate --coordinates file:NAME takes such a file. It is for profile 4.
 
 At the end a line on standard error says the number of hosts and of gaps filled, the least, the median and the greatest
 latency, and the greatest window_us that a scenario with these latencies may have (which is the least latency). A spread
-(spread_us, of profiles 2 and 3) only adds to these and does not count for the window.
+(spread_us, of profiles 2 and 4) only adds to these and does not count for the window.
 
 chordsim reads at most 16,777,216 bytes of latencies, which a row for each pair of some 1,400 nodes has. A greater file
 is refused; profile 1 has at most 512 nodes.
@@ -70,7 +70,7 @@ examples:
   chordsim run --scenario ring.toml --latency plane.csv --serial
   tools/latency --fit king.csv -o places.csv               coordinates in place of the rows of king.csv
   tools/latency --king --nodes 4096 -o places.csv          coordinates that are made
-  tools/generate --profile 3 --nodes 128 --coordinates file:places.csv --timeout 1s -o ring.toml
+  tools/generate --profile 4 --nodes 128 --coordinates file:places.csv --timeout 1s -o ring.toml
 
 status: 0 the file is written; 1 a file is refused; 2 the arguments are wrong; 3 the file could not be written; 130
 interrupted. A file is whole or not there."""
@@ -78,7 +78,7 @@ UNIT_LIMIT = 1000
 """A median latency below this many microseconds is hardly one of the Internet."""
 TIMES = {"plane": SHORT, "floor": SHORT}
 """The options that are times, with the microseconds below which a number without a unit is hardly meant."""
-MOST_NODES = THIRD.greatest("node")
+MOST_NODES = EXTENDED.greatest("node")
 """The most nodes of a scenario."""
 
 

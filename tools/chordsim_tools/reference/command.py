@@ -27,7 +27,7 @@ examples:
                                                            says where the two traces first differ
   tools/reference examples/churn64.toml --report --messages
                                                            the report, and how many messages of each kind were made
-                                                           (in profiles 2 and 3 also how many were lost)
+                                                           (in profiles 2 and 4 also how many were lost)
 
 status: 0 all was done; 1 a file is refused, or the traces differ; 2 the arguments are wrong; 3 the run failed"""
 

@@ -31,7 +31,7 @@ class World:
         self.own_streams: dict[int, Stream] = {}
 
     def own_stream(self, node: int, what: Drawn) -> Stream:
-        """The stream from which a node draws this in the third profile."""
+        """The stream from which a node draws this in the extended profile."""
         number = node + what * 2**32
         if number not in self.own_streams:
             self.own_streams[number] = Stream(self.scenario.seed, number)
@@ -95,21 +95,21 @@ class Procedures:
         self.line(f"lose {KINDS[type(body)]} {self.name(to)}")
 
     def words(self, what: Drawn, occasion: int, count: int) -> list[int]:
-        """The words of a draw: the next ones of the node's stream; in the third profile four of the draw's own.
+        """The words of a draw: the next ones of the node's stream; in the extended profile four of the draw's own.
 
         The place moves on by the count in each profile.
         """
         place = self.n.place
         self.n.place += count
-        if self.world.scenario.profile == 3:
+        if self.world.scenario.profile == 4:
             stream = self.world.own_stream(self.n.me, what)
             return [stream.word(4 * occasion + i) for i in range(4)]
         return [self.world.streams[self.n.me].word(place + i) for i in range(count)]
 
     def numbers_below(self, what: Drawn, occasion: int, *bounds: int) -> list[int]:
-        """A number below each bound: of one word each, modulo the bound; in the third profile of two words each."""
+        """A number below each bound: of one word each, modulo the bound; in the extended profile of two words each."""
         words = self.words(what, occasion, len(bounds))
-        if self.world.scenario.profile == 3:
+        if self.world.scenario.profile == 4:
             doubles = [words[0] * 2**32 + words[1], words[2] * 2**32 + words[3]]
             return [w * n // 2**64 for w, n in zip(doubles, bounds)]
         return [word % n for word, n in zip(words, bounds)]

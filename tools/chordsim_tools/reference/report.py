@@ -40,7 +40,7 @@ class Report:
             self.times.append(int(fields[7].removeprefix("us=")))
 
     def numbers(self, events: int) -> dict[str, int]:
-        """The 24 numbers, in their order; in the second profile the 25th, and in the third also the 26th and 27th."""
+        """The 24 numbers, in their order; in the second profile the 25th, and in the extended profile also the 26th and 27th."""
         numbers = {"events": events}
         for word, kind in LINES:
             numbers[word] = self.lines[kind]
@@ -55,7 +55,7 @@ class Report:
             numbers[word] = self.audits[word]
         if self.profile >= 2:
             numbers["losses"] = self.lines["lose"]
-        if self.profile == 3:
+        if self.profile == 4:
             numbers["again"] = self.lines["again"]
             numbers["forgotten"] = self.lines["forget"]
         return numbers

@@ -26,7 +26,7 @@ class Purpose(Enum):
 
 
 class Drawn(IntEnum):
-    """What is drawn. The values are the kinds p of the third profile (section 5)."""
+    """What is drawn. The values are the kinds p of the extended profile (section 5)."""
 
     STABILIZE_TICK = 1
     FINGER_TICK = 2

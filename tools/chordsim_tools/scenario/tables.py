@@ -29,13 +29,17 @@ class NotToml(Refused):
 
 @dataclass
 class Key:
-    """A key of a table: its type, its range (of an ID: how many digits its text has) and whether it is required."""
+    """A key of a table: its type, its range (of an ID: how many digits its text has) and whether it is required.
+
+    `missing` are the numbers of the range that are not allowed.
+    """
 
     name: str
     kind: str
     least: int = 0
     greatest: int = GREATEST_INTEGER
     required: bool = True
+    missing: tuple[int, ...] = ()
 
 
 @dataclass
@@ -88,7 +92,7 @@ NETWORK = [
     Key("loss_ppm", "integer", 0, 1_000_000, required=False),
     Key("spread_us", "integer", 0, BILLION, required=False),
 ]
-"""The keys that the second and third profile have."""
+"""The keys that the second and the extended profile have."""
 PATIENCE = [
     Key("retries", "integer", 0, 3, required=False),
     Key("join_pause_us", "integer", 0, BILLION, required=False),
@@ -96,13 +100,13 @@ PATIENCE = [
     Key("check_us", "integer", 0, BILLION, required=False),
     Key("detail", "boolean", required=False),
 ]
-"""The keys of the top that the third profile alone has."""
+"""The keys of the top that the extended profile alone has."""
 COORDINATES = [
     Key("x_us", "integer", 0, 500_000_000, required=False),
     Key("y_us", "integer", 0, 500_000_000, required=False),
     Key("height_us", "integer", 0, 100_000_000, required=False),
 ]
-"""The keys of a node that the third profile alone has."""
+"""The keys of a node that the extended profile alone has."""
 CHURN = [Key(f"{word}_us", "integer", 1, BILLION) for word in ("life_min", "life_max", "down_min", "down_max")]
 LOOKUPS = [Key(f"{word}_us", "integer", 1, BILLION) for word in ("gap_min", "gap_max")]
 
@@ -110,7 +114,7 @@ LOOKUPS = [Key(f"{word}_us", "integer", 1, BILLION) for word in ("gap_min", "gap
 def top_keys(bits: int, nodes: int, events: int, network: list[Key]) -> list[Key]:
     """The keys of the top, for these greatest numbers of bits, nodes and events, and with these keys of the network."""
     return [
-        Key("profile", "integer", 1, 3),
+        Key("profile", "integer", 1, 4, missing=(3,)),
         Key("bits", "integer", 3, bits),
         *RUN,
         Key("max_events", "integer", 1, events, required=False),
@@ -168,12 +172,12 @@ class Profile:
 
 FIRST = Profile(64, 512, 50_000_000, [], [])
 SECOND = Profile(128, 4096, 50_000_000, NETWORK, [])
-THIRD = Profile(128, 65_536, 100_000_000_000, [*NETWORK, *PATIENCE], COORDINATES)
-PROFILES = {1: FIRST, 2: SECOND, 3: THIRD}
+EXTENDED = Profile(128, 65_536, 100_000_000_000, [*NETWORK, *PATIENCE], COORDINATES)
+PROFILES = {1: FIRST, 2: SECOND, 4: EXTENDED}
 
 
 def profile_of(top: dict[str, Any]) -> Profile:
-    """The profile that a file is held against: by `profile` if it is the whole number 2 or 3, else the first."""
+    """The profile that a file is held against: by `profile` if it is the whole number 2 or 4, else the first."""
     return PROFILES.get(top["profile"], FIRST) if has_type(top.get("profile"), "integer") else FIRST
 
 
@@ -244,7 +248,7 @@ def has_type(value: Any, kind: str) -> bool:
 def is_in_own_range(value: Any, key: Key) -> bool:
     """Whether a value of a key's type is in its range, as far as no other value has a say."""
     if key.kind == "integer":
-        return bool(key.least <= value <= key.greatest)
+        return key.least <= value <= key.greatest and value not in key.missing
     if key.kind == "tables":
         return bool(key.least <= len(value) <= key.greatest)
     if key.kind == "id":

@@ -98,7 +98,7 @@ Runs `chordsim run --serial` for each setting and seed and writes into FOLDER:
                                   again; members stranded, joins failed
                  messages, sent-STEP ...       messages in that time, about (docs/studies.md)
   series.csv     one line a run and step of window_us: lookups begun, answers found, right ones, members at its end
-  steps.csv      the same for timeouts, lost messages and, in the third profile, requests sent again
+  steps.csv      the same for timeouts, lost messages and, in the extended profile, requests sent again
   cdf.csv        how times and hops of the judged lookups are distributed: the share found within each value
   manifest.json  what it was made of, with digests and versions; no times and no names of machines, so that the same
                  study gives the same bytes

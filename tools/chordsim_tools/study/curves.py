@@ -94,7 +94,7 @@ def hop_points(curves: dict[str, Any]) -> list[tuple[int, float]]:
 
 def steps_text(study: Study, rows: list[Row]) -> str:
     """A line for each run and step of time: calls that timed out, messages lost and, as in runs.csv where a run has the
-    third profile, requests sent again."""
+    extended profile, requests sent again."""
     has_again = any("again" in result["report"] for _, _, result in rows)
     words = ["timeouts", "losses", *(["again"] if has_again else [])]
     lines: list[list[Any]] = [[*study.vary, "seed", "from_us", *words]]

@@ -10,11 +10,11 @@ from chordsim_tools.explain.hints import close_to
 from chordsim_tools.generate.command import OPTIONS
 from chordsim_tools.messages import MESSAGES
 from chordsim_tools.quantities import UNITS, time_of
-from chordsim_tools.scenario.tables import CHURN, GREATEST_INTEGER, LOOKUPS, THIRD, Key
+from chordsim_tools.scenario.tables import CHURN, EXTENDED, GREATEST_INTEGER, LOOKUPS, Key
 
 Value = int | str
 """A value that is varied: an integer, or a text: of an option of tools/generate, or `true` or `false`."""
-BOOLEANS = {key.name for key in THIRD.tables["top"] if key.kind == "boolean"}
+BOOLEANS = {key.name for key in EXTENDED.tables["top"] if key.kind == "boolean"}
 """The keys of a scenario that can be varied and are booleans."""
 MOST_SEEDS = 10_000
 OF_GENERATE = "generate."
@@ -28,7 +28,7 @@ def varied_keys() -> set[str]:
         return [key.name for key in keys if key.kind == "integer"]
 
     tables = {f"{table}.{name}" for table, keys in (("churn", CHURN), ("lookups", LOOKUPS)) for name in names(keys)}
-    return (set(names(THIRD.tables["top"])) | tables | BOOLEANS) - {"seed"}
+    return (set(names(EXTENDED.tables["top"])) | tables | BOOLEANS) - {"seed"}
 
 
 def parsed(path: Path, content: bytes) -> dict[str, Any]:

@@ -14,7 +14,7 @@ CHANGES = (
     "bits = 3", "bits = 65", "at_us = 2000", "at_us = 1999", "life_max_us = 99", "gap_min_us = 51", 'do = "leave"',
     "duration_us = 200000001", 'id = "ff"', 'id = "100"', 'id = "FF"', "id = 256", 'via = "n4"', 'node = "n2"',
     "latency_us = 9", 'do = "join"', "seed = 9223372036854775808", "jitter_us = 1_000_000_001", "key = 0x100",
-    "profile = 2", "profile = 3", "profile = 1", "profile = 2.0", "profile = 4", "retries = 4", "bits = 128",
+    "profile = 2", "profile = 4", "profile = 1", "profile = 2.0", "profile = 3", "retries = 4", "bits = 128",
     "bits = 129", "loss_ppm = 1000001", "spread_us = 1_000_000_001", 'id = "00000000000000028"',
     'id = "000000000000000000000000000000028"',
 )
@@ -22,7 +22,7 @@ PATIENCE = (
     "join_pause_us = 70", "join_pause_us = 1_000_000_001", 'join_pause_us = "1s"', "join_forever = true",
     "join_forever = 1", "check_us = 90", "check_us = -1", "check_us = 1.5", "detail = true", "detail = 1",
 )
-"""Further lines of the top in the third profile."""
+"""Further lines of the top in the extended profile."""
 PLACES = (
     "x_us = 5", "y_us = 5", "height_us = 5", "x_us = 500_000_001", "height_us = 100_000_001", "y_us = -1", "x_us = 0.0",
 )
@@ -55,7 +55,7 @@ def good_world(profile: int) -> World:
     top = [f"profile = {profile}", "bits = 8", "list = 2", "seed = 1", "duration_us = 2000", "window_us = 10"]
     top += ["latency_us = 10", "timeout_us = 40", "audit_us = 200", "stabilize_us = 100", "finger_us = 100"]
     top += ["loss_ppm = 50000", "spread_us = 7"] if profile >= 2 else []
-    top += ["retries = 2"] if profile == 3 else []
+    top += ["retries = 2"] if profile == 4 else []
     churn = [f"{word}_us = 100" for word in ("life_min", "life_max", "down_min", "down_max")]
     nodes = [[f'name = "n{i}"', f"id = {40 * i}", "initial = true"] for i in range(4)]
     nodes.append(['name = "n4"', "churn = true"])
@@ -109,7 +109,7 @@ def spoil(world: World, draw: random.Random) -> None:
 
 
 def spoil_later(world: World, draw: random.Random) -> None:
-    """A line of the top that the third profile alone has; and coordinates of all nodes, or lines of some of them."""
+    """A line of the top that the extended profile alone has; and coordinates of all nodes, or lines of some of them."""
     world.tables[0][1].append(draw.choice(PATIENCE).split(" = "))
     kind = draw.randrange(4)
     nodes = [pairs for heading, pairs in world.tables if heading == "[[node]]"]
@@ -125,7 +125,7 @@ def spoil_later(world: World, draw: random.Random) -> None:
 def spoiled(seed: int) -> tuple[bytes, bytes]:
     """The two files of a world with one to four changes, of the three profiles by turns."""
     draw = random.Random(seed)
-    world = good_world(1 + seed % 3)
+    world = good_world((1, 2, 4)[seed % 3])
     for _ in range(draw.randint(1, 4)):
         spoil(world, draw)
     # Drawn last, so that the other changes of a seed stay as they were.

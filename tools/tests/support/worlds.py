@@ -30,7 +30,7 @@ def fault(text: str, rows: str = "") -> str:
 
 
 def with_detail(toml: str, value: str = "true") -> str:
-    """A scenario of the third profile, with this value of `detail`."""
+    """A scenario of the extended profile, with this value of `detail`."""
     return f"detail = {value}\n" + toml.replace("detail = true\n", "")
 
 

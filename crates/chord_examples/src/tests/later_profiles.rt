@@ -1,4 +1,4 @@
-//! The worked examples in the second and in the third profile.
+//! The worked examples in the second and in the extended profile.
 use crate::examples::engines::Engine;
 use crate::examples::play::text_of;
 use crate::examples::table::{Example, example_groups};
@@ -33,7 +33,7 @@ fn have_no_loss<T: Abort + AllocGlobal + Threads + Wait + Sync>(rt: &T, group: &
         has_no_loss(
             rt,
             example,
-            "profile = 3\nretries = 0",
+            "profile = 4\nretries = 0",
             "losses 0\nagain 0\nforgotten 0\n",
         );
     }

@@ -75,21 +75,25 @@ fn random_shape(dice: &mut Dice, shortest: u32) -> Shape
 
 /// The profile of a random scenario, and the settings of its network.
 fn write_network(text: &mut String, dice: &mut Dice) -> Result<(), AllocError> {
-    let profile = 1 + dice.below(3);
+    let profile = match dice.below(3) {
+        0 => 1,
+        1 => 2,
+        _ => 4,
+    };
     writeln!(text, "profile = {profile}")?;
     if profile == 1 {
         return Ok(());
     }
     let (loss, spread) = (dice.below(200_000), dice.below(60));
     writeln!(text, "loss_ppm = {loss}\nspread_us = {spread}")?;
-    if profile == 3 {
+    if profile == 4 {
         writeln!(text, "retries = {}", dice.below(4))?;
         write_repair(text, dice)?;
     }
     Ok(())
 }
 
-/// How a random scenario of the third profile joins and checks.
+/// How a random scenario of the extended profile joins and checks.
 fn write_repair(text: &mut String, dice: &mut Dice) -> Result<(), AllocError> {
     if dice.below(2) == 0 {
         writeln!(text, "join_pause_us = {}", 1 + dice.below(60))?;

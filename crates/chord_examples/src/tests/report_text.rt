@@ -35,7 +35,7 @@ const REPORT: Report = Report {
         unordered: 23,
         insufficient: 24,
     },
-    profile: 3,
+    profile: 4,
 };
 
 const TEXT: &str =

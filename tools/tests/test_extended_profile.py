@@ -1,4 +1,4 @@
-"""The third profile by hand: requests sent again at n0, n1 and n3 of examples/ring.toml, and draws of their own.
+"""The extended profile by hand: requests sent again at n0, n1 and n3 of examples/ring.toml, and draws of their own.
 
 The seed of the ring is 1. Some of its words that are used below, with the stream (node, purpose) and the occasion k:
 
@@ -41,9 +41,9 @@ SPANS = (
 ZEROS = ("\nloss_ppm = 0\nspread_us = 0\nretries = 0", "\njoin_pause_us = 0\njoin_forever = false\ncheck_us = 0")
 
 
-def third(*keys: str, changes: tuple[tuple[str, str], ...] = ()) -> str:
-    """The ring in the third profile with these keys of the network, where n3 looks up key 1, and other changes."""
-    text = PLAIN.replace("profile = 2", "\n".join(("profile = 3", "jitter_us = 0", *keys)))
+def extended(*keys: str, changes: tuple[tuple[str, str], ...] = ()) -> str:
+    """The ring in the extended profile with these keys of the network, where n3 looks up key 1, and other changes."""
+    text = PLAIN.replace("profile = 2", "\n".join(("profile = 4", "jitter_us = 0", *keys)))
     for old, new in changes:
         assert old in text, old
         text = text.replace(old, new, 1)
@@ -52,7 +52,7 @@ def third(*keys: str, changes: tuple[tuple[str, str], ...] = ()) -> str:
 
 def world_of(*keys: str, changes: tuple[tuple[str, str], ...] = ()) -> tuple[World, Node]:
     """The world of such a scenario, and n0 at its start."""
-    world = World(read_scenario(third(*keys, changes=changes).encode(), b""))
+    world = World(read_scenario(extended(*keys, changes=changes).encode(), b""))
     return world, initial_states(world)[0]
 
 
@@ -71,7 +71,7 @@ class SendAgainTest(TestCase):
         n0 replies by its own message 3, whose x is 846205: it comes at 160, 60 after the begin. The second timeout,
         event 6, comes at 180 and finds no call. The events: command, timeout, step, reply, timeout.
         """
-        text = third("loss_ppm = 20387", "retries = 1")
+        text = extended("loss_ppm = 20387", "retries = 1")
         assert ran(text)[0] == [
             "100 n3 lookup 1",
             "100 n3 lose step n0",
@@ -85,13 +85,13 @@ class SendAgainTest(TestCase):
 
     def test_chance_of_a_loss(self) -> None:
         """The same step is not lost if only 20386 of a million are: x is not below that."""
-        lines, numbers = ran(third("loss_ppm = 20386", "retries = 1"))
+        lines, numbers = ran(extended("loss_ppm = 20386", "retries = 1"))
         assert lines == ["100 n3 lookup 1", "120 n3 found 1 n1 hops=1 timeouts=0 us=20", AUDIT]
         assert (numbers["losses"], numbers["again"]) == (0, 0)
 
     def test_late_messages(self) -> None:
         """With a spread of 5 the step comes 4 late, at 114, and the reply 3 late, at 114 + 10 + 3 = 127."""
-        lines, _ = ran(third("spread_us = 5"))
+        lines, _ = ran(extended("spread_us = 5"))
         assert lines == ["100 n3 lookup 1", "127 n3 found 1 n1 hops=1 timeouts=0 us=27", AUDIT]
 
     def test_request_to_a_dead_node(self) -> None:
@@ -100,7 +100,7 @@ class SendAgainTest(TestCase):
         At 220 the call was sent again twice, and n0 is taken for dead. Then n1 is the owner, by n3's own list. The
         events: two commands, three steps, three timeouts.
         """
-        text = third("retries = 2", changes=LONGER) + CRASH
+        text = extended("retries = 2", changes=LONGER) + CRASH
         assert ran(text)[0] == [
             "50 n0 crash",
             "100 n3 lookup 1",
@@ -123,7 +123,7 @@ class SendAgainTest(TestCase):
         to the second sending comes at 135, and is late. The events: command, step, timeout, reply, step, timeout,
         reply.
         """
-        text = third("retries = 1", changes=(("timeout_us = 40", "timeout_us = 15"),))
+        text = extended("retries = 1", changes=(("timeout_us = 40", "timeout_us = 15"),))
         assert ran(text)[0] == [
             "100 n3 lookup 1",
             "115 n3 again step n0",
@@ -137,7 +137,7 @@ class SendAgainTest(TestCase):
     def test_never_sent_again(self) -> None:
         """With retries = 0, or without the key, n0 is avoided after one timeout, as in the second profile."""
         for keys in (("retries = 0",), ()):
-            lines, numbers = ran(third("loss_ppm = 1000000", *keys))
+            lines, numbers = ran(extended("loss_ppm = 1000000", *keys))
             assert lines == [
                 "100 n3 lookup 1",
                 "100 n3 lose step n0",
@@ -150,7 +150,7 @@ class SendAgainTest(TestCase):
 
     def test_all_sendings_are_lost(self) -> None:
         """Four steps at 100, 140, 180 and 220, and the timeout at 260. A line `lose` is behind its line `again`."""
-        lines, numbers = ran(third("loss_ppm = 1000000", "retries = 3", changes=LONGER))
+        lines, numbers = ran(extended("loss_ppm = 1000000", "retries = 3", changes=LONGER))
         assert lines[1:6] == [
             "100 n3 lose step n0", "140 n3 again step n0", "140 n3 lose step n0", "180 n3 again step n0",
             "180 n3 lose step n0",
@@ -273,7 +273,7 @@ class SendAgainTest(TestCase):
         """Each sending is a message: two steps were sent, and one of them was lost."""
         with tempfile.TemporaryDirectory() as folder:
             name = Path(folder) / "x.toml"
-            name.write_text(third("loss_ppm = 20387", "retries = 1"))
+            name.write_text(extended("loss_ppm = 20387", "retries = 1"))
             status, out, _ = ended(main, str(name), "--report", "--messages")
             lines = out.splitlines()
             assert (status, len(lines)) == (0, 27 + 9 + 9)
@@ -390,7 +390,7 @@ class OwnDrawsTest(TestCase):
     def test_same_draws_in_another_scenario(self) -> None:
         """More nodes, other latencies and commands: what a node draws at a time is the same."""
         small, node = world_of("loss_ppm = 5", changes=SPANS)
-        more = f'{third(changes=(*SPANS, ("latency_us = 10", "latency_us = 11")))}[[node]]\nname = "x"\nid = 6\n{CRASH}'
+        more = f'{extended(changes=(*SPANS, ("latency_us = 10", "latency_us = 11")))}[[node]]\nname = "x"\nid = 6\n{CRASH}'
         large = World(read_scenario(more.encode(), b""))
         other = initial_states(large)[0]
         happen(large, other, StabilizeTick(1), 2)
@@ -405,7 +405,7 @@ class OwnDrawsTest(TestCase):
             text = (EXAMPLES / f"{name}.toml").read_text()
             lines, numbers = ran(text)
             for keys in ("", *ZEROS):
-                changed = text.replace("profile = 1", f"profile = 3{keys}", 1)
+                changed = text.replace("profile = 1", f"profile = 4{keys}", 1)
                 assert ran(changed) == (lines, numbers | {"losses": 0, "again": 0, "forgotten": 0}), name
 
 
@@ -414,40 +414,40 @@ class LimitsTest(TestCase):
 
     def test_limits(self) -> None:
         """Bits, digits, loss and spread are as in the second profile. There may be more nodes and events."""
-        text = RING.replace("profile = 1", "profile = 3")
+        text = RING.replace("profile = 1", "profile = 4")
         assert fault(text.replace("bits = 3", "bits = 128")) == "accepted"
         assert fault(text.replace("bits = 3", "bits = 129")) == "S5 OutOfRange top bits"
-        assert fault(many(3, 65_536)) == "accepted"
-        assert fault(many(3, 65_537)) == "S5 OutOfRange top node"
-        assert fault(third("max_events = 100_000_000_000")) == "accepted"
-        assert fault(third("max_events = 100_000_000_001")) == "S5 OutOfRange top max_events"
+        assert fault(many(4, 65_536)) == "accepted"
+        assert fault(many(4, 65_537)) == "S5 OutOfRange top node"
+        assert fault(extended("max_events = 100_000_000_000")) == "accepted"
+        assert fault(extended("max_events = 100_000_000_001")) == "S5 OutOfRange top max_events"
         assert fault(text.replace(N3, f'name = "n3"\nid = "{"3":0>32}"')) == "accepted"
         assert fault(text.replace(N3, f'name = "n3"\nid = "{"3":0>33}"')) == "S5 OutOfRange node 3 id"
         times = dict.fromkeys(("spread_us", "join_pause_us", "check_us"), 1_000_000_000)
         for key, most in {"loss_ppm": 1_000_000, "retries": 3, **times}.items():
-            assert fault(third(f"{key} = {most}")) == "accepted"
-            assert fault(third(f"{key} = {most + 1}")) == fault(third(f"{key} = -1")) == f"S5 OutOfRange top {key}"
-            assert fault(third(f'{key} = "0"')) == f"S4 WrongType top {key}"
-            assert fault(third().replace("[[node]]", f"[[node]]\n{key} = 0", 1)) == "S2 UnknownKey node 1"
+            assert fault(extended(f"{key} = {most}")) == "accepted"
+            assert fault(extended(f"{key} = {most + 1}")) == fault(extended(f"{key} = -1")) == f"S5 OutOfRange top {key}"
+            assert fault(extended(f'{key} = "0"')) == f"S4 WrongType top {key}"
+            assert fault(extended().replace("[[node]]", f"[[node]]\n{key} = 0", 1)) == "S2 UnknownKey node 1"
 
     def test_refusals_by_the_profile(self) -> None:
-        """The worked examples of docs/formats.md, the order of the keys, and files whose profile is not 2 or 3."""
+        """The worked examples of docs/formats.md, the order of the keys, and files whose profile is not 2 or 4."""
         assert fault(PLAIN.replace("profile = 2", "profile = 2\nretries = 1")) == "S2 UnknownKey top"
-        assert fault(third("retries = 4")) == "S5 OutOfRange top retries"
-        assert fault(third("retries = -1", "spread_us = -1")) == "S5 OutOfRange top spread_us"
-        assert fault(third("check_us = -1", "join_pause_us = -1")) == "S5 OutOfRange top join_pause_us"
-        assert fault(third("join_forever = 1", "check_us = true")) == "S4 WrongType top join_forever"
+        assert fault(extended("retries = 4")) == "S5 OutOfRange top retries"
+        assert fault(extended("retries = -1", "spread_us = -1")) == "S5 OutOfRange top spread_us"
+        assert fault(extended("check_us = -1", "join_pause_us = -1")) == "S5 OutOfRange top join_pause_us"
+        assert fault(extended("join_forever = 1", "check_us = true")) == "S4 WrongType top join_forever"
         for key in ("join_pause_us = 0", "join_forever = false", "check_us = 0"):
             assert fault(PLAIN.replace("profile = 2", f"profile = 2\n{key}")) == "S2 UnknownKey top"
-        for profile in ("1", "2", "4", "0", '"3"', "3.0", "true", "[3]"):
-            assert fault(third("retries = 0").replace("profile = 3", f"profile = {profile}")) == "S2 UnknownKey top"
-        assert fault(PLAIN.replace("profile = 2", "profile = 3.0")) == "S4 WrongType top profile"
-        window = third("spread_us = 5").replace("window_us = 10", "window_us = 11")
+        for profile in ("1", "2", "3", "0", '"4"', "4.0", "true", "[4]"):
+            assert fault(extended("retries = 0").replace("profile = 4", f"profile = {profile}")) == "S2 UnknownKey top"
+        assert fault(PLAIN.replace("profile = 2", "profile = 4.0")) == "S4 WrongType top profile"
+        window = extended("spread_us = 5").replace("window_us = 10", "window_us = 11")
         assert fault(window) == "S15 LatencyBelowWindow n0 n1"
 
 
 class RandomScenariosTest(TestCase):
-    """What the random scenarios of the third profile have."""
+    """What the random scenarios of the extended profile have."""
 
     def test_pauses_and_checks(self) -> None:
         """Pauses, joins that go on, checks, and predecessors that are forgotten are in many of them."""
@@ -479,7 +479,7 @@ class SameRequestTest(TestCase):
     """What docs/promises.md says of requests that are sent again: each is the request that was sent first."""
 
     def test_random_scenarios(self) -> None:
-        """Random scenarios of the third profile, with all four kinds among what is sent again."""
+        """Random scenarios of the extended profile, with all four kinds among what is sent again."""
         first: dict[tuple[int, int], tuple[int, Message]] = {}
         again: Counter[type] = Counter()
         send = Procedures.send
