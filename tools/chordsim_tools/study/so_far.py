@@ -1,11 +1,13 @@
 """The tables of a folder: those that were written, or, of a study that is not done yet, those of the runs so far."""
 
+import os
 import tempfile
 from dataclasses import dataclass
 from pathlib import Path
 
 from chordsim_tools.cli import Refused
-from chordsim_tools.files import write_whole
+from chordsim_tools.explain.traps import warn
+from chordsim_tools.files import read_input, sum_of, write_whole
 from chordsim_tools.study.curves import CDF, STEPS, write_results
 from chordsim_tools.study.numbers import Cells
 from chordsim_tools.study.page import page
@@ -15,6 +17,7 @@ from chordsim_tools.study.precise import more_seeds
 from chordsim_tools.study.record import NAME, Record, read_record, study_of
 from chordsim_tools.study.runs import runs_of
 from chordsim_tools.study.tables import Row, Tables, checked_table, read_tables
+from chordsim_tools.study.wrap import paragraph
 
 
 @dataclass
@@ -90,10 +93,32 @@ def rows_so_far(study: Study, done: Path, program: str) -> tuple[list[Row], int]
         study.seeds += more
 
 
+def changed_files(folder: Path, named: Path | None = None) -> list[Path]:
+    """The files of a study that are not as they were when it was run. Those that are not there are left out."""
+    if not (folder / NAME).exists():
+        return []
+    record = read_record(folder)
+    study = named or next((path for path in (folder / record.study, Path(record.whole_path)) if path.exists()), None)
+    if study is None:
+        return []
+    named_files = record.files.items() - {(Path(record.study).name, record.study_sum)}
+    files = [(Path(os.path.normpath(study.parent / name)), digest) for name, digest in sorted(named_files)]
+    return [path for path, digest in files if path.exists() and sum_of(read_input(path)) != digest]
+
+
+def changed_told(changed: list[Path]) -> str:
+    """What a page says of files that have changed."""
+    verb = "has" if len(changed) == 1 else "have"
+    text = f"**{', '.join(path.name for path in changed)} {verb} changed since the study was run.** "
+    return "\n" + paragraph(text + "This page is of what was there then.").rstrip() + "\n" if changed else ""
+
+
 def write_report(folder: Path, named: Path | None = None) -> None:
     """Writes report.md, with a mark if the study is not done."""
     drawn = tables_of(folder, named)
+    changed = changed_files(folder, named)
+    warn([f"{path} has changed since the study was run: the page is of the file as it was" for path in changed])
     plots = plots_text(folder, drawn.tables.manifest, drawn.mark)
     title, rest = page(drawn.tables, plots, not drawn.mark).split("\n", 1)
     told = f"\n**{drawn.mark}: the study is not done.** What follows is of the runs that are.\n" if drawn.mark else ""
-    write_whole(folder / "report.md", f"{title}\n{told}{rest}")
+    write_whole(folder / "report.md", f"{title}\n{told}{changed_told(changed)}{rest}")
