@@ -33,7 +33,8 @@ def told(*settings: list[dict[str, str]], **changes: Any) -> str:
 
 def cells_of(text: str, label: str) -> dict[str, str]:
     """The cells of a setting by their headers."""
-    return {**table_of(text, "Settings")[label], **table_of(text, "More numbers")[label]}
+    return {name: cell for heading in ("Settings", "Lookups", "More numbers")
+            for name, cell in table_of(text, heading)[label].items()}
 
 
 def less_best(text: str, label: str) -> str:

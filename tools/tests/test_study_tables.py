@@ -13,7 +13,7 @@ from tests.support.studies import row, table_of, tables_of, unwrapped
 
 PLAIN = ["setting", "rings kept", "served, %", "right of begun, %", "p50, ms", "p99, ms", "messages /member/s"]
 REST = [
-    "setting", "rings lost an hour", "defensible, %", "given up, %", "cut off, %", "members, %", "upkeep /member/s",
+    "p90, ms", "rings lost an hour", "defensible, %", "given up, %", "cut off, %", "members, %", "upkeep /member/s",
     "events /member/s",
 ]
 COUNTS = ("timeouts", "timeouts-of-members", "removed-members", "again", "stranded", "join-failed")
@@ -38,6 +38,11 @@ def headers(text: str, heading: str) -> list[str]:
     return list(next(iter(table_of(text, heading).values())))
 
 
+def others(text: str) -> list[str]:
+    """The headers of the tables below the first one that have numbers."""
+    return [name for heading in ("Lookups", "More numbers") for name in headers(text, heading) if name != "setting"]
+
+
 def notes(text: str, heading: str) -> list[str]:
     """What the notes below a heading are about."""
     lines = unwrapped(text).split(f"## {heading}\n", 1)[1].split("\n## ", 1)[0].splitlines()
@@ -53,7 +58,7 @@ class StudyTablesTest(TestCase):
         for wanted in (None, goal("right_of_begun")):
             text = text_of(goal=wanted)
             assert headers(text, "Settings") == [*PLAIN, "served less best, points"]
-            assert headers(text, "More numbers") == REST
+            assert others(text) == REST
 
     def test_numbers_that_the_study_names(self) -> None:
         """They are in the first table. What nobody named gives way: first p50, then p99, then messages."""
@@ -67,9 +72,9 @@ class StudyTablesTest(TestCase):
              {"members, %", "events /member/s"}, {"right of begun, %", "messages /member/s"}),
         ):
             text = text_of(**wanted)
-            first, more = headers(text, "Settings"), headers(text, "More numbers")
+            first, more = headers(text, "Settings"), others(text)
             assert set(first[:-1]) == {*PLAIN, *new} - old and len(first) == 8, (wanted, first)
-            assert set(more) == {"setting", *REST, *old} - new, (wanted, more)
+            assert set(more) == {*REST, *old} - new, (wanted, more)
 
     def test_a_goal_that_names_many_numbers(self) -> None:
         """None of them is left out, and served is there too."""
@@ -97,7 +102,7 @@ class StudyTablesTest(TestCase):
     def test_no_loss_is_hidden(self) -> None:
         """Each mean but served says how many rings are in it, in all three tables."""
         text = text_of()
-        for heading in ("Settings", "More numbers", "Who was taken for dead"):
+        for heading in ("Settings", "Lookups", "More numbers", "Who was taken for dead"):
             cells = table_of(text, heading)["list=2"]
             rest = set(cells) - {"setting", "rings kept", "rings lost an hour", "served, %"}
             assert rest and all("(5 of 6)" in cells[name] for name in rest), cells
@@ -110,7 +115,7 @@ class StudyTablesTest(TestCase):
         for wanted in (None, goal("right_of_begun", lost_max=1.0), goal("p50_ms", "members", least="upkeep")):
             text = text_of(goal=wanted, sizes=sizes)
             found = []
-            for heading in ("Settings", "More numbers", "Who was taken for dead"):
+            for heading in ("Settings", "Lookups", "More numbers", "Who was taken for dead"):
                 names = {re.sub(r"(, | /).*", "", name) for name in headers(text, heading)} - {"setting"}
                 here = {re.sub(r" less best.*", " less best", name) for name in notes(text, heading)}
                 assert names <= here and here - names <= {"±", "(m of n)", "/member/s", "points"}, (names, here)
@@ -122,12 +127,13 @@ class StudyTablesTest(TestCase):
         together, apart = (unwrapped(text_of(goal=goal(lost_max=most))) for most in (None, 1.0))
         assert "- **p50, p99**: 50 % and 99 % of all lookups take at most so long, by the curve" in together
         assert "- **p99**: 99 % of all lookups take at most so long, by the curve" in apart
-        assert "- **p50**: 50 % of all lookups take at most so long, computed as p99." in apart
+        assert "- **p50, p90**: 50 % and 90 % of all lookups take at most so long, computed as p99." in apart
 
     def test_names(self) -> None:
         """A number has the name of its key, in headers and in sentences."""
+        others = {"p999_ms": "p99.9", "mean_ms": "mean time", "hops": "hops a lookup", "timeouts": "timeouts a lookup"}
         for number in NUMBERS:
-            assert NAMES[number] == number.removesuffix("_ms").replace("_", " ")
+            assert NAMES[number] == others.get(number, number.removesuffix("_ms").replace("_", " "))
         assert in_words("upkeep") == "upkeep per member and second" and in_words("p99_ms") == "p99"
         assert difference_header("events") == "events less best"
 

@@ -4,8 +4,9 @@ from unittest import TestCase
 
 from chordsim_tools.members import Members
 from chordsim_tools.study.served import Scope, scope_of
-from chordsim_tools.study.survival import Times
-from chordsim_tools.study.trace import Numbers, TraceReader, percentile
+from chordsim_tools.study.survival import Times, percentile
+from chordsim_tools.study.trace import TraceReader
+from chordsim_tools.study.view import Numbers
 
 IDENTS = {"a": 10, "b": 20, "c": 30, "d": 40}
 
@@ -81,7 +82,7 @@ class StudyTraceTest(TestCase):
             "250 audit members=2 dead=0 ring=2 ordered=yes principals=2 sufficient=no",
         )
         one.numbers()
-        assert [(step.lookups, step.found, step.right, step.members) for step in one.steps] == [
+        assert [(step.lookups, step.found, step.right, step.members) for step in one.over_time.steps] == [
             (1, 0, 0, 3), (1, 2, 1, 2), (0, 0, 0, 2)
         ]
 
@@ -105,7 +106,7 @@ class StudyTraceTest(TestCase):
         lines = ("90 a lookup 15", "90 a lose step b", "110 b lose step-reply a", lost)
         with_losses, without = reader(*lines), reader(lines[0], lines[3])
         assert with_losses.numbers() == without.numbers() and with_losses.numbers()["judged-lost"] == 1
-        assert (with_losses.steps, with_losses.members.places) == (without.steps, [10, 20, 30])
+        assert (with_losses.over_time.steps, with_losses.members.places) == (without.over_time.steps, [10, 20, 30])
 
     def test_audits(self) -> None:
         """Whole: all members once around. Torn: dead ones, no ring, or out of order."""

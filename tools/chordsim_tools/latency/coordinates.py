@@ -11,7 +11,7 @@ from chordsim_tools.places import King, places_of
 from chordsim_tools.scenario.coordinates import Coordinates, greatest_latency, least_latency
 from chordsim_tools.scenario.faults import Document, faults_of
 from chordsim_tools.scenario.tables import GREATEST_SIZE, rows_of
-from chordsim_tools.study.trace import percentile
+from chordsim_tools.study.survival import percentile
 
 
 @dataclass(frozen=True)

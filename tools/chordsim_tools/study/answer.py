@@ -8,7 +8,7 @@ from chordsim_tools.study.bounds import (
 from chordsim_tools.study.compare import Pair, guarded_level
 from chordsim_tools.study.goal import Goal, Limit
 from chordsim_tools.study.interval import LEAST_SEEDS, significant
-from chordsim_tools.study.names import PERCENT, in_words
+from chordsim_tools.study.names import base_of, in_words, is_percent
 from chordsim_tools.study.numbers import Summary
 
 OPEN = "shown neither to reach the goal nor to miss it"
@@ -17,7 +17,7 @@ TELL = "More seeds may decide."
 
 def value_told(number: str, value: float) -> str:
     """A value with its unit."""
-    if number in PERCENT:
+    if is_percent(number):
         return f"{significant(value * 100, 4)} %"
     return f"{significant(value, 4)} ms" if number.endswith("_ms") else significant(value, 3)
 
@@ -151,11 +151,17 @@ def cheaper(best: Summary, found: list[Summary], goal: Goal) -> str:
         return ""
     told = []
     for one in sorted(lower, key=lambda one: cost(one, goal)):
-        is_share = goal.least in PERCENT or math.isinf(most)
+        is_share = is_percent(goal.least) or math.isinf(most)
         less = "" if is_share else f", {100 * (1 - cost(one, goal) / most):.2g} % less"
         told.append(f"{one.label} ({cost_told(one, goal)}{less}; {', '.join(open_told(one, goal, level_of(found)))})")
     head = f"Not decided, with a lower mean of {in_words(goal.least)} ({OPEN})"
     return f"\n\n{head}: {'; '.join(told)}. {TELL}{without_bounds(len(more))}"
+
+
+def room_of(limit: Limit) -> float:
+    """What gaps to a limit are measured by: what a share of at least so much leaves to 1, else the limit."""
+    room = 1 - limit.value if is_percent(limit.number) and limit.is_least else abs(limit.value)
+    return room or 1.0
 
 
 def nearest_of(found: list[Summary], goal: Goal, level: float) -> Summary:
@@ -163,7 +169,7 @@ def nearest_of(found: list[Summary], goal: Goal, level: float) -> Summary:
 
     def gap(one: Summary) -> tuple[float, float]:
         """The order of settings."""
-        shortfalls = [-slack(one, limit, level) / abs(limit.value or 1.0) for limit in goal.limits]
+        shortfalls = [-slack(one, limit, level) / room_of(limit) for limit in goal.limits]
         return 1 - one.kept / one.seeds, max(shortfalls, default=0.0)
 
     return min(found, key=gap)
@@ -177,7 +183,7 @@ def cost(one: Summary, goal: Goal) -> float:
 
 def cost_told(one: Summary, goal: Goal) -> str:
     """What is to be least, of a setting."""
-    return one.numbers[goal.least].told(100 if goal.least in PERCENT else 1) + unit_of(one, goal.least)
+    return one.numbers[goal.least].told(100 if is_percent(goal.least) else 1) + unit_of(one, goal.least)
 
 
 def unit_of(one: Summary, number: str) -> str:
@@ -185,12 +191,13 @@ def unit_of(one: Summary, number: str) -> str:
     mean = one.numbers[number].mean
     if mean is None or math.isinf(mean):
         return ""
-    return " %" if number in PERCENT else " ms" if number.endswith("_ms") else ""
+    return " %" if is_percent(number) else " ms" if number.endswith("_ms") else ""
 
 
 def number_told(one: Summary, number: str) -> str:
     """A number of a setting with its name."""
-    value = one.served_told() if number == "served" else one.numbers[number].told(100 if number in PERCENT else 1)
+    is_served = base_of(number) == "served"
+    value = one.served_told(number) if is_served else one.numbers[number].told(100 if is_percent(number) else 1)
     return f"{in_words(number)} {value}{unit_of(one, number)}"
 
 
@@ -223,7 +230,7 @@ def bound_told(one: Summary, limit: Limit, level: float) -> str:
     bound, wanted = bound_of(one, limit.number, level, sign), f"limit {value_told(limit.number, limit.value)}"
     if math.isinf(bound):
         return f"{in_words(limit.number)}, which has no bound ({wanted})"
-    scale, unit = (100, " %") if limit.number in PERCENT else (1, " ms" if limit.number.endswith("_ms") else "")
+    scale, unit = (100, " %") if is_percent(limit.number) else (1, " ms" if limit.number.endswith("_ms") else "")
     shown = f"{outward(bound * scale, 4, sign):g}{unit}"
     return f"{in_words(limit.number)}, shown to be at {'least' if limit.is_least else 'most'} {shown} ({wanted})"
 

@@ -11,8 +11,8 @@ import math
 from chordsim_tools.study.exact import count_interval, share_interval
 from chordsim_tools.study.goal import Goal, Limit
 from chordsim_tools.study.interval import interval
-from chordsim_tools.study.names import PERCENT
-from chordsim_tools.study.numbers import TAKES, Summary, is_kept
+from chordsim_tools.study.names import base_of, is_percent
+from chordsim_tools.study.numbers import Summary, is_kept, take_of
 
 
 def level_of(found: list[Summary]) -> float:
@@ -28,28 +28,28 @@ def missing_level(found: list[Summary], goal: Goal) -> float:
 
 def bound_of(one: Summary, number: str, level: float, sign: int) -> float:
     """The one-sided bound of a number: the lower one for the sign -1, the upper one for 1. Infinite: there is none."""
-    if number == "served" and one.kept < one.seeds:
-        return served_at_most(one, level) if sign > 0 else served_at_least(one, level)
+    if base_of(number) == "served" and one.kept < one.seeds:
+        return served_at_most(one, level, number) if sign > 0 else served_at_least(one, level, number)
     bound = one.numbers[number].bound(level, sign)
-    return min(1.0, max(0.0, bound)) if number in PERCENT and math.isfinite(bound) else bound
+    return min(1.0, max(0.0, bound)) if is_percent(number) and math.isfinite(bound) else bound
 
 
-def served_at_least(one: Summary, level: float) -> float:
+def served_at_least(one: Summary, level: float, number: str = "served") -> float:
     """A lower bound of the share served if rings were lost: a lost one counts 0.
 
     It is the bound of the chance that a ring is kept, times that of the mean of those that were kept, each at half the
     risk."""
     each = (1 + level) / 2
-    return share_interval(one.kept, one.seeds, 2 * each - 1)[0] * max(0.0, one.of(TAKES["served"]).bound(each, -1))
+    return share_interval(one.kept, one.seeds, 2 * each - 1)[0] * max(0.0, one.of(take_of(number)).bound(each, -1))
 
 
-def served_at_most(one: Summary, level: float) -> float:
+def served_at_most(one: Summary, level: float, number: str = "served") -> float:
     """An upper bound of the share served if rings were lost: one that is kept counts 1.
 
     It is the bound of the chance that a ring is kept, and that of the mean of those that were lost, each at half the
     risk."""
     each = (1 + level) / 2
-    lost = interval([TAKES["served"](cells) for cells in one.rows if not is_kept(cells)])
+    lost = interval([take_of(number)(cells) for cells in one.rows if not is_kept(cells)])
     return min(1.0, share_interval(one.kept, one.seeds, 2 * each - 1)[1] + lost.bound(each, 1))
 
 

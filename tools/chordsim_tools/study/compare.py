@@ -6,11 +6,13 @@ from dataclasses import dataclass
 from chordsim_tools.study.exact import mcnemar
 from chordsim_tools.study.interval import Interval, interval
 from chordsim_tools.study.layout import of_each_world
-from chordsim_tools.study.names import RATE, RATES, TIMES
-from chordsim_tools.study.numbers import TAKES, Cells, Summary, is_kept, summaries
+from chordsim_tools.study.names import COUNTS, MILLISECONDS, RATE, RATES, base_of
+from chordsim_tools.study.numbers import Cells, Summary, is_kept, summaries, take_of
 from chordsim_tools.study.tables import Tables
 
-UNITS = {**dict.fromkeys(TIMES, ("ms", 1.0)), **dict.fromkeys(RATES, (RATE, 1.0))}
+UNITS = {
+    **dict.fromkeys(MILLISECONDS, ("ms", 1.0)), **dict.fromkeys(RATES, (RATE, 1.0)), **dict.fromkeys(COUNTS, ("", 1.0)),
+}
 """The units of the numbers that are no shares, which are told in percent."""
 
 
@@ -51,7 +53,7 @@ class Pair:
 
     def of_seed(self, number: str, a: Cells, b: Cells) -> float | None:
         """The difference in a seed."""
-        first, second = TAKES[number](a), TAKES[number](b)
+        first, second = take_of(number)(a), take_of(number)(b)
         if first is None or second is None or math.isinf(first) or math.isinf(second):
             return None
         return first - second
@@ -80,4 +82,4 @@ def settings_of(tables: Tables) -> list[Summary]:
 
 def scale_of(number: str) -> tuple[str, float]:
     """The unit of a number and what it is multiplied with."""
-    return UNITS.get(number, ("points", 100.0))
+    return UNITS.get(base_of(number), ("points", 100.0))

@@ -6,8 +6,8 @@ from chordsim_tools.cli import Refused, write_out
 from chordsim_tools.files import write_whole
 from chordsim_tools.study.compare import Pair, scale_of, settings_of
 from chordsim_tools.study.exact import mcnemar
-from chordsim_tools.study.names import NAMES
-from chordsim_tools.study.numbers import TAKES, Summary
+from chordsim_tools.study.names import name_of
+from chordsim_tools.study.numbers import Summary, has_number
 from chordsim_tools.study.so_far import whole_tables
 from chordsim_tools.study.tables import csv_text
 
@@ -21,10 +21,15 @@ def named(found: list[Summary], name: str) -> Summary:
     raise Refused(f"no setting {name!r}; there are {labels}")
 
 
+def numbers_of(pair: Pair) -> list[str]:
+    """The numbers that the tables have, those of the spans after the others."""
+    return [number for number in pair.first.numbers if has_number(number, pair.first.rows[0])]
+
+
 def table_of(pair: Pair) -> list[list[str]]:
     """A line a number: A, B, the number, both means, the mean difference, half of its interval, seeds, equal rows."""
     lines = [["A", "B", "number", "mean-A", "mean-B", "difference", "half", "seeds", "of", "equal-runs"]]
-    for number in TAKES:
+    for number in numbers_of(pair):
         found = pair.difference(number)
         means = (one.numbers[number].mean for one in (pair.first, pair.second))
         numbers = (*means, found.mean, found.half)
@@ -44,13 +49,14 @@ def text_of(pair: Pair) -> str:
         chance = 100 * (1 - 0.05 ** (1 / seeds))
         return text + f"\nthe same run in {equal} of {seeds} seeds: at most {chance:.0f} % of runs differ (95%)\n"
     text += f"\nA less B, paired by seed ({seeds} seeds, the same run in {equal} of them):\n"
-    for number in TAKES:
+    width = max(15, *(len(name_of(number)) for number in numbers_of(pair)))
+    for number in numbers_of(pair):
         unit, scale = scale_of(number)
         found = pair.difference(number)
         apart = "" if found.half is None or abs(found.mean or 0) > found.half else "  not told apart"
         apart = "  equal" if found.mean == found.half == 0 else apart
         unit = "" if found.mean is None else unit
-        text += f"  {NAMES[number]:<15} {found.told(scale)} {unit}".rstrip() + apart + "\n"
+        text += f"  {name_of(number):<{width}} {found.told(scale)} {unit}".rstrip() + apart + "\n"
     return text + (
         "\n± is half of a 95% interval of the mean difference (Student's t) over the seeds in which both kept their "
         "rings;\nof served over all seeds, unless A or B lost its ring in some seeds but not in all.\nEach line is a "

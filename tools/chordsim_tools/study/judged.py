@@ -18,6 +18,7 @@ class Judged:
         self.begun, self.refused, self.right = [0, 0], [0, 0], [0, 0]
         self.found = self.lost = self.defensible = self.names_down = self.misses_newcomer = 0
         self.cut_by_crash = self.cut_by_end = 0
+        self.ended_us = self.ended_hops = self.ended_timeouts = 0
         self.found_times: list[int] = []
         self.hops: list[int] = []
         self.times = Times()
@@ -54,7 +55,7 @@ class Judged:
             self.wrong(fields[4], int(fields[3]), time - taken, time)
         self.found_times.append(taken)
         self.times.ended.append(taken)
-        self.hops.append(int(fields[5].removeprefix("hops=")))
+        self.hops.append(self.add_ended(fields))
 
     def wrong(self, owner: str, key: int, begin: int, time: int) -> None:
         """An answer is wrong at its time: it was right before, or names a node that is no member, or misses one."""
@@ -68,6 +69,15 @@ class Judged:
         if self.end(time, fields[1], int(fields[6].removeprefix("us="))) is not None:
             self.lost += 1
             self.times.lost += 1
+            self.add_ended(fields)
+
+    def add_ended(self, fields: list[str]) -> int:
+        """A judged lookup comes to an end: the last three fields of its line are added to the sums. Gives its hops."""
+        hops, timeouts, taken = (int(field.partition("=")[2]) for field in fields[-3:])
+        self.ended_hops += hops
+        self.ended_timeouts += timeouts
+        self.ended_us += taken
+        return hops
 
     def crash(self, time: int, name: str) -> None:
         """A node crashes: its lookups are cut off."""

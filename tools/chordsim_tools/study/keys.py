@@ -8,7 +8,6 @@ from typing import Any
 from chordsim_tools.cli import Refused
 from chordsim_tools.explain.hints import close_to
 from chordsim_tools.generate.command import OPTIONS
-from chordsim_tools.messages import MESSAGES
 from chordsim_tools.quantities import UNITS, time_of
 from chordsim_tools.scenario.tables import CHURN, EXTENDED, GREATEST_INTEGER, LOOKUPS, Key
 
@@ -156,11 +155,3 @@ def world_of(path: Path, value: Any, vary: dict[str, list[Value]]) -> list[str] 
     if value is not None and (not isinstance(value, list) or not all(key in vary for key in value)):
         raise Refused(f"{path}: world has to be a list of keys of [vary]")
     return value
-
-
-def sizes_of(path: Path, table: Any) -> dict[str, int]:
-    """The table [sizes]: bytes of a message of each kind, or none."""
-    well = isinstance(table, dict) and all(is_integer(size) and size >= 0 for size in table.values())
-    if not well or (table and set(table) != set(MESSAGES)):
-        raise Refused(f"{path}: [sizes] has to give the bytes of a message of each kind: {', '.join(MESSAGES)}")
-    return dict(table)

@@ -33,6 +33,11 @@ NOTES = {
     "cut_off":
         "**cut off**: lookups whose asker crashed before they ended, of all lookups begun. They are in none of right "
         "of begun, defensible and given up, but count as wanted.",
+    "mean_ms":
+        "**mean time**: the mean time of the lookups that ended while their asker was up. One that was given up counts "
+        "with the time until it was given up.",
+    "hops": "**hops a lookup**: the mean, of the same lookups as mean time.",
+    "timeouts": "**timeouts a lookup**: the mean, of the same lookups as mean time.",
     "members": "**members**: the time that nodes are members, of the time that they are up.",
     "messages":
         "**messages**: all messages sent. With `detail = true` they are counted. Without it they are estimated, since "
@@ -46,7 +51,7 @@ NOTES = {
 }
 """The notes of the numbers, but for the times. Their order is that of the columns."""
 UNIT = f"**{RATE}**: for each member and second."
-PARTS = {"p50_ms": "50 %", "p99_ms": "99 %"}
+PARTS = {"p50_ms": "50 %", "p90_ms": "90 %", "p99_ms": "99 %", "p999_ms": "99.9 %"}
 KEPT = "over the seeds in which both kept their rings."
 ALL = (
     "over all seeds. If one of the two lost its ring in some seeds but not in all, only those seeds count in which "
@@ -64,7 +69,8 @@ def times_note(numbers: list[str], above: list[str]) -> str:
         return f"{text}, computed as {NAMES[above[0]]}."
     return (
         f"{text}, by the curve of Kaplan and Meier in each run. A lookup that was given up never ends. One that was "
-        "cut off is censored. `never`: fewer lookups ever end. A run with fewer than 1,000 judged lookups has no p99."
+        "cut off is censored. `never`: fewer lookups ever end. A run with fewer than 1,000 judged lookups has no p99, "
+        "one with fewer than 10,000 no p99.9, and one with fewer than 100 no p90."
     )
 
 

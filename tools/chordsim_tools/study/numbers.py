@@ -1,19 +1,24 @@
 """The settings of a study over their seeds: rings kept and lost, shares, times and costs."""
 
 import math
-from collections.abc import Callable
+from collections.abc import Callable, Iterable
 from dataclasses import dataclass, field
 
 from chordsim_tools.cli import Refused
 from chordsim_tools.study.exact import count_interval, share_interval
+from chordsim_tools.study.goal import OF_SPANS
 from chordsim_tools.study.interval import Interval, interval
+from chordsim_tools.study.names import base_of, span_of
 from chordsim_tools.study.plan import told
+from chordsim_tools.study.sizes import bytes_of
 from chordsim_tools.study.survival import NEVER
 from chordsim_tools.study.tables import Tables
 
 Cells = dict[str, str]
 LEAST_FOR_P99 = 1000
 """Of fewer lookups of a run the 99th percentile is nearly the greatest one."""
+LEAST_LOOKUPS = {50: 0, 90: 100, 99: LEAST_FOR_P99, 99.9: 10_000}
+"""How many judged lookups a run needs to have a percentile."""
 HOUR = 3_600_000_000
 
 
@@ -33,13 +38,24 @@ def of_ended(above: str) -> Callable[[Cells], float | None]:
     return take
 
 
-def time_of(share: int) -> Callable[[Cells], float | None]:
+def each_ended(above: str, scale: float = 1.0) -> Callable[[Cells], float | None]:
+    """The mean of a sum over the judged lookups that came to an end. Older tables have no such sums."""
+
+    def take(cells: Cells) -> float | None:
+        """The mean in a run."""
+        ended = int(cells["judged-found"]) + int(cells["judged-lost"])
+        return int(cells[above]) * scale / ended if ended and cells.get(above) else None
+
+    return take
+
+
+def time_of(share: float) -> Callable[[Cells], float | None]:
     """A percentile of all lookups in milliseconds; infinite if it is never reached."""
 
     def take(cells: Cells) -> float | None:
         """The percentile of a run."""
-        cell = cells[f"all-us-p{share}"]
-        if not cell or (share == 99 and int(cells["judged-lookups"]) < LEAST_FOR_P99):
+        cell = cells.get(f"all-us-p{share}")
+        if not cell or int(cells["judged-lookups"]) < LEAST_LOOKUPS[share]:
             return None
         return math.inf if cell == NEVER else int(cell) / 1000
 
@@ -52,6 +68,8 @@ def a_second(*words: str) -> Callable[[Cells], float | None]:
     def take(cells: Cells) -> float | None:
         """The cost of a run."""
         seconds = int(cells["cost-member-us"]) / 1e6
+        if words[0] not in cells:
+            return None
         return (int(cells[words[0]]) - sum(int(cells[word]) for word in words[1:])) / seconds if seconds else None
 
     return take
@@ -64,12 +82,46 @@ TAKES: dict[str, Callable[[Cells], float | None]] = {
     "given_up": of_ended("judged-lost"),
     "members": lambda cells: ratio(cells, "member-us", "up-us"),
     "p50_ms": time_of(50),
+    "p90_ms": time_of(90),
     "p99_ms": time_of(99),
+    "p999_ms": time_of(99.9),
+    "mean_ms": each_ended("ended-us", 0.001),
+    "hops": each_ended("ended-hops"),
+    "timeouts": each_ended("ended-timeouts"),
     "messages": a_second("messages"),
     "upkeep": a_second("messages", "messages-lookups"),
     "events": a_second("cost-events"),
+    "bytes": a_second("bytes"),
 }
 """What each number of a setting is in one run. All but the first are averaged over the runs that kept their ring."""
+
+
+COLUMNS = {
+    "p90_ms": "all-us-p90", "p999_ms": "all-us-p99.9", "mean_ms": "ended-us", "hops": "ended-hops",
+    "timeouts": "ended-timeouts", "bytes": "bytes",
+}
+"""Columns that older tables, or those of a study without sizes, do not have, and the numbers that are made of them."""
+
+
+def has_number(number: str, cells: Cells) -> bool:
+    """Whether the tables of this row have what a number is made of."""
+    column = COLUMNS.get(base_of(number))
+    head = number.removesuffix(base_of(number))
+    return column is None or f"{head}{column}" in cells
+
+
+def take_of(number: str) -> Callable[[Cells], float | None]:
+    """What a number is in one run, also one of a span: its columns have the name of the span before theirs."""
+    take, span = TAKES[base_of(number)], span_of(number)
+    if not span:
+        return take
+
+    def of_span(cells: Cells) -> float | None:
+        """The number of the span."""
+        head = f"{span}."
+        return take({word.removeprefix(head): cell for word, cell in cells.items() if word.startswith(head)})
+
+    return of_span
 
 
 def is_kept(cells: Cells) -> bool:
@@ -114,9 +166,9 @@ class Summary:
             return f"below {two_digits(high)}"
         return f"{two_digits((self.seeds - self.kept) / self.hours)} ({two_digits(low)}..{two_digits(high)})"
 
-    def served_told(self) -> str:
+    def served_told(self, number: str = "served") -> str:
         """The share served; where rings were lost, with the range over the seeds in place of an interval."""
-        served = self.numbers["served"]
+        served = self.numbers[number]
         return served.told(100, share=True) if self.kept == self.seeds else served.told_range(100)
 
 
@@ -143,14 +195,19 @@ def summaries(tables: Tables) -> list[Summary]:
     if tables.runs and "wanted" not in tables.runs[0]:
         raise Refused("runs.csv is of an older tools/study: run the study again")
     keys = list(tables.manifest["vary"])
-    return [summary(keys, values, rows) for values, rows in groups(tables.runs, keys).items()]
+    spans, sizes = list(tables.manifest.get("spans") or {}), tables.manifest.get("sizes") or {}
+    runs = [{"bytes": str(bytes_of(sizes, cells)), **cells} if sizes else cells for cells in tables.runs]
+    return [summary(keys, values, rows, spans) for values, rows in groups(runs, keys).items()]
 
 
-def summary(keys: list[str], values: tuple[str, ...], rows: list[Cells]) -> Summary:
+def summary(keys: list[str], values: tuple[str, ...], rows: list[Cells], spans: Iterable[str] = ()) -> Summary:
     """One setting over its seeds."""
     hours = sum(int(cells["lost-at-us"] or cells["duration-us"]) for cells in rows) / HOUR
     found = Summary(setting_label(keys, values), values, rows, {}, hours)
     found.by_seed = {cells["seed"]: cells for cells in rows}
     found.numbers = {number: found.of(take) for number, take in TAKES.items()}
-    found.numbers["served"] = interval(map(TAKES["served"], rows))
+    of_spans = (f"{span}.{number}" for span in spans for number in OF_SPANS)
+    found.numbers |= {number: found.of(take_of(number)) for number in of_spans}
+    for number in ("served", *(f"{span}.served" for span in spans)):
+        found.numbers[number] = interval(map(take_of(number), rows))
     return found

@@ -12,9 +12,10 @@ from chordsim_tools.quantities import time_text
 from chordsim_tools.scenario.tables import PROFILES
 from chordsim_tools.study.goal import Goal, Precision, goal_of, precision_of
 from chordsim_tools.study.keys import (
-    OF_GENERATE, Value, arguments_of, is_integer, number_of, parsed, seeds_of, sizes_of, text_of, vary_of,
-    world_of,
+    OF_GENERATE, Value, arguments_of, is_integer, number_of, parsed, seeds_of, text_of, vary_of, world_of,
 )
+from chordsim_tools.study.sizes import Sizes, sizes_of
+from chordsim_tools.study.spans import Spans, check_spans, limits_of, spans_of, whole_goal
 
 Setting = tuple[tuple[str, Value], ...]
 """The varied keys and their values, in the order of the study file. Times are in microseconds."""
@@ -24,7 +25,7 @@ PROFILE_KEYS = ("profile", f"{OF_GENERATE}--profile")
 GREATEST_STEPS = 100_000
 KEYS = {
     "question", "base", "generate", "latency", "seeds", "window_us", "warmup_us", "cooldown_us", "vary", "precision",
-    "goal", "sizes", "world", "note",
+    "goal", "sizes", "span", "world", "note",
 }
 
 
@@ -48,7 +49,8 @@ class Study:
     vary: dict[str, list[Value]]
     precision: Precision | None
     goal: Goal | None
-    sizes: dict[str, int]
+    sizes: Sizes
+    spans: Spans
     world: list[str] | None
     note: str | None
     base_content: bytes = b""
@@ -101,11 +103,13 @@ def read_study(path: Path) -> Study:
         cooldown_us=number_of(path, top, "cooldown_us", 0, 0),
         vary=vary_of(path, top.get("vary", {}), "generate" in top),
         precision=precision_of(path, top.get("precision")),
-        goal=goal_of(path, top.get("goal")),
+        goal=goal_of(path, top.get("goal"), "sizes" in top),
         sizes=sizes_of(path, top.get("sizes", {})),
+        spans=spans_of(path, top.get("span", {})),
         world=None,
         note=text_of(path, top, "note") if "note" in top else None,
     )
+    study.goal = whole_goal(study.goal, limits_of(path, top.get("span", {})))
     study.world = world_of(path, top.get("world"), study.vary)
     if study.precision is not None:
         study.seeds = list(range(1, study.precision.least_seeds + 1))
@@ -170,5 +174,7 @@ def check_times(study: Study, duration: Any) -> None:
         return
     if duration > GREATEST_STEPS * study.window_us:
         raise Refused(f"{study.path}: window_us makes more than {GREATEST_STEPS} steps of {duration} us")
-    if study.cooldown_us and study.warmup_us + study.cooldown_us >= duration:
-        raise Refused(f"{study.path}: warmup_us and cooldown_us leave nothing of {duration} us")
+    if study.warmup_us + study.cooldown_us >= duration:
+        names = "warmup_us leaves" if study.cooldown_us == 0 else "warmup_us and cooldown_us leave"
+        raise Refused(f"{study.path}: {names} nothing of {duration} us")
+    check_spans(study.path, study.spans, duration)

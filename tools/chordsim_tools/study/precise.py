@@ -15,7 +15,7 @@ def more_seeds(study: Study, rows: list[Row]) -> list[int]:
     wanted = study.precision
     if wanted is None or len(study.seeds) >= wanted.most_seeds:
         return []
-    table = list(csv.DictReader(io.StringIO(runs_text(rows))))
+    table = list(csv.DictReader(io.StringIO(runs_text(rows, study.sizes))))
     found = summaries(Tables({"vary": study.vary}, table, []))
     if all(is_narrow(one, wanted) for one in found):
         return []

@@ -2,6 +2,7 @@
 
 import contextlib
 import json
+import tomllib
 from dataclasses import dataclass
 from functools import partial
 from pathlib import Path
@@ -21,10 +22,11 @@ from chordsim_tools.study.program import Program
 from chordsim_tools.study.progress import RunProgress
 from chordsim_tools.study.record import write_record
 from chordsim_tools.study.setting_traps import tell_traps
+from chordsim_tools.study.sizes import check_not_negative
 from chordsim_tools.study.task import Task, result_of
 from chordsim_tools.study.worlds import argument_traps, latency_of, scenario_of
 
-READING = 4
+READING = 5
 """Goes up if a trace is read in another way, so that no older result is taken for a new one."""
 DIGEST = "sha256"
 """The key of a result's digest. It is of all other keys."""
@@ -205,9 +207,10 @@ def runs_of(study: Study, done: Path, program_sum: str) -> list[Run]:
         for seed in study.seeds:
             text, latency = files_of(study, setting, seed)
             latency_sum = None if latency is None else sum_of(latency)
-            made_of = json.dumps([text, latency_sum, program_sum, *study.times(), READING])
+            spans = tuple((name, *ends) for name, ends in study.spans.items())
+            made_of = json.dumps([text, latency_sum, program_sum, *study.times(), *spans, READING])
             name = f"{label(setting)}, seed={seed}"
-            task = Task(name, text, latency, *study.times(), sum_of(made_of))
+            task = Task(name, text, latency, *study.times(), sum_of(made_of), spans)
             runs.append(Run(study, setting, seed, done / file_stem(setting, seed), task))
     return runs
 
@@ -234,3 +237,4 @@ def check_settings(runs: list[Run], program: Path) -> None:
                 Program(program, run.scenario(), run.latency()).check()
             except Failure as fault:
                 raise Failure(fault.status, f"{run.task.name}: {fault.text}") from None
+            check_not_negative(run.study.path, run.study.sizes, tomllib.loads(run.task.scenario))

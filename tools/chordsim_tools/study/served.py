@@ -4,7 +4,7 @@ A node is up from the start if it is initial, or from its line `join`, until its
 whose join has failed is up until the crash that was planned for it, and its demand does not vanish."""
 
 from collections.abc import Iterable
-from dataclasses import dataclass
+from dataclasses import dataclass, replace
 from typing import Any
 
 
@@ -26,6 +26,10 @@ class Scope:
     def bounds(self) -> list[int]:
         """Where the two halves of this span begin, its end, and the end of the run."""
         return [self.warmup_us, (self.warmup_us + self.end()) // 2, self.end(), self.duration_us]
+
+    def within(self, begin: int, end: int) -> "Scope":
+        """The scope of another span of the same run."""
+        return replace(self, warmup_us=begin, cooldown_us=self.duration_us - end)
 
     def half(self, begin: int) -> int | None:
         """The half in which a lookup begins, if it is judged."""

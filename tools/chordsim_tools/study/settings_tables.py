@@ -4,14 +4,14 @@ from collections.abc import Callable
 from functools import partial
 from typing import Any
 
-from chordsim_tools.messages import MESSAGES
+from chordsim_tools.quantities import time_text
 from chordsim_tools.study.answer import chosen, those_that_reach
 from chordsim_tools.study.compare import Pair, guarded_level, scale_of
 from chordsim_tools.study.goal import Goal, goal_again, precision_again
 from chordsim_tools.study.layout import Worlds, choice_label, of_each_world, worlds_of
-from chordsim_tools.study.names import NAMES, PERCENT, difference_header, header
+from chordsim_tools.study.names import COUNTS, MILLISECONDS, NAMES, base_of, difference_header, header, is_percent, span_of
 from chordsim_tools.study.notes import AGAIN, FIRST, difference_note, notes_of
-from chordsim_tools.study.numbers import Cells, Summary, ratio
+from chordsim_tools.study.numbers import Cells, Summary, has_number, ratio
 from chordsim_tools.study.tables import Tables
 from chordsim_tools.study.wrap import note
 
@@ -19,17 +19,23 @@ FILL = ("served", "right_of_begun", "messages", "p99_ms", "p50_ms")
 """What the first table has, in this order, besides the numbers that the study names."""
 MOST = 5
 """So many numbers it has, unless the study names more: with setting, rings kept and difference it has 8 columns."""
+OF_LOOKUPS = (*MILLISECONDS, *COUNTS)
+"""What the second table has, unless it is in the first one."""
+OF_A_SPAN = ("served", "right_of_begun", "given_up", "p50_ms", "p99_ms", "members")
+"""What the table of a span has, besides the numbers that the goal names."""
 ALL_LOST = "all rings lost"
 Column = tuple[str, Callable[[Summary], str]]
 """A column of a table: its header, and its cell for a setting."""
+Part = tuple[str, list[Column], list[str]]
+"""A table of the page: its heading, its columns and its notes."""
 
 
 def named_numbers(manifest: dict[str, Any]) -> set[str]:
-    """The numbers that the goal and the precision of a study name."""
+    """The numbers that the goal and the precision of a study name. Those of spans have tables of their own."""
     goal, precision = goal_again(manifest["goal"]), precision_again(manifest["precision"])
     named = set() if precision is None else {precision.number}
     if goal is not None:
-        named |= {goal.least, *(limit.number for limit in goal.limits)}
+        named |= {goal.least, *(limit.number for limit in goal.limits if not span_of(limit.number))}
         named |= set() if goal.lost_max is None else {"rings_lost"}
     return named
 
@@ -43,10 +49,20 @@ def first_numbers(manifest: dict[str, Any]) -> list[str]:
     return [number for number in NAMES if number in numbers]
 
 
-def more_numbers(manifest: dict[str, Any]) -> list[str]:
-    """The numbers of the second table: all others."""
-    first = first_numbers(manifest)
-    return [number for number in NAMES if number not in first and (number != "bytes" or manifest["sizes"])]
+def other_numbers(tables: Tables, cells: Cells) -> tuple[list[str], list[str]]:
+    """The numbers of the second and of the third table: all others that the tables have."""
+    first = first_numbers(tables.manifest)
+    rest = [number for number in NAMES if number not in first and has_number(number, cells)]
+    lookups = [number for number in rest if number in OF_LOOKUPS]
+    return lookups, [number for number in rest if number not in lookups]
+
+
+def span_numbers(tables: Tables, span: str) -> list[str]:
+    """The numbers of a span's table."""
+    goal = goal_again(tables.manifest["goal"])
+    named = [limit.number for limit in goal.limits] if goal is not None else []
+    wanted = {*OF_A_SPAN, *(base_of(number) for number in named if span_of(number) == span)}
+    return [f"{span}.{number}" for number in NAMES if number in wanted]
 
 
 def cut_off(cells: Cells) -> float | None:
@@ -54,27 +70,14 @@ def cut_off(cells: Cells) -> float | None:
     return ratio(cells, "cut-by-crash", "judged-lookups")
 
 
-def bytes_by(sizes: dict[str, int]) -> Callable[[Cells], float | None]:
-    """Bytes for each member and second, by the size of each kind of message."""
-
-    def take(cells: Cells) -> float | None:
-        """The bytes of a run."""
-        seconds = int(cells["cost-member-us"]) / 1e6
-        return sum(sizes[kind] * int(cells[f"sent-{kind}"]) for kind in MESSAGES) / seconds if seconds else None
-
-    return take
-
-
-def cell_of(one: Summary, number: str, manifest: dict[str, Any]) -> str:
+def cell_of(one: Summary, number: str) -> str:
     """The cell of a number in a setting's line."""
     if number == "rings_lost":
         return one.rate_told()
-    if number == "served":
-        return one.served_told()
-    if number == "bytes":
-        return one.of(bytes_by(manifest["sizes"])).told()
+    if base_of(number) == "served":
+        return one.served_told(number)
     found = one.of(cut_off) if number == "cut_off" else one.numbers[number]
-    return found.told(100, share=True) if number in PERCENT else found.told()
+    return found.told(100, share=True) if is_percent(number) else found.told()
 
 
 def compared_number(worlds: Worlds, goal: Goal | None) -> str:
@@ -97,21 +100,22 @@ def from_best(one: Summary, best: Summary | None, number: str, settings: int) ->
 
 
 def table_text(tables: Tables, found: list[Summary], columns: list[Column]) -> str:
-    """A line a setting. If there is a choice in each of several worlds, a line with its name is above its settings."""
+    """A line a setting, with its number. If each of several worlds has a choice, its name is above its settings."""
     worlds = of_each_world(tables, found)
     is_divided = 1 < len(worlds) < len(found)
-    lines = [["setting", *(name for name, _ in columns)], ["---"] * (1 + len(columns))]
+    lines = [["no.", "setting", *(name for name, _ in columns)], ["---"] * (2 + len(columns))]
+    count = 0
     for world, settings in worlds.items():
-        lines += [[f"**{world}**", *[""] * len(columns)]] if is_divided else []
-        for one in settings:
+        lines += [["", f"**{world}**", *[""] * len(columns)]] if is_divided else []
+        for count, one in enumerate(settings, start=count + 1):
             label = choice_label(tables, one) if is_divided else one.label
-            lines.append([label, *(cell(one) for _, cell in columns)])
+            lines.append([str(count), label, *(cell(one) for _, cell in columns)])
     return "".join("| " + " | ".join(cells) + " |\n" for cells in lines)
 
 
-def columns_of(numbers: list[str], manifest: dict[str, Any]) -> list[Column]:
+def columns_of(numbers: list[str]) -> list[Column]:
     """The columns of these numbers."""
-    return [(header(number), partial(cell_of, number=number, manifest=manifest)) for number in numbers]
+    return [(header(number), partial(cell_of, number=number)) for number in numbers]
 
 
 def differences(tables: Tables, found: list[Summary]) -> tuple[list[Column], list[str]]:
@@ -132,15 +136,24 @@ def differences(tables: Tables, found: list[Summary]) -> tuple[list[Column], lis
 
 
 def settings_tables(tables: Tables, found: list[Summary]) -> str:
-    """Both tables with their headings and notes."""
-    first, more = first_numbers(tables.manifest), more_numbers(tables.manifest)
-    of_first, of_more = (columns_of(numbers, tables.manifest) for numbers in (first, more))
+    """The tables with their headings and notes: what a decision rests on, spans, lookups, and all else."""
+    first, (lookups, more) = first_numbers(tables.manifest), other_numbers(tables, found[0].rows[0])
     last, last_note = differences(tables, found)
-    texts = (
-        ("Settings", [("rings kept", Summary.kept_told), *of_first, *last], [*FIRST, *notes_of(first, []), *last_note]),
-        ("More numbers", of_more, [AGAIN, *notes_of(more, first)]),
-    )
+    columns = [("rings kept", Summary.kept_told), *columns_of(first), *last]
+    parts = [("Settings", columns, [*FIRST, *notes_of(first, []), *last_note]), *span_tables(tables)]
+    if lookups:
+        parts.append(("Lookups", columns_of(lookups), [AGAIN, *notes_of(lookups, first)]))
+    parts.append(("More numbers", columns_of(more), [AGAIN, *notes_of(more, [*first, *lookups])]))
     return "".join(
-        f"## {heading}\n\n{table_text(tables, found, columns)}\n{''.join(map(note, notes))}\n"
-        for heading, columns, notes in texts
+        f"## {heading}\n\n{table_text(tables, found, shown)}\n{''.join(map(note, notes))}\n"
+        for heading, shown, notes in parts
     )
+
+
+def span_tables(tables: Tables) -> list[Part]:
+    """A table for each span."""
+    parts: list[Part] = []
+    for span, (begin, end) in (tables.manifest.get("spans") or {}).items():
+        told = f"Of the lookups that began from {time_text(begin)} to {time_text(end)}. The columns are as in the other tables."
+        parts.append((f"Span {span}", columns_of(span_numbers(tables, span)), [told, AGAIN]))
+    return parts

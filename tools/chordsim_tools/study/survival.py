@@ -7,6 +7,14 @@ NEVER = "never"
 ROUNDING = 1e-9
 
 
+def percentile(values: list[int], share: int) -> int | None:
+    """Nearest rank: of k values in ascending order the one at place k * share / 100, rounded up, counted from 1."""
+    if not values:
+        return None
+    place = (len(values) * share + 99) // 100
+    return sorted(values)[place - 1]
+
+
 class Times:
     """The times of lookups by what became of them, and the curve of Kaplan and Meier."""
 
@@ -20,7 +28,7 @@ class Times:
         """How many lookups there are."""
         return len(self.ended) + len(self.cut) + self.lost
 
-    def percentile(self, share: int) -> int | str | None:
+    def percentile(self, share: float) -> int | str | None:
         """The time by which this share of a hundred has ended, `never` if it is never reached, nothing without lookups.
 
         At equal times those that were cut off come after those that ended."""
@@ -35,6 +43,6 @@ class Times:
             rest -= ended[time] + cut[time]
         return NEVER
 
-    def percentiles(self, shares: Iterable[int]) -> dict[int, int | str | None]:
+    def percentiles(self, shares: Iterable[float]) -> dict[float, int | str | None]:
         """Some percentiles."""
         return {share: self.percentile(share) for share in shares}

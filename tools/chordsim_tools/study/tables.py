@@ -14,8 +14,11 @@ from chordsim_tools.files import read_input, sum_of, write_whole
 from chordsim_tools.program import TOP
 from chordsim_tools.study.network import are_placed, place_sums
 from chordsim_tools.study.plan import Setting, Study
+from chordsim_tools.study.sizes import Sizes, bytes_of
 
 VERSION = 2
+SERIES = ("lookups", "found", "right", "members", "ended", "right-of-ended", "wanted")
+"""The columns of series.csv."""
 LATER = ("losses", "again", "forgotten")
 """The numbers that only reports of later profiles have, in their order."""
 OWN_FILES = ("tools/study", "tools/chordsim_tools/study")
@@ -24,7 +27,7 @@ Row = tuple[Setting, int, dict[str, Any]]
 
 def write_tables(study: Study, folder: Path, program: Path, program_sum: str, rows: list[Row]) -> None:
     """Writes the three files."""
-    runs, series = runs_text(rows), series_text(study, rows)
+    runs, series = runs_text(rows, study.sizes), series_text(study, rows)
     write_whole(folder / "runs.csv", runs)
     write_whole(folder / "series.csv", series)
     manifest = manifest_of(study, program, program_sum)
@@ -39,8 +42,8 @@ def csv_text(lines: list[list[Any]]) -> str:
     return text.getvalue()
 
 
-def runs_text(rows: list[Row]) -> str:
-    """One line a run: the setting, the seed, the report, the numbers of the trace.
+def runs_text(rows: list[Row], sizes: Sizes | None = None) -> str:
+    """One line a run: the setting, the seed, the report, the numbers of the trace, and bytes if messages have sizes.
 
     A number that only later profiles report (as `losses`) is 0 in runs of the others.
     """
@@ -52,6 +55,8 @@ def runs_text(rows: list[Row]) -> str:
             report.setdefault(word, 0)
         varied: dict[str, Any] = dict(setting)
         numbers = {**varied, "seed": seed, **report, **result["numbers"]}
+        if sizes:
+            numbers["bytes"] = bytes_of(sizes, result["numbers"])
         if not lines:
             lines.append(list(numbers))
         if list(numbers) != lines[0]:
@@ -62,7 +67,7 @@ def runs_text(rows: list[Row]) -> str:
 
 def series_text(study: Study, rows: list[Row]) -> str:
     """One line a run and step of time."""
-    lines: list[list[Any]] = [[*study.vary, "seed", "from_us", "lookups", "found", "right", "members"]]
+    lines: list[list[Any]] = [[*study.vary, "seed", "from_us", *SERIES]]
     for setting, seed, result in rows:
         values = [value for _, value in setting]
         for number, step in enumerate(result["series"]):
@@ -112,6 +117,7 @@ def manifest_of(study: Study, program: Path, program_sum: str) -> dict[str, Any]
         "precision": None if study.precision is None else asdict(study.precision),
         "goal": None if study.goal is None else asdict(study.goal),
         "sizes": study.sizes,
+        "spans": study.spans,
         "world": study.world,
         "note": study.note,
         "commands": dict(Counter(one["do"] for one in study.scenario.get("command", []))),

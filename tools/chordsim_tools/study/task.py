@@ -28,6 +28,7 @@ class Task:
     warmup_us: int
     cooldown_us: int
     made_of: str
+    spans: tuple[tuple[str, int, int], ...] = ()
 
 
 def readers_of(task: Task, top: dict[str, Any], idents: dict[str, int]) -> tuple[TraceReader, Curves, Trouble]:
@@ -35,7 +36,8 @@ def readers_of(task: Task, top: dict[str, Any], idents: dict[str, int]) -> tuple
     initial = [node["name"] for node in top["node"] if node.get("initial") is True]
     scope = scope_of(top, task.window_us, task.warmup_us, task.cooldown_us)
     curves = Curves(top["duration_us"], task.window_us, task.warmup_us, task.cooldown_us)
-    reader = TraceReader(Members(idents, initial), scope)
+    spans = {name: scope.within(begin, end) for name, begin, end in task.spans}
+    reader = TraceReader(Members(idents, initial), scope, spans)
     return reader, curves, Trouble(reader.members, top, task.warmup_us)
 
 
@@ -72,7 +74,10 @@ def result_of(task: Task, program: Path, scenario: Path, latency: Path | None) -
     return {
         "made_of": task.made_of,
         "report": report,
-        "numbers": {**numbers, **message_numbers(reader.traffic, span), **trouble.numbers()},
+        "numbers": {
+            **numbers, **message_numbers(reader.traffic, span), **trouble.numbers(),
+            "scenario-list": top["list"], "scenario-bits": top["bits"],
+        },
         "curves": curves.numbers(),
-        "series": [[step.lookups, step.found, step.right, step.members] for step in reader.steps],
+        "series": reader.over_time.rows(),
     }

@@ -5,7 +5,7 @@ from collections.abc import Callable, Iterable
 from typing import Any
 
 from chordsim_tools.study.survival import Times
-from chordsim_tools.study.trace import percentile
+from chordsim_tools.study.survival import percentile
 from chordsim_tools.trace.history import Join
 from chordsim_tools.trace.lines import Audit, Lookup
 from chordsim_tools.trace.messages import message_counts

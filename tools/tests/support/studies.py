@@ -34,9 +34,11 @@ def unwrapped(page: str) -> str:
 
 
 def table_of(page: str, heading: str) -> dict[str, dict[str, str]]:
-    """The table below a heading: the cells of each setting by their headers. Settings of a world begin with it."""
+    """The table below a heading: the cells of each setting by their headers. Settings of a world begin with it.
+
+    The column of numbers is left out."""
     lines = page.split(f"## {heading}\n", 1)[1].split("\n## ", 1)[0].splitlines()
-    headers, _, *rows = (line[2:-2].split(" | ") for line in lines if line.startswith("|"))
+    headers, _, *rows = (line[2:-2].split(" | ")[1:] for line in lines if line.startswith("|"))
     found: dict[str, dict[str, str]] = {}
     world = ""
     for row_of in rows:

@@ -1,0 +1,54 @@
+"""The table [sizes]: the bytes of a message of each kind, as numbers or as formulas of the scenario's keys."""
+
+from collections.abc import Mapping
+from pathlib import Path
+from typing import Any
+
+from chordsim_tools.cli import Refused
+from chordsim_tools.messages import MESSAGES
+from chordsim_tools.study.formula import ALLOWED, BadFormula, value_of
+
+Sizes = dict[str, int | str]
+LEAST_KEYS = {"list": 1, "bits": 3}
+"""The least values of the keys that formulas name. They are as good as any to read a formula with."""
+
+
+def sizes_of(path: Path, table: Any) -> Sizes:
+    """The table of a study file: empty, or a size of each kind."""
+    if not isinstance(table, dict) or (table and set(table) != set(MESSAGES)):
+        raise Refused(f"{path}: [sizes] has to give the bytes of a message of each kind: {', '.join(MESSAGES)}")
+    for kind, size in table.items():
+        check_size(path, kind, size)
+    return dict(table)
+
+
+def check_size(path: Path, kind: str, size: Any) -> None:
+    """Fails if a size is none, and says what is allowed."""
+    if isinstance(size, bool) or not isinstance(size, int | str) or (isinstance(size, int) and size < 0):
+        raise Refused(f"{path}: [sizes] {kind} has to be a number of bytes, 0 or more, or a formula as \"40 + 20 * list\"")
+    if isinstance(size, str):
+        try:
+            value_of(size, LEAST_KEYS)
+        except BadFormula as fault:
+            raise Refused(f"{path}: [sizes] {kind} = {size!r}: {fault}; allowed are {ALLOWED}") from None
+
+
+def size_of(size: int | str, values: Mapping[str, int]) -> int:
+    """A size in a run with these keys."""
+    return size if isinstance(size, int) else value_of(size, values)
+
+
+def check_not_negative(path: Path, sizes: Sizes, top: Mapping[str, Any]) -> None:
+    """Fails if a size is below 0 in a scenario."""
+    values = {key: int(top[key]) for key in LEAST_KEYS}
+    for kind, size in sizes.items():
+        if size_of(size, values) < 0:
+            where = " and ".join(f"{key} = {value}" for key, value in values.items())
+            raise Refused(f"{path}: [sizes] {kind} = {size!r} is below 0 with {where}")
+
+
+def bytes_of(sizes: Sizes, numbers: Mapping[str, Any]) -> int:
+    """The bytes of a run with these numbers."""
+    # Older tables do not have these two, and their sizes are numbers.
+    values = {key: int(numbers.get(f"scenario-{key}", 0)) for key in LEAST_KEYS}
+    return sum(size_of(size, values) * int(numbers[f"sent-{kind}"]) for kind, size in sizes.items())
