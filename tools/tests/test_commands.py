@@ -58,11 +58,11 @@ class Commands(unittest.TestCase):
         """The text of a file."""
         return (self.folder / name).read_text(encoding="utf-8")
 
-    def ended(self, line: str, closed: bool = False) -> tuple[int, str, str]:
-        """The status, and what was printed on the two streams. A closed output takes nothing."""
+    def ended(self, line: str, full: bool = False) -> tuple[int, str, str]:
+        """The status, and what was printed on the two streams. A full disk as the output takes nothing."""
         command = [self.program, *line.split()]
-        with open("/dev/full", "wb") as full:
-            output: int | IO[bytes] = full if closed else subprocess.PIPE
+        with open("/dev/full", "wb") as disk:
+            output: int | IO[bytes] = disk if full else subprocess.PIPE
             done = subprocess.run(
                 command, cwd=self.folder, stdout=output, stderr=subprocess.PIPE, text=True, check=False, timeout=60
             )
@@ -149,12 +149,12 @@ class Commands(unittest.TestCase):
                     self.assertEqual(ended, (REFUSED, "", f"refused: {error}\n"))
                     self.assertEqual(self.read("c"), "" if "run" in line else RING)
 
-    def test_outputs_that_are_closed(self) -> None:
-        """Nothing goes to an output that takes nothing: the run has failed."""
+    def test_outputs_on_a_full_disk(self) -> None:
+        """An output that takes nothing fails each command."""
         runs = [f"run --engine {engine} --workers 2" for engine in ENGINES]
         for line in ("check", "ids", "run", "run --trace c", *runs):
             with self.subTest(line):
-                ended = self.ended(f"{line} --scenario a.toml", closed=True)
+                ended = self.ended(f"{line} --scenario a.toml", full=True)
                 self.assertEqual(ended, (FAILED, "", "failed: 4 Write\n"))
 
     def test_disks_that_are_full(self) -> None:
@@ -182,6 +182,21 @@ class Commands(unittest.TestCase):
                 ended = self.ended(f"run --scenario a.toml --latency b.csv --trace {trace}")
                 self.assertEqual(ended, (ARGUMENTS, "", f"error: --trace names {named}\n"))
         self.assertEqual((self.read("a.toml"), self.read("b.csv")), (RING, "n0,n3,15\n"))
+
+    def test_files_of_two_file_systems(self) -> None:
+        """A trace is another file than the scenario's even if both have one number, in two file systems."""
+        mount = "mkdir one two && mount -t tmpfs one one && mount -t tmpfs two two && cp a.toml one/ && : > two/out"
+        same = 'test "$(stat -c %i one/a.toml)" = "$(stat -c %i two/out)"'
+        run = '"$0" run --scenario one/a.toml --trace two/out && cat two/out one/a.toml'
+        script = f"({mount} && {same}) 2> /dev/null || exit 77; {run}"
+        command = ["unshare", "--mount", "sh", "-c", script, self.program]
+        try:
+            done = subprocess.run(command, cwd=self.folder, capture_output=True, text=True, check=False, timeout=60)
+        except FileNotFoundError:
+            self.skipTest("there is no unshare here")
+        if done.returncode in (1, 77) and not done.stdout:
+            self.skipTest("file systems cannot be mounted here")
+        self.assertEqual((done.returncode, done.stdout, done.stderr), (0, REPORT + TRACE + RING, ""))
 
     def test_device_that_is_named_twice(self) -> None:
         """It is not emptied. Here it is the latency file, without rows, and takes the trace."""
@@ -240,7 +255,7 @@ class Commands(unittest.TestCase):
                 status, output, error = self.ended(line)
                 self.assertEqual((status, error), (0, ""))
                 self.assertIn(part, output)
-                self.assertEqual(self.ended(line, closed=True), (FAILED, "", "failed: 4 Write\n"))
+                self.assertEqual(self.ended(line, full=True), (FAILED, "", "failed: 4 Write\n"))
 
 
 if __name__ == "__main__":

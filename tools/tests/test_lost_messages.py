@@ -1,7 +1,7 @@
 """Messages that are lost or late in the second profile, by the program. Traces and reports were computed by hand."""
 
 from chordsim_tools.reference.chacha import Stream
-from tests.support.rings import ONE_HOP, SETTINGS, THREE, TWO, Example, ProgramTest
+from tests.support.rings import FOUR, ONE_HOP, SETTINGS, THREE, TWO, Example, ProgramTest
 
 LOSE_ALL = Example(
     settings=SETTINGS,
@@ -45,6 +45,11 @@ SILENT = Example(
     ),
 )
 """A lookup of n3 through n0, which has crashed."""
+LOST_BY_THE_VIA = (
+    "profile = 2\nbits = 3\nseed = 2\nlatency_us = 10\nloss_ppm = 100000\nlist = 1\n"
+    "duration_us = 600\nwindow_us = 10\ntimeout_us = 40\naudit_us = 600\nstabilize_us = 1000\nfinger_us = 1000\n"
+)
+"""One message in ten is lost, and of this seed the first one of n6, which joins through n0."""
 STRANDED = (
     "profile = 2\nbits = 3\nseed = 1\nlatency_us = 10\nloss_ppm = 1000000\nlist = 1\n"
     "duration_us = 140\nwindow_us = 10\ntimeout_us = 40\naudit_us = 140\nstabilize_us = 90\nfinger_us = 1000\n"
@@ -70,6 +75,19 @@ class LostMessages(ProgramTest):
         """
         self.all_leave(LOSE_ALL.text("profile = 2\nloss_ppm = 1000000"), LOSE_ALL.trace, LOSE_ALL.report)
         self.all_leave(SILENT.text("profile = 2\nspread_us = 5"), SILENT.trace, SILENT.report)
+
+    def test_the_via_is_asked_again(self) -> None:
+        """A node that joins does not avoid its `via`: it is n3's successor, and no other node could be asked for it."""
+        join = '[[command]]\nat_us = 100\ndo = "join"\nnode = "n6"\nvia = "n0"\n'
+        self.assertLess(Stream(2, 3).word(2) % 1_000_000, 100_000)
+        trace = (
+            "100 n6 join n0\n"
+            "100 n6 lose step n0\n"
+            "140 n6 timeout n0\n"
+            "200 n6 member n3\n"
+            "600 audit members=4 dead=0 ring=3 ordered=yes principals=3 sufficient=yes\n"
+        )
+        self.all_write(LOST_BY_THE_VIA + FOUR + join, trace)
 
     def test_spreads_are_added(self) -> None:
         """A request and its reply each take their latency and a spread drawn by their sender.

@@ -122,3 +122,23 @@ class SentAgain(ProgramTest):
             "200 audit members=3 dead=0 ring=3 ordered=yes principals=3 sufficient=yes\n"
         )
         self.all_write(FOUND_AGAIN.text("profile = 4\nspread_us = 5"), trace)
+
+    def test_both_words_of_a_number(self) -> None:
+        """A spread of up to a thousand seconds is made of two words, the second of which decides its last digit.
+
+        The words are 14 and 15 of the streams (n3, 7) and (n0, 7) under seed 15: those of each node's third message.
+        """
+        request, reply = (0x654788CB518A7266 * 1_000_000_001 >> 64, 0x0D5EF83F73E1E88A * 1_000_000_001 >> 64)
+        self.assertNotEqual(request, 0x654788CB654788CB * 1_000_000_001 >> 64)
+        toml = (
+            "profile = 4\nbits = 3\nseed = 15\nlatency_us = 10\nspread_us = 1000000000\nlist = 2\n"
+            "duration_us = 1000000000\nwindow_us = 10\ntimeout_us = 1000000000\naudit_us = 1000000000\n"
+            f"stabilize_us = 1000000000\nfinger_us = 1000000000\n{THREE}{ONE_HOP}"
+        )
+        late = request + reply
+        trace = (
+            "100 n3 lookup 1\n"
+            f"{120 + late} n3 found 1 n1 hops=1 timeouts=0 us={20 + late}\n"
+            "1000000000 audit members=3 dead=0 ring=3 ordered=yes principals=3 sufficient=yes\n"
+        )
+        self.all_write(toml, trace)

@@ -102,6 +102,37 @@ JOIN_WITHOUT_END = Example(
     ),
 )
 """The eighth attempt fails at 255. Eight pauses later, at 295, the node begins again."""
+PAUSE_OF_AN_EARLIER_LIFE = Example(
+    settings=(
+        "list = 2\nduration_us = 400\nwindow_us = 10\ntimeout_us = 40\naudit_us = 400\nstabilize_us = 1000\n"
+        "finger_us = 1000\n"
+    ),
+    nodes=FOUR,
+    commands=(
+        JOIN_THROUGH_DEAD + '[[command]]\nat_us = 150\ndo = "crash"\nnode = "n6"\n'
+        '[[command]]\nat_us = 160\ndo = "join"\nnode = "n6"\nvia = "n1"\n'
+    ),
+    trace=(
+        "50 n1 crash\n"
+        "100 n6 join n1\n"
+        "110 n1 drop step n6\n"
+        "140 n6 timeout n1\n"
+        "150 n6 crash\n"
+        "160 n6 join n1\n"
+        "170 n1 drop step n6\n"
+        "200 n6 timeout n1\n"
+        "310 n1 drop step n6\n"
+        "340 n6 timeout n1\n"
+        "400 audit members=2 dead=0 ring=2 ordered=yes principals=2 sufficient=no\n"
+    ),
+    report=(
+        "events 12\nmembers 0\njoin-failed 0\ncrashes 2\nstranded 0\ndrops 3\nlate 0\ntimeouts 3\n"
+        "lookups 0\nfound 0\nlost 0\nbusy 0\nignored 0\nunfinished 0\nhops-sum 0\nhops-greatest 0\n"
+        "us-sum 0\nus-least 0\nus-median 0\nus-greatest 0\naudits 1\nringless 0\nunordered 0\n"
+        "insufficient 1\nlosses 0\nagain 0\nforgotten 0\n"
+    ),
+)
+"""The pause that begins at 140 ends at 240, in the node's next life, and starts nothing. The next one ends at 300."""
 TOLD_CHECKS = (
     "50 n0 crash\n"
     "100 n1 ask ping n0 call=5\n"
@@ -137,6 +168,7 @@ class SilentNodes(ProgramTest):
             ("profile = 4\ncheck_us = 100", SILENT_PREDECESSOR),
             ("profile = 4\njoin_pause_us = 25", PAUSE_IN_A_JOIN),
             ("profile = 4\njoin_pause_us = 5\njoin_forever = true", JOIN_WITHOUT_END),
+            ("profile = 4\njoin_pause_us = 100", PAUSE_OF_AN_EARLIER_LIFE),
         ):
             with self.subTest(profile):
                 self.all_leave(example.text(profile), example.trace, example.report)

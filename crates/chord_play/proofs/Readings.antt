@@ -70,7 +70,7 @@ reader_fault s l f (Ok value) read_s read_l why gives = search rules
 reader_fault s l f (Err fault) read_s read_l why gives = elim (memory_or_fault f) [
   | inl memory ↦
       let is : fault ≡ play.Run run.Memory = gives ∙ ap fault_of_scenario memory in
-      rw is (read_s.0, read_l.0)
+      rw is (inr (read_s, read_l))
   | inr other ↦
       let is : fault ≡ play.Scenario f = gives ∙ other.1 in
       rw is (

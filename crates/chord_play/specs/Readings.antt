@@ -1,8 +1,9 @@
 -- How the two texts were read, and why they give no scenario.
-use Rattle.std.specs.Prelude.{◌≡◌, ◌≢◌, ℕ, Bool, false, true, List, Option}
+use Rattle.std.specs.Prelude.{◌≡◌, ◌≢◌, ◌⊎◌, ℕ, Bool, false, true, List, Option}
 use Rattle.chord_play.specs.declared.fault.PlayFault.{PlayFault}
 use Rattle.chord_play.specs.declared.fault.PlayFault.TheVariants as fault
 use Rattle.chord_plan.specs.declared.text.Text.TheVariants as text
+use Rattle.chord_event.specs.declared.error.RunError.TheVariants as run
 use Rattle.chord_play.specs.Texts.{IsCutOff, IsShort, Lacks}
 use Rattle.chord_scenario.specs.declared.fault.ScenarioFault.TheVariants as reason
 use Rattle.chord_trace.specs.declared.watched.Watched.{Watched}
@@ -46,7 +47,7 @@ abbrev pub WasCutOff : {R : Type 0} → Reading R → Type 0
 WasCutOff r = IsCutOff (text_of r) (left_of r)
 
 -- The fault is that of one of the two texts, as they were read: the scenario text first, and then the latency text. At an
--- error of the run both readers are sound.
+-- error of the run both texts were read, and neither is too long; only if memory was refused may one be read in part.
 abbrev pub IsFaultOf : {R Q : Type 0} → (scenario : Reading R) (latency : Reading Q) → PlayFault → Type 0
 IsFaultOf scenario latency (fault.Read text.Scenario) = HasFailed scenario × IsUntouched latency
 IsFaultOf scenario latency (fault.Read text.Latency) = WasRead scenario × HasFailed latency
@@ -54,4 +55,5 @@ IsFaultOf scenario latency (fault.TooLong text.Scenario) = WasCutOff scenario ×
 IsFaultOf scenario latency (fault.TooLong text.Latency) = WasRead scenario × WasCutOff latency
 IsFaultOf scenario latency (fault.Scenario e) =
     (e ≢ reason.Memory) × WasRead scenario × WasRead latency × Lacks (text_of scenario) (text_of latency) e
-IsFaultOf scenario latency (fault.Run error) = IsSound scenario × IsSound latency
+IsFaultOf scenario latency (fault.Run error) =
+    ((error ≡ run.Memory) × IsSound scenario × IsSound latency) ⊎ (WasRead scenario × WasRead latency)

@@ -27,11 +27,19 @@ pub fn carry_out<T: FileSystem + AllocGlobal + Threads + Wait + Sync, C: Print +
 ) -> ExitCode
     ensures { (exit_status result ≡ 0) ⊎ (exit_status result ≡ 1) ⊎ (exit_status result ≡ 2) ⊎ (exit_status result ≡ 3) }
 {
+    let _held = hold_standard_streams(rt);
     if let Some(text) = overwritten_by_trace(rt, order) {
         return refuse_trace(console, order.files(), text);
     }
     let outcome = perform(rt, console, order);
     conclude(console, order.files(), outcome)
+}
+
+/// Takes the descriptors of the standard streams that are closed. Without this, a file that is opened later gets one of
+/// them, and what is meant for the stream is written into it. Nothing can be written to the root folder, and it is there
+/// on every system.
+fn hold_standard_streams<T: FileSystem>(rt: &T) -> [io::Result<T::File>; 3] {
+    [fs::open(rt, "/"), fs::open(rt, "/"), fs::open(rt, "/")]
 }
 
 /// The input file that the trace of the order would overwrite.

@@ -122,7 +122,7 @@ returns-in_err-or_write_fault-clause-faults g c =
     let scenario = reading g.R.Read.remaining c.args.scenario.now c.play.new.scenario in
     let latency = reading g.Q.Read.remaining c.args.latency.now c.play.new.latency in
     passed_on c.from_residual-in_err-or_write_fault.result _ (IsFaultOf scenario latency) c.from_residual-in_err-or_write_fault.ensures.1
-    (subst (IsFaultOf scenario latency) (sym write) (read.0.0, read.1.0))
+    (subst (IsFaultOf scenario latency) (sym write) (inr read))
 
 pub returns-in_err-or_write_fault-clause-untouched : goal.returns-in_err-or_write_fault-clause-untouched
 returns-in_err-or_write_fault-clause-untouched g c =
@@ -137,7 +137,7 @@ returns-in_err-write-clause-over g c =
 pub returns-in_err-write-clause-faults : goal.returns-in_err-write-clause-faults
 returns-in_err-write-clause-faults g c =
     let read = c.in_ok-report.ensures.read in
-    passed_on c.from_residual-in_err-write.result _ _ c.from_residual-in_err-write.ensures.1 (read.0.0, read.1.0)
+    passed_on c.from_residual-in_err-write.result _ _ c.from_residual-in_err-write.ensures.1 (inr read)
 
 pub returns-in_err-write-clause-report_beginning : goal.returns-in_err-write-clause-report_beginning
 returns-in_err-write-clause-report_beginning g c = inr (report_begun _ _ _ _ _ _ _ c.in_ok-report.ensures.played c.write.ensures.front)
