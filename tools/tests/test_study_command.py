@@ -13,7 +13,7 @@ class CommandTest(TestCase):
 
     def test_help(self) -> None:
         """The help of a command has examples of it in one block, and none of another one alone."""
-        assert set(COMMANDS) == {"run", "merge", "plot", "report", "compare"}
+        assert set(COMMANDS) == {"run", "search", "merge", "plot", "report", "compare"}
         for command in COMMANDS:
             status, out, _ = ended(main, command, "--help")
             assert status == 0 and out.count("examples:\n") == 1 and out.count("status: 0 all was done") == 1

@@ -11,6 +11,7 @@ from chordsim_tools.study.parts import merge, share_of
 from chordsim_tools.study.plan import read_study
 from chordsim_tools.study.plot import Wish, write_plots
 from chordsim_tools.study.runs import Share, run_study
+from chordsim_tools.study.search_runs import run_search
 from chordsim_tools.study.so_far import write_report
 
 PROG = "tools/study"
@@ -50,6 +51,9 @@ EXAMPLES = {
   tools/study run lists.toml                      all runs, into the folder lists
   nice tools/study run lists.toml --jobs 2 -o out two at a time, into the folder out
   tools/study run lists.toml --part 2/5 -o part2  the second of five shares; docs/clusters.md says more
+""",
+    "search": """\
+  tools/study search periods.toml --jobs 4        rounds of runs, into the folder periods
 """,
     "merge": """\
   tools/study merge part1 part2 .. -o out         puts shares together
@@ -115,6 +119,23 @@ run is likely to need. The latter names the setting and the number before anythi
 --part K/N does every Nth run from the Kth on, and writes no tables: do so on N machines, and put the folders together
 by `tools/study merge`. --dask gives the runs to the workers of a Dask cluster, which have to have the same program.
 Tables are the same bytes in all these ways."""
+SEARCH_HELP = """\
+Looks for the setting that reaches [goal] at the least cost, by one or two keys that [search] of the study file gives a
+range:
+
+  [search]
+  stabilize_us = "250ms..8s"     times with units are divided by equal ratios
+  list = "2..16"                 counts by equal steps
+  most_rounds = 10               may be left out
+
+The first round tries both ends and the middle of each range, in every combination. Each later round tries the settings
+beside the best one so far, one step up and one down by each key. If all of these were tried, the step is halved. The
+best one is that of the page: the least cost of those that are shown to reach the goal, else the nearest to it. The
+search ends if the step is small (a tenth of a time, or 1), or after most_rounds. All settings have the same seeds. The
+intervals hold for all settings that were tried together, so that more rounds need more seeds.
+
+Each round is printed. Its runs are kept as by `tools/study run`, and the tables and the page FOLDER/report.md are
+written after it. The same command goes on after an interruption."""
 MERGE_HELP = """\
 Puts the results of folders into one, and writes the tables there: the same bytes as by one `tools/study run`. The
 digests of the study file, of the files that it names and of the program have to agree, and no run may be missing. The
@@ -164,6 +185,7 @@ of them lost are compared by the exact test of McNemar."""
 
 COMMANDS = {
     "run": ("run all settings and seeds", RUN_HELP),
+    "search": ("run settings around the best one", SEARCH_HELP),
     "merge": ("put shares together", MERGE_HELP),
     "plot": ("draw plots of a study that was run", PLOT_HELP),
     "report": ("write a page", REPORT_HELP),
@@ -180,7 +202,9 @@ def parsed(arguments: list[str]) -> Namespace:
         name: of_all.add_parser(name, help=short, description=long, epilog=epilog_of(name))
         for name, (short, long) in COMMANDS.items()
     }
-    add_run(commands["run"])
+    for name in ("run", "search"):
+        add_runs(commands[name])
+    add_parts(commands["run"])
     both = commands["merge"]
     both.add_argument("folders", metavar="FOLDER", nargs="+", type=Path, help="a folder of runs")
     both.add_argument("-o", dest="out", metavar="OUT", type=Path, required=True, help="the folder for all")
@@ -201,12 +225,16 @@ def epilog_of(*names: str) -> str:
     return "examples:\n" + "".join(EXAMPLES[name] for name in names) + "\n" + STATUS
 
 
-def add_run(parser: ArgumentParser) -> None:
-    """The arguments of `tools/study run`."""
+def add_runs(parser: ArgumentParser) -> None:
+    """The arguments of `tools/study run` and `tools/study search`."""
     parser.add_argument("study", metavar="STUDY", type=Path, help="the study file (TOML)")
     parser.add_argument("--jobs", metavar="N", type=positive, help="N runs side by side (default: all processors)")
     where = "the folder (default: STUDY without .toml)"
     parser.add_argument("-o", dest="folder", metavar="FOLDER", type=Path, help=where)
+
+
+def add_parts(parser: ArgumentParser) -> None:
+    """The arguments of `tools/study run` alone."""
     part = "the Kth of N shares of the runs, without tables"
     parser.add_argument("--part", metavar="K/N", type=share_of, default=(1, 1), help=part)
     parser.add_argument("--dask", metavar="ADDRESS", help="the scheduler of a Dask cluster, as tcp://host:8786")
@@ -245,14 +273,20 @@ def folder_of(study: Path) -> Path:
     return study.with_suffix("") if study.suffix == ".toml" else study.with_name(study.name + ".out")
 
 
+def jobs_of(args: Namespace) -> int:
+    """How many runs are done side by side."""
+    return args.jobs or len(os.sched_getaffinity(0))
+
+
 def work(args: Namespace) -> None:
     """Does what the arguments ask for."""
     match args.command:
         case "run":
             folder = args.folder or folder_of(args.study)
-            jobs = args.jobs or len(os.sched_getaffinity(0))
-            run_study(read_study(args.study), folder, jobs, args.part, args.dask)
+            run_study(read_study(args.study), folder, jobs_of(args), args.part, args.dask)
             write_out(run_told(folder, args.part))
+        case "search":
+            run_search(read_study(args.study), args.folder or folder_of(args.study), jobs_of(args))
         case "merge":
             merge(args.folders, args.out, args.study)
             write_out(run_told(args.out))

@@ -12,10 +12,15 @@ from chordsim_tools.study.so_far import whole_tables
 from chordsim_tools.study.tables import csv_text
 
 
+def parts_of(label: str) -> list[str]:
+    """The keys of a label with their values, in one order, so that a label may have them in any."""
+    return sorted(label.replace(" ", "").split(","))
+
+
 def named(found: list[Summary], name: str) -> Summary:
     """The setting of a label or of a number, from 1."""
     for place, one in enumerate(found, start=1):
-        if name in (one.label, str(place)) or name.replace(" ", "") == one.label.replace(" ", ""):
+        if name == str(place) or parts_of(name) == parts_of(one.label):
             return one
     labels = "; ".join(f"{place}: {one.label}" for place, one in enumerate(found, start=1))
     raise Refused(f"no setting {name!r}; there are {labels}")

@@ -95,19 +95,6 @@ def seeds_of(path: Path, value: Any, is_precise: bool = False) -> list[int]:
     return list(value)
 
 
-def vary_of(path: Path, table: Any, is_generated: bool) -> dict[str, list[Value]]:
-    """The table [vary]; `churn.life_min_us` may stand in quotes or not."""
-    if not isinstance(table, dict):
-        raise Refused(f"{path}: vary has to be a table")
-    flat: dict[str, Any] = {}
-    for key, value in table.items():
-        inner = {f"{key}.{name}": item for name, item in value.items()} if isinstance(value, dict) else {key: value}
-        flat.update(inner)
-    for key, values in flat.items():
-        flat[key] = values_of(path, key, values, is_generated)
-    return flat
-
-
 def varied_options() -> set[str]:
     """The options of tools/generate that can be varied, as [vary] names them."""
     return {f"{OF_GENERATE}--{name}" for name, *_ in OPTIONS} - {f"{OF_GENERATE}--seed"}
@@ -126,20 +113,6 @@ def unknown_told(key: str, is_generated: bool) -> str:
         return f"{key}: tools/generate has no {key.removeprefix(OF_GENERATE)}{hint}"
     meant = head + key if is_generated and head + key in varied_options() else close_to(key, sorted(varied_keys()))
     return f"{key} is no key of a scenario that can be varied" + ("" if meant is None else f": did you mean `{meant}`?")
-
-
-def values_of(path: Path, key: str, values: Any, is_generated: bool) -> list[Value]:
-    """The values of a varied key."""
-    options = varied_options()
-    if key not in varied_keys() and not (is_generated and key in options):
-        raise Refused(f"{path}: [vary] {unknown_told(key, is_generated)}")
-    if key in BOOLEANS:
-        return booleans_of(path, key, values)
-    found = [micros_of(key, value) for value in values] if isinstance(values, list) else []
-    well = found and all(is_integer(value) or (key in options and isinstance(value, str)) for value in found)
-    if not well or len(set(found)) < len(found):
-        raise Refused(f"{path}: [vary] {key} has to be a list of different integers (times may have units, as \"1s\")")
-    return found
 
 
 def booleans_of(path: Path, key: str, values: Any) -> list[Value]:

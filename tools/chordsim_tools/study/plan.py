@@ -12,10 +12,12 @@ from chordsim_tools.quantities import time_text
 from chordsim_tools.scenario.tables import PROFILES
 from chordsim_tools.study.goal import Goal, Precision, goal_of, precision_of
 from chordsim_tools.study.keys import (
-    OF_GENERATE, Value, arguments_of, is_integer, number_of, parsed, seeds_of, text_of, vary_of, world_of,
+    OF_GENERATE, Value, arguments_of, is_integer, number_of, parsed, seeds_of, text_of, world_of,
 )
+from chordsim_tools.study.search import Search, search_of
 from chordsim_tools.study.sizes import Sizes, sizes_of
 from chordsim_tools.study.spans import Spans, check_spans, limits_of, spans_of, whole_goal
+from chordsim_tools.study.vary import Group, flat_of, vary_of
 
 Setting = tuple[tuple[str, Value], ...]
 """The varied keys and their values, in the order of the study file. Times are in microseconds."""
@@ -25,7 +27,7 @@ PROFILE_KEYS = ("profile", f"{OF_GENERATE}--profile")
 GREATEST_STEPS = 100_000
 KEYS = {
     "question", "base", "generate", "latency", "seeds", "window_us", "warmup_us", "cooldown_us", "vary", "precision",
-    "goal", "sizes", "span", "world", "note",
+    "goal", "sizes", "span", "world", "note", "search",
 }
 
 
@@ -46,20 +48,32 @@ class Study:
     window_us: int
     warmup_us: int
     cooldown_us: int
-    vary: dict[str, list[Value]]
+    groups: list[Group]
     precision: Precision | None
     goal: Goal | None
     sizes: Sizes
     spans: Spans
     world: list[str] | None
     note: str | None
+    search: Search | None = None
+    tried: list[Setting] | None = None
+    """The settings that a search has come to, in place of all combinations."""
     base_content: bytes = b""
     latency_content: bytes | None = None
     scenario: dict[str, Any] = field(default_factory=dict)
 
+    @property
+    def vary(self) -> dict[str, list[Value]]:
+        """The varied keys and their different values, in the order of the study file."""
+        return flat_of(self.groups)
+
     def settings(self) -> list[Setting]:
-        """All combinations, the last key first to change."""
-        return [tuple(zip(self.vary, values, strict=True)) for values in itertools.product(*self.vary.values())]
+        """All combinations, the last key first to change. Values that belong together change together."""
+        if self.tried is not None:
+            return self.tried
+        keys = [key for group, _ in self.groups for key in group]
+        lines = itertools.product(*(values for _, values in self.groups))
+        return [tuple(zip(keys, itertools.chain(*line), strict=True)) for line in lines]
 
     def beside(self, name: str) -> Path:
         """A file that is named relative to the study file."""
@@ -101,7 +115,7 @@ def read_study(path: Path) -> Study:
         window_us=0,
         warmup_us=number_of(path, top, "warmup_us", 0, 0),
         cooldown_us=number_of(path, top, "cooldown_us", 0, 0),
-        vary=vary_of(path, top.get("vary", {}), "generate" in top),
+        groups=vary_of(path, top.get("vary", {}), "generate" in top),
         precision=precision_of(path, top.get("precision")),
         goal=goal_of(path, top.get("goal"), "sizes" in top),
         sizes=sizes_of(path, top.get("sizes", {})),
@@ -110,6 +124,9 @@ def read_study(path: Path) -> Study:
         note=text_of(path, top, "note") if "note" in top else None,
     )
     study.goal = whole_goal(study.goal, limits_of(path, top.get("span", {})))
+    study.search = search_of(path, top)
+    if study.search is not None:
+        study.groups = Search(study.search.axes, 1).begun()
     study.world = world_of(path, top.get("world"), study.vary)
     if study.precision is not None:
         study.seeds = list(range(1, study.precision.least_seeds + 1))

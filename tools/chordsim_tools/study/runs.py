@@ -105,6 +105,8 @@ def write_if_other(path: Path, content: bytes) -> None:
 
 def run_study(study: Study, folder: Path, jobs: int, share: Share = (1, 1), dask: str | None = None) -> None:
     """Does the runs of a share that are not done yet, and writes the tables if the share is the whole study."""
+    if study.search is not None:
+        raise Refused(f"{study.path} has [search]: `tools/study search` does this study")
     program = find_program(build=True)
     if program is None:
         raise Failure(3, "the program is missing")

@@ -1,0 +1,101 @@
+"""`tools/study search`: rounds of runs around the best setting so far, with the same seeds in all."""
+
+import csv
+import io
+from pathlib import Path
+
+from chordsim_tools.cli import Failure, Refused, write_out
+from chordsim_tools.files import make_folder, read_input, sum_of
+from chordsim_tools.explain.traps import warn
+from chordsim_tools.known import known
+from chordsim_tools.program import find_program
+from chordsim_tools.study.answer import cost_told, least_of, nearest_of
+from chordsim_tools.study.bounds import misses, missing_level, reaches
+from chordsim_tools.study.curves import write_results
+from chordsim_tools.study.goal import Goal
+from chordsim_tools.study.interval import LEAST_SEEDS
+from chordsim_tools.study.names import in_words
+from chordsim_tools.study.numbers import Summary, summaries
+from chordsim_tools.study.plan import Setting, Study, label
+from chordsim_tools.study.record import write_record
+from chordsim_tools.study.runs import READING, do_left, runs_of, whole_result
+from chordsim_tools.study.so_far import write_report
+from chordsim_tools.study.tables import Row, Tables, runs_text
+from chordsim_tools.study.worlds import argument_traps
+
+
+def run_search(study: Study, folder: Path, jobs: int) -> None:
+    """Does all rounds, keeps their runs as `run` does, and writes the tables and the page after each round."""
+    search, goal = study.search, study.goal
+    if search is None or goal is None:
+        raise Refused(f"{study.path}: no [search]: `tools/study run` does this study")
+    if len(study.seeds) < LEAST_SEEDS:
+        raise Refused(f"{study.path}: [search] needs {LEAST_SEEDS} seeds or more, and seeds has {len(study.seeds)}")
+    program = find_program(build=True)
+    if program is None:
+        raise Failure(3, "the program is missing")
+    make_folder(folder / "done")
+    warn(argument_traps(study))
+    new, count, told = search.first(), 0, set[str]()
+    while new and count < search.most_rounds:
+        count += 1
+        study.tried, study.groups = search.sorted(), search.groups()
+        best = one_round(study, folder, program, jobs, told)
+        write_out(round_told(count, new, best, goal))
+        write_report(folder)
+        new = search.next(best.setting())
+    why = f"after {count} rounds, which is most_rounds" if new else f"after {count} rounds: the step is small"
+    write_out(f"done {why}; page: {folder / 'report.md'}\n")
+
+
+class Best:
+    """What the runs so far show: the best setting, and of each whether it reaches the goal."""
+
+    def __init__(self, study: Study, rows: list[Row], goal: Goal) -> None:
+        """Of all runs so far."""
+        table = list(csv.DictReader(io.StringIO(runs_text(rows, study.sizes))))
+        manifest = {"vary": study.vary, "spans": study.spans, "sizes": study.sizes}
+        self.settings = study.settings()
+        self.found = summaries(Tables(manifest, table, []))
+        self.goal = goal
+        # As many settings as may come share the risk from the start, so that a setting that reaches the goal stays so.
+        self.level = 1 - 0.05 / known(study.search).most_settings()
+        self.reaching = [one for one in self.found if reaches(one, goal, self.level)]
+
+    def summary(self) -> Summary:
+        """The setting that reaches the goal at the least cost, else the nearest to it."""
+        if self.reaching:
+            return least_of(self.reaching, self.goal)
+        return nearest_of(self.found, self.goal, self.level)
+
+    def setting(self) -> Setting:
+        """The same as the search has it."""
+        return self.settings[self.found.index(self.summary())]
+
+    def told(self, one: Summary) -> str:
+        """What is shown of a setting, and its cost."""
+        if one in self.reaching:
+            shown = "reaches the goal"
+        else:
+            is_missed = misses(one, self.goal, missing_level(self.found, self.goal))
+            shown = "misses the goal" if is_missed else "is not decided"
+        return f"{one.label} {shown}, {in_words(self.goal.least)} {cost_told(one, self.goal)}"
+
+
+def one_round(study: Study, folder: Path, program: Path, jobs: int, told: set[str]) -> Best:
+    """Does the runs of the settings that were not tried before, and looks at all."""
+    program_sum = sum_of(read_input(program))
+    runs = runs_of(study, folder / "done", program_sum)
+    write_record(study, folder, program, program_sum, READING)
+    do_left(runs, program, program_sum, jobs, None, told)
+    rows = [(run.setting, run.seed, whole_result(run)) for run in runs]
+    write_results(study, folder, program, program_sum, rows)
+    return Best(study, rows, known(study.goal))
+
+
+def round_told(number: int, new: list[Setting], best: Best, goal: Goal) -> str:
+    """The lines of a round: each new setting, and the best so far."""
+    by_label = {one.label: one for one in best.found}
+    lines = [f"round {number}: {best.told(by_label[label(setting)])}\n" for setting in new]
+    wanted = "the least " + in_words(goal.least) if best.reaching else "the nearest to the goal"
+    return "".join(lines) + f"round {number}: best so far {best.summary().label} ({wanted} of {len(best.found)} settings)\n"
