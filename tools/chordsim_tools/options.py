@@ -27,10 +27,18 @@ def value(read: Callable[[str], T | None], wanted: str) -> Callable[[str], Given
         """The value with its text."""
         result = read(text)
         if result is None:
-            raise ArgumentTypeError(f"{wanted}, not {text!r}")
+            raise ArgumentTypeError(f"{wanted}, not {text!r}{reversed_told(text)}")
         return Given(text, result)
 
     return convert
+
+
+def reversed_told(text: str) -> str:
+    """That the first time of a span is above the second, if it is."""
+    ends = [time_of(end) for end in text.rpartition(":")[2].split("..")]
+    if len(ends) != 2 or ends[0] is None or ends[1] is None or ends[0] <= ends[1]:
+        return ""
+    return ", whose first time is above its second"
 
 
 def whole(least: int, greatest: int) -> Callable[[str], Given[int]]:
@@ -95,6 +103,10 @@ class Options:
         """An option, if it was given."""
         found: Given[T] | None = getattr(self.args, name.replace("-", "_"))
         return found
+
+    def all(self, name: str) -> list[Given[T]]:
+        """An option that may be given several times, each time that it was."""
+        return getattr(self.args, name.replace("-", "_")) or []
 
     def has(self, name: str) -> bool:
         """Whether an option was given."""

@@ -10,11 +10,12 @@ from chordsim_tools.cli import Refused
 from chordsim_tools.draws import TWENTY_DIGITS, WORD, Draws
 from chordsim_tools.files import read_input
 from chordsim_tools.quantities import span_of, time_of, whole_of
+from chordsim_tools.regions import placed, read_regions
 from chordsim_tools.scenario.coordinates import Coordinates
 from chordsim_tools.scenario.tables import COORDINATES, GREATEST_SIZE
 
 GREATEST_SIDE, _, GREATEST_HEIGHT = (key.greatest for key in COORDINATES)
-LAWS = "square:SIDE:MIN..MAX (SIDE 0us to 500s, MIN and MAX 1us to 100s), king, or file:NAME"
+LAWS = "square:SIDE:MIN..MAX (SIDE 0us to 500s, MIN and MAX 1us to 100s), king, file:NAME or regions:NAME"
 STREAM = 7
 """Which stream of a seed the coordinates are drawn from. The earlier ones are those of the commands of a scenario."""
 
@@ -88,7 +89,14 @@ class PlacesFile:
     name: str
 
 
-Law = Square | King | PlacesFile
+@dataclass(frozen=True)
+class RegionsFile:
+    """Coordinates that come nearest to the latencies between the regions of a file."""
+
+    name: str
+
+
+Law = Square | King | PlacesFile | RegionsFile
 
 
 def law_of_places(text: str) -> Law | None:
@@ -101,6 +109,8 @@ def law_of_places(text: str) -> Law | None:
             return None if rest else King()
         case "file":
             return PlacesFile(rest) if rest else None
+        case "regions":
+            return RegionsFile(rest) if rest else None
     return None
 
 
@@ -116,6 +126,10 @@ def places_of(law: Law, seed: int, names: list[str]) -> tuple[Coordinates, ...]:
     """The coordinates of all nodes. Each node has a stream of its own: more nodes leave those of the others."""
     if isinstance(law, PlacesFile):
         return places_in(law.name, names)
+    if isinstance(law, RegionsFile):
+        regions = read_regions(law.name)
+        places = placed(regions).places
+        return tuple(places[region] for region in regions.of_nodes(names))
     return tuple(law.draw(draws) for draws in Draws(seed).split(STREAM)[-1].split(len(names)))
 
 

@@ -3,9 +3,9 @@
 import re
 from decimal import Decimal
 
-UNITS = {"us": 1, "ms": 1000, "s": 1_000_000, "m": 60_000_000}
+UNITS = {"us": 1, "ms": 1000, "s": 1_000_000, "m": 60_000_000, "h": 3_600_000_000, "d": 86_400_000_000}
 """The units of times, in microseconds."""
-UNIT_NAMES = "us, ms, s or m"
+UNIT_NAMES = "us, ms, s, m, h or d"
 BILLION = 1_000_000_000
 
 
@@ -25,8 +25,8 @@ def decimal_of(text: str) -> Decimal | None:
 
 
 def time_of(text: str) -> int | None:
-    """A time in microseconds: 250us, 20ms, 1.5s, 10m or plain microseconds; nothing if that is no whole number."""
-    match = re.fullmatch(r"([0-9]{1,15})(?:\.([0-9]{1,9}))?(us|ms|s|m)?", text)
+    """A time in microseconds: 250us, 20ms, 1.5s, 10m, 2h, 1d or plain ones; nothing if that is no whole number."""
+    match = re.fullmatch(r"([0-9]{1,15})(?:\.([0-9]{1,9}))?(us|ms|s|m|h|d)?", text)
     if match is None:
         return None
     whole, part, unit = match.groups(default="")
@@ -44,7 +44,7 @@ def span_of(text: str) -> tuple[int, int] | None:
 
 
 def time_text(micros: int) -> str:
-    """A time in the greatest unit but minutes that makes it a whole number."""
+    """A time in the greatest unit up to seconds that makes it a whole number."""
     for unit in ("s", "ms"):
         if micros != 0 and micros % UNITS[unit] == 0:
             return f"{micros // UNITS[unit]}{unit}"

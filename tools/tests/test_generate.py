@@ -19,13 +19,16 @@ from tests.support.programs import checked, ended, program
 TOOL = Path(__file__).resolve().parents[1] / "generate"
 REFUSED = [
     ("--nodes 1", "--nodes: 2 to 512"),
-    ("--nodes -5", "--nodes: 2 to 512 (at most 512 in profile 1, and 2^32, by --bits), not '-5'"),
-    ("--nodes 99999999999999999999", "--nodes: 2 to 512 (at most 512 in profile 1, and 2^32, by --bits), not '999999"),
+    ("--nodes -5", "--nodes: 2 to 512 (at most 512 in profile 1, and 2^32, by --bits); 4096 in profile 2 and "
+     "65536 in profile 4, not '-5'"),
+    ("--nodes 99999999999999999999", "65536 in profile 4, not '999999"),
+    ("--profile 2 --nodes 5000", "by --bits); 65536 in profile 4, not '5000'"),
+    ("--profile 4 --nodes 70000", "by --bits), not '70000'"),
     ("--bits -1", "--bits: 3 to 64 (in profile 1), not '-1'"),
     ("--nodes many", "--nodes: a whole number, not 'many'"),
-    ("--duration 5h", "--duration: a time of 1us to 1000000s (us, ms, s or m), not '5h'"),
-    ("--duration -5s", "--duration: a time of 1us to 1000000s (us, ms, s or m), not '-5s'"),
-    ("--window 1h", "--window: a time (us, ms, s or m), not '1h'"),
+    ("--duration 5w", "--duration: a time of 1us to 1000000s (us, ms, s, m, h or d), not '5w'"),
+    ("--duration -5s", "--duration: a time of 1us to 1000000s (us, ms, s, m, h or d), not '-5s'"),
+    ("--window 1w", "--window: a time (us, ms, s, m, h or d), not '1w'"),
     ("--lookup-gap -1s..2s", "--lookup-gap: none or MIN..MAX, each 1us to 1000s, not '-1s..2s'"),
     ("--nodes 513 --bits 64", "--nodes: 2 to 512"),
     ("--bits 3 --nodes 9", "--nodes: 2 to 8"),
@@ -46,7 +49,8 @@ REFUSED = [
     ("--profile 3", "--profile: 1, 2 or 4, not '3'"),
     ("--profile 2 --bits 129", "--bits: 3 to 128"),
     ("--profile 2 --nodes 4097", "--nodes: 2 to 4096"),
-    ("--profile 2 --loss 1000001", "--loss: 0 to 1000000"),
+    ("--profile 2 --loss 1000001", "--loss: messages lost per million, 0 to 1000000 (5000 is 0.5 %)"),
+    ("--profile 2 --loss 0.005", "--loss: messages lost per million, 0 to 1000000 (5000 is 0.5 %), not '0.005'"),
     ("--profile 2 --spread 1001s", "--spread: a time of 0us to 1000s"),
     ("--loss 0", "--loss: only with --profile 2 or 4"),
     ("--profile 1 --spread 1ms", "--spread: only with --profile 2 or 4"),
@@ -66,10 +70,11 @@ REFUSED = [
     ("--profile 4 --coordinates square:1s:0us..1us", "--coordinates: square:SIDE:MIN..MAX"),
     ("--profile 4 --coordinates square:1s:1us..101s", "--coordinates: square:SIDE:MIN..MAX"),
     ("--profile 4 --coordinates circle:1s:1us..1us", "--coordinates: square:SIDE:MIN..MAX"),
-    ("--profile 4 --coordinates king:1s", "king, or file:NAME, not 'king:1s'"),
+    ("--profile 4 --coordinates king:1s", "king, file:NAME or regions:NAME, not 'king:1s'"),
     ("--profile 4 --coordinates file:", "--coordinates: square:SIDE:MIN..MAX"),
     ("--profile 4 --coordinates square:1s:5ms..5ms --window 10001us", "--window: a time of 1us to 10ms (the sum of"),
     ("--lookup-gap 2s..1s", "--lookup-gap: none or MIN..MAX"),
+    ("--churn-uniform 2m..1m 5s..15s", "each 1us to 1000s, not '2m..1m', whose first time is above its second"),
     ("--lookup-gap 0..1s", "--lookup-gap: none or MIN..MAX"),
     ("--churn-uniform 1s..2s 0..1s", "--churn-uniform: two spans"),
     ("--churn-uniform 1s..2s 1s", "--churn-uniform: two spans"),
@@ -265,10 +270,10 @@ class GenerateTest(TestCase):
 
     def test_names_of_one_identifier(self) -> None:
         """Eight nodes fill a circle of eight places; the first of one identifier keeps that of its name."""
-        ring = made("--nodes 8 --bits 3")
+        ring = made("--nodes 8 --bits 3 --ids names")
         assert sorted(node.ident for node in ring.nodes) == list(range(8))
         assert ring.nodes[0].ident == Circle(3).identifier_of_name("n0")
-        assert "id = " not in text_of("--nodes 512 --bits 64")
+        assert "id = " not in text_of("--nodes 512 --bits 64 --ids names")
 
     def test_drawn_churn(self) -> None:
         """A node's lives and down times lie in their spans; those that stay do nothing."""

@@ -184,17 +184,17 @@ class LatencyTest(TestCase):
     def test_refused_words(self) -> None:
         """One line that names the option and its range; status 2."""
         for words, text in [
-            ("", "give exactly one of MEASURED, --plane, --fit and --king"),
-            ("king --plane 1s", "give exactly one of MEASURED, --plane, --fit and --king"),
-            ("--king --plane 1s", "give exactly one of MEASURED, --plane, --fit and --king"),
-            ("--king --fit rows", "give exactly one of MEASURED, --plane, --fit and --king"),
+            ("", "give exactly one of MEASURED, --plane, --regions, --fit and --king"),
+            ("king --plane 1s", "give exactly one of MEASURED, --plane, --regions, --fit and --king"),
+            ("--king --plane 1s", "give exactly one of MEASURED, --plane, --regions, --fit and --king"),
+            ("--king --fit rows", "give exactly one of MEASURED, --plane, --regions, --fit and --king"),
             ("king --floor 1ms", "--floor: only with --plane, --fit or --king"),
             ("--fit rows --nodes 3", "--nodes: only with a file MEASURED, --plane or --king"),
             ("--king --unit ms", "--unit: only with a file MEASURED"),
             ("--king --nodes 65537", "--nodes: 2 to 65536"),
             ("--king --nodes -5", "--nodes: 2 to 65536, not '-5'"),
             (f"--king --nodes 5 --names {EXAMPLES}/ring.toml", "--nodes: 3, as --names has, not '5'"),
-            ("--plane 1h", "--plane: a time of 1us to 600s (us, ms, s or m), not '1h'"),
+            ("--plane 1h", "--plane: a time of 1us to 600s (us, ms, s, m, h or d), not '1h'"),
             ("--plane 1s --gaps fill", "--gaps: only with a file MEASURED"),
             ("--plane 0", "--plane: a time of 1us to 600s"),
             ("--plane 601s", "--plane: a time of 1us to 600s"),

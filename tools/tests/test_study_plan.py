@@ -175,7 +175,7 @@ class StudyPlanTest(TestCase):
         """A text that is no time: the line says how one is written; of other numbers it does not."""
         for value in ('"20"', '"2min"', '"1 s"', "-1", "true"):
             answer = in_folder(f"{HEAD}{SEEDS}warmup_us = {value}\n")
-            wanted = 'warmup_us has to be an integer, 0 or more, or a time such as "20s" (us, ms, s, m)'
+            wanted = 'warmup_us has to be an integer, 0 or more, or a time such as "20s" (us, ms, s, m, h, d)'
             assert answer == f"study.toml: {wanted}", answer
         assert in_folder(HEAD + SEEDS + 'warmup_us = "20us"\n').times()[1] == 20
 

@@ -11,7 +11,7 @@ SHORT = 1_000
 """The same for times of the network."""
 LIMITS = {
     **dict.fromkeys(("duration", "audit", "stabilize", "finger", "churn-uniform", "lifetime", "down", "arrive"), LONG),
-    **dict.fromkeys(("lookup-gap", "timeout", "join-pause", "check"), LONG),
+    **dict.fromkeys(("lookup-gap", "timeout", "join-pause", "check", "crash", "back"), LONG),
     **dict.fromkeys(("window", "latency", "jitter", "spread", "coordinates"), SHORT),
 }
 """The options of tools/generate that are times, or have times in them."""
@@ -33,6 +33,7 @@ def bare_traps(args: Namespace, limits: Mapping[str, int]) -> list[str]:
 
 def bare_numbers(text: str, limit: int) -> list[str]:
     """The numbers above 0 and below a limit that have no unit, in a time, a span or the times of a law."""
+    text = text.rpartition("@")[2]
     times = text.replace(":", "..") if text.startswith("square:") else text.rpartition(":")[2]
     ends = times.split("..")
     return [end for end in ends if end.isdecimal() and 0 < int(end) < limit]

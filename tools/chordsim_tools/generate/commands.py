@@ -7,8 +7,10 @@ from itertools import takewhile
 from typing import NamedTuple
 
 from chordsim_tools.cli import Failure, Progress
-from chordsim_tools.draws import TWENTY_DIGITS, Distribution, Draws, Keys
+from chordsim_tools.draws import TWENTY_DIGITS, Draws, Keys
 from chordsim_tools.generate.equilibrium import is_up, rest_of
+from chordsim_tools.generate.hosts import Host
+from chordsim_tools.generate.outages import Life
 from chordsim_tools.generate.plan import Plan
 
 GREATEST_COUNT = 100_000
@@ -23,13 +25,6 @@ class Command(NamedTuple):
     do: int
     node: int
     rest: int = 0
-
-
-class Life(NamedTuple):
-    """A time from which on a node is up, and the time at which it is up no longer."""
-
-    begin: int
-    end: int
 
 
 class Streams:
@@ -58,43 +53,54 @@ def lives_of(plan: Plan, streams: Streams) -> list[list[Life]]:
     room = GREATEST_COUNT
     with Progress("nodes whose lives are drawn", plan.nodes) as progress:
         for node in range(plan.nodes):
-            arrives = 0 if node < plan.initial else streams.arrive[node].between(*plan.arrive)
-            if plan.lifetime is not None and plan.stationary and node >= plan.stay:
-                lives.append(lives_in_equilibrium(plan, plan.lifetime, streams.churn[node], room))
-            elif plan.lifetime is not None and node >= plan.stay:
-                lives.append(drawn_lives(plan, plan.lifetime, arrives, streams.churn[node], room))
-            else:
-                lives.append([Life(arrives, plan.top["duration_us"])])
+            lives.append(lives_of_node(plan, node, streams, room))
             room -= len(lives[-1])
             progress.one_more()
     return lives
 
 
-def drawn_lives(plan: Plan, lifetime: Distribution, begin: int, draws: Draws, most: int) -> list[Life]:
+def lives_of_node(plan: Plan, node: int, streams: Streams, most: int) -> list[Life]:
+    """The lives of one node, which are at most so many."""
+    host, duration, draws = plan.hosts[node], plan.top["duration_us"], streams.churn[node]
+    if host.sessions is not None:
+        return [Life(begin, min(end, duration)) for begin, end in host.sessions if begin < duration]
+    if host.arrives is not None:
+        life = duration if host.lifetime is None else host.lifetime.draw(draws)
+        return [Life(host.arrives, min(host.arrives + life, duration))]
+    if plan.stationary and host.lifetime is not None and node >= plan.stay:
+        return lives_in_equilibrium(host, duration, draws, most)
+    begin = 0 if node < plan.initial else streams.arrive[node].between(*plan.arrive)
+    if host.lifetime is not None and node >= plan.stay:
+        return drawn_lives(host, duration, begin, draws, most)
+    return [Life(begin, duration)]
+
+
+def drawn_lives(host: Host, duration: int, begin: int, draws: Draws, most: int) -> list[Life]:
     """The lives of a node that crashes and comes up by commands."""
-    duration = plan.top["duration_us"]
+    assert host.lifetime is not None
     lives: list[Life] = []
     while begin < duration:
         if len(lives) == most:
             raise too_many("--lifetime")
-        end = begin + lifetime.draw(draws)
+        end = begin + host.lifetime.draw(draws)
         lives.append(Life(begin, min(end, duration)))
-        begin = end + plan.down.draw(draws)
+        begin = end + host.down.draw(draws)
     return lives
 
 
-def lives_in_equilibrium(plan: Plan, lifetime: Distribution, draws: Draws, most: int) -> list[Life]:
+def lives_in_equilibrium(host: Host, duration: int, draws: Draws, most: int) -> list[Life]:
     """The same for a node whose life or down time is under way at the start. Only a life that is so begins at 0."""
-    if not is_up(lifetime, plan.down, draws):
-        return drawn_lives(plan, lifetime, rest_of(plan.down, draws), draws, most)
-    end = rest_of(lifetime, draws)
-    first = Life(0, min(end, plan.top["duration_us"]))
-    return [first, *drawn_lives(plan, lifetime, end + plan.down.draw(draws), draws, most)]
+    assert host.lifetime is not None
+    if not is_up(host.lifetime, host.down, draws):
+        return drawn_lives(host, duration, rest_of(host.down, draws), draws, most)
+    end = rest_of(host.lifetime, draws)
+    first = Life(0, min(end, duration))
+    return [first, *drawn_lives(host, duration, end + host.down.draw(draws), draws, most)]
 
 
 def initial_nodes(plan: Plan, lives: list[list[Life]]) -> set[int]:
     """The nodes that are members at the start."""
-    if not plan.stationary:
+    if not plan.stationary and not plan.is_traced:
         return set(range(plan.initial))
     return {node for node, spans in enumerate(lives) if spans and spans[0].begin == 0}
 
@@ -104,8 +110,10 @@ def check_initial(plan: Plan, lives: list[list[Life]]) -> None:
     count = len(initial_nodes(plan, lives))
     if count <= plan.top["list"]:
         least = plan.top["list"] + 1
-        more = "more --nodes, more that --stay, or a shorter --list"
-        raise Failure(2, f"--stationary: {count} nodes are up at the start, and --list needs {least}; {more}")
+        option, more = "--stationary", "more --nodes, more that --stay, or a shorter --list"
+        if plan.is_traced:
+            option, more = "--churn-trace", "a shorter --list needs fewer"
+        raise Failure(2, f"{option}: {count} nodes are up at the start, and --list needs {least}; {more}")
 
 
 def moves_of(plan: Plan, lives: list[list[Life]], draws: Draws) -> list[Command]:

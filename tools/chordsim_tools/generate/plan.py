@@ -5,37 +5,38 @@ from dataclasses import dataclass
 from decimal import Decimal
 
 from chordsim_tools.cli import Parser
-from chordsim_tools.draws import Distribution, Exponential, Zipf, zipf_of
+from chordsim_tools.draws import Distribution, Zipf
 from chordsim_tools.generate.equilibrium import mean_of
+from chordsim_tools.generate.hosts import Host, Span
+from chordsim_tools.generate.lookups import keys_of, lookups_of
+from chordsim_tools.generate.nodes import (
+    check_trace, default_duration, first_hosts, groups_of, has_lives, newcomers, room_of,
+)
+from chordsim_tools.generate.outages import Outage
+from chordsim_tools.generate.top import network_of, top_of
 from chordsim_tools.options import Given, Options
 from chordsim_tools.places import Law, places_of
-from chordsim_tools.quantities import BILLION, decimal_of, span_of, time_text
-from chordsim_tools.scenario.coordinates import Coordinates, least_latency
+from chordsim_tools.quantities import time_text
+from chordsim_tools.scenario.coordinates import Coordinates
 from chordsim_tools.scenario.reading import Churn, Lookups
 from chordsim_tools.scenario.tables import PROFILES
 
-LENGTHS = "MIN..MAX, each 1us to 1000s"
-RATES = "0.000001 to 1000000, with at most nine digits after the point"
 LIVES = "exp:MEAN, pareto:ALPHA:MIN or uniform:MIN..MAX, times 1us to 1000000s, ALPHA 0.1 to 100"
-MOST_KEYS = 100_000
-DEFAULT_DOWN = Exponential(10_000_000)
-Span = tuple[int, int]
 
 
 @dataclass(frozen=True)
 class Plan:
     """A scenario to be made: the keys of its top table, its nodes, and what happens to them.
 
-    The nodes have coordinates, or the list is empty.
+    The nodes below `initial` begin as members, unless the start is drawn or a churn trace says it. The nodes have
+    coordinates, or the list is empty.
     """
 
     top: dict[str, int]
-    nodes: int
+    hosts: tuple[Host, ...]
     initial: int
     stay: int
     churn: Churn | None
-    lifetime: Distribution | None
-    down: Distribution
     via: str
     arrive: Span
     lookups: Lookups | None
@@ -43,37 +44,69 @@ class Plan:
     keys: Zipf | None
     stationary: bool = False
     places: tuple[Coordinates, ...] = ()
+    outages: tuple[Outage, ...] = ()
+    back: Span | None = None
+    are_names: bool = False
+
+    @property
+    def nodes(self) -> int:
+        """How many nodes there are."""
+        return len(self.hosts)
+
+    @property
+    def is_traced(self) -> bool:
+        """Whether the nodes are the hosts of a churn trace."""
+        return self.hosts[0].sessions is not None
 
 
 def check(args: Namespace, parser: Parser) -> Plan:
     """The plan of the arguments. If two of them do not fit together the parser ends with the first such option."""
     options = Options(args, parser)
     profile = options.get("profile", 1)
-    most_nodes = PROFILES[profile].greatest("node")
     bits = options.whole("bits", 32, 3, PROFILES[profile].greatest("bits"), f" (in profile {profile})")
-    room = min(most_nodes, 2**bits)
-    why = f" (at most {most_nodes} in profile {profile}, and 2^{bits}, by --bits)"
-    nodes = options.whole("nodes", min(64, room), 2, room, why)
-    initial = options.whole("initial", nodes, 2, nodes, " (at most --nodes)")
-    places = coordinates_of(options, profile, nodes)
-    top = top_of(options, profile, bits, initial, places) | network_of(options, profile)
-    check_companions(options, initial < nodes)
+    check_trace(options)
+    first = first_hosts(options, profile, bits)
+    up_first = sum(host.sessions is None or host.sessions[0][0] == 0 for host in first)
+    initial = options.whole("initial", up_first, 2, len(first), " (at most --nodes)")
+    duration = options.get("duration", default_duration(first))
+    hosts = (*first, *newcomers(options, len(first), room_of(profile, bits), duration))
+    places = coordinates_of(options, profile, hosts)
+    top = top_of(options, (profile, bits, initial, duration), places) | network_of(options, profile)
+    check_companions(options, initial < len(first))
     return Plan(
         top=top,
-        nodes=nodes,
+        hosts=hosts,
         initial=initial,
-        stay=stay_of(options, nodes),
+        stay=stay_of(options, len(first)),
         churn=churn_of(args.churn_uniform),
-        lifetime=options.get("lifetime", None),
-        down=options.get("down", DEFAULT_DOWN),
         via=options.get("via", "random"),
-        arrive=arrive_of(options, top["duration_us"]),
+        arrive=arrive_of(options, duration),
         lookups=lookups_of(options),
         rate=options.get("lookups", None),
         keys=keys_of(options, bits),
         stationary=is_stationary(options),
         places=places,
+        outages=outages_of(options, hosts, duration),
+        back=options.get("back", None),
+        are_names=options.get("ids", "random") == "names",
     )
+
+
+def outages_of(options: Options, hosts: tuple[Host, ...], duration: int) -> tuple[Outage, ...]:
+    """The outages, each within the run and of a group that there is."""
+    given: list[Given[Outage]] = options.all("crash")
+    options.only_with("back", bool(given), "--crash")
+    if given and options.has("churn-uniform"):
+        options.refuse("crash", "not with --churn-uniform, whose lives the program draws: give --lifetime and --down")
+    names = {host.group for host in hosts}
+    for outage in given:
+        if not 0 < outage.value.at_us < duration:
+            wanted = f"a time of 1us to {time_text(duration - 1)} (below --duration)"
+            options.refuse("crash", f"{wanted}, not {outage.text!r}")
+        if outage.value.group is not None and outage.value.group not in names:
+            there = ", ".join(sorted(names - {""})) or "none: name some by --group"
+            options.refuse("crash", f"no group {outage.value.group!r}; the groups are {there}")
+    return tuple(outage.value for outage in given)
 
 
 def is_stationary(options: Options) -> bool:
@@ -83,91 +116,38 @@ def is_stationary(options: Options) -> bool:
     for name in ("initial", "arrive"):
         if options.has(name):
             options.refuse(name, "not with --stationary, which draws who is up at the start")
-    for name in ("lifetime", "down"):
-        law: Distribution = options.get(name, DEFAULT_DOWN)
-        if mean_of(law) is None:
+    laws: list[tuple[str, Distribution | None]] = [(name, options.get(name, None)) for name in ("lifetime", "down")]
+    laws += [("group", law) for group in groups_of(options) for law in (group.lifetime, group.down)]
+    for name, law in laws:
+        if law is not None and mean_of(law) is None:
             options.refuse(name, "with --stationary ALPHA is above 1: a law without a mean has no equilibrium")
     return True
 
 
-def coordinates_of(options: Options, profile: int, nodes: int) -> tuple[Coordinates, ...]:
+def coordinates_of(options: Options, profile: int, hosts: tuple[Host, ...]) -> tuple[Coordinates, ...]:
     """The coordinates of the nodes, if they have any."""
     options.only_with("coordinates", profile == 4, "--profile 4")
     law: Law | None = options.get("coordinates", None)
-    return () if law is None else places_of(law, options.get("seed", 1), [name_of(node) for node in range(nodes)])
+    return () if law is None else places_of(law, options.get("seed", 1), [host.name for host in hosts])
 
 
-def name_of(node: int) -> str:
-    """The name of a node."""
-    return f"n{node}"
-
-
-def window_of(options: Options, latency: int, places: tuple[Coordinates, ...]) -> int:
-    """The window: by default as long as may be."""
-    if places:
-        least = least_latency(places)
-        return options.time("window", least, 1, least, " (the sum of the two least heights)")
-    return options.time("window", latency, 1, latency, " (at most --latency)")
-
-
-def top_of(
-    options: Options, profile: int, bits: int, initial: int, places: tuple[Coordinates, ...]
-) -> dict[str, int]:
-    """The keys of the top table, in the order of docs/formats.md. A default follows what it depends on."""
-    why = " (at most 16, and below --initial)"
-    duration = options.get("duration", 120_000_000)
-    latency = options.get("latency", 20_000)
-    audit = min(BILLION, max(1, duration // 24))
-    least_audit = -(-duration // 1_000_000)
-    most_events = PROFILES[profile].greatest("max_events")
-    return {
-        "profile": profile,
-        "bits": bits,
-        "list": options.whole("list", min(4, initial - 1), 1, min(16, initial - 1), why),
-        "seed": options.get("seed", 1),
-        "duration_us": duration,
-        "window_us": window_of(options, latency, places),
-        "latency_us": latency,
-        "timeout_us": options.get("timeout", min(BILLION, 10 * latency)),
-        "audit_us": options.time("audit", audit, least_audit, BILLION, " (at most 1000000 audits in --duration)"),
-        "stabilize_us": options.get("stabilize", 500_000),
-        "finger_us": options.get("finger", 250_000),
-        "jitter_us": options.get("jitter", 50_000),
-        "max_events": options.whole("max-events", 50_000_000, 1, most_events, f" (in profile {profile})"),
-    }
-
-
-def network_of(options: Options, profile: int) -> dict[str, int]:
-    """The keys of loss and spread, which profiles 2 and 4 have, and those that profile 4 alone has."""
-    for name in ("loss", "spread"):
-        options.only_with(name, profile >= 2, "--profile 2 or 4")
-    for name in ("retries", "join-pause", "join-forever", "check", "detail"):
-        options.only_with(name, profile == 4, "--profile 4")
-    if profile == 1:
-        return {}
-    network = {"loss_ppm": options.get("loss", 0), "spread_us": options.get("spread", 0)}
-    if profile == 2:
-        return network
-    later = {"join-pause": "join_pause_us", "join-forever": "join_forever", "check": "check_us", "detail": "detail"}
-    given = {key: options.get(name, 0) for name, key in later.items() if options.has(name)}
-    return network | {"retries": options.get("retries", 0)} | given
-
-
-def check_companions(options: Options, some_arrive: bool) -> None:
+def check_companions(options: Options, some_join: bool) -> None:
     """Refuses options that exclude each other or would change nothing."""
-    if options.has("churn-uniform") and options.has("lifetime"):
-        options.refuse("lifetime", "not with --churn-uniform, which is the other form of churn")
-    options.only_with("down", options.has("lifetime"), "--lifetime")
-    options.only_with("stationary", options.has("lifetime"), "--lifetime, whose times are drawn here")
+    if options.has("churn-uniform") and has_lives(options):
+        name = "lifetime" if options.has("lifetime") else "group"
+        options.refuse(name, "not with --churn-uniform, which is the other form of churn")
+    options.only_with("down", has_lives(options), "--lifetime")
+    options.only_with("stationary", has_lives(options), "--lifetime, whose times are drawn here")
     options.only_with("stay", churns(options), "--churn-uniform or --lifetime")
-    options.only_with("via", options.has("lifetime") or some_arrive, "--lifetime or an --initial below --nodes")
-    options.only_with("arrive", some_arrive, "an --initial below --nodes")
+    others = any(options.has(name) for name in ("crash", "arrivals", "churn-trace", "group"))
+    options.only_with("via", has_lives(options) or some_join or others, "--lifetime or an --initial below --nodes")
+    options.only_with("arrive", some_join, "an --initial below --nodes")
     options.only_with("keys", options.has("lookups"), "--lookups")
 
 
 def churns(options: Options) -> bool:
     """Whether nodes churn, by themselves or by commands."""
-    return options.has("churn-uniform") or options.has("lifetime")
+    return options.has("churn-uniform") or has_lives(options)
 
 
 def stay_of(options: Options, nodes: int) -> int:
@@ -175,12 +155,6 @@ def stay_of(options: Options, nodes: int) -> int:
     if not churns(options):
         return nodes
     return options.whole("stay", min(2, nodes - 1), 0, nodes - 1, " (below --nodes)")
-
-
-def length_span_of(text: str) -> Span | None:
-    """A span of two times of 1us to 1000s, or nothing."""
-    ends = span_of(text)
-    return ends if ends is not None and 1 <= ends[0] and ends[1] <= BILLION else None
 
 
 def churn_of(spans: list[Given[Span]] | None) -> Churn | None:
@@ -191,18 +165,6 @@ def churn_of(spans: list[Given[Span]] | None) -> Churn | None:
     return Churn(*life.value, *down.value)
 
 
-def gap_of(text: str) -> Span | str | None:
-    """The gap of lookups: a span, or `none`."""
-    return text if text == "none" else length_span_of(text)
-
-
-def lookups_of(options: Options) -> Lookups | None:
-    """The table [lookups]: by default there is one if no lookups are drawn."""
-    default: Span | str = "none" if options.has("lookups") else (500_000, 1_500_000)
-    gap = options.get("lookup-gap", default)
-    return None if isinstance(gap, str) else Lookups(*gap)
-
-
 def arrive_of(options: Options, duration: int) -> Span:
     """The span in which the nodes that are not initial join."""
     given: Given[Span] | None = options.given("arrive")
@@ -210,29 +172,3 @@ def arrive_of(options: Options, duration: int) -> Span:
         wanted = f"MIN..MAX, each 0us to {time_text(duration - 1)} (below --duration)"
         options.refuse("arrive", f"{wanted}, not {given.text!r}")
     return (0, duration // 2) if given is None else given.value
-
-
-def rate_of(text: str) -> Decimal | None:
-    """A rate of lookups, or nothing."""
-    rate = decimal_of(text)
-    return rate if rate is not None and Decimal("0.000001") <= rate <= 1_000_000 else None
-
-
-def law_of(text: str) -> Zipf | str | None:
-    """The law of the keys to look up: Zipf's, or `uniform`."""
-    return text if text == "uniform" else zipf_of(text)
-
-
-def keys_wanted(greatest: int) -> str:
-    """What may be given as the law of keys."""
-    return f"uniform or zipf:S:COUNT, S 0 to 10, COUNT 1 to {greatest}"
-
-
-def keys_of(options: Options, bits: int) -> Zipf | None:
-    """The law of the keys to look up; none if all keys are alike."""
-    given: Given[Zipf | str] | None = options.given("keys")
-    if given is None or isinstance(given.value, str):
-        return None
-    if given.value.count > 2**bits:
-        options.refuse("keys", f"{keys_wanted(2**bits)}, not {given.text!r}")
-    return given.value

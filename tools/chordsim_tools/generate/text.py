@@ -2,42 +2,62 @@
 
 import shlex
 import textwrap
-from dataclasses import asdict
+from collections import Counter
+from dataclasses import asdict, dataclass
 
 from chordsim_tools.draws import Draws
 from chordsim_tools.generate.commands import CRASH, JOIN, LOOKUP, Command, Streams
-from chordsim_tools.generate.plan import Plan, name_of
-from chordsim_tools.reference.circle import Circle
+from chordsim_tools.generate.idents import of_names, seeded
+from chordsim_tools.generate.plan import Plan
 
 DOES = {CRASH: "crash", JOIN: "join", LOOKUP: "lookup"}
 
 
-def text_of(plan: Plan, streams: Streams, commands: list[Command], arguments: list[str], initial: set[int]) -> str:
+@dataclass(frozen=True)
+class Made:
+    """What was drawn for a plan: its commands, the nodes that begin as members, and lines that say more of it."""
+
+    commands: list[Command]
+    initial: set[int]
+    told: list[str]
+
+
+def text_of(plan: Plan, streams: Streams, made: Made, arguments: list[str]) -> str:
     """The whole file."""
-    tables = [head(plan, commands, arguments, len(initial)), table("", plan.top)]
+    tables = [head(plan, made, arguments), table("", plan.top)]
     if plan.churn is not None:
         tables.append(table("[churn]\n", asdict(plan.churn)))
     if plan.lookups is not None:
         tables.append(table("[lookups]\n", asdict(plan.lookups)))
-    idents = drawn_idents(plan, streams.idents)
-    tables += [node_table(plan, node, idents, node in initial) for node in range(plan.nodes)]
-    tables += [command_table(command) for command in commands]
+    idents = idents_of(plan, streams.idents)
+    tables += [node_table(plan, node, idents, node in made.initial) for node in range(plan.nodes)]
+    tables += [command_table(plan, command) for command in made.commands]
     return "\n".join(tables)
 
 
-def head(plan: Plan, commands: list[Command], arguments: list[str], initial: int) -> str:
+def head(plan: Plan, made: Made, arguments: list[str]) -> str:
     """The comment at the head: the arguments, and what they made."""
     command = shlex.join(["tools/generate", *arguments])
     asked = textwrap.wrap(command, 110, break_long_words=False, break_on_hyphens=False)
-    counts = [f"{len([1 for command in commands if command.do == do])} {word}" for do, word in DOES.items()]
+    counts = [f"{len([1 for command in made.commands if command.do == do])} {word}" for do, word in DOES.items()]
     lines = [
         "A scenario made by tools/generate. The same words make the same bytes:",
         "",
         *[f"  {line}" + (" \\" if line is not asked[-1] else "") for line in asked],
         "",
-        f"Nodes: {plan.nodes}, of which {initial} are members at the start. Commands: {', '.join(counts)}.",
+        f"Nodes: {plan.nodes}, of which {len(made.initial)} are members at the start. Commands: {', '.join(counts)}.",
+        *nodes_told(plan),
+        *made.told,
     ]
     return "".join(f"# {line}".rstrip() + "\n" for line in lines)
+
+
+def nodes_told(plan: Plan) -> list[str]:
+    """The groups, with their nodes that arrive, and how many nodes arrive in all."""
+    groups = Counter(host.group for host in plan.hosts)
+    come = sum(host.arrives is not None for host in plan.hosts)
+    lines = [f"Groups: {', '.join(f'{name} {count}' for name, count in groups.items() if name)}."] if any(groups) else []
+    return lines + ([f"{come} of the nodes arrive during the run, and do not return."] if come else [])
 
 
 def table(heading: str, keys: dict[str, int]) -> str:
@@ -45,22 +65,15 @@ def table(heading: str, keys: dict[str, int]) -> str:
     return heading + "".join(f"{key} = {str(value).lower()}\n" for key, value in keys.items())
 
 
-def drawn_idents(plan: Plan, draws: Draws) -> dict[int, int]:
-    """An identifier for each node whose name gives one that an earlier node has."""
-    circle = Circle(plan.top["bits"])
-    drawn: dict[int, int] = {}
-    taken: set[int] = set()
-    for node in range(plan.nodes):
-        ident = circle.identifier_of_name(name_of(node))
-        while ident in taken:
-            drawn[node] = ident = draws.key(circle.bits)
-        taken.add(ident)
-    return drawn
+def idents_of(plan: Plan, draws: Draws) -> dict[int, int]:
+    """The identifiers that nodes have by an `id`."""
+    names, bits = [host.name for host in plan.hosts], plan.top["bits"]
+    return of_names(names, bits, draws) if plan.are_names else seeded(names, plan.top["seed"], bits)
 
 
 def node_table(plan: Plan, node: int, idents: dict[int, int], is_initial: bool) -> str:
     """The table of a node."""
-    lines = [f'name = "{name_of(node)}"']
+    lines = [f'name = "{plan.hosts[node].name}"']
     if node in idents:
         lines.append(f"id = {key_text(idents[node])}")
     if is_initial:
@@ -72,11 +85,11 @@ def node_table(plan: Plan, node: int, idents: dict[int, int], is_initial: bool) 
     return "[[node]]\n" + "\n".join(lines) + "\n"
 
 
-def command_table(command: Command) -> str:
+def command_table(plan: Plan, command: Command) -> str:
     """The table of a command."""
-    lines = [f"at_us = {command.at_us}", f'do = "{DOES[command.do]}"', f'node = "{name_of(command.node)}"']
+    lines = [f"at_us = {command.at_us}", f'do = "{DOES[command.do]}"', f'node = "{plan.hosts[command.node].name}"']
     if command.do == JOIN:
-        lines.append(f'via = "{name_of(command.rest)}"')
+        lines.append(f'via = "{plan.hosts[command.rest].name}"')
     if command.do == LOOKUP:
         lines.append(f"key = {key_text(command.rest)}")
     return "[[command]]\n" + "\n".join(lines) + "\n"

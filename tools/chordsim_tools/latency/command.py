@@ -5,6 +5,7 @@ import io
 import math
 import re
 from argparse import Namespace
+from itertools import combinations
 from statistics import median_low
 
 from chordsim_tools.cli import Failure, Parser, Refused, run, say
@@ -16,6 +17,7 @@ from chordsim_tools.latency.coordinates import Placed, placed_by_fit, placed_by_
 from chordsim_tools.latency.measured import UNITS, Latencies, latencies_of, read_lines, read_matrix
 from chordsim_tools.options import GREATEST_SEED, Options, a_whole, choice, duration, whole
 from chordsim_tools.places import places_text
+from chordsim_tools.regions import read_regions
 from chordsim_tools.scenario.coordinates import greatest_latency
 from chordsim_tools.scenario.tables import EXTENDED, GREATEST_SIZE, parse_toml
 
@@ -40,11 +42,17 @@ Latencies: the mean of the two directions, or the one that was measured, is halv
 A gap between two chosen hosts gets half the mean of the two hosts' medians, rounded up; a host's median is that of its
 measured round trips with the other chosen hosts (the lower one of two in the middle).
 
+--regions FILE: a row for each pair by the regions of the two nodes, which are what is before the last hyphen of their
+names (tools/generate --group eu:250 names them eu-0 and so on). The file is a matrix: `round-trip,eu,us` in its first
+line, or `one-way,eu,us`, and a line `eu,1ms,80ms` for each region. Round trips are halved, and the mean of the two
+directions is rounded up to whole microseconds; an empty field is that of the other direction.
+
 --plane SIDE: hosts at random places of a square. The latency of two of them is --floor and the straight way between
 them, rounded up; SIDE is the way from one corner to the next.
 
 --fit ROWS: coordinates of the nodes of a latency file ROWS, fitted by Vivaldi (Dabek, Cox, Kaashoek, Morris, SIGCOMM
-2004) in a plane with heights. The file may lack pairs. Each node looks 2000 times at another one, drawn from those to
+2004) in a plane with heights. The file may lack pairs. Vivaldi's coordinates are of
+round trips, these are of one-way latencies. Each node looks 2000 times at another one, drawn from those to
 which it has a latency. With --names the nodes of that scenario are written, in its order. The line at the end has the
 median and the 90th percentile of the relative errors of all rows: how far the latency by coordinates is from that of
 the row, as a share of the latter. No height is below half the --floor, so that no latency is below it.
@@ -64,6 +72,7 @@ is refused; profile 1 has at most 512 nodes.
 examples:
   tools/latency king.txt --nodes 128 --seed 3 -o king.csv
   tools/latency pings.txt --form lines --unit ms --gaps refuse --names base.toml -o pings.csv
+  tools/latency --regions regions.csv --names ring.toml -o regions-rows.csv
   tools/latency --plane 100ms --floor 5ms --nodes 128 -o plane.csv
   tools/generate --nodes 128 --window 5ms --timeout 400ms -o ring.toml    a scenario for it: the window is at most the
                                                            least latency, the timeout above twice the greatest one
@@ -96,6 +105,7 @@ def parser_of() -> Parser:
         help="fill gaps among the chosen hosts, or refuse them (fill)")
     add("--plane", metavar="SIDE", type=duration(1, 600_000_000),
         help="no MEASURED; a square of this side: a time of 1us to 600s")
+    add("--regions", metavar="FILE", help="no MEASURED; the latencies between the regions of this file")
     add("--fit", metavar="ROWS", help="no MEASURED; coordinates that are fitted to this latency file")
     add("--king", action="store_true", help="no MEASURED; coordinates that are made in the manner of the King data set")
     add("--floor", metavar="TIME", type=duration(1, 100_000_000),
@@ -108,9 +118,10 @@ def parser_of() -> Parser:
 def check(args: Namespace, parser: Parser) -> Options:
     """The options. If they do not fit together the parser ends with the first one that does not."""
     options = Options(args, parser)
-    if [args.measured is not None, options.has("plane"), args.fit is not None, args.king].count(True) != 1:
-        parser.error("give exactly one of MEASURED, --plane, --fit and --king")
-    options.only_with("floor", args.measured is None, "--plane, --fit or --king")
+    named = [args.measured is not None, options.has("plane"), args.regions is not None, args.fit is not None, args.king]
+    if named.count(True) != 1:
+        parser.error("give exactly one of MEASURED, --plane, --regions, --fit and --king")
+    options.only_with("floor", args.measured is None and args.regions is None, "--plane, --fit or --king")
     options.only_with("nodes", args.fit is None, "a file MEASURED, --plane or --king")
     for name in ("form", "unit", "gaps"):
         options.only_with(name, args.measured is not None, "a file MEASURED")
@@ -158,9 +169,19 @@ def plane(side: int, floor: int, count: int, draws: Draws) -> Latencies:
     return Latencies(sorted(micros), 0)
 
 
-def latencies(options: Options, count: int) -> Latencies:
-    """The latencies that the arguments ask for."""
-    draws = Draws(options.get("seed", 1))
+def between_regions(file: str, names: list[str]) -> Latencies:
+    """The latencies of nodes by their regions."""
+    regions = read_regions(file)
+    places = regions.of_nodes(names)
+    pairs = combinations(range(len(names)), 2)
+    return Latencies([(a, b, regions.micros[places[a]][places[b]]) for a, b in pairs], 0)
+
+
+def latencies(options: Options, names: list[str]) -> Latencies:
+    """The latencies that the arguments ask for, of these nodes."""
+    draws, count = Draws(options.get("seed", 1)), len(names)
+    if options.args.regions is not None:
+        return between_regions(options.args.regions, names)
     measured = options.args.measured
     if measured is None:
         return plane(options.get("plane", 0), options.get("floor", 1000), count, draws)
@@ -180,7 +201,8 @@ def is_count_open(options: Options) -> bool:
 def check_size(count: int, size: int) -> None:
     """Refuses a file of this size or more that chordsim would not read."""
     if size > GREATEST_SIZE:
-        raise Failure(2, f"--nodes: rows for all pairs of {count} nodes have more than {GREATEST_SIZE} bytes")
+        more = "coordinates have no such limit: --king, or tools/generate --profile 4 --coordinates (also regions:FILE)"
+        raise Failure(2, f"--nodes: rows for all pairs of {count} nodes have more than {GREATEST_SIZE} bytes; {more}")
 
 
 def rows_text(names: list[str], result: Latencies) -> str:
@@ -221,7 +243,7 @@ def write_coordinates(options: Options) -> None:
 def write(options: Options) -> None:
     """Writes the file that the arguments ask for."""
     args = options.args
-    check_output("-o", args.file, (args.measured, args.names, args.fit))
+    check_output("-o", args.file, (args.measured, args.names, args.fit, args.regions))
     if args.king or args.fit is not None:
         write_coordinates(options)
     else:
@@ -233,7 +255,7 @@ def write_rows(options: Options) -> None:
     names = nodes_of(options)
     # Each row has two names, two commas, a digit or more and a line feed: too many nodes are refused before the work.
     check_size(len(names), (len(names) - 1) * sum(len(name) + 2 for name in names))
-    result = latencies(options, len(names))
+    result = latencies(options, names)
     text = rows_text(names, result)
     check_size(len(names), len(text))
     put(text, options.args.file)

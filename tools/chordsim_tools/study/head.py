@@ -5,7 +5,7 @@ from typing import Any
 from chordsim_tools.quantities import time_text
 from chordsim_tools.study.goal import precision_again
 from chordsim_tools.study.interval import LEAST_SEEDS, Interval, interval
-from chordsim_tools.study.network import latencies_told
+from chordsim_tools.study.network import latencies_told, made_told
 from chordsim_tools.study.numbers import LEAST_FOR_P99, Cells, Summary, ratio
 from chordsim_tools.study.precise import stopped
 from chordsim_tools.study.wrap import note, paragraph
@@ -28,7 +28,8 @@ def worlds(manifest: dict[str, Any]) -> str:
     if manifest["generate"] is None:
         same += [manifest["base"] + (f" with its commands ({counts})" if counts else ""), "identifiers"]
     else:
-        new += ["identifiers", *(["commands (lives, joins, lookups and their keys)"] if counts else [])]
+        made = made_told(manifest["generate"], manifest["vary"], bool(counts))
+        new, same = new + made[0], same + made[1]
     new_latencies, same_latencies = latencies_told(manifest)
     new, same = new + new_latencies, same + same_latencies
     seeds = len(manifest["seeds"])

@@ -7,7 +7,7 @@ from typing import Any
 
 from chordsim_tools.cli import Refused
 from chordsim_tools.explain.hints import close_to
-from chordsim_tools.generate.command import OPTIONS
+from chordsim_tools.generate.arguments import OPTIONS
 from chordsim_tools.quantities import UNITS, time_of
 from chordsim_tools.scenario.tables import CHURN, EXTENDED, GREATEST_INTEGER, LOOKUPS, Key
 

@@ -8,28 +8,57 @@ from chordsim_tools.study.keys import OF_GENERATE
 from chordsim_tools.study.plan import Study
 
 OPTION = "--coordinates"
-FILE = "file:"
+TRACE = "--churn-trace"
+FILES = ("file:", "regions:")
+"""What is before the name of a file that coordinates come from."""
 
 
-def laws_of(generate: list[str] | None, vary: Mapping[str, list[Any]]) -> list[str]:
-    """The values of --coordinates that the settings of a study have, without the leading and closing blanks."""
+def values_of(option: str, generate: list[str] | None, vary: Mapping[str, list[Any]]) -> list[str]:
+    """The values of an option of tools/generate that the settings of a study have."""
     if generate is None:
         return []
-    if OF_GENERATE + OPTION in vary:
-        return [str(value) for value in vary[OF_GENERATE + OPTION]]
-    following = zip(generate, [*generate[1:], ""], strict=True)
-    joined = [word.partition("=")[2] for word in generate if word.startswith(OPTION + "=")]
-    return ([after for word, after in following if word == OPTION] + joined)[-1:]
+    if OF_GENERATE + option in vary:
+        return [str(value) for value in vary[OF_GENERATE + option]]
+    return given_to(option, generate)
 
 
-def place_files(study: Study) -> list[str]:
-    """The files of coordinates that a study names."""
-    return [law.removeprefix(FILE) for law in laws_of(study.generate, study.vary) if law.startswith(FILE)]
+def given_to(option: str, words: list[str]) -> list[str]:
+    """The last value of an option among these arguments, if it is there."""
+    following = zip(words, words[1:])
+    joined = [word.partition("=")[2] for word in words if word.startswith(option + "=")]
+    return ([after for word, after in following if word == option] + joined)[-1:]
 
 
-def place_sums(study: Study) -> dict[str, str]:
-    """The digest of each file of coordinates."""
-    return {name: sum_of(read_input(study.beside(name))) for name in place_files(study)}
+def is_file(law: str) -> bool:
+    """Whether coordinates come from a file."""
+    return law.startswith(FILES)
+
+
+def file_of(law: str) -> str:
+    """The file that coordinates come from."""
+    return law.partition(":")[2]
+
+
+def input_files(study: Study) -> list[str]:
+    """The files that tools/generate and tools/latency read for a study: coordinates, regions and churn traces."""
+    laws = values_of(OPTION, study.generate, study.vary)
+    traces = values_of(TRACE, study.generate, study.vary)
+    return [file_of(law) for law in laws if is_file(law)] + traces + given_to("--regions", study.latency_arguments or [])
+
+
+def input_sums(study: Study) -> dict[str, str]:
+    """The digest of each of these files."""
+    return {name: sum_of(read_input(study.beside(name))) for name in input_files(study)}
+
+
+def made_told(generate: list[str], vary: Mapping[str, list[Any]], has_commands: bool) -> tuple[list[str], list[str]]:
+    """Which of identifiers and commands that tools/generate makes are new in each seed, and which are the same."""
+    traces = values_of(TRACE, generate, vary)
+    idents = (["identifiers"], []) if values_of("--ids", generate, vary) != ["names"] else ([], ["identifiers"])
+    commands = ["commands (lives, joins, lookups and their keys)"] if has_commands else []
+    if traces:
+        return idents[0] + ["the nodes that others join through"], idents[1] + [f"lives ({', '.join(traces)})"]
+    return idents[0] + commands, idents[1]
 
 
 def are_placed(study: Study) -> bool:
@@ -40,12 +69,13 @@ def are_placed(study: Study) -> bool:
 def latencies_told(manifest: dict[str, Any]) -> tuple[list[str], list[str]]:
     """Which latencies are new in each seed, and which are the same in all."""
     if manifest["latency_arguments"] is not None:
-        return ["latencies"], []
-    laws = laws_of(manifest["generate"], manifest["vary"])
+        regions = given_to("--regions", manifest["latency_arguments"])
+        return ([], [f"latencies (between the regions of {regions[0]})"]) if regions else (["latencies"], [])
+    laws = values_of(OPTION, manifest["generate"], manifest["vary"])
     if manifest.get("placed_base"):
         return [], [f"latencies (by the coordinates in {manifest['base']})"]
     if not laws:
         return [], [f"latencies ({manifest['latency'] or 'latency_us for all pairs'})"]
-    files = [law.removeprefix(FILE) for law in laws if law.startswith(FILE)]
+    files = [file_of(law) for law in laws if is_file(law)]
     new = [] if len(files) == len(laws) else ["coordinates of the nodes, which give the latencies"]
     return new, [f"latencies (by the coordinates in {name})" for name in files]

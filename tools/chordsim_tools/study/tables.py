@@ -12,7 +12,7 @@ from typing import Any
 from chordsim_tools.cli import Failure, Refused
 from chordsim_tools.files import read_input, sum_of, write_whole
 from chordsim_tools.program import TOP
-from chordsim_tools.study.network import are_placed, place_sums
+from chordsim_tools.study.network import are_placed, input_sums
 from chordsim_tools.study.plan import Setting, Study
 from chordsim_tools.study.sizes import Sizes, bytes_of
 
@@ -99,7 +99,7 @@ def manifest_of(study: Study, program: Path, program_sum: str) -> dict[str, Any]
         sums[study.base] = sum_of(study.base_content)
     if study.latency is not None and study.latency_content is not None:
         sums[study.latency] = sum_of(study.latency_content)
-    sums |= place_sums(study)
+    sums |= input_sums(study)
     plain = {key: study.scenario[key] for key in ("duration_us", "audit_us") if key in study.scenario}
     return {
         "question": study.question,

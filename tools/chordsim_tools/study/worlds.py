@@ -1,10 +1,8 @@
 """The world of a setting and a seed: its scenario and its latencies, fixed or made for this seed."""
 
-import hashlib
 import io
 from collections.abc import Callable, Mapping, Sequence
 from contextlib import redirect_stderr
-from dataclasses import replace
 from functools import lru_cache
 from pathlib import Path
 from typing import Any, TypeVar
@@ -13,9 +11,7 @@ from chordsim_tools.cli import Failure, Parser, Refused
 from chordsim_tools.generate import command as generate
 from chordsim_tools.generate import plan as generate_plan
 from chordsim_tools.generate.bare import LIMITS, bare_traps
-from chordsim_tools.generate.text import key_text
 from chordsim_tools.latency import command as latency
-from chordsim_tools.places import PlacesFile
 from chordsim_tools.study.document import toml_text
 from chordsim_tools.study.keys import BOOLEANS, OF_GENERATE, parsed
 from chordsim_tools.study.plan import Setting, Study
@@ -68,9 +64,12 @@ def generated(study: Study, setting: Setting, seed: int) -> str:
 # The settings of one seed mostly share a world, and follow each other only after all other seeds.
 @lru_cache(maxsize=256)
 def made(path: Any, arguments: tuple[str, ...]) -> dict[str, Any]:
-    """The document that tools/generate makes, with identifiers that follow the seed."""
+    """The document that tools/generate makes."""
     top = parsed(path, text_of(str(path), arguments).encode())
-    give_idents(top, arguments[-1])
+    for node in top["node"]:
+        # Identifiers stay behind the other keys, so that the results of earlier studies are still those of their runs.
+        if "id" in node:
+            node["id"] = node.pop("id")
     return top
 
 
@@ -81,10 +80,8 @@ def text_of(path: str, arguments: tuple[str, ...]) -> str:
         """The tool itself."""
         parser = generate.parser_of()
         args = parser.parse_args(list(arguments))
-        if args.coordinates is not None and isinstance(args.coordinates.value, PlacesFile):
-            # A file is named relative to the study file.
-            beside = PlacesFile(str(Path(path).parent / args.coordinates.value.name))
-            args.coordinates = replace(args.coordinates, value=beside)
+        # A file is named relative to the study file.
+        generate.beside(args, Path(path).parent)
         return generate.scenario_of(generate_plan.check(args, parser), generate.arguments_again(args))
 
     return called(f"{path}: generate", work)
@@ -120,34 +117,19 @@ def called(name: str, work: Callable[[], T]) -> T:
         raise Refused(f"{name}: {fault.text}") from None
 
 
-def give_idents(top: dict[str, Any], seed: str) -> None:
-    """Gives each node an identifier of its name and the seed: the leading bits of a digest that no other node has."""
-    bits, taken = top["bits"], set[int]()
-    for node in top["node"]:
-        number = 0
-        while (ident := leading(f"{node['name']} {seed} {number}", bits)) in taken:
-            number += 1
-        taken.add(ident)
-        text = key_text(ident)
-        node["id"] = ident if text.isdecimal() else text.strip('"')
-
-
-def leading(text: str, bits: int) -> int:
-    """The leading bits of the SHA-256 digest of a text."""
-    return int.from_bytes(hashlib.sha256(text.encode()).digest(), "big") >> (256 - bits)
-
-
 def latency_of(study: Study, setting: Setting, seed: int) -> bytes | None:
     """The latency file of a setting and a seed, if the study has one: the same for all, or made for the seed."""
     if study.latency_arguments is None:
         return study.latency_content
-    nodes = len(top_of(study, setting, seed)["node"])
-    return rows_of(study, tuple(study.latency_arguments), nodes, seed)
+    names = tuple(node["name"] for node in top_of(study, setting, seed)["node"])
+    return rows_of(study, tuple(study.latency_arguments), names, seed)
 
 
 @lru_cache(maxsize=64)
-def rows_text(path: str, folder: str, arguments: tuple[str, ...]) -> bytes:
-    """What tools/latency writes for these arguments. A file of round trips is named relative to the study file."""
+def rows_text(path: str, folder: str, arguments: tuple[str, ...], names: tuple[str, ...]) -> bytes:
+    """What tools/latency writes for these arguments, and these nodes if the arguments name none.
+
+    Files are named relative to the study file."""
 
     def work() -> bytes:
         """The tool itself."""
@@ -157,16 +139,16 @@ def rows_text(path: str, folder: str, arguments: tuple[str, ...]) -> bytes:
             raise Refused(f"{path}: latency has --{'king' if args.king else 'fit'}, which makes coordinates; give them "
                           "to tools/generate by --coordinates")
         args.measured = None if args.measured is None else f"{folder}/{args.measured}"
+        args.regions = None if args.regions is None else f"{folder}/{args.regions}"
         options = latency.check(args, parser)
-        names = latency.nodes_of(options)
-        return latency.rows_text(names, latency.latencies(options, len(names))).encode()
+        nodes = list(names) or latency.nodes_of(options)
+        return latency.rows_text(nodes, latency.latencies(options, nodes)).encode()
 
     return called(f"{path}: latency", work)
 
 
-def rows_of(study: Study, arguments: tuple[str, ...], nodes: int, seed: int) -> bytes:
-    """The latencies of so many nodes for a seed."""
-    has_count = any(word.partition("=")[0] in ("--names", "--nodes") for word in arguments)
-    count = () if has_count else ("--nodes", str(nodes))
-    whole = (*arguments, *count, "--seed", str(seed))
-    return rows_text(str(study.path), str(study.path.parent), whole)
+def rows_of(study: Study, arguments: tuple[str, ...], names: tuple[str, ...], seed: int) -> bytes:
+    """The latencies of these nodes for a seed, or of the nodes that the arguments name."""
+    has_names = any(word.partition("=")[0] in ("--names", "--nodes") for word in arguments)
+    whole = (*arguments, *(() if has_names else ("--nodes", str(len(names)))), "--seed", str(seed))
+    return rows_text(str(study.path), str(study.path.parent), whole, () if has_names else names)

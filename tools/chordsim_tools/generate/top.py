@@ -1,0 +1,57 @@
+"""The keys of the top table of a scenario, and the ranges of the options that set them."""
+
+from chordsim_tools.options import Options
+from chordsim_tools.quantities import BILLION
+from chordsim_tools.scenario.coordinates import Coordinates, least_latency
+from chordsim_tools.scenario.tables import PROFILES
+
+
+def window_of(options: Options, latency: int, places: tuple[Coordinates, ...]) -> int:
+    """The window: by default as long as may be."""
+    if places:
+        least = least_latency(places)
+        return options.time("window", least, 1, least, " (the sum of the two least heights)")
+    return options.time("window", latency, 1, latency, " (at most --latency)")
+
+
+def top_of(
+    options: Options, numbers: tuple[int, int, int, int], places: tuple[Coordinates, ...]
+) -> dict[str, int]:
+    """The keys of the top table, in the order of docs/formats.md. A default follows what it depends on."""
+    profile, bits, initial, duration = numbers
+    why = " (at most 16, and below --initial)"
+    latency = options.get("latency", 20_000)
+    audit = min(BILLION, max(1, duration // 24))
+    least_audit = -(-duration // 1_000_000)
+    most_events = PROFILES[profile].greatest("max_events")
+    return {
+        "profile": profile,
+        "bits": bits,
+        "list": options.whole("list", min(4, initial - 1), 1, min(16, initial - 1), why),
+        "seed": options.get("seed", 1),
+        "duration_us": duration,
+        "window_us": window_of(options, latency, places),
+        "latency_us": latency,
+        "timeout_us": options.get("timeout", min(BILLION, 10 * latency)),
+        "audit_us": options.time("audit", audit, least_audit, BILLION, " (at most 1000000 audits in --duration)"),
+        "stabilize_us": options.get("stabilize", 500_000),
+        "finger_us": options.get("finger", 250_000),
+        "jitter_us": options.get("jitter", 50_000),
+        "max_events": options.whole("max-events", 50_000_000, 1, most_events, f" (in profile {profile})"),
+    }
+
+
+def network_of(options: Options, profile: int) -> dict[str, int]:
+    """The keys of loss and spread, which profiles 2 and 4 have, and those that profile 4 alone has."""
+    for name in ("loss", "spread"):
+        options.only_with(name, profile >= 2, "--profile 2 or 4")
+    for name in ("retries", "join-pause", "join-forever", "check", "detail"):
+        options.only_with(name, profile == 4, "--profile 4")
+    if profile == 1:
+        return {}
+    network = {"loss_ppm": options.get("loss", 0), "spread_us": options.get("spread", 0)}
+    if profile == 2:
+        return network
+    later_keys = {"join-pause": "join_pause_us", "join-forever": "join_forever", "check": "check_us", "detail": "detail"}
+    given = {key: options.get(name, 0) for name, key in later_keys.items() if options.has(name)}
+    return network | {"retries": options.get("retries", 0)} | given
