@@ -39,16 +39,16 @@ class MissedGoalTest(TestCase):
     """Why no setting reaches a goal. Six seeds have (901 to 906) / 950 right: 95.105 %, standard error 0.0804 %."""
 
     def test_bound_that_misses(self) -> None:
-        """t of five degrees is 2.015 at 95 %, one-sided: 95.105 - 0.162 = 94.943 %, rounded down."""
+        """t of five degrees is 3.534 at 1 - 0.05 / 6, one-sided: 95.105 - 0.284 = 94.821 %, rounded down."""
         text = told(setting(4, 900, 5000), goal=goal(0.99))
-        assert "missed: right of begun, shown to be at least 94.94 % (limit 99 %)." in text
+        assert "missed: right of begun, shown to be at least 94.82 % (limit 99 %)." in text
         assert "Each setting is shown to miss it." in text and "Not decided" not in text
 
     def test_rate_of_losses_that_misses(self) -> None:
-        """Six rings of 100 s, none lost: ln 20 / 0.1667 hours = 17.97 an hour, rounded up."""
+        """Six rings of 100 s, none lost: ln 120 / 0.1667 hours = 28.72 an hour, rounded up."""
         text = told(setting(4, 900, 5000), goal=goal(0.9, lost_max=17.0))
-        assert "missed: rings lost, shown to be below 18 an hour (limit 17)." in text
-        assert f"Not decided {OPEN}: list=4 (rings lost, shown to be below 18 an hour (limit 17))." in text
+        assert "missed: rings lost, shown to be below 29 an hour (limit 17)." in text
+        assert f"Not decided {OPEN}: list=4 (rings lost, shown to be below 29 an hour (limit 17))." in text
 
     def test_ring_that_was_lost(self) -> None:
         """If none may be lost, one that was lost shows that the goal is missed."""
@@ -56,14 +56,14 @@ class MissedGoalTest(TestCase):
         assert "missed: rings lost, 1 of 6 (limit: none)." in text and "Each setting is shown to miss it." in text
 
     def test_not_decided(self) -> None:
-        """The limit lies between both bounds, 94.943 and 95.267 %."""
+        """The limit lies between both bounds, 94.821 and 95.389 %."""
         text = told(setting(4, 900, 5000), goal=goal(0.951))
         assert f"Not decided {OPEN}: list=4 (right of begun 95.11 ± 0.21 %). More seeds may decide." in text
         assert "is shown to miss it" not in text
 
     def test_two_limits_share_the_risk_of_missing(self) -> None:
-        """With one limit the bound is at 95 %: 95.267. With two each is at 97.5 %: 95.105 + 2.571 * 0.0804 = 95.312."""
-        one, both = (told(setting(4, 900, 5000), goal=goal(0.9529, lost_max=most)) for most in (None, 1000.0))
+        """With one limit the bound is 95.389 %. With two, at half the risk each, it is 95.105 + 4.219 * 0.0804."""
+        one, both = (told(setting(4, 900, 5000), goal=goal(0.9542, lost_max=most)) for most in (None, 1000.0))
         assert "Each setting is shown to miss it." in one and f"Not decided {OPEN}: list=4 (" in both
 
     def test_settings_without_a_bound(self) -> None:
@@ -79,12 +79,12 @@ class MissedGoalTest(TestCase):
         assert "the nearest is list=2" in text and f"1 of 1 setting has {FEW}" in text and "to miss it" not in text
         text = told(few, setting(4, 900, 5000, dead=4), goal=goal(0.99, lost_max=1000.0))
         assert f"2 of 2 settings have {FEW}" in text and "to miss it" not in text
-        # Six rings of 30 s, all lost: at 98.75 % more than 37 an hour.
-        text = told(setting(2, 900, 4000, dead=2), dead(1), goal=goal(0.9, lost_max=30.0))
+        # Six rings of 30 s, all lost: at 1 - 0.05 / 4 / 6 more than 25.6 an hour.
+        text = told(setting(2, 900, 4000, dead=2), dead(1), goal=goal(0.9, lost_max=25.0))
         assert "the nearest is list=2" in text and f"1 of 2 settings has {FEW} All others are shown to miss it." in text
 
     def test_what_is_shown_holds_together(self) -> None:
-        """The true means lie on both limits. In about one study of twenty anything is shown wrongly, either way."""
+        """The true means lie on both limits. In at most one study of twenty anything is shown wrongly, either way."""
         draws = Random(11)
         limits = Limit("right_of_begun", True, 900 / 950), Limit("served", True, 0.9)
         wanted = Goal(limits, None, "messages")
@@ -93,12 +93,12 @@ class MissedGoalTest(TestCase):
             found = settings(*(rights(*(900 + round(draws.gauss(0, 9)) for _ in range(6))) for _ in range(5)))
             missed += any(misses(one, wanted, missing_level(found, wanted)) for one in found)
             reached += any(reaches(one, wanted, level_of(found)) for one in found)
-        assert 0 < missed <= 20 and 0 < reached <= 20, (missed, reached)
+        assert missed <= 10 and reached <= 10 and missed + reached > 0, (missed, reached)
 
     def test_upper_bound_of_served(self) -> None:
-        """All six rings lost, nothing served: a ring is kept with at most 1 - 0.025 ** (1 / 6) = 45.93 %."""
+        """All six rings lost, nothing served: the mirror image of six that served all, 1 - 0.5512 = 0.4488."""
         one = summary_of(dead(1))
-        for value, wanted in ((0.46, True), (0.459, False)):
+        for value, wanted in ((0.449, True), (0.4487, False)):
             assert misses(one, Goal((Limit("served", True, value),), 1000.0, "messages"), 0.95) == wanted
 
     def test_units(self) -> None:
@@ -159,14 +159,15 @@ class DeadRingsTest(TestCase):
     """Settings that kept no ring."""
 
     def test_one_of_two_settings(self) -> None:
-        """It has no messages to compare. What it serves less has an interval: 90.35 points, half 2.571 * 0.0764."""
+        """It has no messages to compare. What it serves less is compared: 90.35 points, in all six seeds."""
         text = told(setting(4, 900, 5000), dead(1), goal=GOAL)
         assert less_best(text, "list=4") == "**best**" and less_best(text, "list=1") == "all rings lost"
         assert "`all rings lost`: the setting has no ring to compare" in text
-        assert "No seed is left out: once lost, a ring serves none." in text
-        assert less_best(told(setting(4, 900, 5000), dead(1)), "list=1") == "-90.35 ± 0.20"
+        assert "No seed is left out: rings that were lost count with what they served." in text
+        less = less_best(told(setting(4, 900, 5000), dead(1)), "list=1")
+        assert less.startswith("-90.35 (-") and "apart" not in less
         mixed = told(setting(4, 900, 5000, dead=1), dead(1))
-        assert less_best(mixed, "list=4") == "**best**" and less_best(mixed, "list=1") == "all rings lost"
+        assert less_best(mixed, "list=4") == "**best**" and less_best(mixed, "list=1").startswith("-75.33 (-")
 
     def test_all_settings(self) -> None:
         """The page says so first, has no best setting, and does not call dead rings steady."""

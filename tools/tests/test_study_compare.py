@@ -37,37 +37,69 @@ class StudyCompareTest(TestCase):
     """Pairs, the choice of the best, and the command."""
 
     def test_paired_difference(self) -> None:
-        """1 to 5 of 1,000 more in five seeds that differ by far more: 0.3 points, half 0.196."""
+        """1 to 5 more of 950 in five seeds that differ by far more: 3 / 950, half 1.9632 / 950 by Student's t."""
         first, second = settings(rights(901, 802, 703, 604, 505), rights(900, 800, 700, 600, 500))
-        found = Pair(first, second).difference("served")
-        assert abs((found.mean or 0) - 0.003) < 1e-9 and abs((found.half or 0) - 0.0019632) < 1e-6
-        assert Pair(first, second).is_apart("served") and found.told(100) == "0.30 ± 0.20"
-        lines = text_of(Pair(first, second)).splitlines()
-        assert "  served          0.30 ± 0.20 points" in lines and "  messages        0 /member/s  equal" in lines
-        assert not Pair(first, second, guarded_level(30)).is_apart("served")
+        pair = Pair(first, second)
+        found = pair.difference("right_of_begun")
+        assert abs((found.mean or 0) - 3 / 950) < 1e-9 and abs((found.half or 0) - 1.9632 / 950) < 1e-6
+        assert pair.is_apart("right_of_begun") and found.told(100) == "0.32 ± 0.21"
+        lines = text_of(pair).splitlines()
+        assert "  right of begun  0.32 ± 0.21 points" in lines
+        assert "  messages        0 /member/s  equal in all seeds" in lines
+        assert not Pair(first, second, guarded_level(30)).is_apart("right_of_begun")
+
+    def test_served_holds_for_any_law(self) -> None:
+        """1 to 5 more of 1,000 in five seeds: 0.3 points, but a world with 57 less may not have been run.
+
+        The exact sign test tells ten seeds of one sign apart, 2 / 2 ** 10 = 0.00195, and no five of them."""
+        first, second = settings(rights(901, 802, 703, 604, 505), rights(900, 800, 700, 600, 500))
+        pair = Pair(first, second)
+        assert pair.difference("served").told(100) == "0.3 (-57.5..57.8)" and pair.more_and_less("served") == (5, 0)
+        assert pair.verdict("served") == "not told apart"
+        assert "  served          0.3 (-57.5..57.8) points  A more in 5, less in 0  not told apart" in text_of(pair)
+        first, second = settings(rights(*range(901, 911)), rights(*range(900, 910)))
+        assert Pair(first, second, 0.998).verdict("served") == "" != Pair(first, second, 0.9981).verdict("served")
+
+    def test_no_interval_is_no_likeness(self) -> None:
+        """Four pairs say nothing of a mean, and neither do differences that four of six seeds do not have."""
+        first, second = settings(rights(901, 802, 703, 604), rights(900, 800, 700, 600))
+        assert Pair(first, second).verdict("right_of_begun") == Pair(first, second).verdict("served") == "no interval"
+        cells = [{"messages": 6000}] * 4
+        first, second = settings([*cells, {"messages": 6100}, {"messages": 6200}], [*cells, *cells[:2]])
+        assert Pair(first, second).verdict("messages") == "no interval"
 
     def test_seeds_with_a_dead_ring(self) -> None:
-        """One that only A lost is in no difference; McNemar says whether the rings lost tell them apart."""
+        """One that only A lost is in that of served alone; McNemar says whether the rings lost tell them apart."""
         dead = {"right": 0, "ringless": 1, "lost-at-us": 5}
         first, second = settings([*rights(901, 802, 703, 604, 505), dead], rights(900, 800, 700, 600, 500, 400))
         pair = Pair(first, second)
-        assert pair.lost() == (1, 0) and pair.is_mixed()
-        found = pair.difference("served")
-        assert (found.count, found.of, round((found.mean or 0) * 1000)) == (5, 6, 3)
+        assert pair.lost() == (1, 0)
+        found, kept = pair.difference("served"), pair.difference("right_of_begun")
+        assert (found.count, found.of) == (6, 6) and abs((found.mean or 0) - (0.015 - 0.4) / 6) < 1e-9
+        assert (kept.count, kept.of) == (5, 6) and abs((kept.mean or 0) - 3 / 950) < 1e-9
         all_dead, alive = settings([dead] * 6, rights(*[900] * 6))
         assert Pair(all_dead, alive).difference("served").mean == -0.9 and Pair(all_dead, alive).is_apart("messages")
         assert Pair(all_dead, alive).difference("messages").mean is None
         # Served is over all six seeds, in none of which both kept their rings.
-        assert "  served          -90 points" in text_of(Pair(all_dead, alive)).splitlines()
-        rule = "\nof served over all seeds, unless A or B lost its ring in some seeds but not in all.\n"
-        assert rule in text_of(Pair(all_dead, alive)) and rule in text_of(pair)
+        assert "  served          -90 (-95.2.." in text_of(Pair(all_dead, alive))
+        assert "\nServed is over all seeds, all other numbers over those in which both" in text_of(pair)
 
     def test_equal_runs(self) -> None:
         """Rows that are equal but for the setting: said so, with what ten such seeds bound."""
         first, second = settings(rights(*range(900, 910)), rights(*range(900, 910)))
         assert "the same run in 10 of 10 seeds: at most 26 % of runs differ (95%)" in text_of(Pair(first, second))
+        # One of ten differs: at most 39.4 %, since 0.606 ** 10 + 10 * 0.394 * 0.606 ** 9 = 0.05.
         first, second = settings(rights(*range(900, 910)), rights(*range(900, 909), 1))
-        assert "(10 seeds, the same run in 9 of them)" in text_of(Pair(first, second))
+        assert "the same run in 9 of 10 seeds: at most 40 % of runs differ (95%)" in text_of(Pair(first, second))
+
+    def test_equal_but_for_a_lost_ring(self) -> None:
+        """Nothing is called equal without the seed that was left out: served has the mean of all."""
+        dead = {"right": 140, "ringless": 1, "lost-at-us": 5}
+        first, second = settings([*rights(*range(900, 909)), dead], rights(*range(900, 910)))
+        text = text_of(Pair(first, second))
+        assert "  served          -7.69 (" in text and "at most 40 % of runs differ (95%)" in text
+        assert "  messages        0 (9 of 10) /member/s  equal in the 9 seeds in which both kept their rings\n" in text
+        assert "equal in all seeds" not in text
 
     def test_best_of_equal_settings(self) -> None:
         """Thirty settings of one law: in at most one study of twenty one is apart from all others, or just from one."""
@@ -77,7 +109,8 @@ class StudyCompareTest(TestCase):
             found = settings(*(rights(*(900 + round(draws.gauss(0, 20)) for _ in range(5))) for _ in range(12)))
             best = chosen(found, None)
             assert best is not None
-            told = [Pair(one, best, guarded_level(12)).is_apart("served") for one in found if one is not best]
+            pairs = [Pair(one, best, guarded_level(12)) for one in found if one is not best]
+            told = [pair.is_apart("right_of_begun") for pair in pairs]
             apart += any(told)
             alone += all(told)
         assert apart <= 5 and alone == 0, (apart, alone)
@@ -112,7 +145,7 @@ class StudyCompareTest(TestCase):
         chordsim = program()
         precise = (
             'question = "How?"\nbase = "base.toml"\n[vary]\nlist = [8]\n'
-            "[precision]\nserved = 0.0001\nleast_seeds = 5\nmost_seeds = 8\n"
+            "[precision]\nmessages = 0.00001\nleast_seeds = 5\nmost_seeds = 8\n"
         )
         with study_folder(precise) as folder, tempfile.TemporaryDirectory() as other:
             assert call(folder, chordsim=chordsim) == (0, "")
@@ -120,6 +153,6 @@ class StudyCompareTest(TestCase):
             names = ("runs.csv", "manifest.json")
             assert all((folder / "study" / name).read_bytes() == (Path(other) / name).read_bytes() for name in names)
             assert (folder / "study" / "runs.csv").read_text().count("\n") == 9
-            (folder / "study.toml").write_text(precise.replace("0.0001", "0.5"))
+            (folder / "study.toml").write_text(precise.replace("0.00001", "50"))
             assert call(folder, chordsim=chordsim) == (0, "")
             assert (folder / "study" / "runs.csv").read_text().count("\n") == 6

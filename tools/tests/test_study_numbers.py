@@ -94,7 +94,9 @@ class StudyNumbersTest(TestCase):
         assert abs((one.numbers["right_of_begun"].mean or 0) - 902 / 950) < 1e-9
         assert abs((two.numbers["served"].mean or 0) - 0.903) < 1e-9
         assert abs((one.numbers["served"].mean or 0) - 0.902 * 3 / 5) < 1e-9
-        assert one.served_told() == "54.1 (0..90.3)" and "±" in two.served_told()
+        # Solved by hand for the mean at which the bets of the five seeds have become 40, and for its mirror image.
+        assert two.numbers["served"].told(100) == "90.3 (38.2..95.9)"
+        assert one.numbers["served"].told(100) == "54.12 (5.59..89.4)"
         assert one.numbers["right_of_begun"].told(100) == "94.95 (3 of 5)"
         assert one.kept_told() == "3 of 5 (15..95 %)"
 

@@ -121,6 +121,7 @@ class StudySpansTest(TestCase):
         """It has the numbers that a goal names, under the names of the other tables."""
         text = told(setting(2, 4000), limits=[Limit("outage.defensible", True, 0.5)])
         cells = table_of(text, "Span outage")["list=2"]
-        assert (cells["p99, ms"], cells["defensible, %"], cells["members, %"]) == ("4000.0035 ± 0.0020", "96.84", "98")
+        assert cells["p99, ms"] == "4000.0035 ± 0.0020" and cells["defensible, %"].startswith("96.84")
+        assert cells["members, %"].startswith("98 (") and cells["members, %"].endswith("..99.1)")
         assert "Of the lookups that began from 360s to 420s." in text
         assert table_of(text, "Settings")["list=2"]["p99, ms"] == "2000"

@@ -7,8 +7,8 @@ from chordsim_tools.study.bounds import (
 )
 from chordsim_tools.study.compare import Pair, guarded_level
 from chordsim_tools.study.goal import Goal, Limit
-from chordsim_tools.study.interval import LEAST_SEEDS, significant
-from chordsim_tools.study.names import base_of, in_words, is_percent
+from chordsim_tools.study.interval import LEAST_SEEDS, outward, significant
+from chordsim_tools.study.names import in_words, is_percent
 from chordsim_tools.study.numbers import Summary
 
 OPEN = "shown neither to reach the goal nor to miss it"
@@ -38,18 +38,6 @@ def goal_told(goal: Goal) -> str:
 def rings(count: float) -> str:
     """A number of rings."""
     return f"{count:g} ring" + ("" if count == 1 else "s")
-
-
-def outward(value: float, digits: int, sign: int) -> float:
-    """A bound with so many significant digits, rounded up for the sign 1 and down for -1, so that it still holds."""
-    if value == 0:
-        return value
-    step = 10.0 ** (math.floor(math.log10(abs(value))) - digits + 1)
-    # A value that has no more digits is not moved by what floating numbers add to it.
-    nearest = round(value / step)
-    if math.isclose(nearest * step, value, rel_tol=1e-12):
-        return float(f"{nearest * step:.12g}")
-    return float(f"{(math.ceil if sign > 0 else math.floor)(value / step) * step:.12g}")
 
 
 def those_that_reach(found: list[Summary], goal: Goal) -> list[Summary]:
@@ -165,12 +153,12 @@ def room_of(limit: Limit) -> float:
 
 
 def nearest_of(found: list[Summary], goal: Goal, level: float) -> Summary:
-    """The setting that lost the fewest rings, and of these the one whose greatest gap to a limit is the least."""
+    """The setting that lost the fewest rings, and of these the one whose greatest gaps to the limits are the least."""
 
-    def gap(one: Summary) -> tuple[float, float]:
+    def gap(one: Summary) -> tuple[float, list[float]]:
         """The order of settings."""
         shortfalls = [-slack(one, limit, level) / room_of(limit) for limit in goal.limits]
-        return 1 - one.kept / one.seeds, max(shortfalls, default=0.0)
+        return 1 - one.kept / one.seeds, sorted(shortfalls, reverse=True)
 
     return min(found, key=gap)
 
@@ -196,8 +184,7 @@ def unit_of(one: Summary, number: str) -> str:
 
 def number_told(one: Summary, number: str) -> str:
     """A number of a setting with its name."""
-    is_served = base_of(number) == "served"
-    value = one.served_told(number) if is_served else one.numbers[number].told(100 if is_percent(number) else 1)
+    value = one.numbers[number].told(100 if is_percent(number) else 1, is_percent(number))
     return f"{in_words(number)} {value}{unit_of(one, number)}"
 
 

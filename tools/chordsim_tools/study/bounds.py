@@ -4,15 +4,15 @@ A setting is shown to reach a goal if the one-sided bound of each number is with
 that each bound may have the whole risk of the setting. It is shown to miss the goal if the bound to the other side of
 any number is beyond its limit. Each of these bounds has its share of the risk, as one of them is enough. A setting
 either reaches the goal or misses it, so that only one of the two can be shown wrongly. So all that is shown of the
-settings of a world holds together with 95 %."""
+settings of a world holds together with 95 %, also if seeds are added and somebody looks again."""
 
 import math
 
-from chordsim_tools.study.exact import count_interval, share_interval
+from chordsim_tools.study.exact import count_interval
 from chordsim_tools.study.goal import Goal, Limit
-from chordsim_tools.study.interval import interval
-from chordsim_tools.study.names import base_of, is_percent
-from chordsim_tools.study.numbers import Summary, is_kept, take_of
+from chordsim_tools.study.interval import at_each_look
+from chordsim_tools.study.names import is_percent
+from chordsim_tools.study.numbers import Summary
 
 
 def level_of(found: list[Summary]) -> float:
@@ -28,29 +28,8 @@ def missing_level(found: list[Summary], goal: Goal) -> float:
 
 def bound_of(one: Summary, number: str, level: float, sign: int) -> float:
     """The one-sided bound of a number: the lower one for the sign -1, the upper one for 1. Infinite: there is none."""
-    if base_of(number) == "served" and one.kept < one.seeds:
-        return served_at_most(one, level, number) if sign > 0 else served_at_least(one, level, number)
     bound = one.numbers[number].bound(level, sign)
     return min(1.0, max(0.0, bound)) if is_percent(number) and math.isfinite(bound) else bound
-
-
-def served_at_least(one: Summary, level: float, number: str = "served") -> float:
-    """A lower bound of the share served if rings were lost: a lost one counts 0.
-
-    It is the bound of the chance that a ring is kept, times that of the mean of those that were kept, each at half the
-    risk."""
-    each = (1 + level) / 2
-    return share_interval(one.kept, one.seeds, 2 * each - 1)[0] * max(0.0, one.of(take_of(number)).bound(each, -1))
-
-
-def served_at_most(one: Summary, level: float, number: str = "served") -> float:
-    """An upper bound of the share served if rings were lost: one that is kept counts 1.
-
-    It is the bound of the chance that a ring is kept, and that of the mean of those that were lost, each at half the
-    risk."""
-    each = (1 + level) / 2
-    lost = interval([take_of(number)(cells) for cells in one.rows if not is_kept(cells)])
-    return min(1.0, share_interval(one.kept, one.seeds, 2 * each - 1)[1] + lost.bound(each, 1))
 
 
 def slack(one: Summary, limit: Limit, level: float) -> float:
@@ -60,8 +39,8 @@ def slack(one: Summary, limit: Limit, level: float) -> float:
 
 
 def loss_bounds(one: Summary, level: float) -> tuple[float, float]:
-    """The one-sided bounds of the rings lost an hour, the lower and the upper one."""
-    low, high = count_interval(one.seeds - one.kept, 2 * level - 1)
+    """The one-sided bounds of the rings lost an hour, the lower and the upper one, however often somebody looks."""
+    low, high = count_interval(one.seeds - one.kept, 2 * at_each_look(level) - 1)
     return low / one.hours, high / one.hours
 
 

@@ -1,13 +1,14 @@
 """Two settings compared seed by seed."""
 
 import math
-from dataclasses import dataclass
+from dataclasses import dataclass, replace
 
+from chordsim_tools.study.bounded import bounded
 from chordsim_tools.study.exact import mcnemar
-from chordsim_tools.study.interval import Interval, interval
+from chordsim_tools.study.interval import LEAST_SEEDS, Interval, interval, of_there
 from chordsim_tools.study.layout import of_each_world
-from chordsim_tools.study.names import COUNTS, MILLISECONDS, RATE, RATES, base_of
-from chordsim_tools.study.numbers import Cells, Summary, is_kept, summaries, take_of
+from chordsim_tools.study.names import COUNTS, MILLISECONDS, RATE, RATES, base_of, is_percent
+from chordsim_tools.study.numbers import Cells, Summary, is_kept, is_wild, summaries, take_of
 from chordsim_tools.study.tables import Tables
 
 UNITS = {
@@ -41,15 +42,14 @@ class Pair:
         kept = [(is_kept(a), is_kept(b)) for a, b in self.rows()]
         return kept.count((False, True)), kept.count((True, False))
 
-    def is_mixed(self) -> bool:
-        """Whether one of them lost its ring in some seeds but not in all. Means of such seeds have no interval."""
-        return any(0 < one.kept < one.seeds for one in (self.first, self.second))
+    def values(self, number: str) -> list[float | None]:
+        """The first less the second in each seed: served in all, other numbers if both kept their rings."""
+        pairs = ((a, b) if base_of(number) == "served" or (is_kept(a) and is_kept(b)) else None for a, b in self.rows())
+        return [None if pair is None else self.of_seed(number, *pair) for pair in pairs]
 
     def difference(self, number: str) -> Interval:
-        """The first less the second, over seeds in which both kept their rings; served over all if none is mixed."""
-        takes_all = number == "served" and not self.is_mixed()
-        pairs = ((a, b) if takes_all or (is_kept(a) and is_kept(b)) else None for a, b in self.rows())
-        return interval([None if pair is None else self.of_seed(number, *pair) for pair in pairs], self.level)
+        """The mean of the first less the second, and its interval if the seeds say enough for one."""
+        return difference_of(number, self.values(number), self.level)
 
     def of_seed(self, number: str, a: Cells, b: Cells) -> float | None:
         """The difference in a seed."""
@@ -58,11 +58,31 @@ class Pair:
             return None
         return first - second
 
+    def more_and_less(self, number: str) -> tuple[int, int]:
+        """In how many seeds the first has more, and less, than the second."""
+        there = of_there(self.values(number))
+        return sum(value > 0 for value in there), sum(value < 0 for value in there)
+
     def is_apart(self, number: str) -> bool:
-        """Whether the two can be told apart: by this number where both keep their rings, or by the rings lost."""
-        found = self.difference(number)
-        by_number = found.mean is not None and found.half is not None and abs(found.mean) > found.half
-        return by_number or mcnemar(*self.lost()) < 1 - self.level
+        """Whether the two can be told apart: by the mean, the rings lost, or who serves more in how many seeds."""
+        risk = 1 - self.level
+        by_signs = is_wild(number) and mcnemar(*self.more_and_less(number)) < risk
+        return by_signs or self.difference(number).excludes(0.0) or mcnemar(*self.lost()) < risk
+
+    def verdict(self, number: str) -> str:
+        """What is said of a difference that does not tell the two apart."""
+        if self.is_apart(number):
+            return ""
+        return "no interval" if self.difference(number).ends() is None else "not told apart"
+
+
+def difference_of(number: str, values: list[float | None], level: float) -> Interval:
+    """The mean of these differences. With fewer than five that are not 0 there is no interval by Student's t."""
+    are_few = sum(value != 0 for value in of_there(values)) < LEAST_SEEDS
+    if is_wild(number) or (is_percent(number) and are_few):
+        return bounded(values, level, -1.0)
+    found = interval(values, level)
+    return replace(found, half=None) if are_few else found
 
 
 def core(summary: Summary, cells: Cells) -> list[str]:
@@ -70,9 +90,9 @@ def core(summary: Summary, cells: Cells) -> list[str]:
     return list(cells.values())[len(summary.values):]
 
 
-def guarded_level(settings: int) -> float:
-    """The level of each of the intervals of all pairs of so many settings, so that all of them hold with 95%."""
-    return 1 - 0.05 / max(1, settings * (settings - 1) // 2)
+def guarded_level(*worlds: int) -> float:
+    """The level of each interval of all pairs of settings of worlds with so many each: all of them hold with 95%."""
+    return 1 - 0.05 / max(1, sum(settings * (settings - 1) // 2 for settings in worlds))
 
 
 def settings_of(tables: Tables) -> list[Summary]:

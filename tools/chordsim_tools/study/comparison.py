@@ -5,9 +5,10 @@ from pathlib import Path
 from chordsim_tools.cli import Refused, write_out
 from chordsim_tools.files import write_whole
 from chordsim_tools.study.compare import Pair, scale_of, settings_of
-from chordsim_tools.study.exact import mcnemar
+from chordsim_tools.study.exact import mcnemar, share_interval
+from chordsim_tools.study.interval import outward
 from chordsim_tools.study.names import name_of
-from chordsim_tools.study.numbers import Summary, has_number
+from chordsim_tools.study.numbers import Summary, has_number, is_wild
 from chordsim_tools.study.so_far import whole_tables
 from chordsim_tools.study.tables import csv_text
 
@@ -32,16 +33,38 @@ def numbers_of(pair: Pair) -> list[str]:
 
 
 def table_of(pair: Pair) -> list[list[str]]:
-    """A line a number: A, B, the number, both means, the mean difference, half of its interval, seeds, equal rows."""
-    lines = [["A", "B", "number", "mean-A", "mean-B", "difference", "half", "seeds", "of", "equal-runs"]]
+    """A line a number: both means, the mean difference, its interval, the seeds that it is over, and equal runs."""
+    lines = [["A", "B", "number", "mean-A", "mean-B", "difference", "half", "low", "high", "seeds", "of", "equal-runs"]]
     for number in numbers_of(pair):
         found = pair.difference(number)
         means = (one.numbers[number].mean for one in (pair.first, pair.second))
-        numbers = (*means, found.mean, found.half)
+        numbers = (*means, found.mean, found.half, *(found.ends() or (None, None)))
         cells = ["" if value is None else f"{value:.6g}" for value in numbers]
         counts = [str(count) for count in (found.count, found.of, pair.equal())]
         lines.append([pair.first.label, pair.second.label, number, *cells, *counts])
     return lines
+
+
+def differing(equal: int, seeds: int) -> str:
+    """How many worlds may have other runs, if so many of the seeds have the same run in both settings."""
+    most = outward(100 * share_interval(seeds - equal, seeds, 0.9)[1], 2, 1)
+    return f"the same run in {equal} of {seeds} seeds: at most {most:g} % of runs differ (95%)"
+
+
+def line_of(pair: Pair, number: str, width: int) -> str:
+    """The line of a number, whose name takes so much place."""
+    unit, scale = scale_of(number)
+    found = pair.difference(number)
+    told = f"  {name_of(number):<{width}} {found.told(scale)} {'' if found.mean is None else unit}".rstrip()
+    more, less = pair.more_and_less(number)
+    if found.mean is None or more + less == 0:
+        # Seeds that were left out are no likeness.
+        is_whole = found.count == found.of
+        equal = "all seeds" if is_whole else f"the {found.count} seeds in which both kept their rings"
+        return told + (f"  equal in {equal}" if found.count else "") + "\n"
+    verdict = pair.verdict(number)
+    signs = f"  A more in {more}, less in {less}" if is_wild(number) else ""
+    return told + signs + (verdict and f"  {verdict}") + "\n"
 
 
 def text_of(pair: Pair) -> str:
@@ -50,22 +73,17 @@ def text_of(pair: Pair) -> str:
     text = f"A: {pair.first.label}\nB: {pair.second.label}\n\nrings kept: A {pair.first.kept_told()}, "
     text += f"B {pair.second.kept_told()}; only A lost its ring in {pair.lost()[0]} seeds, only B in {pair.lost()[1]}"
     text += f" (exact test of McNemar: p = {mcnemar(*pair.lost()):.2g})\n"
+    if equal:
+        text += f"\n{differing(equal, seeds)}\n"
     if equal == seeds:
-        chance = 100 * (1 - 0.05 ** (1 / seeds))
-        return text + f"\nthe same run in {equal} of {seeds} seeds: at most {chance:.0f} % of runs differ (95%)\n"
-    text += f"\nA less B, paired by seed ({seeds} seeds, the same run in {equal} of them):\n"
+        return text
+    text += f"\nA less B, paired by seed ({seeds} seeds):\n"
     width = max(15, *(len(name_of(number)) for number in numbers_of(pair)))
-    for number in numbers_of(pair):
-        unit, scale = scale_of(number)
-        found = pair.difference(number)
-        apart = "" if found.half is None or abs(found.mean or 0) > found.half else "  not told apart"
-        apart = "  equal" if found.mean == found.half == 0 else apart
-        unit = "" if found.mean is None else unit
-        text += f"  {name_of(number):<{width}} {found.told(scale)} {unit}".rstrip() + apart + "\n"
-    return text + (
-        "\n± is half of a 95% interval of the mean difference (Student's t) over the seeds in which both kept their "
-        "rings;\nof served over all seeds, unless A or B lost its ring in some seeds but not in all.\nEach line is a "
-        "comparison by itself: of ten numbers that are equal, one or the other may seem to differ.\n"
+    return text + "".join(line_of(pair, number, width) for number in numbers_of(pair)) + (
+        "\nServed is over all seeds, all other numbers over those in which both kept their rings. ± is half of a 95% "
+        "interval\nof the mean difference (Student's t). (low..high) is one that holds for any law (by betting); such "
+        "numbers are also\ncompared by the exact sign test. Each line is a comparison by itself: of ten numbers that "
+        "are equal, one or the other\nmay seem to differ.\n"
     )
 
 

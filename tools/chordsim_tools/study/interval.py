@@ -1,4 +1,8 @@
-"""Means over seeds with their intervals, and how they are written."""
+"""Means over seeds with their intervals, and how they are written.
+
+Somebody who adds seeds and looks again gives chance more occasions. So the bounds that decide have the same small risk
+at each look (Pocock, Biometrika 64, 1977). With a sixth of the whole risk at each, ten looks at 10, 20 .. 100 seeds, or
+looks at 10, 20, 40 .. 160, are together wrong as rarely as they should be."""
 
 import math
 from collections.abc import Iterable
@@ -9,6 +13,13 @@ from chordsim_tools.study.exact import student
 
 LEAST_SEEDS = 5
 """Of fewer seeds no interval is computed: with two degrees of freedom it says next to nothing."""
+LOOKS = 6
+"""The whole risk of a bound that decides, by its risk at one look."""
+
+
+def at_each_look(level: float) -> float:
+    """The level of a bound at one look, so that it holds with this level at all of them together."""
+    return 1 - (1 - level) / LOOKS
 
 
 @dataclass(frozen=True)
@@ -46,17 +57,28 @@ class Interval:
             return f"{rounded(mean, digits)} ({rounded(low, digits)}..{rounded(high, digits)})"
         return f"{rounded(mean, digits)} ± {rounded(half, digits)}"
 
-    def told_range(self, scale: float) -> str:
-        """As `mean (least..greatest)`: for values that are of two kinds, of which no mean has an interval."""
-        if self.mean is None:
-            return "-"
-        return f"{significant(self.mean * scale, 3)} ({self.low * scale:.3g}..{self.high * scale:.3g})"
+    def ends(self) -> tuple[float, float] | None:
+        """Both ends of the interval, if there is one."""
+        return None if self.mean is None or self.half is None else (self.mean - self.half, self.mean + self.half)
+
+    def reach(self) -> float | None:
+        """How far the interval goes from the mean to its farther end, if it has to hold at each look."""
+        if self.half is None:
+            return None
+        return student(self.count - 1, at_each_look(0.95)) * self.error
+
+    def excludes(self, value: float) -> bool:
+        """Whether there is an interval, and this value is not in it."""
+        ends = self.ends()
+        return ends is not None and not ends[0] <= value <= ends[1]
 
     def bound(self, level: float, sign: int) -> float:
-        """The one-sided bound of the mean at this level: the lower one for the sign -1, the upper one for 1."""
+        """The one-sided bound of the mean: the lower one for the sign -1, the upper one for 1.
+
+        It holds with this level however often somebody looks, within reason."""
         if self.mean is None or self.count < LEAST_SEEDS:
             return sign * math.inf
-        return self.mean + sign * student(self.count - 1, 2 * level - 1) * self.error
+        return self.mean + sign * student(self.count - 1, 2 * at_each_look(level) - 1) * self.error
 
 
 def digits_of(half: float) -> int:
@@ -74,10 +96,27 @@ def significant(value: float, digits: int) -> str:
     return f"{value:.{digits}g}" if abs(value) < 10**digits else f"{value:.0f}"
 
 
+def outward(value: float, digits: int, sign: int) -> float:
+    """A bound with so many significant digits, rounded up for the sign 1 and down for -1, so that it still holds."""
+    if value == 0:
+        return value
+    step = 10.0 ** (math.floor(math.log10(abs(value))) - digits + 1)
+    # A value that has no more digits is not moved by what floating numbers add to it.
+    nearest = round(value / step)
+    if math.isclose(nearest * step, value, rel_tol=1e-12):
+        return float(f"{nearest * step:.12g}")
+    return float(f"{(math.ceil if sign > 0 else math.floor)(value / step) * step:.12g}")
+
+
+def of_there(values: Iterable[float | None]) -> list[float]:
+    """The values that are there."""
+    return [value for value in values if value is not None]
+
+
 def interval(values: Iterable[float | None], level: float = 0.95) -> Interval:
     """Mean and half interval of the values that are there, by Student's t."""
     every = list(values)
-    there = [value for value in every if value is not None]
+    there = of_there(every)
     if not there:
         return Interval(None, None, 0, len(every))
     low, high = min(there), max(there)

@@ -2,12 +2,15 @@
 
 from chordsim_tools.study.interval import LEAST_SEEDS
 from chordsim_tools.study.names import NAMES, RATE, RATES, TIMES, difference_header
+from chordsim_tools.study.numbers import is_wild
 
 ERROR = "0.5 %"
 """How far off the estimate of messages was at most; tests/test_study_messages.py looks at it."""
 FIRST = (
-    "**±** is half of a 95 % interval, for each cell by itself: Student's t over the seeds. If it would leave 0 to "
-    f"100 %, it is cut there and written as `(low..high)`. With fewer than {LEAST_SEEDS} seeds there is none.",
+    "**±** is half of a 95 % interval, for each cell by itself: Student's t over the seeds. **(low..high)** is one "
+    "that holds whatever the worlds are like (by betting, Waudby-Smith and Ramdas 2024). Served and members have it, and "
+    f"shares that are 0 or 100 % in nearly all seeds: of ten worlds that were run, none shows that all others are like "
+    f"them. With fewer than {LEAST_SEEDS} seeds there is no interval.",
     "**(m of n)**: the mean is of m of the n seeds. A seed is left out if its ring was lost, or if it has no such "
     "number. `-`: all seeds are left out.",
     "**rings kept**: seeds in which every audit found a ring. In brackets: the exact interval of their share (Clopper "
@@ -19,8 +22,8 @@ NOTES = {
         "**rings lost an hour**: for each hour that a ring lives. In brackets: the exact interval (Garwood). `below`: "
         "no ring was lost, and this is the upper bound.",
     "served":
-        "**served**: right answers, of the lookups wanted. No seed is left out: once lost, a ring serves none. If "
-        "rings were lost, the brackets have the least and the greatest seed. Wanted are the lookups begun or refused, "
+        "**served**: right answers, of the lookups wanted. No seed is left out: rings that were lost count with what "
+        "they served. Wanted are the lookups begun or refused, "
         "and those that were planned for a node that is up but no member. Such a node also wants one for each mean gap "
         "of `[lookups]`. A node is up from the start or a join until its crash, even if its join has failed.",
     "right_of_begun":
@@ -53,10 +56,7 @@ NOTES = {
 UNIT = f"**{RATE}**: for each member and second."
 PARTS = {"p50_ms": "50 %", "p90_ms": "90 %", "p99_ms": "99 %", "p999_ms": "99.9 %"}
 KEPT = "over the seeds in which both kept their rings."
-ALL = (
-    "over all seeds. If one of the two lost its ring in some seeds but not in all, only those seeds count in which "
-    "both kept their rings."
-)
+ALL = "over all seeds."
 """What the differences of served are over; those of all other numbers are over the rings kept."""
 
 
@@ -88,15 +88,18 @@ def notes_of(numbers: list[str], above: list[str]) -> list[str]:
     return told
 
 
-def difference_note(number: str, settings: int, worlds: list[str]) -> str:
-    """What the column of differences says of this many settings in worlds that these keys tell apart."""
-    pairs = settings * (settings - 1) // 2
+def difference_note(number: str, sizes: list[int], worlds: list[str]) -> str:
+    """What the column of differences says of worlds with so many settings, which these keys tell apart."""
+    pairs = sum(settings * (settings - 1) // 2 for settings in sizes)
     same = f" with the same {', '.join(worlds)}" if worlds else ""
+    tests = "McNemar's exact test of the rings lost does not tell the two apart"
+    if is_wild(number):
+        tests = "neither McNemar's exact test of the rings lost nor the sign test of the seeds tells the two apart"
     return (
         f"**{difference_header(number)}**: this setting less the best one{same}, seed by seed, "
-        f"{ALL if number == 'served' else KEPT} The intervals hold for all {pairs} pairs of settings together "
+        f"{ALL if number == 'served' else KEPT} The intervals hold for all {pairs} pairs of settings{same} together "
         "(Bonferroni). The best one is that of the answer above. Without such an answer it is the one that kept most "
-        "rings, and of these served most. `not told apart`: the interval reaches 0 or cannot be computed, and "
-        "McNemar's exact test of the rings lost does not tell the two apart either. `all rings lost`: the setting has "
-        "no ring to compare, and is never the best one."
+        f"rings, and of these served most. `not told apart`: the interval reaches 0, and {tests}. `no interval`: too "
+        "few seeds say anything of it, which is no sign that the two are alike. `all rings lost`: the setting has no ring "
+        "to compare, and is never the best one."
     )

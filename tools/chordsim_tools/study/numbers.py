@@ -5,10 +5,11 @@ from collections.abc import Callable, Iterable
 from dataclasses import dataclass, field
 
 from chordsim_tools.cli import Refused
+from chordsim_tools.study.bounded import bounded, share_mean
 from chordsim_tools.study.exact import count_interval, share_interval
 from chordsim_tools.study.goal import OF_SPANS
 from chordsim_tools.study.interval import Interval, interval
-from chordsim_tools.study.names import base_of, span_of
+from chordsim_tools.study.names import base_of, is_percent, span_of
 from chordsim_tools.study.plan import told
 from chordsim_tools.study.sizes import bytes_of
 from chordsim_tools.study.survival import NEVER
@@ -94,6 +95,20 @@ TAKES: dict[str, Callable[[Cells], float | None]] = {
     "bytes": a_second("bytes"),
 }
 """What each number of a setting is in one run. All but the first are averaged over the runs that kept their ring."""
+WILD = ("served", "members")
+"""Shares that few worlds can move far: a world whose ring dies, or half dies, has 30 % where the others have 99 %."""
+
+
+def mean_of(number: str, values: list[float | None], level: float = 0.95) -> Interval:
+    """The mean of a number over the runs, with the interval that fits its kind."""
+    if is_wild(number):
+        return bounded(values, level)
+    return share_mean(values, level) if is_percent(number) else interval(values, level)
+
+
+def is_wild(number: str) -> bool:
+    """Whether few worlds can move the mean of a number far."""
+    return base_of(number) in WILD
 
 
 COLUMNS = {
@@ -150,9 +165,9 @@ class Summary:
         """How many of them kept their ring."""
         return sum(map(is_kept, self.rows))
 
-    def of(self, take: Callable[[Cells], float | None]) -> Interval:
-        """The interval of a number among the rings kept."""
-        return interval([take(cells) if is_kept(cells) else None for cells in self.rows])
+    def of(self, take: Callable[[Cells], float | None], number: str = "") -> Interval:
+        """The mean and the interval of a number among the rings kept."""
+        return mean_of(number, [take(cells) if is_kept(cells) else None for cells in self.rows])
 
     def kept_told(self) -> str:
         """Rings kept as `9 of 10 (55..100 %)`."""
@@ -165,11 +180,6 @@ class Summary:
         if self.kept == self.seeds:
             return f"below {two_digits(high)}"
         return f"{two_digits((self.seeds - self.kept) / self.hours)} ({two_digits(low)}..{two_digits(high)})"
-
-    def served_told(self, number: str = "served") -> str:
-        """The share served; where rings were lost, with the range over the seeds in place of an interval."""
-        served = self.numbers[number]
-        return served.told(100, share=True) if self.kept == self.seeds else served.told_range(100)
 
 
 def two_digits(value: float) -> str:
@@ -205,9 +215,8 @@ def summary(keys: list[str], values: tuple[str, ...], rows: list[Cells], spans: 
     hours = sum(int(cells["lost-at-us"] or cells["duration-us"]) for cells in rows) / HOUR
     found = Summary(setting_label(keys, values), values, rows, {}, hours)
     found.by_seed = {cells["seed"]: cells for cells in rows}
-    found.numbers = {number: found.of(take) for number, take in TAKES.items()}
     of_spans = (f"{span}.{number}" for span in spans for number in OF_SPANS)
-    found.numbers |= {number: found.of(take_of(number)) for number in of_spans}
+    found.numbers = {number: found.of(take_of(number), number) for number in (*TAKES, *of_spans)}
     for number in ("served", *(f"{span}.served" for span in spans)):
-        found.numbers[number] = interval(map(take_of(number), rows))
+        found.numbers[number] = mean_of(number, list(map(take_of(number), rows)))
     return found

@@ -24,9 +24,22 @@ def more_seeds(study: Study, rows: list[Row]) -> list[int]:
 
 
 def is_narrow(one: Summary, wanted: Precision) -> bool:
-    """Whether a setting's interval is narrow enough. One that has lost a ring has none that could become so."""
-    number = one.numbers[wanted.number]
-    return one.kept < one.seeds or number.half is None or number.half <= wanted.half
+    """Whether a setting's interval is narrow enough. One that has lost a ring is not asked.
+
+    A number without an interval is not narrow. The interval is the one that holds at each look."""
+    reach = one.numbers[wanted.number].reach()
+    return one.kept < one.seeds or (reach is not None and reach <= wanted.half)
+
+
+def numberless(study: Study, rows: list[Row]) -> list[str]:
+    """That no run so far has the number of [precision], for which more seeds may be run in vain."""
+    if study.precision is None:
+        return []
+    table = list(csv.DictReader(io.StringIO(runs_text(rows))))
+    found = summaries(Tables({"vary": study.vary}, table, []))
+    number = study.precision.number
+    without = [one.label for one in found if one.kept and one.numbers[number].count == 0]
+    return [f"[precision] {number}: no run has it so far, of {'; '.join(without)}"] if without else []
 
 
 def stopped(wanted: Precision, found: list[Summary]) -> str:
@@ -37,5 +50,5 @@ def stopped(wanted: Precision, found: list[Summary]) -> str:
     if not any(one.kept == one.seeds for one in found):
         return f"Stopped at {seeds} seeds: [precision] wants {half}, but every setting has lost rings."
     if all(is_narrow(one, wanted) for one in found):
-        return f"Stopped at {seeds} seeds by [precision]: {half} in each setting that lost no ring."
+        return f"Stopped at {seeds} seeds by [precision]: {half} in each setting that lost no ring, at each look."
     return f"Stopped at most_seeds, {seeds}: [precision] wants {half}, which some settings do not reach."

@@ -17,7 +17,7 @@ from chordsim_tools.study.dask_runs import run_by_dask
 from chordsim_tools.study.interval import LEAST_SEEDS
 from chordsim_tools.study.plan import Setting, Study, label
 from chordsim_tools.study.pool import work_all
-from chordsim_tools.study.precise import more_seeds
+from chordsim_tools.study.precise import more_seeds, numberless
 from chordsim_tools.study.program import Program
 from chordsim_tools.study.progress import RunProgress
 from chordsim_tools.study.record import write_record
@@ -116,6 +116,7 @@ def run_study(study: Study, folder: Path, jobs: int, share: Share = (1, 1), dask
     make_folder(folder / "done")
     warn([*few_seeds(study), *argument_traps(study)])
     told: set[str] = set()
+    told_precision = False
     while True:
         runs = runs_of(study, folder / "done", program_sum)[share[0] - 1 :: share[1]]
         write_record(study, folder, program, program_sum, READING)
@@ -124,6 +125,9 @@ def run_study(study: Study, folder: Path, jobs: int, share: Share = (1, 1), dask
             return
         rows = [(run.setting, run.seed, whole_result(run)) for run in runs]
         more = more_seeds(study, rows)
+        if not told_precision:
+            warn(numberless(study, rows))
+            told_precision = True
         if not more:
             write_results(study, folder, program, program_sum, rows)
             return

@@ -74,9 +74,7 @@ def cell_of(one: Summary, number: str) -> str:
     """The cell of a number in a setting's line."""
     if number == "rings_lost":
         return one.rate_told()
-    if base_of(number) == "served":
-        return one.served_told(number)
-    found = one.of(cut_off) if number == "cut_off" else one.numbers[number]
+    found = one.of(cut_off, number) if number == "cut_off" else one.numbers[number]
     return found.told(100, share=True) if is_percent(number) else found.told()
 
 
@@ -86,17 +84,18 @@ def compared_number(worlds: Worlds, goal: Goal | None) -> str:
     return goal.least if goal is not None and is_reached else "served"
 
 
-def from_best(one: Summary, best: Summary | None, number: str, settings: int) -> str:
+def from_best(one: Summary, best: Summary | None, number: str, level: float) -> str:
     """The difference from the best setting, and whether the two can be told apart."""
     if best is None or one is best:
         return "**best**" if best is one else ALL_LOST if one.kept == 0 else "-"
-    pair = Pair(one, best, guarded_level(settings))
-    if one.kept == 0 and pair.difference(number).mean is None:
+    pair = Pair(one, best, level)
+    found = pair.difference(number)
+    if one.kept == 0 and found.mean is None:
         return ALL_LOST
     if pair.equal() == len(pair.seeds()):
         return f"the same run in {pair.equal()} of {len(pair.seeds())} seeds"
-    apart = "" if pair.is_apart(number) else ", not told apart"
-    return pair.difference(number).told(scale_of(number)[1]) + apart
+    verdict = pair.verdict(number)
+    return found.told(scale_of(number)[1]) + (verdict and f", {verdict}")
 
 
 def table_text(tables: Tables, found: list[Summary], columns: list[Column]) -> str:
@@ -125,14 +124,16 @@ def differences(tables: Tables, found: list[Summary]) -> tuple[list[Column], lis
     goal = goal_again(tables.manifest["goal"])
     worlds = of_each_world(tables, found)
     number = compared_number(worlds, goal)
+    sizes = [len(settings) for settings in worlds.values()]
+    level = guarded_level(*sizes)
     bests = {one.label: chosen(settings, goal) for settings in worlds.values() for one in settings}
 
     def cell(one: Summary) -> str:
         """The cell of a setting."""
-        return from_best(one, bests[one.label], number, len(found))
+        return from_best(one, bests[one.label], number, level)
 
     keys = worlds_of(tables) if len(worlds) > 1 else []
-    return [(difference_header(number), cell)], [difference_note(number, len(found), keys)]
+    return [(difference_header(number), cell)], [difference_note(number, sizes, keys)]
 
 
 def settings_tables(tables: Tables, found: list[Summary]) -> str:
