@@ -48,7 +48,7 @@ use Rattle.chord_scenario.specs.declared.fault.ScenarioFault.TheVariants.{Latenc
 use Rattle.chord_scenario.specs.Search.{first_meeting}
 use Rattle.chord_scenario.specs.Rows.{Row, Link, link_of, names_pair, row_latency}
 use Rattle.chord_scenario.specs.Latencies.{HasLatencies}
-use Rattle.chord_scenario.specs.Distances.{IsPlace, apart, squared_distance, latency_by_coordinates}
+use Rattle.chord_scenario.specs.Distances.{IsPlace, apart, root, squared_distance, latency_by_coordinates}
 use Rattle.chord_scenario.specs.Faults.{latency_by_rows, latency_below_window, low_pair, heights_below_window, below_window, bad_latency_row, same_name}
 use Rattle.chord_scenario.specs.Range.{LatenciesInRange, CoordinatesInRange}
 use Rattle.chord_scenario.specs.Setup.{Setup}
@@ -140,6 +140,16 @@ module _ (sc : Setup) (rows : List Row) (has : HasLatencies sc.nodes rows sc.lat
             rw (between i j d apart hi hj, swapped) (far_from j i d more hi)
       ]
 
+  symmetric : (i j : ℕ) (d : Node) → i < node_count sc → j < node_count sc → latency sc i j ≡ latency sc j i
+  symmetric i j d hi hj =
+      elim (dec_eq i j) [
+        | yes same ↦ rw same refl
+        | no apart ↦
+            between i j d apart hi hj
+            ∙ ap (λ o. unwrap_or o sc.latency) (row_latency-swap (get_or sc.nodes i d).name (get_or sc.nodes j d).name rows)
+            ∙ sym (between j i d (λ same. apart (sym same)) hj hi)
+      ]
+
   bounded : (i j : ℕ) (d : Node) → i < node_count sc → j < node_count sc → latency sc i j ≤ 1000000000
   bounded i j d hi hj =
       elim (cases_Bool (i == j)) [
@@ -193,6 +203,14 @@ place_bounded a b pa pb =
     let squares : squared_distance a b ≤ 500000000000000000 = omega (arith, square_below (apart a.x b.x) 500000000 x, square_below (apart a.y b.y) 500000000 y) in
     omega (arith, root_below (squared_distance a b) squares, pa.height, pb.height)
 
+place_swap : (a b : Coordinates) → latency_by_coordinates a b ≡ latency_by_coordinates b a
+unfolding latency_by_coordinates
+place_swap a b =
+    let x : apart a.x b.x ≡ apart b.x a.x = omega arith in
+    let y : apart a.y b.y ≡ apart b.y a.y = omega arith in
+    let squares : squared_distance a b ≡ squared_distance b a = rw (x, y) refl in
+    omega (arith, ap root squares)
+
 at_least_heights : (a b : Coordinates) → a.height + b.height ≤ latency_by_coordinates a b
 unfolding latency_by_coordinates
 at_least_heights a b = omega arith
@@ -245,6 +263,7 @@ module _ (sc : Setup) (rows : List Row) (has : HasLatencies sc.nodes rows sc.lat
   without none = record {
     square = has.size;
     positive = positive sc rows near long least;
+    symmetric = λ i j hi hj. symmetric sc rows has good distinct none (by_rows none) least most i j (first_of sc.nodes i hi) hi hj;
     bounded = λ i j hi hj. bounded sc rows has good distinct none (by_rows none) least most i j (first_of sc.nodes i hi) hi hj;
     window = λ i j hi hj apart. windows sc rows has good distinct none (by_rows none) least most i j (first_of sc.nodes i hi) hi hj apart;
   }
@@ -265,10 +284,21 @@ module _ (sc : Setup) (rows : List Row) (has : HasLatencies sc.nodes rows sc.lat
               (place_bounded (get_or sc.coordinates i origin) (get_or sc.coordinates j origin) (place i hi) (place j hj))
         ]
 
+    place_latency-symmetric : (i j : ℕ) → i < node_count sc → j < node_count sc → latency sc i j ≡ latency sc j i
+    place_latency-symmetric i j hi hj =
+        elim (dec_eq i j) [
+          | yes same ↦ rw same refl
+          | no apart ↦
+              placed sc i j (get_or sc.coordinates i origin) (get_or sc.coordinates j origin) apart (there i hi) (there j hj)
+              ∙ place_swap (get_or sc.coordinates i origin) (get_or sc.coordinates j origin)
+              ∙ sym (placed sc j i (get_or sc.coordinates j origin) (get_or sc.coordinates i origin) (λ same. apart (sym same)) (there j hj) (there i hi))
+        ]
+
     with_places : LatenciesInRange sc
     with_places = record {
       square = has.size;
       positive = positive sc rows near long least;
+      symmetric = place_latency-symmetric;
       bounded = place_latency-bounded;
       window = λ i j hi hj apart.
           rw (placed sc i j (get_or sc.coordinates i origin) (get_or sc.coordinates j origin) apart (there i hi) (there j hj))

@@ -87,10 +87,11 @@ pub record NodesInRange (sc : Setup) : Type 0 where
   pub apart : (i j : ℕ) → i < node_count sc → j < node_count sc → ident_of sc i ≡ ident_of sc j → i ≡ j
   pub initial : sc.list + 1 ≤ count_by (λ n. n.initial) sc.nodes
 
--- messages take time, and between different nodes at least a window
+-- messages take time, the same in both directions, and between different nodes at least a window
 pub record LatenciesInRange (sc : Setup) : Type 0 where
   pub square : length sc.latencies ≡ node_count sc * node_count sc
   pub positive : (from to : ℕ) → 1 ≤ latency sc from to
+  pub symmetric : (from to : ℕ) → from < node_count sc → to < node_count sc → latency sc from to ≡ latency sc to from
   pub bounded : (from to : ℕ) → from < node_count sc → to < node_count sc → latency sc from to ≤ 1000000000
   pub window : (from to : ℕ) → from < node_count sc → to < node_count sc → from ≢ to → sc.window ≤ latency sc from to
 

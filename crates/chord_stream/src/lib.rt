@@ -31,6 +31,11 @@ impl Model for Stream {
     ghost inverse = { λ v. record { seed = v.seed; number = v.number } };
 }
 
+/// Streams of different nodes or for different purposes have different numbers.
+pub fn streams_are_apart()
+    ensures { (n m p q : ℕ) → n < 2 ^ 32 → m < 2 ^ 32 → own_stream n p ≡ own_stream m q → (n ≡ m) × (p ≡ q) }
+{}
+
 impl Stream {
     /// The stream of a node in a scenario of this seed.
     pub fn of(seed: u64, node: u32) -> Stream

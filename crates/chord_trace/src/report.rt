@@ -55,8 +55,18 @@ impl Report {
     {
         push_numbers(text, &self.numbers())?;
         push_if(text, self.profile > 1, "losses", self.lines.losses)?;
-        push_if(text, self.profile == EXTENDED_PROFILE, "again", self.lines.again)?;
-        push_if(text, self.profile == EXTENDED_PROFILE, "forgotten", self.lines.forgotten)
+        push_if(
+            text,
+            self.profile == EXTENDED_PROFILE,
+            "again",
+            self.lines.again,
+        )?;
+        push_if(
+            text,
+            self.profile == EXTENDED_PROFILE,
+            "forgotten",
+            self.lines.forgotten,
+        )
     }
 
     fn numbers(&self) -> [(&'static str, u128); 24]
