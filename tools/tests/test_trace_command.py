@@ -105,7 +105,7 @@ class Commands(TestCase):
     def test_tables(self) -> None:
         """By steps, by node, and the worst lookups."""
         out = self.trace("--over-time", "500us", "--per-node", "--worst", "2")
-        self.assertRegex(out, r"\n0 s +3 +1 +0 +1 +1 +3 +1 +1 +0.00 %\n0.0005 s +0 ")
+        self.assertRegex(out, r"\n0 s +3 +1 +0 +1 +1 +3 +1 +1 +0.00 % +0.00003 s +- +-\n0.0005 s +0 ")
         self.assertRegex(out, r"\nb +1 +0 +0 +0 +0 +1 +1 +0.00007 s +-\n")
         self.assertRegex(out, r"\n3 +a@0.00008s +0.0001 s +0 +9 +- +- +0 +lost\n")
         self.assertRegex(out, r"\n1 +a@0.00002s .* +1 +defensible, misses a member\n")
@@ -164,7 +164,7 @@ class Commands(TestCase):
             (["none", scenario], 1, "refused: cannot read none: No such file"),
             ([trace, "none"], 1, "refused: cannot read none"),
             ([scenario, scenario], 1, "line 1 is no line of a trace"),
-            ([trace, trace], 1, "refused: S1 NotToml"),
+            ([trace, trace], 1, f"refused: {trace}: S1 NotToml; tools/explain says more"),
             ([trace, scenario, "--report", scenario], 1, "is no line of a report"),
             ([trace, scenario, "--report", self.write("empty", "")], 1, f"refused: {self.folder}/empty has no report"),
             ([trace], 2, "SCENARIO"),
@@ -211,7 +211,7 @@ class Page(TestCase):
         """All of its commands can be typed in as they stand, in the top folder; here in one that has links to it."""
         text = (TOP / "docs" / "trace.md").read_text(encoding="utf-8")
         commands = re.findall(r"^```\n(.*?)^```", text, re.MULTILINE | re.DOTALL)[0]
-        self.assertEqual((commands.count("./chordsim "), commands.count("tools/trace ")), (1, 7))
+        self.assertEqual((commands.count("./chordsim "), commands.count("tools/trace ")), (1, 8))
         if not D3.exists():
             commands = re.sub(".*--html.*", "", commands)
         with tempfile.TemporaryDirectory() as folder:

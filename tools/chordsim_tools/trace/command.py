@@ -4,13 +4,14 @@ import json
 import re
 from argparse import ArgumentTypeError, Namespace
 
-from chordsim_tools.cli import Failure, Parser, run
+from chordsim_tools.cli import Failure, Parser, Refused, run
 from chordsim_tools.explain.traps import warn
-from chordsim_tools.files import check_output, read_input
+from chordsim_tools.files import check_apart, check_output, read_input
 from chordsim_tools.quantities import time_of
 from chordsim_tools.scenario.reading import Scenario, read_scenario
-from chordsim_tools.scenario.tables import GREATEST_SIZE
+from chordsim_tools.scenario.tables import GREATEST_SIZE, parse_toml
 from chordsim_tools.trace.detail import join_story, removal_story
+from chordsim_tools.trace.lookups import write_lookups
 from chordsim_tools.trace.messages import message_table
 from chordsim_tools.trace.reading import Run, read_report, read_run
 from chordsim_tools.trace.stories import lookup_story, node_story
@@ -41,6 +42,7 @@ examples:
   tools/trace ring.trace ring.toml --join n07          the story of the join of n07, if it has one alone; else n07@12.5s
   tools/trace ring.trace ring.toml --removed n07       why n07 has removed successors (with `detail = true`)
   tools/trace ring.trace ring.toml --worst 10          the ten slowest and the ten most wrong lookups
+  tools/trace ring.trace ring.toml --lookups ring.csv  a table of all lookups: asker, key, begin, end, verdicts and more
   tools/trace ring.trace ring.toml --html ring.html    a page for a browser, in one file
 
 status: 0 all was done; 1 a file is refused, or cannot be read; 2 the arguments are wrong; 3 something failed (the disk,
@@ -61,6 +63,7 @@ def parsed(arguments: list[str]) -> Namespace:
     parser.add_argument("--lookup", metavar="N|NODE@TIME", help="one lookup: the N-th, or by its asker and begin")
     parser.add_argument("--join", metavar="NODE[@TIME]", help="one join of a node; by its begin if there are more")
     parser.add_argument("--removed", metavar="NODE", help="each successor that a node has removed, and why")
+    parser.add_argument("--lookups", metavar="FILE", help="write a table of all lookups into FILE (CSV)")
     parser.add_argument("--html", metavar="FILE", help="write a page for a browser into FILE")
     parser.add_argument("--json", action="store_true", help="print the summary, and the tables asked for, as JSON")
     return parser.parse_args(arguments)
@@ -84,12 +87,30 @@ def count(text: str) -> int:
 def scenario_of(args: Namespace) -> Scenario:
     """The scenario of the run."""
     latency = b"" if args.latency is None else read_input(args.latency, GREATEST_SIZE)
-    return read_scenario(read_input(args.scenario, GREATEST_SIZE), latency)
+    content = read_input(args.scenario, GREATEST_SIZE)
+    try:
+        return read_scenario(content, latency)
+    except Refused as fault:
+        file = args.latency if " row " in fault.text else args.scenario
+        raise Refused(f"{file}: {fault.text}{swapped(args, fault)}") from None
+
+
+def swapped(args: Namespace, fault: Refused) -> str:
+    """What else to do about a scenario that is refused: swap the two files if the first one is a scenario."""
+    try:
+        is_scenario = "profile" in parse_toml(read_input(args.trace, GREATEST_SIZE))
+    except Refused:
+        is_scenario = False
+    if is_scenario and fault.text.startswith("S1 "):
+        return f"; {args.trace} is a scenario: swap the two, as tools/trace TRACE SCENARIO"
+    return "; tools/explain says more"
 
 
 def work(args: Namespace) -> None:
     """Reads the run, and prints or writes what the arguments ask for."""
-    check_output("--html", args.html, (args.trace, args.scenario, args.latency, args.report))
+    for option, file in (("--html", args.html), ("--lookups", args.lookups)):
+        check_output(option, file, (args.trace, args.scenario, args.latency, args.report))
+    check_apart("--lookups", args.lookups, "--html", args.html)
     one = read_run(args.trace, scenario_of(args))
     if args.report is not None:
         read_report(args.report, one)
@@ -99,10 +120,12 @@ def work(args: Namespace) -> None:
             raise Failure(2, f"--{option}: the scenario has no node {name!r}")
     if args.html is not None:
         write_page(args.html, one, args.scenario)
+    if args.lookups is not None:
+        write_lookups(args.lookups, one)
     asked = any((args.over_time, args.per_node, args.worst, args.node, args.lookup, args.join, args.removed))
     if args.json:
         show([json.dumps(in_json(one, args), indent=2)])
-    elif args.html is None or asked:
+    elif asked or (args.html is None and args.lookups is None):
         show(in_text(one, args))
 
 

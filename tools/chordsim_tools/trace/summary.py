@@ -10,6 +10,7 @@ from chordsim_tools.trace.history import Join
 from chordsim_tools.trace.lines import Audit, Lookup
 from chordsim_tools.trace.messages import message_counts
 from chordsim_tools.trace.reading import Run, line_counts, report_of_lines
+from chordsim_tools.trace.tables import add_time
 from chordsim_tools.trace.wording import share
 
 SHARES = (50, 90, 99)
@@ -101,9 +102,8 @@ def answer_facts(lookups: list[Lookup]) -> Facts:
 def time_facts(lookups: list[Lookup], reached: int) -> Facts:
     """Percentiles of times: of those that found an owner, and of all by the curve of Kaplan and Meier."""
     everything = Times()
-    everything.ended = [one.taken(reached) for one in lookups if one.outcome == "found"]
-    everything.cut = [one.taken(reached) for one in lookups if one.outcome in ("crash", "end")]
-    everything.lost = sum(one.outcome == "lost" for one in lookups)
+    for one in lookups:
+        add_time(everything, one, reached)
     return {
         "found": percentiles(everything.ended),
         "all": {f"p{one}": everything.percentile(one) for one in SHARES},

@@ -4,16 +4,20 @@ from typing import Any
 
 from chordsim_tools.cli import Failure
 from chordsim_tools.quantities import time_text
+from chordsim_tools.study.survival import Times
 from chordsim_tools.trace.lines import CRASH, MEMBER, NOBODY, TIMEOUT, Lookup
 from chordsim_tools.trace.reading import Run
 from chordsim_tools.trace.wording import counted, seconds, share, table
 
 Rows = list[dict[str, Any]]
 MOST_STEPS = 100_000
+PERCENTILES = {"p50_us": (50, 1), "p99_us": (99, 100), "p999_us": (99.9, 1000)}
+"""The percentiles of a step, and of how many lookups each is one."""
 
 
 def step_rows(run: Run, width: int) -> Rows:
-    """A row for each step: what begins and ends in it, and the members at its end. A step has its first instant."""
+    """A row for each step: what begins and ends in it, how long the lookups take that begin in it, and the members at its
+    end. A step has its first instant."""
     end = run.history.scenario.duration_us if run.is_whole else run.reached + 1
     count = -(-end // width)
     if count > MOST_STEPS:
@@ -31,20 +35,41 @@ def step_rows(run: Run, width: int) -> Rows:
         for time in lines.of_kind(kind):
             rows[time // width][word] += 1
     members = run.history.members
-    for row in rows:
+    for row, times in zip(rows, step_times(run, width, count), strict=True):
         row["members"] = members.count_before(min(row["from_us"] + width, end))
+        row |= {word: times.percentile(of) if times.count() >= least else None for word, (of, least) in PERCENTILES.items()}
     return rows
+
+
+def step_times(run: Run, width: int, count: int) -> list[Times]:
+    """How long the lookups take that begin in each step, whenever they end."""
+    steps = [Times() for _ in range(count)]
+    for one in run.history.lines.lookups:
+        add_time(steps[one.begin // width], one, run.reached)
+    return steps
+
+
+def add_time(times: Times, one: Lookup, reached: int) -> None:
+    """One more lookup: found, lost or cut off."""
+    if one.outcome == "lost":
+        times.lost += 1
+    else:
+        (times.ended if one.outcome == "found" else times.cut).append(one.taken(reached))
 
 
 def step_table(rows: Rows) -> list[str]:
     """The same for readers."""
     words = ("begun", "found", "right", "lost", "timeouts", "members", "crashes", "joined")
     cells = [
-        [seconds(row["from_us"]), *(counted(row[word]) for word in words), share(row["right"], row["found"])]
+        [seconds(row["from_us"]), *(counted(row[word]) for word in words), share(row["right"], row["found"]),
+         *(seconds(row[word]) for word in PERCENTILES)]
         for row in rows
     ]
-    head = ["steps of time: members are those at the end of the step, right is strict", ""]
-    return head + table(["from", *words, "right share"], cells)
+    head = [
+        "steps of time: members are those at the end of the step, right is strict; p50, p99 and p99.9 are of the times of",
+        "all lookups that begin in the step (of 100 and 1,000 or more for the last two)", "",
+    ]
+    return head + table(["from", *words, "right share", "p50", "p99", "p99.9"], cells)
 
 
 def node_rows(run: Run) -> Rows:
