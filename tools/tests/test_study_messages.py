@@ -1,7 +1,9 @@
 """The estimate of messages against those that the reference simulator counts, and what a longer run changes."""
 
+import csv
 import heapq
 import tomllib
+from random import Random
 from typing import Any
 from unittest import TestCase
 
@@ -13,11 +15,13 @@ from chordsim_tools.reference.simulation import Simulation
 from chordsim_tools.scenario.reading import read_scenario
 from chordsim_tools.study.messages import Span, Traffic, exact, message_numbers
 from chordsim_tools.study.notes import ERROR
+from chordsim_tools.study.repairs import Repairs
 from chordsim_tools.study.served import scope_of
 from chordsim_tools.study.task import events_before
 from chordsim_tools.study.trace import TraceReader
 from tests.support.programs import ended, program
 from tests.support.worlds import EXAMPLES
+from tests.test_study_run import call, study_folder
 
 MOST = float(ERROR.removesuffix(" %")) / 100
 
@@ -29,9 +33,9 @@ def shortened(name: str, duration_us: int) -> str:
     return "\n".join(found)
 
 
-def counted(text: str, warmup_us: int = 0) -> tuple[dict[str, int], dict[str, int]]:
+def counted(text: str, warmup_us: int = 0, rows: bytes = b"") -> tuple[dict[str, int], dict[str, int]]:
     """The messages of each kind from a time on, as a study counts them and as the reference simulator makes them."""
-    scenario, top = read_scenario(text.encode(), b""), tomllib.loads(text)
+    scenario, top = read_scenario(text.encode(), rows), tomllib.loads(text)
     simulation, report = Simulation(scenario), Report(scenario.profile)
     idents = {node.name: node.ident for node in scenario.nodes}
     initial = [node.name for node in scenario.nodes if node.initial]
@@ -40,11 +44,13 @@ def counted(text: str, warmup_us: int = 0) -> tuple[dict[str, int], dict[str, in
     for line in simulation.lines():
         if int(line.split(" ")[0]) < warmup_us:
             before = simulation.events, sent(simulation, report)
-        reader.read(line)
+        if reader.traffic.sift(f"{line}\n".encode()):
+            reader.read(line)
         report.read(line)
     reader.numbers()
     made = {kind: count - before[1][kind] for kind, count in sent(simulation, report).items()}
-    span = Span(top, simulation.events - before[0], reader.population)
+    repairs = Repairs(top, rows).begun(reader.members, warmup_us, top["duration_us"])
+    span = Span(top, simulation.events - before[0], reader.population, repairs)
     numbers = message_numbers(reader.traffic, span)
     return {kind: int(numbers[f"sent-{kind}"] or 0) for kind in MESSAGES}, made
 
@@ -71,26 +77,81 @@ class StudyMessagesTest(TestCase):
             with self.subTest(name=name):
                 self.check(shortened(f"{name}.toml", seconds * 1_000_000))
 
-    def test_requests_sent_again(self) -> None:
-        """A tenth of the messages lost, and each request sent again up to twice."""
-        text = shortened("lossy64.toml", 20_000_000).replace("profile = 2", "profile = 4\nretries = 2", 1)
-        self.check(text.replace("loss_ppm = 20000", "loss_ppm = 100000", 1))
-
-    def test_joins_that_pause_and_checks(self) -> None:
-        """Nodes live 10 to 30 seconds and join through one that is down from 10 to 25 s. Pings are near, too."""
-        text = shortened("deployed64.toml", 35_000_000)
-        for old, new in (
-            ("at_us = 40", "at_us = 10"), ("at_us = 70", "at_us = 25"), ("life_min_us = 20", "life_min_us = 10"),
-            ("life_max_us = 60", "life_max_us = 30"), ("down_min_us = 5", "down_min_us = 2"),
+    def test_round_trips_above_the_period(self) -> None:
+        """A member whose stabilization waits for a reply skips the next one: one of 400 ms lasts two turns of 250 ms."""
+        words = "--nodes 12 --duration 45s --window 1ms --timeout 1s --audit 5s --stabilize 250ms --finger 1s"
+        for more in (
+            "--latency 200ms --jitter 50ms --lookup-gap 5s..15s", "--latency 200ms --jitter 0us",
+            "--profile 2 --latency 120ms --spread 40ms --jitter 20ms", "--latency 400ms --jitter 50ms",
         ):
-            text = text.replace(f"{old}000000", f"{new}000000")
-        self.check(text, kinds=("ping", "pong"))
+            with self.subTest(more=more):
+                text = ended(generate.main, *words.split(), *more.split())[1]
+                about, made = counted(text)
+                assert abs(sum(about.values()) / sum(made.values()) - 1) < MOST, (about, made)
+                # Without a skipped turn there would be twelve each 250 to 275 ms, from 164 to 180 for each.
+                assert made["notify"] < 1300 and abs(about["notify"] / made["notify"] - 1) < 0.05, (about, made)
+
+    def test_hidden_kinds(self) -> None:
+        """Random scenarios of profiles 1 and 2, of 40 timeouts or more: churn, loss, spread, long round trips."""
+        for seed in range(8):
+            draws = Random(seed)
+            latency, timeout = draws.choice([20, 130, 300]), draws.choice([650, 1000])
+            words = f"--nodes {draws.randint(8, 20)} --duration 45s --window 1ms --audit 5s --finger 500ms --jitter 50ms "
+            words += f"--latency {latency}ms --timeout {timeout}ms --stabilize {draws.choice([250, 400, 1000])}ms "
+            words += draws.choice(["", "--profile 2 --loss 10000 ", "--profile 2 --spread 40ms "])
+            words += draws.choice(["", "--lifetime exp:40s --down exp:8s", "--churn-uniform 20s..60s 5s..15s"])
+            with self.subTest(words=words):
+                about, made = counted(ended(generate.main, *words.split(), "--seed", str(seed))[1])
+                assert abs(sum(about.values()) / sum(made.values()) - 1) < MOST, (about, made)
+
+    def test_latency_file(self) -> None:
+        """The round trip to the next member counts: one pair of three is far apart, so that one member skips turns."""
+        nodes = "".join(f'[[node]]\nname = "n{i}"\nid = {i * 80}\ninitial = true\n' for i in range(3))
+        text = (
+            "profile = 1\nbits = 8\nseed = 1\nlatency_us = 10000\nlist = 2\nduration_us = 40000000\nwindow_us = 1000\n"
+            "timeout_us = 900000\naudit_us = 5000000\nstabilize_us = 100000\nfinger_us = 5000000\n" + nodes
+        )
+        about, made = counted(text, 0, b"n0,n1,225000\n")
+        # Of 399 turns n1 and n2 use all, and n0, whose round trip is 450 ms, every fifth.
+        assert abs(made["notify"] - 877) < 9 and abs(about["notify"] - made["notify"]) < 9, (about, made)
 
     def test_detail(self) -> None:
-        """The lines of a run with detail give the numbers themselves."""
+        """The lines of a run with detail give the numbers themselves, also after a warm-up."""
         text = shortened("lossy64.toml", 12_000_000).replace("profile = 2", "profile = 4\ndetail = true", 1)
-        found, made = counted(text.replace("life_min_us = 20", "life_min_us = 2"))
-        assert found == made and min(made.values()) > 0, (found, made)
+        text = text.replace("life_min_us = 20", "life_min_us = 2")
+        for warmup in (0, 5_000_000):
+            found, made = counted(text, warmup)
+            assert found == made and min(made.values()) > 0, (found, made)
+
+    def test_detail_of_requests_sent_again(self) -> None:
+        """A tenth of the messages lost, requests sent again twice, pauses of joins and checks: counted all the same."""
+        more = "profile = 4\ndetail = true\nretries = 2\njoin_pause_us = 500000\ncheck_us = 400000"
+        text = shortened("lossy64.toml", 12_000_000).replace("profile = 2", more, 1)
+        found, made = counted(text.replace("loss_ppm = 20000", "loss_ppm = 100000", 1))
+        assert found == made and made["ping"] > 0, (found, made)
+
+    def test_runs_of_a_study_are_counted(self) -> None:
+        """A run of profile 4 has detail without being asked for it; profile 2 has an estimate, and says so."""
+        for profile, wanted in ((4, 1), (2, 0)):
+            words = f"--profile {profile} --nodes 12 --duration 40s --stabilize 100ms --latency 80ms --timeout 400ms"
+            text = 'question = "How?"\nseeds = 1\ngenerate = ' + str(words.split()).replace("'", '"')
+            with study_folder(text) as folder:
+                assert call(folder, chordsim=program())[0] == 0
+                [cells] = csv.DictReader((folder / "study" / "runs.csv").read_text().splitlines())
+                _, made = counted(next((folder / "study" / "done").glob("*.toml")).read_text())
+            assert cells["messages-counted"] == str(wanted)
+            assert wanted == 0 or int(cells["messages"]) == sum(made.values()), (cells, made)
+
+    def test_names_that_are_words_of_detail(self) -> None:
+        """Nodes that are called ask and send, and a part that begins before the warm-up."""
+        traffic = Traffic(scope_of({"duration_us": 100, "node": []}, 50, 10, 0))
+        part = (
+            b"9 ask lookup 5\n9 send ask step ask call=3\n10 send timeout ask\n10 ask ask step send call=4\n"
+            b"11 ask found 5 send hops=1 timeouts=0 us=2\n12 ask send notify ask\nevents 4\n"
+        )
+        left = b"9 ask lookup 5\n10 send timeout ask\n11 ask found 5 send hops=1 timeouts=0 us=2\nevents 4\n"
+        assert traffic.sift(part) == left and traffic.sift(left) == left
+        assert +traffic.lines == {"ask step": 1, "send notify": 1}
 
     def test_detail_after_a_warmup(self) -> None:
         """The lines from 10 on. A lost request has two lines, and another lost message has one."""

@@ -198,15 +198,6 @@ class StudyTraceTest(TestCase):
         assert scope_of({"duration_us": 100, "join_forever": True}, 10, 0, 0).join_forever
         assert not scope_of({"duration_us": 100}, 10, 0, 0).join_forever
 
-    def test_failed_attempts(self) -> None:
-        """Timeouts of b while it joins, from 100 on; not those of a member, and none of a join that is over."""
-        lines = ["90 b timeout c", "95 b crash", "100 b join a", "110 b timeout a", "120 b timeout a"]
-        lines.append("130 b join-failed")
-        for join_forever, count in ((True, 3), (False, 2)):
-            one = reader(*lines, "140 b timeout a", "150 b member a", "160 b timeout a", join_forever=join_forever)
-            assert one.traffic.failed_attempts == count
-        assert reader(*lines[:5], warmup_us=115).traffic.failed_attempts == 1
-
     def test_scheduled_lookups(self) -> None:
         """A command to look up counts if its node is up, member or not."""
         lines = ("40 b stranded a", "50 b ignored lookup", "60 c crash", "70 c ignored lookup", "80 a lookup 5")

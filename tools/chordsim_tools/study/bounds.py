@@ -28,7 +28,7 @@ def missing_level(found: list[Summary], goal: Goal) -> float:
 
 def bound_of(one: Summary, number: str, level: float, sign: int) -> float:
     """The one-sided bound of a number: the lower one for the sign -1, the upper one for 1. Infinite: there is none."""
-    bound = one.numbers[number].bound(level, sign)
+    bound = one.numbers[number].bound(level, sign) + sign * one.error(number)
     return min(1.0, max(0.0, bound)) if is_percent(number) and math.isfinite(bound) else bound
 
 

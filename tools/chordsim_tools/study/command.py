@@ -100,7 +100,8 @@ Runs `chordsim run --serial` for each setting and seed and writes into FOLDER:
                  cost-...         from warmup_us to the end: time as members, and events; timeouts, those that take a
                                   member for dead, and of these such that remove it from a successor list; requests sent
                                   again; members stranded, joins failed
-                 messages, sent-STEP ...       messages in that time, about (docs/studies.md)
+                 messages, sent-STEP ...       messages in that time: counted in profile 4 (messages-counted is 1), and
+                                  estimated in profiles 1 and 2 (docs/studies.md)
   series.csv     one line a run and step of window_us: lookups begun, answers found, right ones, members at its end
   steps.csv      the same for timeouts, lost messages and, in the extended profile, requests sent again
   cdf.csv        how times and hops of the judged lookups are distributed: the share found within each value

@@ -67,7 +67,8 @@ class Pair:
         """Whether the two can be told apart: by the mean, the rings lost, or who serves more in how many seeds."""
         risk = 1 - self.level
         by_signs = is_wild(number) and mcnemar(*self.more_and_less(number)) < risk
-        return by_signs or self.difference(number).excludes(0.0) or mcnemar(*self.lost()) < risk
+        margin = self.first.error(number) + self.second.error(number)
+        return by_signs or self.difference(number).excludes(0.0, margin) or mcnemar(*self.lost()) < risk
 
     def verdict(self, number: str) -> str:
         """What is said of a difference that does not tell the two apart."""

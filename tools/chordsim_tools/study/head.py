@@ -6,6 +6,7 @@ from chordsim_tools.quantities import time_text
 from chordsim_tools.study.goal import precision_again
 from chordsim_tools.study.interval import LEAST_SEEDS, Interval, interval
 from chordsim_tools.study.network import latencies_told, made_told
+from chordsim_tools.study.notes import ERROR
 from chordsim_tools.study.numbers import LEAST_FOR_P99, Cells, Summary, ratio
 from chordsim_tools.study.precise import stopped
 from chordsim_tools.study.wrap import note, paragraph
@@ -99,6 +100,11 @@ def warnings(manifest: dict[str, Any], found: list[Summary]) -> list[str]:
     if cut > MUCH * all_of_them:
         share = 100 * cut / all_of_them
         told.append(f"The end cut off {share:.2g} % of the judged lookups, which are left out: set cooldown_us.")
+    if not all(one.is_counted for one in found):
+        told.append(
+            f"Messages are estimated, to within {ERROR}. Goals and comparisons allow for that. With `profile = 4` they "
+            "are counted."
+        )
     if manifest["warmup_us"] == 0 and (manifest["own_churn"] or moves):
         told.append("Without warmup_us the time before the first crashes is judged too.")
     return told

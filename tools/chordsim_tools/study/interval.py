@@ -67,10 +67,10 @@ class Interval:
             return None
         return student(self.count - 1, at_each_look(0.95)) * self.error
 
-    def excludes(self, value: float) -> bool:
-        """Whether there is an interval, and this value is not in it."""
+    def excludes(self, value: float, margin: float = 0.0) -> bool:
+        """Whether there is an interval, and this value is not in it nor so near to it."""
         ends = self.ends()
-        return ends is not None and not ends[0] <= value <= ends[1]
+        return ends is not None and not ends[0] - margin <= value <= ends[1] + margin
 
     def bound(self, level: float, sign: int) -> float:
         """The one-sided bound of the mean: the lower one for the sign -1, the upper one for 1.

@@ -1,11 +1,32 @@
-"""The messages of a run: an estimate, since a trace without detail has no line for most of them (docs/studies.md)."""
+"""The messages of a run: counted in the extended profile, whose traces have lines of detail, and estimated in the others
+(docs/studies.md)."""
 
+import math
+import re
+from bisect import bisect_left
 from collections import Counter
 from dataclasses import dataclass
 from typing import Any
 
 from chordsim_tools.messages import MESSAGES, REPLIES, REQUESTS, messages_made
 from chordsim_tools.study.served import Population, Scope
+
+
+MOST_ERROR = 0.06
+"""How far off the estimate was at most, as a share, in random scenarios of all kinds; tests/test_study_messages.py draws
+some of them. A ring has to be kept for 40 timeouts and 30 periods."""
+ENDS = ("crash", "join-failed")
+"""The words of lines after which a node is down, in the profiles whose messages are estimated."""
+DETAIL = re.compile(rb"^\d+ [^ \n]+ (?:ask|send) [^\n]*\n", re.MULTILINE)
+"""Lines of detail."""
+MADE = (*(f"ask {kind}" for kind in REQUESTS), *(f"send {kind}" for kind in MESSAGES if kind not in REQUESTS))
+"""What lines of detail say was made."""
+
+
+def time_of(line: bytes) -> float:
+    """The time of the first line; the report comes after all times."""
+    word = line.partition(b" ")[0]
+    return int(word) if word.isdigit() else math.inf
 
 
 class Traffic:
@@ -16,31 +37,29 @@ class Traffic:
         self.scope = scope
         self.lines: Counter[str] = Counter()
         self.hops = self.timeouts = 0
-        self.joining: set[str] = set()
-        self.failed_attempts = 0
 
     def read(self, time: int, fields: list[str]) -> None:
         """Takes a line that is not of an audit."""
         word = fields[2]
-        self.follow_joins(fields[1], word)
         if time < self.scope.warmup_us:
             return
-        self.failed_attempts += word == "timeout" and fields[1] in self.joining
         if word in ("found", "lost"):
             self.hops += int(fields[-3].removeprefix("hops="))
             self.timeouts += int(fields[-2].removeprefix("timeouts="))
         self.lines[f"{word} {fields[3]}" if word in ("drop", "lose", "late", "ask", "send") else word] += 1
 
-    def follow_joins(self, name: str, word: str) -> None:
-        """Keeps the nodes that join: each of their timeouts is a failed attempt."""
-        if word in ("join", "stranded"):
-            self.joining.add(name)
-        elif word in ("member", *self.ends()):
-            self.joining.discard(name)
-
-    def ends(self) -> tuple[str, ...]:
-        """The words of lines after which a node is down."""
-        return ("crash",) if self.scope.join_forever else ("crash", "join-failed")
+    def sift(self, part: bytes) -> bytes:
+        """Counts the lines of detail in whole lines of a trace, and leaves the others. A run has millions of them."""
+        if DETAIL.search(part) is None:
+            return part
+        if time_of(part[part.rfind(b"\n", 0, -1) + 1 :]) >= self.scope.warmup_us:
+            counted = part
+            if time_of(part) < self.scope.warmup_us:
+                lines = part.splitlines(keepends=True)
+                counted = b"".join(lines[bisect_left(lines, self.scope.warmup_us, key=time_of) :])
+            for made in MADE:
+                self.lines[made] += counted.count(f" {made} ".encode())
+        return DETAIL.sub(b"", part)
 
     def sum_of(self, word: str, kinds: tuple[str, ...]) -> int:
         """How many lines of a word are of these kinds."""
@@ -59,11 +78,13 @@ class Traffic:
 
 @dataclass(frozen=True)
 class Span:
-    """What is known of a run from `warmup_us` to the end: its scenario, the events, and nodes over time."""
+    """What is known of a run from `warmup_us` to the end: its scenario, the events, nodes over time, and how many
+    stabilizations its members would begin if no message was lost or dropped."""
 
     top: dict[str, Any]
     events: int
     population: Population
+    repairs: float = 0.0
 
     def ticks(self, table: dict[str, Any], least: str, greatest: int, traffic: Traffic) -> float:
         """About how many events a timer has: one for each mean delay that a node is up, less half a one for each time
@@ -71,7 +92,7 @@ class Span:
         mean = float(table[least] + greatest) / 2
         variance = float((greatest - table[least] + 1) ** 2 - 1) / 12
         fresh = traffic.lines["join"] + self.at_start(traffic)
-        ends = sum(traffic.lines[word] for word in traffic.ends())
+        ends = sum(traffic.lines[word] for word in ENDS)
         first = (variance / mean**2 - 1) / 2
         return sum(self.population.alive.sums) / mean + fresh * first + ends
 
@@ -83,10 +104,6 @@ class Span:
         """About how many events are timers, and how many commands."""
         top, jitter = self.top, self.top.get("jitter_us", 0)
         total = sum(self.ticks(top, key, top[key] + jitter, traffic) for key in ("stabilize_us", "finger_us"))
-        if top.get("check_us"):
-            total += self.ticks(top, "check_us", top["check_us"] + jitter, traffic)
-        if top.get("join_pause_us"):
-            total += traffic.failed_attempts
         if "lookups" in top:
             total += self.ticks(top["lookups"], "gap_min_us", top["lookups"]["gap_max_us"], traffic)
         commands = [one["do"] for one in top.get("command", []) if one["at_us"] >= traffic.scope.warmup_us]
@@ -94,29 +111,19 @@ class Span:
         if any(node.get("churn") for node in top["node"]):
             # Each life and each down time that the program draws ends with a timer.
             moves = [do for do in commands if do != "lookup"]
-            by_itself = sum(traffic.lines[word] for word in (*traffic.ends(), "join")) - len(moves)
+            by_itself = sum(traffic.lines[word] for word in (*ENDS, "join")) - len(moves)
         return total + max(0, by_itself) + len(commands)
 
     def stabilizations(self, traffic: Traffic) -> float:
-        """About how many stabilizations are begun: one for each mean delay of a member, but for those that are skipped
-        because calls of the one before are out, which happens if these are not answered."""
+        """About how many stabilizations are begun: those that round trips allow, but for those that are skipped because
+        calls of the one before are out, which happens if these are not answered."""
         mean = float(self.top["stabilize_us"] + self.top.get("jitter_us", 0) / 2)
         states, lists = (traffic.unanswered(kind) for kind in ("get-state", "get-list"))
         waits = (states + lists) * int(self.top["timeout_us"]) / mean
         chains = max(states, lists)
         # A chain of calls that is as long as 3.2 delays skips 3, and mostly starts right after one.
         skipped = waits - chains / 2 if waits >= chains else 0.0
-        return max(0.0, sum(self.population.members.sums) / mean - self.at_start(traffic) / 2 - skipped)
-
-    def pings(self, traffic: Traffic) -> float:
-        """About how many pings are sent: one for each mean delay of a member that checks its predecessor, and those
-        that are sent again. Without checks only those that had no reply are known."""
-        unanswered, retries = traffic.unanswered("ping"), int(self.top.get("retries", 0))
-        if not self.top.get("check_us"):
-            return unanswered
-        mean = float(self.top["check_us"] + self.top.get("jitter_us", 0) / 2)
-        checks = sum(self.population.members.sums) / mean - self.at_start(traffic) / 2
-        return max(0.0, checks) + unanswered * retries / (1 + retries)
+        return max(0.0, self.repairs - self.at_start(traffic) / 2 - skipped)
 
     def timed_out(self, traffic: Traffic) -> float:
         """The share of calls whose timeouts come in the span. What is called before it balances what comes after."""
@@ -128,15 +135,14 @@ class Span:
 def estimate(traffic: Traffic, span: Span) -> dict[str, int]:
     """About how many messages of each kind were sent in the span, the lost ones with them.
 
-    Each call makes a request, a timeout and, unless a line says otherwise, a reply, and so does each time that it is
-    sent again. So the events that are neither timers nor commands say how many of these there were, once the notifies,
-    one a stabilization, are known."""
+    Each call makes a request, a timeout and, unless a line says otherwise, a reply. So the events that are neither
+    timers nor commands say how many of these there were, once the notifies, one a stabilization, are known."""
     lost, dropped = traffic.sum_of("lose", REQUESTS), traffic.sum_of("drop", REQUESTS)
     notifies = span.stabilizations(traffic)
     rest = span.events - span.timers(traffic) - notifies + traffic.lines["lose notify"]
     lost_replies = traffic.sum_of("lose", tuple(REPLIES.values()))
     calls = (rest + 2 * lost + dropped + lost_replies) / (2 + span.timed_out(traffic))
-    requests = {"notify": notifies, "ping": span.pings(traffic)}
+    requests = {"notify": notifies, "ping": float(traffic.unanswered("ping"))}
     for kind, answered in (("get-state", notifies), ("get-list", 2.0 * traffic.lines["member"])):
         requests[kind] = answered + traffic.unanswered(kind)
     requests["step"] = calls - sum(requests[kind] for kind in REQUESTS[1:])
@@ -154,10 +160,12 @@ def exact(traffic: Traffic) -> dict[str, int]:
 
 def message_numbers(traffic: Traffic, span: Span) -> dict[str, int | str | None]:
     """What a row of runs.csv has of cost, from `warmup_us` to the end."""
-    kinds = exact(traffic) if span.top.get("detail") else estimate(traffic, span)
+    is_counted = bool(span.top.get("detail"))
+    kinds = exact(traffic) if is_counted else estimate(traffic, span)
     return {
         "cost-events": span.events,
         "messages": sum(kinds.values()),
+        "messages-counted": int(is_counted),
         "messages-lookups": min(traffic.lookups(span.top.get("retries", 0)), sum(kinds.values())),
         **{f"sent-{kind}": count for kind, count in kinds.items()},
     }

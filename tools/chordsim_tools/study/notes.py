@@ -1,11 +1,11 @@
 """The notes below the tables of a page, which say what their columns are. Each stands with the table of its column."""
 
 from chordsim_tools.study.interval import LEAST_SEEDS
+from chordsim_tools.study.messages import MOST_ERROR
 from chordsim_tools.study.names import NAMES, RATE, RATES, TIMES, difference_header
 from chordsim_tools.study.numbers import is_wild
 
-ERROR = "0.5 %"
-"""How far off the estimate of messages was at most; tests/test_study_messages.py looks at it."""
+ERROR = f"{100 * MOST_ERROR:g} %"
 FIRST = (
     "**±** is half of a 95 % interval, for each cell by itself: Student's t over the seeds. **(low..high)** is one "
     "that holds whatever the worlds are like (by betting, Waudby-Smith and Ramdas 2024). Served and members have it, and "
@@ -43,11 +43,11 @@ NOTES = {
     "timeouts": "**timeouts a lookup**: the mean, of the same lookups as mean time.",
     "members": "**members**: the time that nodes are members, of the time that they are up.",
     "messages":
-        "**messages**: all messages sent. With `detail = true` they are counted. Without it they are estimated, since "
-        "a trace then has no line for a message that arrives. Every call makes a request, a timeout and mostly a "
-        "reply. So the events that are neither timers nor commands say how many calls there were. In runs that were "
-        f"counted the estimate was off by less than {ERROR}, if the span had 40 timeouts or more and the ring was "
-        "kept.",
+        "**messages**: all messages sent. In profile 4 they are counted. In profiles 1 and 2 they are estimated, since a "
+        "trace has no line for a message that arrives: every call makes a request, a timeout and mostly a reply, so the "
+        f"events that are neither timers nor commands say how many calls there were. The estimate is off by {ERROR} at "
+        "most, as far as it was tried against the reference simulator, if the ring is kept for 40 timeouts and 30 periods. Goals and "
+        f"comparisons allow for {ERROR}. Tables of older tools have estimates in profile 4 too.",
     "upkeep": "**upkeep**: the messages that are no steps of lookups.",
     "events": "**events**: all events of the run. They are counted.",
     "bytes": "**bytes**: the messages of each kind times their size in `[sizes]`.",

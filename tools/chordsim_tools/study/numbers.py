@@ -9,6 +9,7 @@ from chordsim_tools.study.bounded import bounded, share_mean
 from chordsim_tools.study.exact import count_interval, share_interval
 from chordsim_tools.study.goal import OF_SPANS
 from chordsim_tools.study.interval import Interval, interval
+from chordsim_tools.study.messages import MOST_ERROR
 from chordsim_tools.study.names import base_of, is_percent, span_of
 from chordsim_tools.study.plan import told
 from chordsim_tools.study.sizes import bytes_of
@@ -95,6 +96,8 @@ TAKES: dict[str, Callable[[Cells], float | None]] = {
     "bytes": a_second("bytes"),
 }
 """What each number of a setting is in one run. All but the first are averaged over the runs that kept their ring."""
+OF_MESSAGES = ("messages", "upkeep", "bytes")
+"""The numbers that are made of messages, which profiles 1 and 2 estimate."""
 WILD = ("served", "members")
 """Shares that few worlds can move far: a world whose ring dies, or half dies, has 30 % where the others have 99 %."""
 
@@ -168,6 +171,19 @@ class Summary:
     def of(self, take: Callable[[Cells], float | None], number: str = "") -> Interval:
         """The mean and the interval of a number among the rings kept."""
         return mean_of(number, [take(cells) if is_kept(cells) else None for cells in self.rows])
+
+    @property
+    def is_counted(self) -> bool:
+        """Whether the messages of all runs were counted. Older tables do not say so."""
+        return all(cells.get("messages-counted") == "1" for cells in self.rows)
+
+    def error(self, number: str) -> float:
+        """How far the mean of a number may be off because messages are estimated."""
+        if base_of(number) not in OF_MESSAGES or self.is_counted:
+            return 0.0
+        # The estimate says less of single kinds, to which sizes belong.
+        mean = self.numbers["messages"].mean
+        return math.inf if number == "bytes" or mean is None else MOST_ERROR * mean
 
     def kept_told(self) -> str:
         """Rings kept as `9 of 10 (55..100 %)`."""

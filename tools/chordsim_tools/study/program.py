@@ -12,6 +12,9 @@ from chordsim_tools.cli import Failure
 from chordsim_tools.files import reason
 from chordsim_tools.known import known
 
+PART = 1 << 18
+"""So many bytes of an output are read at once."""
+
 
 def one_line(text: bytes) -> str:
     """The last line of what a program said."""
@@ -40,10 +43,11 @@ class Program:
             raise self.wrong("ids")
         return idents
 
-    def run(self, read: Callable[[str], None]) -> dict[str, int]:
-        """Runs the scenario: each line of the trace to a reader; gives the report."""
+    def run(self, read: Callable[[str], None], sift: Callable[[bytes], bytes] = bytes) -> dict[str, int]:
+        """Runs the scenario: each line of the trace to a reader; gives the report. `sift` sees all lines before, many
+        at once, and leaves those that are to be read."""
         report: dict[str, int] = {}
-        with self.lines("run", "--serial") as lines:
+        with self.lines("run", "--serial", sift=sift) as lines:
             for line in lines:
                 if line[:1].isdigit():
                     read(line)
@@ -59,7 +63,7 @@ class Program:
         return Failure(3, f"{self.path} {command}: the output is not that of chordsim")
 
     @contextmanager
-    def lines(self, *arguments: str) -> Iterator[Iterator[str]]:
+    def lines(self, *arguments: str, sift: Callable[[bytes], bytes] = bytes) -> Iterator[Iterator[str]]:
         """The lines of standard output. Fails if the status is not 0; the program never outlives the block."""
         command = [str(self.path), arguments[0], *self.files, *arguments[1:]]
         wrong = False
@@ -69,7 +73,7 @@ class Program:
                 output = known(process.stdout)
                 try:
                     try:
-                        yield (line.removesuffix("\n") for line in output)
+                        yield lines_of(output, sift)
                     except (ValueError, LookupError):
                         wrong = True
                     output.read()
@@ -87,9 +91,19 @@ class Program:
             raise self.wrong(arguments[0])
 
 
-def started(command: list[str], errors: IO[bytes]) -> subprocess.Popen[str]:
+def lines_of(output: IO[bytes], sift: Callable[[bytes], bytes]) -> Iterator[str]:
+    """The lines of an output that are left of each part of it."""
+    rest = b""
+    while part := output.read(PART):
+        whole, end, rest = (rest + part).rpartition(b"\n")
+        yield from sift(whole + end).decode("utf-8", "replace").split("\n")[:-1]
+    if rest:
+        yield rest.decode("utf-8", "replace")
+
+
+def started(command: list[str], errors: IO[bytes]) -> subprocess.Popen[bytes]:
     """The program with these arguments, its standard output to be read."""
-    return subprocess.Popen(command, stdout=subprocess.PIPE, stderr=errors, encoding="utf-8", errors="replace")
+    return subprocess.Popen(command, stdout=subprocess.PIPE, stderr=errors)
 
 
 def ended(status: int, errors: bytes) -> Failure:

@@ -12,6 +12,7 @@ from chordsim_tools.study.curves import Curves
 from chordsim_tools.study.document import toml_text
 from chordsim_tools.study.messages import Span, message_numbers
 from chordsim_tools.study.program import Program
+from chordsim_tools.study.repairs import Repairs
 from chordsim_tools.study.served import scope_of
 from chordsim_tools.study.trace import TraceReader
 from chordsim_tools.study.trouble import Trouble
@@ -48,7 +49,8 @@ def events_before(top: dict[str, Any], time: int, program: Path, latency: Path |
     commands = [one for one in top.get("command", []) if one["at_us"] < time]
     with tempfile.TemporaryDirectory() as folder:
         scenario = Path(folder) / "warmup.toml"
-        text = toml_text({**top, "duration_us": min(time, top["duration_us"]), "command": commands})
+        shorter = {word: value for word, value in top.items() if word != "detail"}
+        text = toml_text({**shorter, "duration_us": min(time, top["duration_us"]), "command": commands})
         scenario.write_text(text, encoding="utf-8")
         return Program(program, scenario, latency).run(lambda _: None)["events"]
 
@@ -66,11 +68,13 @@ def result_of(task: Task, program: Path, scenario: Path, latency: Path | None) -
         curves.read(line)
         trouble.read(line)
 
-    report = caller.run(read)
+    report = caller.run(read, reader.traffic.sift)
     if (reader.all_lookups, reader.all_found) != (report.get("lookups"), report.get("found")):
         raise Failure(3, "the report does not count the lines of the trace")
     numbers = reader.numbers()
-    span = Span(top, report["events"] - events_before(top, task.warmup_us, program, latency), reader.population)
+    events = report["events"] - events_before(top, task.warmup_us, program, latency)
+    repairs = Repairs(top, task.latency or b"").begun(reader.members, task.warmup_us, top["duration_us"])
+    span = Span(top, events, reader.population, repairs)
     return {
         "made_of": task.made_of,
         "report": report,

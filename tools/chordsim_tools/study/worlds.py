@@ -17,6 +17,8 @@ from chordsim_tools.study.keys import BOOLEANS, OF_GENERATE, parsed
 from chordsim_tools.study.plan import Setting, Study
 
 T = TypeVar("T")
+COUNTED = 4
+"""The profile whose runs have lines for each message, which a study counts."""
 
 
 def scenario_of(study: Study, setting: Setting, seed: int) -> str:
@@ -29,6 +31,8 @@ def scenario_of(study: Study, setting: Setting, seed: int) -> str:
         elif table != "generate" and isinstance(top.get(table, {}), dict):
             top[table] = {**top.get(table, {}), name: value}
     top["seed"] = seed
+    if top.get("profile") == COUNTED:
+        top["detail"] = True
     try:
         return toml_text(top)
     except TypeError as fault:

@@ -10,7 +10,7 @@ ROW = {
     "right-defensible": 920, "cut-by-crash": 50, "cut-by-end": 0, "all-us-p50": 500_000, "all-us-p90": 900_000,
     "all-us-p99": 2_000_000, "wanted": 1000, "wanted-1": 500, "wanted-2": 500, "right-1": 450, "right-2": 450,
     "duration-us": 100_000_000, "up-us": 1_000_000_000, "member-us": 980_000_000, "cost-member-us": 1_000_000_000,
-    "cost-events": 10_000, "messages": 6_000, "messages-lookups": 2_000, "lost-at-us": "",
+    "cost-events": 10_000, "messages": 6_000, "messages-counted": 1, "messages-lookups": 2_000, "lost-at-us": "",
 }
 MANIFEST: dict[str, Any] = {
     "question": "How?", "study": "study.toml", "base": "base.toml", "generate": None, "latency": None,
