@@ -298,7 +298,8 @@ class ExplainTest(TestCase):
 
     def test_texts_and_statuses(self) -> None:
         """Accepted files, refused ones, some of each kind, and the words for a reader."""
-        assert told(SOUND, "n0,n1,10\n") == (0, "accepted: 3 nodes, 1 commands\n", "")
+        fingers = "Each finger is refreshed about every 200us: 2 fingers in turn, one each 100us.\n"
+        assert told(SOUND, "n0,n1,10\n") == (0, "accepted: 3 nodes, 1 commands\n" + fingers, "")
         status, out, err = told(changed(("bits = 3", 'bits = "3"')), "n0,n1\nn0\nn1,n3\n", "--most", "2")
         lines = out.splitlines()
         assert (status, err, lines[0], lines[1]) == (1, "", "refused: S4 WrongType top bits", "4 faults:")

@@ -22,8 +22,9 @@ def spoken(text: str, rows: str = "") -> list[str]:
     status, out, err = told(text, rows)
     assert (status, err) == (0, ""), (out, err)
     lines = out.splitlines()
-    assert lines[0].startswith("accepted: ") and lines[1:2] in ([], ["accepted, but:"])
-    return [line.removeprefix("- ") for line in lines[2:]]
+    assert lines[0].startswith("accepted: ") and lines[1].startswith("Each finger is refreshed about every ")
+    assert lines[2:3] in ([], ["accepted, but:"])
+    return [line.removeprefix("- ") for line in lines[3:]]
 
 
 class ExplainTrapsTest(TestCase):

@@ -481,7 +481,9 @@ class GenerateTest(TestCase):
             name = Path(folder) / "x.toml"
             lives = "--lifetime uniform:1s..1s --down uniform:1s..1s"
             arguments = f"--nodes 50 --stay 0 {lives} --duration 1990s -o".split()
-            assert ended(main, *arguments, str(name)) == (0, "", "")
+            status, _, err = ended(main, *arguments, str(name))
+            # All crash at once, and live for less than a round of fingers.
+            assert status == 0 and [line.split()[1] for line in err.splitlines()] == ["finger_us", "commands:"], err
             assert checked(name) == "ok nodes=50 commands=99450\n"
             assert ended(main, *arguments, str(name), "--lookups", "0.02")[0] == 2
             assert ended(main, *arguments, str(name), "--nodes", "51")[0] == 2

@@ -213,7 +213,7 @@ class StudyRunTest(TestCase):
     def test_boolean_that_is_varied(self) -> None:
         """Its values are as they are written, in the table and in the names of files."""
         with study_folder(STUDY.replace("list = [1, 2]", "join_forever = [true, false]")) as folder:
-            (folder / "base.toml").write_text(BASE.replace("profile = 1", "profile = 4"))
+            (folder / "base.toml").write_text(BASE.replace("profile = 1", "profile = 4\njoin_pause_us = 1000"))
             assert call(folder) == (0, "")
             rows = table(folder, "runs.csv")
             assert [row["join_forever"] for row in rows] == ["true", "true", "false", "false"]

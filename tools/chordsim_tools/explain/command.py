@@ -13,6 +13,7 @@ from chordsim_tools.explain.program import answer_of
 from chordsim_tools.explain.toml import explained_toml
 from chordsim_tools.explain.traps import events_trap, greatest_latency, traps_of
 from chordsim_tools.explain.wording import explained
+from chordsim_tools.explain.world_traps import round_told
 from chordsim_tools.files import put, read_input
 from chordsim_tools.program import find_program
 from chordsim_tools.scenario.faults import Document, faults_of
@@ -34,9 +35,11 @@ called unexplained. That can be for these reasons, since Python's tomllib reads 
   - the program refuses as no TOML what is nested deeper than 80; here that is another fault, or none
 Without the program the first line is that of this tool.
 
-Of files that are accepted, a section "accepted, but:" names traps, and the status stays 0: a timeout below the greatest
-round trip, a duration below the periods, and a `max_events` below what the run is likely to need. This last one is
-estimated if the timers alone come near to it: the program runs the scenario's first seconds (six, or four periods) and
+Of files that are accepted, the second line says how often each finger is refreshed: in (bits - 1) times (finger_us +
+jitter_us / 2) a node refreshes each of its fingers once. A section "accepted, but:" names traps, and the status stays 0:
+a timeout below the greatest round trip, a duration below the periods, a round of fingers that takes longer than the run
+or a mean life, joins that go on for ever without a pause, a time at which no node is up (no ring is ever made again),
+and a `max_events` below what the run is likely to need. This last one is estimated if the timers alone come near to it: the program runs the scenario's first seconds (six, or four periods) and
 half of them, and the events of the second half are taken for the rest of the duration. If such a run takes longer than
 twenty seconds, the estimate is that of the timers alone."""
 EXAMPLES = """\
@@ -44,7 +47,7 @@ examples:
   tools/explain world.toml                     all faults of a scenario
   tools/explain world.toml links.csv           ... and of its latency file
   tools/explain world.toml links.csv --most 3  at most three of each of the sixteen kinds
-  tools/explain world.toml --json              for other programs: `answer`, `traps`, and `faults` with `line`, `hints`
+  tools/explain world.toml --json              for other programs: `answer`, `told`, `traps`, and `faults` with `line`, `hints`
 
 status: 0 the files are accepted; 1 they are refused, or cannot be read; 2 the arguments are wrong; 3 something failed
 (the program that CHORDSIM names is not there or does not end as it should, or standard output is full); 130 stopped by
@@ -60,6 +63,7 @@ class Findings:
     faults: list[Explanation]
     left_out: dict[str, int]
     traps: list[str]
+    told: list[str]
 
     @property
     def first_line(self) -> str:
@@ -131,8 +135,9 @@ def look(args: Namespace) -> Findings:
             left_out[kind] += 1
     accepted = f"accepted: {len(document.nodes)} nodes, {len(document.commands)} commands"
     answer = f"refused: {kept[0].fault}" if kept else accepted
-    findings = Findings(answer, said, kept, dict(left_out), [])
+    findings = Findings(answer, said, kept, dict(left_out), [], [])
     if findings.agrees and not kept:
+        findings.told = [round_told(document.top.table)]
         findings.traps = traps_of(document.top.table, greatest_latency(document.top.table, latency))
         if program is not None:
             findings.traps += events_trap(program, document.top.table, latency)
@@ -144,6 +149,7 @@ def in_text(findings: Findings) -> Iterator[str]:
     yield findings.first_line
     if not findings.agrees:
         yield from unexplained(findings)
+    yield from findings.told
     if findings.traps:
         yield "accepted, but:"
         yield from (f"- {trap}" for trap in findings.traps)
@@ -182,6 +188,7 @@ def in_json(findings: Findings) -> dict[str, object]:
         "faults": [{"number": number, **asdict(one)} for number, one in enumerate(findings.faults, start=1)],
         "left_out": findings.left_out,
         "traps": findings.traps,
+        "told": findings.told,
         "tool_answer": findings.answer,
         "program_answer": findings.program_answer,
         "agrees": findings.agrees,

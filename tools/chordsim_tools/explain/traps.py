@@ -8,6 +8,7 @@ from pathlib import Path
 from typing import Any
 
 from chordsim_tools.cli import say
+from chordsim_tools.explain.world_traps import world_traps
 from chordsim_tools.known import known
 from chordsim_tools.quantities import time_text
 from chordsim_tools.scenario import coordinates
@@ -47,7 +48,7 @@ def greatest_latency(top: dict[str, Any], latency: bytes) -> int:
 
 def traps_of(top: dict[str, Any], greatest: int) -> list[str]:
     """The traps of a scenario that is accepted, with this greatest latency."""
-    return [*timeout_trap(top["timeout_us"], greatest, top.get("retries", 0)), *duration_traps(top)]
+    return [*timeout_trap(top["timeout_us"], greatest, top.get("retries", 0)), *duration_traps(top), *world_traps(top)]
 
 
 def timeout_trap(timeout: int, greatest: int, retries: int = 0) -> list[str]:

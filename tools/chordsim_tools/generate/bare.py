@@ -9,6 +9,8 @@ LONG = 10_000
 """Below this many microseconds a bare number among the times of nodes and runs is told."""
 SHORT = 1_000
 """The same for times of the network."""
+FEW = 100
+"""So many messages lost per million, or fewer, are told."""
 LIMITS = {
     **dict.fromkeys(("duration", "audit", "stabilize", "finger", "churn-uniform", "lifetime", "down", "arrive"), LONG),
     **dict.fromkeys(("lookup-gap", "timeout", "join-pause", "check", "crash", "back"), LONG),
@@ -28,7 +30,17 @@ def bare_traps(args: Namespace, limits: Mapping[str, int]) -> list[str]:
             units = f"write {bare}ms, {bare}s or {bare}m, or {bare}us for this"
             told = f"{bare} microsecond{'' if int(bare) == 1 else 's'}"
             traps.append(f"--{name} {' '.join(texts)}: {bare} without a unit is {told}; {units}")
-    return traps
+    return traps + loss_traps(args)
+
+
+def loss_traps(args: Namespace) -> list[str]:
+    """A loss of a few messages in a million: per cent were meant."""
+    loss: Given[int] | None = getattr(args, "loss", None)
+    if loss is None or not 0 < loss.value <= FEW:
+        return []
+    share = f"{loss.value / 10_000:.4f}".rstrip("0")
+    return [f"--loss {loss.value}: {loss.value} of a million messages are lost, {share} %; {loss.value} % are "
+            f"{10_000 * loss.value}"]
 
 
 def bare_numbers(text: str, limit: int) -> list[str]:

@@ -6,6 +6,7 @@ from pathlib import Path
 
 from chordsim_tools.cli import Failure, Parser, run, say
 from chordsim_tools.explain.traps import duration_traps, timeout_trap, warn
+from chordsim_tools.explain.world_traps import world_traps
 from chordsim_tools.files import check_output, check_apart, put
 from chordsim_tools.generate.arguments import OPTIONS, PROG, arguments_again, parser_of
 from chordsim_tools.generate.bare import LIMITS, bare_traps
@@ -13,7 +14,7 @@ from chordsim_tools.generate.commands import Streams, commands_of, initial_nodes
 from chordsim_tools.generate.outages import struck
 from chordsim_tools.generate.plan import Plan, check
 from chordsim_tools.generate.random_scenario import scenario_files
-from chordsim_tools.generate.text import Made, text_of
+from chordsim_tools.generate.text import Made, document_of, idents_of, text_of
 from chordsim_tools.options import Options
 from chordsim_tools.places import PlacesFile, RegionsFile
 from chordsim_tools.regions import placed, read_regions
@@ -23,12 +24,22 @@ from chordsim_tools.scenario.tables import GREATEST_SIZE
 
 def scenario_of(plan: Plan, arguments: list[str]) -> str:
     """The text of the scenario that a plan asks for."""
+    return whole_text(plan, made_of(plan), arguments)
+
+
+def made_of(plan: Plan) -> Made:
+    """What is drawn for a plan."""
     seed = plan.top["seed"]
     streams = Streams(seed, plan.nodes)
     lives = lives_of(plan, streams)
     initial = initial_nodes(plan, lives)
     told = struck(plan.hosts, lives, plan.outages, plan.back, seed)
-    text = text_of(plan, streams, Made(commands_of(plan, lives, streams), initial, told), arguments)
+    return Made(commands_of(plan, lives, streams), initial, told, idents_of(plan, streams.idents))
+
+
+def whole_text(plan: Plan, made: Made, arguments: list[str]) -> str:
+    """The text of the scenario, if it is not too long."""
+    text = text_of(plan, made, arguments)
     if len(text) > GREATEST_SIZE:
         raise Failure(2, f"--nodes: the scenario has {len(text)} bytes, and chordsim reads at most {GREATEST_SIZE}")
     return text
@@ -70,13 +81,14 @@ def write_random(seed: int, file: str | None, links: str | None) -> None:
 
 def write_planned(plan: Plan, args: Namespace) -> None:
     """Writes the scenario of a plan, and warns of what is hardly meant."""
-    put(scenario_of(plan, arguments_again(args)), args.file)
+    made = made_of(plan)
+    put(whole_text(plan, made, arguments_again(args)), args.file)
     if args.coordinates is not None and isinstance(args.coordinates.value, RegionsFile):
         say(f"{placed(read_regions(args.coordinates.value.name)).told}\n")
     latency = greatest_latency(plan.places) if plan.places else plan.top["latency_us"]
     slowest = latency + plan.top.get("spread_us", 0)
     traps = timeout_trap(plan.top["timeout_us"], slowest, plan.top.get("retries", 0))
-    warn([*bare_traps(args, LIMITS), *traps, *duration_traps(plan.top)])
+    warn([*bare_traps(args, LIMITS), *traps, *duration_traps(plan.top), *world_traps(document_of(plan, made))])
 
 
 def write_scenario(args: Namespace, parser: Parser) -> None:

@@ -4,9 +4,11 @@ import shlex
 import textwrap
 from collections import Counter
 from dataclasses import asdict, dataclass
+from typing import Any
 
 from chordsim_tools.draws import Draws
-from chordsim_tools.generate.commands import CRASH, JOIN, LOOKUP, Command, Streams
+from chordsim_tools.explain.world_traps import round_told
+from chordsim_tools.generate.commands import CRASH, JOIN, LOOKUP, Command
 from chordsim_tools.generate.idents import of_names, seeded
 from chordsim_tools.generate.plan import Plan
 
@@ -15,24 +17,38 @@ DOES = {CRASH: "crash", JOIN: "join", LOOKUP: "lookup"}
 
 @dataclass(frozen=True)
 class Made:
-    """What was drawn for a plan: its commands, the nodes that begin as members, and lines that say more of it."""
+    """What was drawn for a plan: commands, the nodes that begin as members, lines that say more of it, and identifiers."""
 
     commands: list[Command]
     initial: set[int]
     told: list[str]
+    idents: dict[int, int]
 
 
-def text_of(plan: Plan, streams: Streams, made: Made, arguments: list[str]) -> str:
+def text_of(plan: Plan, made: Made, arguments: list[str]) -> str:
     """The whole file."""
     tables = [head(plan, made, arguments), table("", plan.top)]
     if plan.churn is not None:
         tables.append(table("[churn]\n", asdict(plan.churn)))
     if plan.lookups is not None:
         tables.append(table("[lookups]\n", asdict(plan.lookups)))
-    idents = idents_of(plan, streams.idents)
-    tables += [node_table(plan, node, idents, node in made.initial) for node in range(plan.nodes)]
+    tables += [node_table(plan, node, made.idents, node in made.initial) for node in range(plan.nodes)]
     tables += [command_table(plan, command) for command in made.commands]
     return "\n".join(tables)
+
+
+def document_of(plan: Plan, made: Made) -> dict[str, Any]:
+    """As much of the scenario as its traps depend on, as the file has it."""
+    nodes = [
+        {"name": node, "initial": node in made.initial, "churn": plan.churn is not None and node >= plan.stay}
+        for node in range(plan.nodes)
+    ]
+    moves = [
+        {"at_us": command.at_us, "do": DOES[command.do], "node": command.node}
+        for command in made.commands if command.do != LOOKUP
+    ]
+    churn = {} if plan.churn is None else {"churn": asdict(plan.churn)}
+    return {**plan.top, **churn, "node": nodes, "command": moves}
 
 
 def head(plan: Plan, made: Made, arguments: list[str]) -> str:
@@ -48,6 +64,7 @@ def head(plan: Plan, made: Made, arguments: list[str]) -> str:
         f"Nodes: {plan.nodes}, of which {len(made.initial)} are members at the start. Commands: {', '.join(counts)}.",
         *nodes_told(plan),
         *made.told,
+        round_told(plan.top),
     ]
     return "".join(f"# {line}".rstrip() + "\n" for line in lines)
 

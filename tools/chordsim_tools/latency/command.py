@@ -51,11 +51,11 @@ directions is rounded up to whole microseconds; an empty field is that of the ot
 them, rounded up; SIDE is the way from one corner to the next.
 
 --fit ROWS: coordinates of the nodes of a latency file ROWS, fitted by Vivaldi (Dabek, Cox, Kaashoek, Morris, SIGCOMM
-2004) in a plane with heights. The file may lack pairs. Vivaldi's coordinates are of
-round trips, these are of one-way latencies. Each node looks 2000 times at another one, drawn from those to
-which it has a latency. With --names the nodes of that scenario are written, in its order. The line at the end has the
-median and the 90th percentile of the relative errors of all rows: how far the latency by coordinates is from that of
-the row, as a share of the latter. No height is below half the --floor, so that no latency is below it.
+2004) in a plane with heights. Vivaldi's coordinates are of round trips, these are of one-way latencies. The file may
+lack pairs. Each node looks 2000 times at another one, drawn from those to which it has a latency. With --names the
+nodes of that scenario are written, in its order. The line at the end has the median and the 90th percentile of the
+relative errors of all rows: how far the latency by coordinates is from that of the row, as a share of the latter. No
+height is below half the --floor, so that no latency is below it.
 
 --king: coordinates that are made in the manner of the King data set, and not measured: places in three clusters, and
 heights that are nearly log-normal. docs/tools.md says how they are drawn.
