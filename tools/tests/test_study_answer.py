@@ -190,17 +190,6 @@ class DeadRingsTest(TestCase):
         assert text.splitlines()[2] == "With loss_ppm=9: **every ring was lost in every setting.**"
         assert list(table_of(text, "Settings").values())[2]["served less best, points"] == "all rings lost"
 
-    def test_steadiness(self) -> None:
-        """No drift among those that kept their rings; dead settings are left out, and counted."""
-        first = "No drift seen: the halves of the judged span differ by 0 points at most "
-        first += "(share served, first less second)."
-        assert first in told(setting(4, 900, 5000)) and "left out: they" not in told(setting(4, 900, 5000))
-        left = f"{first} 1 of 2 settings are left out: they lost rings, or have too few seeds."
-        assert left in told(setting(4, 900, 5000), dead(1))
-        dying = [one | {"right-1": str(100 + 2 * int(one["seed"]))} for one in dead(1)]
-        wanted = "**Not steady**: served in the first half of the judged span less the second: list=1: 21.40"
-        assert wanted in told(dying)
-
     def test_precision(self) -> None:
         """A setting whose rings were lost did not reach it."""
         wanted: dict[str, Any] = {"number": "served", "half": 0.01, "least_seeds": 5, "most_seeds": 9}

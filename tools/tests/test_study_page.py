@@ -154,13 +154,6 @@ class StudyPageTest(TestCase):
         cut = told([row(list=4, seed=1, **{"cut-by-end": 9})])
         assert "The end cut off 0.9 % of the judged lookups, which are left out: set cooldown_us." in cut
 
-    def test_steadiness(self) -> None:
-        """A share that falls from the first half to the second in all seeds."""
-        falls = [row(list=1, seed=seed, **{"right-1": 480 + seed, "right-2": 420 + 2 * seed}) for seed in range(1, 7)]
-        wanted = "**Not steady**: served in the first half of the judged span less the second: list=1: 11.30"
-        assert wanted in told(falls)
-        assert "No drift seen" in told(setting(1, 900, 5000))
-
     def test_sizes(self) -> None:
         """Bytes by the table of sizes: ten messages of each kind in 1,000 s of members."""
         kinds = ("step", "get-state", "get-list", "ping", "notify", "step-reply", "state-reply", "list-reply", "pong")

@@ -4,11 +4,14 @@ from typing import Any
 
 from chordsim_tools.quantities import time_text
 from chordsim_tools.study.goal import precision_again
-from chordsim_tools.study.interval import LEAST_SEEDS, Interval, interval
+from chordsim_tools.study.interval import LEAST_SEEDS
 from chordsim_tools.study.network import latencies_told, made_told
 from chordsim_tools.study.notes import ERROR
-from chordsim_tools.study.numbers import LEAST_FOR_P99, Cells, Summary, ratio
+from chordsim_tools.study.numbers import LEAST_FOR_P99, Summary
 from chordsim_tools.study.precise import stopped
+from chordsim_tools.study.starts import churn_trap, round_traps
+from chordsim_tools.study.steady import manifest_numbers, steadiness
+from chordsim_tools.study.tables import Tables
 from chordsim_tools.study.wrap import note, paragraph
 
 MUCH = 0.001
@@ -47,42 +50,9 @@ def judged(manifest: dict[str, Any]) -> str:
     begin, end = warmup or "the start", f"{cooldown} before the end" if cooldown else "the end"
     return (
         f"Judged: lookups begun from {begin} to {end}, by what becomes of them until the end. "
-        f"Costs: of the time from {begin} to the end."
+        f"Costs: of the time from {begin} to the end. Served and members are those of this span: nodes whose join failed "
+        "stay away, so that a longer run may serve less."
     )
-
-
-def drift(one: Summary, level: float) -> Interval:
-    """Served in the first half of the judged span less served in the second, seed by seed."""
-
-    def of_run(cells: Cells) -> float | None:
-        """The difference in a run."""
-        halves = ratio(cells, "right-1", "wanted-1"), ratio(cells, "right-2", "wanted-2")
-        return None if halves[0] is None or halves[1] is None else halves[0] - halves[1]
-
-    return interval(map(of_run, one.rows), level)
-
-
-def steadiness(found: list[Summary]) -> str:
-    """First against second half of the judged span."""
-    level = 1 - 0.05 / len(found)
-    # Seeds with and without a ring are of two kinds: their mean has no interval.
-    drifts = [(one, drift(one, level)) for one in found if one.kept in (0, one.seeds)]
-    unsteady = [
-        f"{one.label}: {change.told(100)} points" for one, change in drifts
-        if change.half is not None and change.mean is not None and abs(change.mean) > change.half
-    ]
-    if unsteady:
-        return f"**Not steady**: served in the first half of the judged span less the second: {'; '.join(unsteady)}."
-    # A dead ring serves nothing in either half.
-    steady = [change for one, change in drifts if one.kept and change.half is not None]
-    if not steady:
-        return "Whether the judged span is steady cannot be said: too few seeds, or some of them lost their ring."
-    most = max(steady, key=lambda one: abs(one.mean or 0.0)).told(100)
-    text = f"No drift seen: the halves of the judged span differ by {most} points at most (share served, first less "
-    text += "second)."
-    left = len(found) - len(steady)
-    why = "they lost rings, or have too few seeds"
-    return text + (f" {left} of {len(found)} settings are left out: {why}." if left else "")
 
 
 def warnings(manifest: dict[str, Any], found: list[Summary]) -> list[str]:
@@ -105,15 +75,18 @@ def warnings(manifest: dict[str, Any], found: list[Summary]) -> list[str]:
             f"Messages are estimated, to within {ERROR}. Goals and comparisons allow for that. With `profile = 4` they "
             "are counted."
         )
+    told += [*churn_trap(manifest["generate"], manifest["vary"]), *round_traps(manifest)]
     if manifest["warmup_us"] == 0 and (manifest["own_churn"] or moves):
         told.append("Without warmup_us the time before the first crashes is judged too.")
     return told
 
 
-def head(manifest: dict[str, Any], found: list[Summary], is_done: bool) -> str:
+def head(tables: Tables, found: list[Summary], is_done: bool) -> str:
     """All of it. A study that is not done has not been stopped by [precision]."""
+    manifest = tables.manifest
     precise = precision_again(manifest["precision"]) if is_done else None
     stop = "" if precise is None else f" {stopped(precise, found)}"
-    texts = (worlds(manifest) + stop, judged(manifest), steadiness(found))
+    steady = steadiness(tables, found, manifest_numbers(manifest))
+    texts = (worlds(manifest) + stop, judged(manifest), steady)
     told = warnings(manifest, found)
     return "".join(map(paragraph, texts)) + "".join(note(f"Warning: {line}") for line in told) + ("\n" if told else "")

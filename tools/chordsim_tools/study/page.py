@@ -93,7 +93,7 @@ def page(tables: Tables, plots: str = NO_PLOTS, is_done: bool = True) -> str:
         + lost_told(tables, found)
         + answers(tables, found)
         + (f"{manifest['note'].strip()}\n\n" if manifest.get("note") else "")
-        + f"{head(manifest, found, is_done)}{settings_tables(tables, found)}{taken_table(tables, found)}"
+        + f"{head(tables, found, is_done)}{settings_tables(tables, found)}{taken_table(tables, found)}"
         f"## Plots\n\n{plots}"
         f"## Made by\n\n```\n{commands(tables)}```\n\n{made_for_each_seed(manifest)}{sums(tables)}{commits(manifest)}"
     )

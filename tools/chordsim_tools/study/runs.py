@@ -23,6 +23,7 @@ from chordsim_tools.study.progress import RunProgress
 from chordsim_tools.study.record import write_record
 from chordsim_tools.study.setting_traps import tell_traps
 from chordsim_tools.study.sizes import check_not_negative
+from chordsim_tools.study.starts import start_traps
 from chordsim_tools.study.task import Task, result_of
 from chordsim_tools.study.worlds import argument_traps, latency_of, scenario_of
 
@@ -114,7 +115,7 @@ def run_study(study: Study, folder: Path, jobs: int, share: Share = (1, 1), dask
     if study.precision is not None and share[1] > 1:
         raise Refused(f"{study.path}: [precision] looks at all runs, so that there are no parts")
     make_folder(folder / "done")
-    warn([*few_seeds(study), *argument_traps(study)])
+    warn([*few_seeds(study), *start_traps(study), *argument_traps(study)])
     told: set[str] = set()
     told_precision = False
     while True:

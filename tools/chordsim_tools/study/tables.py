@@ -14,6 +14,7 @@ from chordsim_tools.files import read_input, sum_of, write_whole
 from chordsim_tools.program import TOP
 from chordsim_tools.study.network import are_placed, input_sums
 from chordsim_tools.study.plan import Setting, Study
+from chordsim_tools.study.starts import longest_round
 from chordsim_tools.study.sizes import Sizes, bytes_of
 
 VERSION = 2
@@ -124,6 +125,7 @@ def manifest_of(study: Study, program: Path, program_sum: str) -> dict[str, Any]
         "own_churn": any(node.get("churn") is True for node in study.scenario["node"]),
         "nodes": len(study.scenario["node"]),
         **plain,
+        "finger_round_us": longest_round(study),
         "tool": {"version": VERSION, "commit": commit_of(TOP, *OWN_FILES)},
         "program": {"sha256": program_sum, "commit": commit_of(TOP, "crates") if inside else None},
         "sha256": sums,

@@ -14,7 +14,7 @@ ROW = {
 }
 MANIFEST: dict[str, Any] = {
     "question": "How?", "study": "study.toml", "base": "base.toml", "generate": None, "latency": None,
-    "latency_arguments": None, "seeds": [1, 2], "vary": {}, "nodes": 4, "warmup_us": 0, "cooldown_us": 0, "goal": None,
+    "latency_arguments": None, "seeds": [1, 2], "vary": {}, "nodes": 4, "warmup_us": 0, "cooldown_us": 0, "window_us": 10_000_000, "goal": None,
     "precision": None, "sizes": {}, "commands": {}, "own_churn": False, "program": {"sha256": "f00", "commit": None},
     "tool": {"version": 2, "commit": "abc"}, "sha256": {"study.toml": "bad"},
 }

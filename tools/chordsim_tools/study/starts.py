@@ -1,0 +1,74 @@
+"""What a study begins with that does not last: churn that is not in equilibrium, and fingers that are all perfect."""
+
+from collections.abc import Mapping
+from typing import Any
+
+from chordsim_tools.quantities import time_of, time_text
+from chordsim_tools.study.keys import OF_GENERATE
+from chordsim_tools.study.plan import Setting, Study
+
+CHURN = ("--lifetime", "--churn-uniform")
+STATIONARY = "--stationary"
+KEYS = ("bits", "finger_us", "jitter_us")
+"""What the round of a member's fingers depends on."""
+
+
+def has_option(option: str, generate: list[str], vary: Mapping[str, Any]) -> bool:
+    """Whether the arguments of tools/generate have an option, or [vary] has it."""
+    return OF_GENERATE + option in vary or any(word.partition("=")[0] == option for word in generate)
+
+
+def churn_trap(generate: list[str] | None, vary: Mapping[str, Any]) -> list[str]:
+    """That the churn of a study does not start in equilibrium."""
+    if generate is None or has_option(STATIONARY, generate, vary):
+        return []
+    churn = [option for option in CHURN if has_option(option, generate, vary)]
+    if not churn:
+        return []
+    remedy = STATIONARY if churn[0] == CHURN[0] else f"{CHURN[0]} with {STATIONARY}"
+    return [f"{churn[0]} without {STATIONARY}: all nodes are new at the start, so that crashes come in waves; set {remedy}"]
+
+
+def value_in(study: Study, setting: Setting, key: str) -> int:
+    """A key of the scenario in a setting, in microseconds if it is a time."""
+    varied = dict(setting)
+    option = f"{OF_GENERATE}--{key.removesuffix('_us')}"
+    if option in varied:
+        text = str(varied[option])
+        return int((time_of(text) if key.endswith("_us") else text) or 0)
+    return int(varied.get(key, study.scenario.get(key, 0)))
+
+
+def round_of(study: Study, setting: Setting) -> int:
+    """How long a member takes to refresh all its fingers once, one after another."""
+    bits, finger, jitter = (value_in(study, setting, key) for key in KEYS)
+    return (bits - 1) * (2 * finger + jitter) // 2
+
+
+def longest_round(study: Study) -> int:
+    """The longest round of fingers of all settings, in microseconds."""
+    return max(round_of(study, setting) for setting in study.settings())
+
+
+def round_traps(manifest: Mapping[str, Any]) -> list[str]:
+    """That a warm-up, if there is one, or a judged span is below one round of fingers. Older manifests know no rounds."""
+    micros, duration = manifest.get("finger_round_us"), manifest.get("duration_us")
+    if micros is None or duration is None:
+        return []
+    warmup = manifest["warmup_us"]
+    spans = {"warmup_us": warmup} if warmup else {}
+    spans["the judged span"] = duration - warmup - manifest["cooldown_us"]
+    text = f"below one round of fingers, {time_text(micros)}: (bits - 1) x (finger_us + jitter_us / 2)"
+    why = "at the start all fingers are perfect, and all nodes refresh the same one at the same time"
+    short = [f"{name} ({time_text(span)})" for name, span in spans.items() if span < micros]
+    verb = "are" if len(short) > 1 else "is"
+    return [f"{' and '.join(short)} {verb} {text}; {why}"] if short else []
+
+
+def start_traps(study: Study) -> list[str]:
+    """What `tools/study run` warns of before the first run."""
+    facts = {
+        "finger_round_us": longest_round(study), "duration_us": study.scenario.get("duration_us"),
+        "warmup_us": study.warmup_us, "cooldown_us": study.cooldown_us,
+    }
+    return [*churn_trap(study.generate, study.vary), *round_traps(facts)]

@@ -1,0 +1,193 @@
+"""Whether the judged span is steady: served, right answers and members in six pieces of it, seed by seed.
+
+Two questions are asked of each number, by contrasts of the pieces (multiple contrast tests: Bretz, Genz and Hothorn,
+Biometrical Journal 43, 2001): does it rise or fall over the span, and is a piece other than the rest, as in a wave? They
+are asked of the mean of all settings, which have the same seeds, and of each setting. All of them share a risk of 5 %
+(Bonferroni), so of twenty steady studies about one is said not to be."""
+
+from dataclasses import dataclass
+from statistics import fmean
+from typing import Any
+
+from chordsim_tools.quantities import time_text
+from chordsim_tools.study.interval import LEAST_SEEDS, Interval, interval
+from chordsim_tools.study.names import name_of
+from chordsim_tools.study.numbers import Cells, Summary, groups, is_kept
+from chordsim_tools.study.tables import Tables
+
+PIECES = 6
+PARTS = {"served": ("right-of-ended", "wanted"), "right_of_begun": ("right-of-ended", "ended")}
+"""The columns of series.csv whose sums' quotient a number is in a piece."""
+OLDER = {"right_of_begun": ("right", "found")}
+"""The same for tables of an older tools/study."""
+MOST_TOLD = 5
+DIGITS = 12
+"""So many digits after the point count: what floating numbers add is no change."""
+Values = list[list[float]]
+"""A number in each piece, for each seed."""
+
+
+@dataclass(frozen=True)
+class Change:
+    """How a number changes over the span, or in a piece of it."""
+
+    number: str
+    where: str
+    piece: tuple[int, int] | None
+    found: Interval
+
+    def told(self) -> str:
+        """As `served -4.7 ± 1.9 points from its begin to its end (list=4)`."""
+        mean = self.found.mean or 0.0
+        size = Interval(abs(mean), self.found.half, self.found.count, self.found.count).told(100)
+        sign = "+" if mean > 0 else "-"
+        if self.piece is None:
+            return f"{name_of(self.number)} {sign}{size} points from its begin to its end ({self.where})"
+        begin, end = map(time_text, self.piece)
+        return f"{name_of(self.number)} {sign}{size} points from {begin} to {end}, against the rest ({self.where})"
+
+
+def steps_of(tables: Tables, cells: Cells, lines: list[Cells]) -> list[list[Cells]]:
+    """The steps of a run that lie in the judged span, in pieces of as many steps; none if there are too few."""
+    begin = int(tables.manifest["warmup_us"])
+    end = int(cells["duration-us"]) - int(tables.manifest["cooldown_us"])
+    window = int(tables.manifest["window_us"])
+    steps = [line for line in lines if begin <= int(line["from_us"]) and int(line["from_us"]) + window <= end]
+    size = max(1, len(steps) // PIECES)
+    pieces = [steps[place : place + size] for place in range(0, size * PIECES, size)]
+    return [piece for piece in pieces if piece] if len(steps) >= 2 else []
+
+
+def number_in(number: str, piece: list[Cells], nodes: int) -> float | None:
+    """A number in a piece of a run."""
+    if number == "members":
+        return fmean(int(step["members"]) for step in piece) / nodes
+    above, below = PARTS[number] if PARTS[number][0] in piece[0] else OLDER.get(number, ("", ""))
+    wanted = sum(float(step[below]) for step in piece) if below else 0.0
+    return sum(float(step[above]) for step in piece) / wanted if wanted else None
+
+
+class Pieces:
+    """The pieces of all runs of a study whose rings were kept."""
+
+    def __init__(self, tables: Tables) -> None:
+        """Those of the tables."""
+        keys = [*tables.manifest["vary"], "seed"]
+        lines = groups(tables.series, keys)
+        rows = {tuple(cells[key] for key in keys): cells for cells in tables.runs}
+        self.nodes = int(tables.manifest["nodes"])
+        self.runs = {run: steps_of(tables, cells, lines.get(run, [])) for run, cells in rows.items() if is_kept(cells)}
+
+    def values(self, one: Summary, number: str) -> dict[str, list[float]]:
+        """A number of a setting in the pieces of each seed that has it in all of them."""
+        found = {seed: self.in_run((*one.values, seed), number) for seed in one.by_seed}
+        return {seed: values for seed, values in found.items() if len(values) > 1}
+
+    def in_run(self, run: tuple[str, ...], number: str) -> list[float]:
+        """A number in the pieces of a run; none if one of them does not have it."""
+        values = [number_in(number, piece, self.nodes) for piece in self.runs.get(run, [])]
+        there = [value for value in values if value is not None]
+        return there if len(there) == len(values) else []
+
+    def spans(self, one: Summary, window: int) -> list[tuple[int, int]]:
+        """The begin and the end of each piece."""
+        pieces = next((self.runs[(*one.values, seed)] for seed in one.by_seed if (*one.values, seed) in self.runs), [])
+        return [(int(piece[0]["from_us"]), int(piece[-1]["from_us"]) + window) for piece in pieces]
+
+
+def trend(values: Values, level: float) -> Interval:
+    """How far a straight line through the pieces goes from the first to the last one."""
+    last = len(values[0]) - 1
+    weights = [place - last / 2 for place in range(last + 1)]
+    factor = last / sum(weight * weight for weight in weights)
+    sums = (sum(w * v for w, v in zip(weights, seed, strict=True)) for seed in values)
+    return interval([round(factor * one, DIGITS) for one in sums], level)
+
+
+def apart(values: Values, place: int, level: float) -> Interval:
+    """A piece less the mean of all others."""
+    rests = ([*seed[:place], *seed[place + 1 :]] for seed in values)
+    return interval([round(seed[place] - fmean(rest), DIGITS) for seed, rest in zip(values, rests, strict=True)], level)
+
+
+def changes(values: Values, risk: float) -> list[tuple[int | None, Interval]]:
+    """The trend, and each piece against the rest; the trend has half of the risk."""
+    if len(values) < LEAST_SEEDS:
+        return []
+    count = len(values[0])
+    pieces: list[tuple[int | None, Interval]] = [
+        (place, apart(values, place, 1 - risk / 2 / count)) for place in range(count) if count > 2
+    ]
+    return [(None, trend(values, 1 - risk / 2)), *pieces]
+
+
+def mean_values(each: list[dict[str, list[float]]]) -> Values:
+    """The mean of all settings, in the seeds that all of them have."""
+    seeds = [seed for seed in each[0] if all(seed in values for values in each)] if each else []
+    return [[fmean(parts) for parts in zip(*(values[seed] for values in each))] for seed in seeds]
+
+
+@dataclass(frozen=True)
+class Looked:
+    """What was found: changes, the trend of each number over all settings, and how many settings were left out."""
+
+    changes: list[Change]
+    trends: dict[str, Interval]
+    left: int
+
+
+def look(tables: Tables, found: list[Summary]) -> Looked:
+    """Looks at all settings that kept their rings in five seeds or more."""
+    pieces, window = Pieces(tables), int(tables.manifest["window_us"])
+    numbers = ("served", "right_of_begun", "members")
+    values = {(one.label, number): pieces.values(one, number) for one in found for number in numbers}
+    whole = [one for one in found if len(values[one.label, "members"]) >= LEAST_SEEDS]
+    risk = 0.05 / len(numbers) / (2 if len(whole) > 1 else 1)
+    told: list[Change] = []
+    trends: dict[str, Interval] = {}
+    for number in numbers:
+        of_all = mean_values([values[one.label, number] for one in whole if one.kept == one.seeds])
+        tests = [("all settings", changes(of_all, risk), whole[0])] if len(whole) > 1 else []
+        each = risk / max(1, len(whole))
+        tests += [(one.label, changes(list(values[one.label, number].values()), each), one) for one in whole]
+        if tests and tests[0][1]:
+            trends[number] = tests[0][1][0][1]
+        told += [
+            Change(number, where, None if place is None else pieces.spans(one, window)[place], change)
+            for where, tested, one in tests for place, change in tested if change.excludes(0.0)
+        ]
+    return Looked(told, trends, len(found) - len(whole))
+
+
+def strongest(told: list[Change]) -> list[Change]:
+    """Of each number and place the trend, or else the piece that is farthest from the rest."""
+
+    def size(one: Change) -> tuple[bool, float]:
+        """The order of changes."""
+        return one.piece is None, abs(one.found.mean or 0.0)
+
+    places = dict.fromkeys((one.number, one.where) for one in told)
+    return [max((one for one in told if (one.number, one.where) == place), key=size) for place in places]
+
+
+def steadiness(tables: Tables, found: list[Summary], named: set[str]) -> str:
+    """What a page says of it; `named` are the numbers of the goal."""
+    looked = look(tables, found)
+    rest = sorted(named - {"served", "right_of_begun", "members", "rings_lost"})
+    blind = f" Not looked at: {', '.join(map(name_of, rest))}." if rest else ""
+    left = f" {looked.left} of {len(found)} settings are left out: too few seeds kept the ring." if looked.left else ""
+    if not looked.trends:
+        return "Whether the judged span is steady cannot be said: too few seeds kept their ring, or too few steps." + blind
+    strong = strongest(looked.changes)
+    if strong:
+        more = f"; and {len(strong) - MOST_TOLD} more" if len(strong) > MOST_TOLD else ""
+        listed = "; ".join(one.told() for one in strong[:MOST_TOLD])
+        return f"**Not steady** in the judged span: {listed}{more}.{blind}{left}"
+    told = ", ".join(f"{name_of(number)} {one.told(100)}" for number, one in looked.trends.items())
+    return f"No drift and no waves seen in the judged span. Points from its begin to its end: {told}.{blind}{left}"
+
+
+def manifest_numbers(manifest: dict[str, Any]) -> set[str]:
+    """The numbers that the goal of a study names."""
+    goal = manifest["goal"]
+    return set() if goal is None else {goal["least"], *(limit["number"] for limit in goal["limits"])}

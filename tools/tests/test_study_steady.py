@@ -1,0 +1,148 @@
+"""Whether a judged span is steady: trends and waves of made series, by hand and by many random studies."""
+
+from collections.abc import Callable
+from random import Random
+from unittest import TestCase
+
+from chordsim_tools.study.numbers import summaries
+from chordsim_tools.study.page import page
+from chordsim_tools.study.plan import read_study
+from chordsim_tools.study.starts import churn_trap, longest_round, round_traps
+from chordsim_tools.study.steady import look
+from chordsim_tools.study.tables import Tables
+from tests.support.studies import row, tables_of, unwrapped
+from tests.test_study_run import BASE, STUDY, called, said, study_folder
+
+STEPS = 12
+NODES = 1_000_000
+Shares = Callable[[int, int, int], float]
+"""The share of members for a list, a seed and a step."""
+
+
+def study_of(members: Shares, sizes: int = 1, seeds: int = 6, lost: int = 0, **changes: object) -> Tables:
+    """A study of 120 s with steps of 10 s and a million nodes, in which only the members change."""
+    runs, series = [], []
+    for size in range(1, sizes + 1):
+        for seed in range(1, seeds + 1):
+            cells = {"ringless": 1, "lost-at-us": 5} if seed <= lost else {}
+            runs.append(row(list=size, seed=seed, **{"duration-us": 120_000_000}, **cells))
+            for step in range(STEPS):
+                series.append({
+                    "list": str(size), "seed": str(seed), "from_us": str(10_000_000 * step), "lookups": "100",
+                    "found": "100", "right": "99", "members": str(round(NODES * members(size, seed, step))), "ended": "100",
+                    "right-of-ended": "99", "wanted": "110",
+                })
+    tables = tables_of(runs, vary={"list": list(range(1, sizes + 1))}, **{"nodes": NODES, **changes})
+    return Tables(tables.manifest, runs, series)
+
+
+def sentence(tables: Tables) -> str:
+    """What the page says of it."""
+    lines = unwrapped(page(tables)).splitlines()
+    [found] = [line for line in lines if "steady" in line.lower() or line.startswith("No drift")]
+    return found
+
+
+class SteadyTest(TestCase):
+    """Six pieces of two steps each."""
+
+    def test_trend(self) -> None:
+        """A straight line from 90.5 to 85.5 %, in seeds that differ by a tenth of a point: it falls by five points."""
+        tables = study_of(lambda _, seed, step: 0.9 + 0.001 * seed * (step % 4 == 3) - 0.01 * (step // 2))
+        [change] = [one for one in look(tables, summaries(tables)).changes if one.piece is None]
+        # Seeds add s / 2000 to the second, fourth and sixth piece: their contrast is 5 / 17.5 * (-1.5 + 0.5 + 2.5).
+        extra = 0.0005 * 3.5 * 5 / 17.5 * 1.5
+        assert change.number == "members" and abs((change.found.mean or 0) + 0.05 - extra) < 1e-9, change
+        assert "**Not steady** in the judged span: members -4." in sentence(tables)
+
+    def test_wave(self) -> None:
+        """The halves agree, and the third and fourth steps do not: they have six points more than the rest."""
+        tables = study_of(lambda _, seed, step: 0.8 + 0.002 * (seed % 3) + (0.06 if step in (2, 3, 8, 9) else 0.0))
+        told = [(one.piece, round(one.found.mean or 0, 3)) for one in look(tables, summaries(tables)).changes]
+        assert ((20_000_000, 40_000_000), 0.048) in told and not [piece for piece, _ in told if piece is None], told
+        assert "members +4.8" in sentence(tables) and "from 20s to 40s, against the rest (list=1)" in sentence(tables)
+
+    def test_steady(self) -> None:
+        """The page says how far each number may have moved, and which number of the goal it did not look at."""
+        limits = [{"number": "p99_ms", "is_least": False, "value": 3000.0}]
+        goal = {"limits": limits, "lost_max": None, "least": "messages"}
+        draws = Random(5)
+        text = sentence(study_of(lambda *_: 0.9 + draws.gauss(0, 0.01), goal=goal))
+        assert text.startswith("No drift and no waves seen in the judged span."), text
+        assert "served 0, right of begun 0, members " in text and text.endswith("Not looked at: messages, p99.")
+
+    def test_false_alarms(self) -> None:
+        """Of steady studies of four settings about one in twenty, or fewer, is said not to be steady."""
+        draws = Random(9)
+        count = 0
+        for _ in range(120):
+            worlds = {seed: draws.gauss(0.8, 0.03) for seed in range(1, 9)}
+            tables = study_of(lambda _, seed, step: worlds[seed] + draws.gauss(0, 0.01), 4, 8)
+            count += bool(look(tables, summaries(tables)).changes)
+        assert count <= 12, count
+
+    def test_a_common_drift_is_seen_in_the_mean_of_the_settings(self) -> None:
+        """A drift of three points that no setting shows by itself."""
+        draws = Random(2)
+        tables = study_of(lambda _, seed, step: 0.9 - 0.0025 * step + draws.gauss(0, 0.035), 8, 8)
+        assert {one.where for one in look(tables, summaries(tables)).changes} == {"all settings"}
+
+    def test_lost_rings_and_few_steps(self) -> None:
+        """Settings with fewer than five rings kept are left out; one step says nothing."""
+        drifting = study_of(lambda _, seed, step: 0.9 - 0.01 * step + 0.0001 * seed * step, lost=2)
+        assert look(drifting, summaries(drifting)).left == 1
+        assert sentence(drifting).startswith("Whether the judged span is steady cannot be said")
+        short = study_of(lambda _, seed, step: 0.9 - 0.01 * step, cooldown_us=105_000_000)
+        assert sentence(short).startswith("Whether the judged span is steady cannot be said")
+
+    def test_older_series(self) -> None:
+        """Without what was wanted the right answers of the found ones and the members are left."""
+        tables = study_of(lambda *_: 0.9)
+        for line in tables.series:
+            for word in ("ended", "right-of-ended", "wanted"):
+                del line[word]
+        assert sentence(tables).startswith("No drift and no waves seen") and "right of begun" in sentence(tables)
+        assert "served" not in sentence(tables)
+
+
+class StartTest(TestCase):
+    """What does not last."""
+
+    def test_churn(self) -> None:
+        """Lives of tools/generate need --stationary, in the arguments or in [vary]."""
+        life = ["--nodes", "8", "--lifetime", "exp:40s"]
+        [told] = churn_trap(life, {})
+        assert told.startswith("--lifetime without --stationary: all nodes are new at the start, so that crashes come")
+        assert "set --lifetime with --stationary" in churn_trap(["--churn-uniform", "1s..2s", "1s..2s"], {})[0]
+        assert churn_trap(["--nodes=8"], {"generate.--lifetime": ["exp:4s"]})
+        for quiet in ([*life, "--stationary"], ["--nodes", "8"], None):
+            assert churn_trap(quiet, {}) == []
+
+    def test_rounds(self) -> None:
+        """16 bits and 250 ms: 15 fingers in 3.75 s. A jitter of 50 ms and 32 bits: 31 times 275 ms, 8.525 s."""
+        with study_folder(STUDY) as folder:
+            assert longest_round(read_study(folder / "study.toml")) == 3_750_000
+            (folder / "base.toml").write_text(BASE.replace("bits = 16", "bits = 32\njitter_us = 50000"))
+            assert longest_round(read_study(folder / "study.toml")) == 8_525_000
+            varied = 'question = "How?"\ngenerate = ["--nodes", "8"]\nseeds = 2\n[vary]\n'
+            varied += '"generate.--finger" = ["1s", "2s"]\n"generate.--bits" = [8, 16]\n'
+            (folder / "study.toml").write_text(varied)
+            assert longest_round(read_study(folder / "study.toml")) == 15 * 2_025_000
+
+    def test_short_rounds(self) -> None:
+        """A warm-up and a judged span of 20 s, and rounds of 20 and 21 s."""
+        facts = {"duration_us": 45_000_000, "warmup_us": 20_000_000, "cooldown_us": 5_000_000}
+        [told] = round_traps({**facts, "finger_round_us": 21_000_000})
+        assert told.startswith("warmup_us (20s) and the judged span (20s) are below one round of fingers, 21s: (bits")
+        assert round_traps({**facts, "finger_round_us": 20_000_000}) == round_traps(facts) == []
+
+    def test_before_the_first_run(self) -> None:
+        """Both are told on standard error, and on the page. The round is 15 times 275 ms."""
+        text = 'question = "How?"\nseeds = 2\nwarmup_us = "4s"\ngenerate = ["--nodes", "16", "--bits", "16", "--duration", "20s", '
+        with study_folder(text + '"--lifetime", "exp:40s", "--stay", "2"]\n') as folder:
+            status, _, told = called(folder)
+            assert status == 0 and "warning: --lifetime without --stationary" in told, told
+            assert "warning: warmup_us (4s) is below one round of fingers, 4125ms" in told, told
+            assert said("report", folder / "study")[0] == 0
+            page_text = unwrapped((folder / "study" / "report.md").read_text())
+            assert "Warning: --lifetime without" in page_text and "Warning: warmup_us (4s) is below" in page_text
