@@ -24,6 +24,12 @@ class CommandTest(TestCase):
         assert status == 0 and all(f"tools/study {command} " in block for command in COMMANDS)
         assert "draw plots of a study that was run" in out
 
+    def test_study_file_without_a_command(self) -> None:
+        """The command that was likely meant."""
+        status, out, told = ended(main, "lists.toml", "-o", "out")
+        wanted = "tools/study: lists.toml is no command: did you mean `tools/study run lists.toml`? (see tools/study --help)\n"
+        assert (status, out, told) == (2, "", wanted)
+
     def test_last_lines(self) -> None:
         """Where the files are, and the command that comes next."""
         with study_folder() as folder:

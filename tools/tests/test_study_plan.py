@@ -233,7 +233,14 @@ class StudyPlanTest(TestCase):
         vary = HEAD + SEEDS + "[vary]\n"
         for text, told in (
             ("question = ", "study.toml: no TOML 1.0"),
-            (SEEDS, "study.toml: question has to be a text"),
+            (SEEDS, "study.toml: either base or generate is required: a scenario"),
+            ('base = "base.toml"\n' + SEEDS, "study.toml: question is required: a text"),
+            (HEAD.replace('"How?"', '" "') + SEEDS, "study.toml: question has to be a text"),
+            (MADE.replace('"--nodes", "6"', '"--nodes 6"') + SEEDS,
+             'study.toml: generate has "--nodes 6" as one argument: write "--nodes", "6"'),
+            (MADE + SEEDS + 'latency = "--plane 60ms"',
+             'latency has arguments, so that it has to be a list: latency = ["--plane", "60ms"]'),
+            (HEAD + SEEDS + "warmup_us = 200", "study.toml: warmup_us leaves nothing of 200 us"),
             (HEAD, "study.toml: seeds has to be"),
             (HEAD + "seeds = [1, 1]", "study.toml: seeds has to be"),
             (HEAD + 'seeds = "3-2"', "study.toml: seeds has to be"),

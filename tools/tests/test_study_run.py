@@ -299,7 +299,7 @@ class StudyRunTest(TestCase):
     def test_faults_of_words_and_files(self) -> None:
         """Status 1 for a file, 2 for words."""
         with study_folder("question = 1") as folder:
-            assert call(folder) == (1, f"refused: {folder}/study.toml: question has to be a text")
+            assert call(folder) == (1, f"refused: {folder}/study.toml: either base or generate is required: a scenario")
             (folder / "study.toml").unlink()
             assert call(folder)[0] == 1
             told = io.StringIO()
@@ -395,8 +395,26 @@ class StudyRunTest(TestCase):
         """Nothing is run, since the settings are checked first."""
         with study_folder(STUDY.replace("[1, 2]\n[vary]\nlist = [1, 2]", "[1, 2]\n[vary]\nlist = [1, 17]")) as folder:
             status, told = call(folder, chordsim=program())
-            assert (status, told) == (1, "refused: list=17, seed=1: the program says: refused: S5 OutOfRange top list")
+            assert status == 1 and told == (
+                f"refused: {folder}/study.toml: the setting list=17 is refused: S5 OutOfRange top list: `list` is out "
+                "of range: 17; allowed: an integer from 1 to 16"
+            ), told
             assert not list((folder / "study" / "done").glob("*.json"))
+
+    def test_refusals_of_settings_in_words(self) -> None:
+        """A list of 9 needs ten nodes; latencies and coordinates exclude each other. Both name the setting."""
+        program()
+        lists = 'generate = ["--nodes", "8", "--duration", "20s"]\n[vary]\nlist = [1, 9]\n'
+        king = '["--profile", "4", "--nodes", "8", "--duration", "20s", "--coordinates", "king", "--timeout", "400ms"]\n'
+        both = f'generate = {king}latency = ["--plane", "60ms"]\n'
+        for text, told in (
+            (lists, "the setting list=9 is refused: S10 TooFewInitial: too few nodes are members at the start: list = 9, and "
+                    "8 nodes are initial; allowed: list + 1 = 10 initial nodes or more"),
+            (both, "the setting base is refused: the nodes have coordinates and there are latencies: drop `latency`, or "
+                   "--coordinates of `generate`"),
+        ):
+            with study_folder('question = "How?"\nseeds = 1\n' + text) as folder:
+                assert call(folder, chordsim=program()) == (1, f"refused: {folder}/study.toml: {told}")
 
     def test_same_bytes_by_any_number_of_jobs(self) -> None:
         """The tables and the manifest."""

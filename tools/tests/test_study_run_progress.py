@@ -7,6 +7,7 @@ from contextlib import redirect_stderr
 from unittest import TestCase
 from unittest.mock import patch
 
+from chordsim_tools.study.load import Load
 from chordsim_tools.study.progress import RunProgress, time_words
 from chordsim_tools.study.so_far import tables_of
 from tests.test_study_run import STUDY, call, said, study_folder
@@ -47,6 +48,28 @@ class ProgressTest(TestCase):
         assert out.getvalue() == (
             "30 of 150 runs, 60 min left\n31 of 150 runs, 60 min left\n31 of 150 runs, 89 min left\n"
         )
+
+    def test_settings_that_differ(self) -> None:
+        """Two runs of a setting took 10 s each, side by side. Two of another one, of ten times the weight, take 100 s each."""
+        clock = Clock()
+        load = Load([("fast", 1.0), ("fast", 1.0), ("slow", 10.0), ("slow", 10.0)])
+        progress = RunProgress(4, 0, clock, load)
+        assert progress.left() is None
+        clock.now = 1010.0
+        progress.one_more("fast", 10.0)
+        progress.one_more("fast", 10.0)
+        assert progress.left() == 100.0
+        clock.now = 1030.0
+        progress.one_more("slow", 20.0)
+        assert progress.left() == 30 * 20 / 40
+
+    def test_settings_whose_times_are_not_known(self) -> None:
+        """As with Dask: runs of five times the weight take five times as long."""
+        clock = Clock()
+        progress = RunProgress(3, 0, clock, Load([("a", 2.0), ("a", 2.0), ("b", 10.0)]))
+        clock.now = 1006.0
+        progress.one_more("a")
+        assert progress.left() == 6 * 12 / 2
 
     def test_bar(self) -> None:
         """A terminal: one line that is written again and again, and ended once."""

@@ -13,7 +13,7 @@ from tests.test_study_plan import HEAD, MADE, in_folder
 
 TIMES = Axis("stabilize_us", 250_000, 8_000_000, False)
 COUNTS = Axis("list", 2, 16, True)
-GOAL = "[goal]\nright_of_begun_min = 0.5\n"
+GOAL = "[goal]\nright_of_begun_min = 0.1\n"
 SEARCH = HEAD + "seeds = 5\n" + GOAL + "[search]\n"
 RING = """question = "Which period?"
 generate = ["--nodes", "8", "--duration", "20s", "--window", "5ms", "--latency", "20ms", "--timeout", "100ms",

@@ -198,6 +198,8 @@ COMMANDS = {
 def parsed(arguments: list[str]) -> Namespace:
     """The arguments of the command line."""
     parser = Parser(PROG, HELP, epilog_of(*EXAMPLES))
+    if arguments and arguments[0] not in COMMANDS and arguments[0].endswith(".toml"):
+        parser.error(f"{arguments[0]} is no command: did you mean `{PROG} run {arguments[0]}`?")
     of_all = parser.add_subparsers(dest="command", required=True, metavar="|".join(COMMANDS), parser_class=Parser)
     commands = {
         name: of_all.add_parser(name, help=short, description=long, epilog=epilog_of(name))

@@ -9,6 +9,7 @@ from typing import Any
 from chordsim_tools.cli import Failure
 from chordsim_tools.files import read_input, sum_of
 from chordsim_tools.program import find_program
+from chordsim_tools.study.pool import SEED
 from chordsim_tools.study.progress import RunProgress
 from chordsim_tools.study.task import Task, result_of
 
@@ -58,7 +59,7 @@ def gather(package: Any, client: Any, wanted: list[Wanted], program_sum: str, pr
             left.discard(future)
             task, take = takers.pop(future)
             take(checked(package, future, task))
-            progress.one_more()
+            progress.one_more(task.name.rpartition(SEED)[0])
         progress.tick()
 
 

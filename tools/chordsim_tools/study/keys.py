@@ -46,6 +46,8 @@ def is_integer(value: Any) -> bool:
 def text_of(path: Path, top: dict[str, Any], key: str) -> str:
     """A text of the study file that has to be there."""
     value = top.get(key)
+    if value is None:
+        raise Refused(f"{path}: {key} is required: a text")
     if not isinstance(value, str) or not value.strip():
         raise Refused(f"{path}: {key} has to be a text")
     return value
@@ -73,6 +75,9 @@ def arguments_of(path: Path, top: dict[str, Any], key: str) -> list[str]:
     if not isinstance(value, list) or not all(isinstance(one, str) for one in value):
         raise Refused(f"{path}: {key} has to be a list of arguments, each a text")
     for word in value:
+        if word.startswith("--") and " " in word.partition("=")[0]:
+            parts = ", ".join(f'"{part}"' for part in word.split())
+            raise Refused(f'{path}: {key} has "{word}" as one argument: write {parts}')
         if word.partition("=")[0] in ("--seed", "-o", "--random", "--links"):
             raise Refused(f"{path}: {key} has {word}, which the study sets for each seed or which makes another world")
     return list(value)

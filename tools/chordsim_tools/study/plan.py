@@ -100,8 +100,7 @@ def read_study(path: Path) -> Study:
     content = read_input(path)
     top = parsed(path, content)
     check_keys(path, top)
-    if "base" in top and "generate" in top:
-        raise Refused(f"{path}: either base or generate")
+    check_kinds(path, top)
     rows = top.get("latency")
     study = Study(
         path,
@@ -132,6 +131,16 @@ def read_study(path: Path) -> Study:
         study.seeds = list(range(1, study.precision.least_seeds + 1))
     read_files(study, top)
     return study
+
+
+def check_kinds(path: Path, top: dict[str, Any]) -> None:
+    """Fails if a study has no scenario or two, or if arguments are no list."""
+    if ("base" in top) == ("generate" in top):
+        raise Refused(f"{path}: either base or generate" + ("" if "base" in top else " is required: a scenario"))
+    rows = top.get("latency")
+    if isinstance(rows, str) and rows.strip().startswith("--"):
+        words = ", ".join(f'"{word}"' for word in rows.split())
+        raise Refused(f"{path}: latency has arguments, so that it has to be a list: latency = [{words}]")
 
 
 def check_keys(path: Path, top: dict[str, Any]) -> None:

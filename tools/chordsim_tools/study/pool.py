@@ -4,6 +4,7 @@ import contextlib
 import multiprocessing
 import signal
 import sys
+import time
 from collections.abc import Callable
 from multiprocessing import connection
 from multiprocessing.process import BaseProcess
@@ -16,8 +17,10 @@ Work = tuple[str, Callable[[], None]]
 """A piece of work, by the name that messages give it."""
 # concurrent.futures would be shorter, but a pool of it cannot end the runs in hand: they are seconds to hours long, and
 # a stop has to end them at once, together with their programs.
-Going = dict[int, tuple[BaseProcess, connection.Connection, str]]
-"""The processes of the runs in hand, by their sentinels."""
+Going = dict[int, tuple[BaseProcess, connection.Connection, str, float]]
+"""The processes of the runs in hand, by their sentinels, and when they began."""
+SEED = ", seed="
+"""What is between the setting and the seed in the name of a run."""
 
 
 def work_all(works: list[Work], jobs: int, progress: RunProgress) -> None:
@@ -29,13 +32,14 @@ def work_all(works: list[Work], jobs: int, progress: RunProgress) -> None:
             while waiting and len(going) < jobs:
                 start(waiting.pop(), going)
             for sentinel in [place for place in connection.wait(list(going), 1) if isinstance(place, int)]:
-                finish(*going.pop(sentinel))
-                progress.one_more()
+                process, pipe, name, begun = going.pop(sentinel)
+                finish(process, pipe, name)
+                progress.one_more(name.rpartition(SEED)[0], time.monotonic() - begun)
             progress.tick()
     finally:
-        for process, _, _ in going.values():
+        for process, *_ in going.values():
             process.terminate()
-        for process, _, _ in going.values():
+        for process, *_ in going.values():
             process.join()
 
 
@@ -61,7 +65,7 @@ def start(work: Work, going: Going) -> None:
     except OSError as fault:
         raise Failure(3, f"cannot start a process: {reason(fault)}") from None
     sender.close()
-    going[process.sentinel] = (process, receiver, name)
+    going[process.sentinel] = (process, receiver, name, time.monotonic())
 
 
 def finish(process: BaseProcess, pipe: connection.Connection, name: str) -> None:

@@ -6,6 +6,7 @@ from collections.abc import Callable
 from types import TracebackType
 
 from chordsim_tools.cli import say
+from chordsim_tools.study.load import Load
 
 LOG_SECONDS = 30.0
 """How often a log gets a line."""
@@ -30,21 +31,25 @@ def time_words(seconds: float) -> str:
 
 
 class RunProgress:
-    """Runs done of all, and the time left at the rate since the start."""
+    """Runs done of all, and the time left by what the runs of each setting have taken since the start."""
 
-    def __init__(self, total: int, done: int, clock: Callable[[], float] = time.monotonic) -> None:
-        """Work that begins now, with some of the runs done before."""
+    def __init__(
+        self, total: int, done: int, clock: Callable[[], float] = time.monotonic, load: Load | None = None
+    ) -> None:
+        """Work that begins now, with some of the runs done before. Without a load all runs are alike."""
         self.total = total
-        self.done = self.before = done
+        self.done = done
         self.clock = clock
         self.start = clock()
+        self.load = load or Load([("", 1.0)] * (total - done))
         self.is_bar = sys.stderr is not None and sys.stderr.isatty()
         self.next = self.start + (QUIET_SECONDS if self.is_bar else LOG_SECONDS)
         self.said = False
 
-    def one_more(self) -> None:
-        """One more run is done."""
+    def one_more(self, setting: str = "", seconds: float | None = None) -> None:
+        """One more run is done, of this setting and in this time, if that is known."""
         self.done += 1
+        self.load.one_more(setting, seconds)
         self.tick()
 
     def tick(self) -> None:
@@ -69,10 +74,7 @@ class RunProgress:
 
     def left(self) -> float | None:
         """The seconds left, if a run was done since the start and there is one to do."""
-        new = self.done - self.before
-        if new == 0 or self.done == self.total:
-            return None
-        return (self.clock() - self.start) / new * (self.total - self.done)
+        return None if self.done == self.total else self.load.seconds_left(self.clock() - self.start)
 
     def drawn(self) -> str:
         """The share that is done."""

@@ -9,18 +9,20 @@ from pathlib import Path
 from typing import Any
 
 from chordsim_tools.cli import Failure, Refused
-from chordsim_tools.explain.traps import warn
+from chordsim_tools.explain.traps import timer_events, warn
 from chordsim_tools.files import make_folder, read_input, sum_of, write_whole
 from chordsim_tools.program import find_program
 from chordsim_tools.study.curves import write_results
 from chordsim_tools.study.dask_runs import run_by_dask
 from chordsim_tools.study.interval import LEAST_SEEDS
+from chordsim_tools.study.load import Load
 from chordsim_tools.study.plan import Setting, Study, label
 from chordsim_tools.study.pool import work_all
 from chordsim_tools.study.precise import more_seeds, numberless
 from chordsim_tools.study.program import Program
 from chordsim_tools.study.progress import RunProgress
 from chordsim_tools.study.record import write_record
+from chordsim_tools.study.refused import refusal
 from chordsim_tools.study.setting_traps import tell_traps
 from chordsim_tools.study.sizes import check_not_negative
 from chordsim_tools.study.starts import start_traps
@@ -154,10 +156,16 @@ def do_left(
         firsts.setdefault(run.setting, run.task)
     tell_traps(firsts.values(), program, told)
     try:
-        with RunProgress(len(runs), len(runs) - len(left)) as progress:
+        with RunProgress(len(runs), len(runs) - len(left), load=load_of(left, firsts)) as progress:
             do_runs(left, program, program_sum, jobs, dask, progress)
     finally:
         remove_parts(runs)
+
+
+def load_of(left: list[Run], firsts: dict[Setting, Task]) -> Load:
+    """The runs that are to be done, by the events that the timers of their settings make."""
+    weights = {setting: timer_events(tomllib.loads(task.scenario)) for setting, task in firsts.items()}
+    return Load((label(run.setting), weights[run.setting]) for run in left)
 
 
 def look_at(runs: list[Run]) -> list[Run]:
@@ -243,5 +251,5 @@ def check_settings(runs: list[Run], program: Path) -> None:
             try:
                 Program(program, run.scenario(), run.latency()).check()
             except Failure as fault:
-                raise Failure(fault.status, f"{run.task.name}: {fault.text}") from None
+                raise refusal(run.study, run.setting, run.task, fault) from None
             check_not_negative(run.study.path, run.study.sizes, tomllib.loads(run.task.scenario))
