@@ -12,6 +12,7 @@ from chordsim_tools.study.plot_files import NO_PLOTS
 from chordsim_tools.study.settings_tables import settings_tables
 from chordsim_tools.study.tables import Tables
 from chordsim_tools.study.taken import taken_table
+from chordsim_tools.study.unravel import unravelled
 from chordsim_tools.study.wrap import paragraph, wrapped
 
 CHANGED = " `+` means: with changes since that commit."
@@ -92,6 +93,7 @@ def page(tables: Tables, plots: str = NO_PLOTS, is_done: bool = True) -> str:
         f"# {' '.join(manifest['question'].split())}\n\n"
         + lost_told(tables, found)
         + answers(tables, found)
+        + unravelled(found)
         + (f"{manifest['note'].strip()}\n\n" if manifest.get("note") else "")
         + f"{head(tables, found, is_done)}{settings_tables(tables, found)}{taken_table(tables, found)}"
         f"## Plots\n\n{plots}"

@@ -7,6 +7,7 @@ from chordsim_tools.study.notes import AGAIN
 from chordsim_tools.study.numbers import Cells, Summary
 from chordsim_tools.study.settings_tables import Column, table_text
 from chordsim_tools.study.tables import Tables
+from chordsim_tools.study.unravel import lost_told
 from chordsim_tools.study.wrap import note, paragraph
 
 COLUMNS = (
@@ -17,6 +18,8 @@ COLUMNS = (
     ("members stranded", "cost-stranded"),
     ("joins failed", "cost-join-failed"),
 )
+OF_LOST_RINGS = ("cost-stranded", "cost-join-failed")
+"""What a ring was lost by. These are told of the rings lost too, for each run, since few of their nodes are members."""
 UNIT = "All numbers are for each member and hour, from the warm-up to the end."
 NOTES = (
     AGAIN,
@@ -27,8 +30,9 @@ NOTES = (
     "successor left the list though it was a member. In all other cases a lookup, a join or a ping went on without the "
     "node.",
     "**requests sent again**: each time that a request was sent again (`retries`).",
-    "**members stranded**: members whose successor list ran empty.",
-    "**joins failed**: times that a join had failed eight times.",
+    "**members stranded**: members whose successor list ran empty. Of rings that were lost it is the mean for each run, "
+    "with the least and the greatest.",
+    "**joins failed**: times that a join had failed eight times, of rings that were lost as members stranded.",
 )
 
 
@@ -45,7 +49,10 @@ def an_hour(word: str) -> Callable[[Cells], float | None]:
 
 def cell_of(one: Summary, word: str) -> str:
     """The cell of a count in a setting's line."""
-    return one.of(an_hour(word)).told()
+    if word not in OF_LOST_RINGS or one.kept == one.seeds:
+        return one.of(an_hour(word)).told()
+    kept = f"{one.of(an_hour(word)).told()}; " if one.kept else ""
+    return f"{kept}lost rings: {lost_told(one, word)} a run"
 
 
 def taken_table(tables: Tables, found: list[Summary]) -> str:
