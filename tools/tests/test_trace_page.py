@@ -4,6 +4,7 @@ import base64
 import importlib
 import json
 import re
+import shutil
 import subprocess
 import tempfile
 from array import array
@@ -12,9 +13,10 @@ from typing import Any
 from unittest import SkipTest, TestCase
 from unittest.mock import patch
 
+from chordsim_tools.cli import Refused
 from chordsim_tools.scenario.reading import read_scenario
 from chordsim_tools.trace.command import main
-from chordsim_tools.trace.page import data, writing
+from chordsim_tools.trace.page import data, groups, writing
 from chordsim_tools.trace.reading import Run, read_run
 from tests.support.programs import ended, program
 from tests.test_trace import SCENARIO, audit, run_of
@@ -93,11 +95,45 @@ class Data(TestCase):
         """One file, which names no other; a scenario's name cannot break it."""
         d3_is_there()
         text = writing.page_text(run_of(*LINES), "<b>&.toml")
-        self.assertNotRegex(text, r"<link|<script[^>]* src|@import|url\(")
+        self.assertNotRegex(text, r"<link|<script[^>]* src|@import|url\((?!#)")
         self.assertIn("<title>&lt;b&gt;&amp;.toml - chordsim</title>", text)
         self.assertEqual(text.count("</script"), 3)
         found = re.search(r'<script type="application/json" id="data">(.*?)</script>', text, re.DOTALL)
         self.assertEqual(found and json.loads(found.group(1))["scenario"], "<b>&.toml")
+
+    def test_groups(self) -> None:
+        """By the names of nodes, unless these make too many groups; or by a file, where a node may be in none."""
+        self.assertEqual(groups.groups_by_name(["n1", "eu-0", "us-1-2", "eu-7"]), ["", "eu", "us-1", "eu"])
+        self.assertEqual(groups.groups_by_name([f"h{at}-0" for at in range(13)]), [""] * 13)
+        with tempfile.TemporaryDirectory() as folder:
+            file = Path(folder) / "groups.csv"
+            file.write_text("c, west\na,east\n\n")
+            self.assertEqual(groups.read_groups(str(file), ["a", "b", "c"]), ["east", "", "west"])
+            page = data.page_data(run_of(*LINES), "x.toml", ["east", "", "west", "east"])
+            self.assertEqual((page["groups"], unpacked(page["group"], "i")), (["east", "", "west"], [0, 1, 2, 0]))
+            for text, told in (("a\n", "line 1 is not NODE,GROUP"), ("a,x\ne,x\n", "line 2: the scenario has no node 'e'")):
+                file.write_text(text)
+                self.assertRaisesRegex(Refused, told, groups.read_groups, str(file), ["a", "b"])
+        plain = data.page_data(run_of(*LINES), "x.toml")
+        self.assertEqual((plain["groups"], unpacked(plain["group"], "i")), ([""], [0, 0, 0, 0]))
+
+    def test_groups_need_a_page(self) -> None:
+        """Status 2, before a file is read."""
+        status, _, err = ended(main, "none.trace", "none.toml", "--groups", "none.csv")
+        self.assertEqual((status, err), (2, "tools/trace: --groups: only with --html (see tools/trace --help)\n"))
+
+    def test_times(self) -> None:
+        """250 steps of 4 us: in step 5, from 20 us on, one lookup of 30 us begins; too few for p99. Lost ones have none."""
+        found = data.page_data(run_of(*LINES), "ring.toml")["times"]
+        self.assertEqual((found["step"], len(found["p50"])), (4, 250))
+        self.assertEqual([(at, one) for at, one in enumerate(found["p50"]) if one is not None], [(5, 30)])
+        self.assertEqual(set(found["p99"]), {None})
+        lines = [f"8 a lookup {at % 64}" for at in range(100)]
+        lines += [f"{10 + 5 * (at > 97)} a found {at % 64} a hops=0 timeouts=0 us={2 + 5 * (at > 97)}" for at in range(100)]
+        many = data.page_data(run_of(*lines, audit(1000, 3)), "ring.toml")["times"]
+        self.assertEqual((many["p50"][2], many["p99"][2]), (2, 7))
+        lost = data.page_data(run_of("8 a lookup 1", "9 a lost 1 hops=0 timeouts=9 us=1", audit(1000, 3)), "r")["times"]
+        self.assertEqual(set(lost["p50"]), {None})
 
     def test_missing_library(self) -> None:
         """Status 3, with the package to install."""
@@ -109,6 +145,51 @@ class Data(TestCase):
                 status, _, err = ended(main, str(trace), str(scenario), "--html", str(page))
             self.assertEqual((status, page.exists()), (3, False))
             self.assertRegex(err, "^failed: the page needs the library D3 .* apt-get install node-d3\n$")
+
+
+class Labels(TestCase):
+    """The functions of the page that need no browser, by node (which node-d3 comes with)."""
+
+    def value_of(self, expression: str) -> Any:
+        """What an expression of JavaScript is."""
+        node = shutil.which("node")
+        if node is None:
+            raise SkipTest("there is no node: apt-get install nodejs")
+        script = (writing.HERE / "labels.js").read_text(encoding="utf-8")
+        command = [node, "-e", f"{script}\nconsole.log(JSON.stringify({expression}))"]
+        return json.loads(subprocess.run(command, capture_output=True, text=True, check=True).stdout)
+
+    def test_labels_are_apart(self) -> None:
+        """One that would cover another is lowered below it; one beside it stays; the order of heights is kept."""
+        boxes = "[{left: 0, right: 50, y: 104}, {left: 20, right: 70, y: 100}, {left: 60, right: 90, y: 101}]"
+        self.assertEqual(self.value_of(f"apart({boxes}, 15)"), [115, 100, 115])
+        self.assertEqual(self.value_of("apart([{left: 0, right: 9, y: 5}, {left: 9, right: 20, y: 5}], 15)"), [5, 5])
+        three = "[1, 2, 3].map((y) => ({left: 0, right: 9, y}))"
+        self.assertEqual(self.value_of(f"apart({three}, 10)"), [1, 11, 21])
+        self.assertEqual(self.value_of("[labelBox(10, 5, 40, 2, 50), labelBox(90, 5, 40, 2, 50)]"),
+                         [{"left": 17, "right": 57, "y": 5}, {"left": 43, "right": 83, "y": 5}])
+
+    def test_names_cover_none(self) -> None:
+        """The first place that is free, or none."""
+        box = "({left: %d, right: %d, top: 0, bottom: 9})"
+        taken = "[" + box % (0, 10) + "]"
+        self.assertEqual(self.value_of(f"firstFree([{box % (5, 15)}, {box % (10, 20)}], {taken}).left"), 10)
+        self.assertIsNone(self.value_of(f"firstFree([{box % (5, 15)}], {taken})"))
+
+    def test_addresses(self) -> None:
+        """Seconds, as they are written; what is none has no time."""
+        self.assertEqual(self.value_of('["#t=965", "#t=0.25", "#t=", "#t=1e3", "", "#x"].map(timeOfAddress)'),
+                         [965_000_000, 250_000, None, None, None, None])
+        self.assertEqual(self.value_of("[965000000, 250000, 1].map(addressOfTime)"), ["#t=965", "#t=0.25", "#t=0.000001"])
+
+    def test_zoom(self) -> None:
+        """Around a time, which stays where it is; within the run, and not below the least span; then after a time."""
+        self.assertEqual(self.value_of("zoomed({from: 0, to: 100}, 2, 40, 100, 10)"), {"from": 20, "to": 70})
+        self.assertEqual(self.value_of("zoomed({from: 20, to: 70}, 0.5, 20, 100, 10)"), {"from": 0, "to": 100})
+        self.assertEqual(self.value_of("zoomed({from: 50, to: 100}, 0.8, 100, 100, 10)"), {"from": 37.5, "to": 100})
+        self.assertEqual(self.value_of("zoomed({from: 0, to: 12}, 4, 12, 100, 10)"), {"from": 2, "to": 12})
+        self.assertEqual(self.value_of("[5, 30, 95].map((time) => showing({from: 20, to: 40}, time, 100))"),
+                         [{"from": 5, "to": 25}, {"from": 20, "to": 40}, {"from": 75, "to": 95}])
 
 
 class Browser(TestCase):
@@ -208,6 +289,24 @@ class Browser(TestCase):
         self.assertTrue(one.is_wrong)
         self.assertEqual(lookup[2], one.end)
         self.assertIn(self.run_read.history.names[one.true_owner], row.text)
+
+    def test_address(self) -> None:
+        """It has the time that is set, and a new address sets the time."""
+        time = self.move_to(250)
+        self.assertTrue(self.browser.current_url.endswith(f"#t={time // 1_000_000}"))
+        self.browser.execute_script("location.hash = '#t=40.5'; readAddress()")
+        self.assertEqual(self.browser.execute_script("return page.time"), 40_500_000)
+
+    def test_time_line(self) -> None:
+        """A key zooms it around the time, and another one shows the whole run; a time beyond what is shown moves it."""
+        self.move_to(500)
+        body = self.browser.find_element("tag name", "body")
+        body.send_keys("+")
+        self.assertEqual(self.browser.execute_script("return [view.from, view.to]"), [30_000_000, 90_000_000])
+        self.move_to(1000)
+        self.assertEqual(self.browser.execute_script("return [view.from, view.to]"), [60_000_000, 120_000_000])
+        body.send_keys("0")
+        self.assertEqual(self.browser.execute_script("return [view.from, view.to]"), [0, 120_000_000])
 
     def test_keys_and_play(self) -> None:
         """Arrows move by steps, space plays and stops."""

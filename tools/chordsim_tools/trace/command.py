@@ -19,6 +19,7 @@ from chordsim_tools.trace.summary import Facts, doubts, summary
 from chordsim_tools.trace.tables import node_rows, node_table, step_rows, step_table, worst_rows, worst_table
 from chordsim_tools.trace.text import summary_text
 from chordsim_tools.trace.wording import show
+from chordsim_tools.trace.page.groups import read_groups
 from chordsim_tools.trace.page.writing import write_page
 
 PROG = "tools/trace"
@@ -65,6 +66,7 @@ def parsed(arguments: list[str]) -> Namespace:
     parser.add_argument("--removed", metavar="NODE", help="each successor that a node has removed, and why")
     parser.add_argument("--lookups", metavar="FILE", help="write a table of all lookups into FILE (CSV)")
     parser.add_argument("--html", metavar="FILE", help="write a page for a browser into FILE")
+    parser.add_argument("--groups", metavar="FILE", help="the groups of nodes in the page: rows NODE,GROUP (by names eu-0)")
     parser.add_argument("--json", action="store_true", help="print the summary, and the tables asked for, as JSON")
     return parser.parse_args(arguments)
 
@@ -109,8 +111,10 @@ def swapped(args: Namespace, fault: Refused) -> str:
 def work(args: Namespace) -> None:
     """Reads the run, and prints or writes what the arguments ask for."""
     for option, file in (("--html", args.html), ("--lookups", args.lookups)):
-        check_output(option, file, (args.trace, args.scenario, args.latency, args.report))
+        check_output(option, file, (args.trace, args.scenario, args.latency, args.report, args.groups))
     check_apart("--lookups", args.lookups, "--html", args.html)
+    if args.groups is not None and args.html is None:
+        raise Failure(2, "--groups: only with --html")
     one = read_run(args.trace, scenario_of(args))
     if args.report is not None:
         read_report(args.report, one)
@@ -119,7 +123,8 @@ def work(args: Namespace) -> None:
         if name is not None and name not in one.history.numbers:
             raise Failure(2, f"--{option}: the scenario has no node {name!r}")
     if args.html is not None:
-        write_page(args.html, one, args.scenario)
+        groups = None if args.groups is None else read_groups(args.groups, one.history.names)
+        write_page(args.html, one, args.scenario, groups)
     if args.lookups is not None:
         write_lookups(args.lookups, one)
     asked = any((args.over_time, args.per_node, args.worst, args.node, args.lookup, args.join, args.removed))

@@ -5,11 +5,17 @@ from collections.abc import Iterable
 from itertools import accumulate
 from typing import Any
 
+from chordsim_tools.study.survival import Times
 from chordsim_tools.trace.lines import CRASH, JOIN_FAILED, MEMBER, STRANDED, TIMEOUT
 from chordsim_tools.trace.reading import Run
+from chordsim_tools.trace.tables import step_times
 
 COUNT = 1000
 """How many bins there are at most."""
+STEPS = 250
+"""How many steps have percentiles of lookup times at most."""
+LEAST = {50: 1, 99: 100}
+"""The percentiles, and of how many lookups each is one."""
 
 
 def bins(run: Run) -> dict[str, Any]:
@@ -40,3 +46,17 @@ def bins(run: Run) -> dict[str, Any]:
         "members": [members.count_before(at * width + 1) for at in range(count)],
         **{word: until(lines.of_kind(kind)) for word, kind in kinds.items()},
     }
+
+
+def times(run: Run) -> dict[str, Any]:
+    """Percentiles of the times of the lookups that begin in each step of the run; none of too few, or if most are lost."""
+    end = max(run.history.scenario.duration_us if run.is_whole else run.reached + 1, 1)
+    width = -(-end // STEPS)
+    steps = step_times(run, width, -(-end // width))
+    return {"step": width, **{f"p{share}": [known_time(one, share) for one in steps] for share in LEAST}}
+
+
+def known_time(one: Times, share: int) -> int | None:
+    """A percentile that is a time."""
+    found = one.percentile(share) if one.count() >= LEAST[share] else None
+    return found if isinstance(found, int) else None

@@ -10,7 +10,8 @@ from typing import Any
 
 from chordsim_tools.cli import Failure
 from chordsim_tools.trace.lines import ASKS, CHANGES, FOUND, KINDS, LOOKUP, LOST, Audit, Lookup
-from chordsim_tools.trace.page.bins import bins
+from chordsim_tools.trace.page.bins import bins, times
+from chordsim_tools.trace.page.groups import groups_by_name
 from chordsim_tools.trace.reading import Run
 from chordsim_tools.trace.tables import most_wrong, slowest
 
@@ -31,8 +32,10 @@ def packed(values: Iterable[int | float], code: str) -> str:
     return base64.b64encode(numbers.tobytes()).decode("ascii")
 
 
-def page_data(run: Run, scenario: str) -> Facts:
-    """All that the page is made of."""
+def page_data(run: Run, scenario: str, groups: list[str] | None = None) -> Facts:
+    """All that the page is made of. Without groups they are those of the nodes' names."""
+    group_of = groups_by_name(run.history.names) if groups is None else groups
+    group_names = list(dict.fromkeys(group_of))
     history = run.history
     spec, lines = history.scenario, history.lines
     kinds, left_out = kept_kinds(lines.kinds)
@@ -52,8 +55,11 @@ def page_data(run: Run, scenario: str) -> Facts:
         "idents": [str(node.ident) for node in spec.nodes],
         "initial": packed((node.initial for node in spec.nodes), "B"),
         "places": packed((node.ident / 2**spec.bits for node in spec.nodes), "d"),
+        "groups": group_names,
+        "group": packed(map(group_names.index, group_of), "i"),
         "kinds": KINDS,
         "bins": bins(run),
+        "times": times(run),
         "audits": [list(audit_row(audit)) for audit in audits],
         "lines": line_columns(run, kinds, {one.number: at for at, one in enumerate(lookups)}),
         "lookups": lookup_columns(lookups, (spec.bits + 7) // 8, spec.bits),

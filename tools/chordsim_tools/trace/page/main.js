@@ -6,7 +6,22 @@ const SPEEDS = [0.01, 0.1, 0.25, 0.5, 1, 2, 5, 10, 30, 100, 1000, 10000];
 function setTime(time) {
   page.time = Math.max(0, Math.min(time, run.bins.end));
   slider.value = Math.round(page.time / run.bins.width);
+  follow(page.time);
   show();
+}
+
+// The address has the time, but for while the run plays.
+function writeAddress() {
+  if (!page.isPlaying && location.hash !== addressOfTime(page.time)) {
+    history.replaceState(null, "", addressOfTime(page.time));
+  }
+}
+
+function readAddress() {
+  const time = timeOfAddress(location.hash);
+  if (time === null || time === page.time) return;
+  stop();
+  setTime(time);
 }
 
 function show() {
@@ -20,6 +35,7 @@ function show() {
   showCounts(page.time);
   showNode(page.time);
   const end = +(run.bins.end / 1e6).toFixed(DIGITS);
+  writeAddress();
   document.getElementById("now").textContent = `${seconds(page.time, DIGITS)} of ${end} s`;
 }
 
@@ -59,10 +75,19 @@ function onKey(event) {
     ArrowRight: () => step(far), ArrowLeft: () => step(-far),
     Home: () => setTime(0), End: () => setTime(run.bins.end),
     " ": () => (page.isPlaying ? stop() : play()),
+    "+": () => zoomTimeline(2, page.time), "-": () => zoomTimeline(0.5, page.time), 0: showWhole,
   };
   if (!(event.key in keys)) return;
   keys[event.key]();
   event.preventDefault();
+}
+
+function onWheel() {
+  const event = d3.event, [x] = d3.mouse(timeline.node());
+  event.preventDefault();
+  const way = Math.abs(event.deltaX) > Math.abs(event.deltaY) ? event.deltaX : event.deltaY;
+  if (event.shiftKey || event.deltaX) moveTimeline(way / 500);
+  else zoomTimeline(2 ** (-way / 200), toTime.invert(x));
 }
 
 function onClick(event) {
@@ -78,7 +103,8 @@ function onMove(event) {
   tip.hidden = node < 0;
   canvas.style.cursor = node < 0 ? "grab" : "pointer";
   if (node >= 0) {
-    tip.textContent = `${run.names[node]}: ${STATUS_WORDS[nodes.status[node]]}`;
+    tip.textContent = `${run.names[node]}: ${STATUS_WORDS[nodes.status[node]]}` +
+      (HAS_GROUPS && run.groups[run.group[node]] ? ` (${run.groups[run.group[node]]})` : "");
     tip.style.left = `${Math.min(event.offsetX + 14, ring.width - 180)}px`;
     tip.style.top = `${event.offsetY + 10}px`;
   }
@@ -93,6 +119,17 @@ function makeSpeeds() {
   const best = SPEEDS.reduce((a, b) => (far(b) < far(a) ? b : a));
   d3.select(speed).selectAll("option").data(SPEEDS).join("option").attr("value", (one) => one)
     .property("selected", (one) => one === best).text((one) => `${one} s a second`);
+}
+
+function makeGroups() {
+  if (!HAS_GROUPS) return;
+  const after = document.getElementById("member-legend");
+  after.hidden = true;
+  const next = after.nextSibling;
+  d3.select("#legend").selectAll("li.group").data(run.groups).enter()
+    .insert("li", () => next).attr("class", "group")
+    .html((_, at) => `<i style="background: ${groupColour(at)}"></i>`)
+    .append("span").text((name) => `member of ${name || "no group"}`);
 }
 
 function about() {
@@ -117,12 +154,14 @@ function draw() {
 function start() {
   slider.max = run.bins.count - 1;
   makeSpeeds();
+  makeGroups();
   makeCounts();
   makeWorst();
   about();
   slider.addEventListener("input", () => {
     stop();
     page.time = Math.min(slider.value * run.bins.width, run.bins.end);
+    follow(page.time);
     show();
   });
   document.getElementById("play").addEventListener("click", () => (page.isPlaying ? stop() : play()));
@@ -137,8 +176,13 @@ function start() {
   }));
   timeline.on("mousedown", () => { stop(); setTime(toTime.invert(d3.mouse(timeline.node())[0])); });
   timeline.on("mousemove", () => { if (d3.event.buttons & 1) setTime(toTime.invert(d3.mouse(timeline.node())[0])); });
+  timeline.on("wheel", onWheel);
+  document.getElementById("whole").addEventListener("click", showWhole);
   document.addEventListener("keydown", onKey);
   window.addEventListener("resize", draw);
+  window.addEventListener("hashchange", readAddress);
+  page.time = Math.min(timeOfAddress(location.hash) ?? 0, run.bins.end);
+  slider.value = Math.round(page.time / run.bins.width);
   draw();
   document.body.dataset.ready = performance.now().toFixed(0);
 }

@@ -1,5 +1,8 @@
 // The ring, on a canvas.
-const COLOURS = ["#aab4bd", "#e0a030", "#2f6f9f", "#c8452f"];
+const COLOURS = ["#aab4bd", "#7a6bb0", "#2f6f9f", "#e09a1a"];
+// Members by their groups: colours that differ for most kinds of colour blindness, none of them amber or red.
+const GROUP_COLOURS = ["#0072b2", "#009e73", "#cc79a7", "#8c6d31", "#56b4e9", "#7fbf3f", "#3b4cc0", "#6b7c8c"];
+const HAS_GROUPS = run.groups.length > 1;
 const DEPTH = [0.16, 0.06, 0, 0.1]; // how far inside the circle a node is drawn, by its status
 const LONGEST_LOOKUP = d3.max(run.lookups.begin, (begin, at) => endOf(at) - begin) || 0;
 const canvas = document.getElementById("ring"), pen = canvas.getContext("2d");
@@ -17,7 +20,7 @@ function resize() {
   const box = canvas.getBoundingClientRect(), scale = window.devicePixelRatio || 1;
   ring.width = box.width;
   ring.height = box.height;
-  ring.radius = Math.max(40, Math.min(box.width, box.height) / 2 - (run.names.length <= 100 ? 46 : 18));
+  ring.radius = Math.max(40, Math.min(box.width, box.height) / 2 - (run.names.length <= 100 ? 58 : 18));
   canvas.width = Math.round(box.width * scale);
   canvas.height = Math.round(box.height * scale);
 }
@@ -34,17 +37,27 @@ function drawRing(time) {
   pen.arc(ring.width / 2, ring.height / 2, ring.radius, 0, 2 * Math.PI);
   pen.stroke();
   drawLookups(time, k);
-  for (const status of [DOWN, MEMBER, JOINING, STRANDED]) drawNodes(status, k);
+  drawNodes(DOWN, k);
+  drawMembers(k);
+  for (const status of [JOINING, STRANDED]) drawNodes(status, k);
   if (run.names.length <= 100 || k > run.names.length / 70) drawNames(k);
   if (page.lookup >= 0) drawChosen(page.lookup, k);
   for (const node of [ring.hovered, page.node]) if (node >= 0) drawHalo(node, k);
 }
 
-function drawNodes(status, k) {
+function groupColour(group) { return GROUP_COLOURS[group % GROUP_COLOURS.length]; }
+
+function drawMembers(k) {
+  if (!HAS_GROUPS) drawNodes(MEMBER, k);
+  else run.groups.forEach((_, group) => drawNodes(MEMBER, k, group));
+}
+
+// The nodes of a status, and of a group if one is given.
+function drawNodes(status, k, group = -1) {
   const size = dotSize() / Math.sqrt(k);
   pen.beginPath();
   for (let node = 0; node < nodes.status.length; node++) {
-    if (nodes.status[node] !== status) continue;
+    if (nodes.status[node] !== status || (group >= 0 && run.group[node] !== group)) continue;
     const [x, y] = pointOf(node);
     if (status === STRANDED) pen.rect(x - size, y - size, 2 * size, 2 * size);
     else if (status === JOINING) {
@@ -62,34 +75,42 @@ function drawNodes(status, k) {
     pen.lineWidth = 1.4 / Math.sqrt(k);
     pen.stroke();
   } else {
-    pen.fillStyle = COLOURS[status];
+    pen.fillStyle = group < 0 ? COLOURS[status] : groupColour(group);
     pen.fill();
   }
 }
 
-// Names of neighbours that are too near to each other are drawn at two distances from the circle.
-const FAR = (() => {
-  const order = d3.range(run.names.length).sort((a, b) => run.places[a] - run.places[b]);
-  const far = new Uint8Array(order.length);
-  for (let at = 1; at < order.length; at++) {
-    const gap = run.places[order[at]] - run.places[order[at - 1]];
-    far[order[at]] = gap < 0.011 && !far[order[at - 1]] ? 1 : 0;
-  }
-  return far;
-})();
+const LEVELS = [19, 32, 45]; // how far outside the circle names are drawn, in pixels
 
+// Each name is at the nearest distance from the circle at which it covers no other one. Members come first.
 function drawNames(k) {
-  const isSmall = run.names.length <= 100;
   pen.font = `${11 / k}px system-ui, "DejaVu Sans", sans-serif`;
   pen.textAlign = "center";
   pen.textBaseline = "middle";
-  for (let node = 0; node < run.names.length; node++) {
-    const [x, y] = pointAt(run.places[node], -(isSmall && FAR[node] ? 38 : 19) / k / ring.radius);
-    const [sx, sy] = ring.zoom.apply([x, y]);
-    if (sx < -40 || sy < -40 || sx > ring.width + 40 || sy > ring.height + 40) continue;
-    pen.fillStyle = nodes.status[node] === MEMBER ? "#22303c" : "#aab4bd";
-    pen.fillText(run.names[node], x, y);
+  const taken = [];
+  for (const isMember of [true, false]) {
+    pen.fillStyle = isMember ? "#22303c" : "#aab4bd";
+    for (let node = 0; node < run.names.length; node++) {
+      if ((nodes.status[node] === MEMBER) === isMember && isShown(run.places[node])) drawName(node, k, taken);
+    }
   }
+}
+
+function isShown(place) {
+  const [x, y] = ring.zoom.apply(pointAt(place));
+  return x > -40 && y > -40 && x < ring.width + 40 && y < ring.height + 40;
+}
+
+function drawName(node, k, taken) {
+  const half = pen.measureText(run.names[node]).width / 2 + 1 / k;
+  const boxes = LEVELS.map((level) => {
+    const [x, y] = pointAt(run.places[node], -level / k / ring.radius);
+    return { left: x - half, right: x + half, top: y - 6.5 / k, bottom: y + 6.5 / k };
+  });
+  const box = firstFree(boxes, taken);
+  if (box === null) return;
+  taken.push(box);
+  pen.fillText(run.names[node], (box.left + box.right) / 2, (box.top + box.bottom) / 2);
 }
 
 function drawHalo(node, k) {
@@ -119,7 +140,7 @@ function drawLookups(time, k) {
   for (let at = placeAfter(begin, time) - 1; at >= 0 && begin[at] >= time - LONGEST_LOOKUP; at--) {
     if (end[at] >= 0 && end[at] <= time) continue;
     const isBad = outcomeOf(at) === 1 || (outcomeOf(at) === 0 && !isDefensible(at));
-    const colour = isBad ? "#c8452f" : outcomeOf(at) === 0 && !isRight(at) ? "#e0a030" : "#8fb0c8";
+    const colour = isBad ? "#c8452f" : outcomeOf(at) === 0 && !isRight(at) ? "#a08fc4" : "#8fb0c8";
     curve(pointOf(node[at]), pointAt(place[at]), colour, (isBad ? 1.8 : 1) / k);
   }
 }
@@ -129,34 +150,45 @@ function drawChosen(lookup, k) {
   const owner = all.owner[lookup], right = all.trueOwner[lookup];
   if (right >= 0) curve(from, pointOf(right), "#3f8f6b", 2 / k, [6 / k, 4 / k]);
   if (owner >= 0) curve(from, pointOf(owner), isRight(lookup) ? "#3f8f6b" : "#c8452f", 2.2 / k);
-  mark(from, "asker", "#22303c", k);
-  if (owner >= 0 && isRight(lookup)) mark(pointOf(owner), "named, rightly", "#3f8f6b", k);
-  if (owner >= 0 && !isRight(lookup)) mark(pointOf(owner), "named", "#c8452f", k);
-  if (right >= 0 && right !== owner) mark(pointOf(right), "right owner", "#3f8f6b", k, 15);
+  const marks = [[from, `asker ${run.names[all.node[lookup]]}`, "#22303c"]];
+  if (owner >= 0 && isRight(lookup)) marks.push([pointOf(owner), `named ${run.names[owner]}, rightly`, "#3f8f6b"]);
+  if (owner >= 0 && !isRight(lookup)) marks.push([pointOf(owner), `named ${run.names[owner]}`, "#c8452f"]);
+  if (right >= 0 && right !== owner) marks.push([pointOf(right), `right owner ${run.names[right]}`, "#3f8f6b"]);
+  if (owner < 0) marks.push([key, "key", "#22303c"]);
   pen.strokeStyle = "#22303c";
   pen.lineWidth = 2 / k;
   pen.beginPath();
   pen.moveTo(...pointAt(all.place[lookup], 8 / k / ring.radius));
   pen.lineTo(...pointAt(all.place[lookup], -8 / k / ring.radius));
   pen.stroke();
-  if (owner < 0) mark(key, "key", "#22303c", k);
+  drawMarks(marks, k);
 }
 
-function mark([x, y], text, colour, k, shift = 0) {
-  pen.strokeStyle = colour;
-  pen.lineWidth = 2.5 / k;
-  pen.beginPath();
-  pen.arc(x, y, (dotSize() + 3.5) / Math.sqrt(k), 0, 2 * Math.PI);
-  pen.stroke();
+// Circles around points, and their labels inside the ring, none of which covers another one.
+function drawMarks(marks, k) {
   pen.font = `600 ${12 / k}px system-ui, "DejaVu Sans", sans-serif`;
-  pen.textAlign = x < ring.width / 2 ? "left" : "right";
   pen.textBaseline = "middle";
-  pen.lineWidth = 4 / k;
-  pen.strokeStyle = "#ffffff";
-  const at = [x + (x < ring.width / 2 ? 14 : -14) / k, y + shift / k];
-  pen.strokeText(text, ...at);
-  pen.fillStyle = colour;
-  pen.fillText(text, ...at);
+  const boxes = marks.map(([[x, y], text]) => labelBox(x, y, pen.measureText(text).width, k, ring.width / 2));
+  const heights = apart(boxes, 15 / k);
+  marks.forEach(([[x, y], text, colour], at) => {
+    const isLeft = x < ring.width / 2, edge = isLeft ? boxes[at].left : boxes[at].right;
+    pen.strokeStyle = colour;
+    pen.lineWidth = 2.5 / k;
+    pen.beginPath();
+    pen.arc(x, y, (dotSize() + 3.5) / Math.sqrt(k), 0, 2 * Math.PI);
+    pen.stroke();
+    pen.lineWidth = 1 / k;
+    pen.beginPath();
+    pen.moveTo(x, y);
+    pen.lineTo(edge, heights[at]);
+    pen.stroke();
+    pen.textAlign = isLeft ? "left" : "right";
+    pen.lineWidth = 4 / k;
+    pen.strokeStyle = "#ffffff";
+    pen.strokeText(text, edge, heights[at]);
+    pen.fillStyle = colour;
+    pen.fillText(text, edge, heights[at]);
+  });
 }
 
 // The node nearest to a point of the canvas, or -1.

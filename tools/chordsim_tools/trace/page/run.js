@@ -1,7 +1,7 @@
 // The run: what the page embeds, decoded, and the state of all nodes at a time.
 const NUMBERS = {
   time: Float64Array, begin: Float64Array, end: Float64Array, place: Float64Array, places: Float64Array,
-  node: Int32Array, owner: Int32Array, trueOwner: Int32Array, missed: Int32Array,
+  node: Int32Array, group: Int32Array, owner: Int32Array, trueOwner: Int32Array, missed: Int32Array,
   other: Int32Array, number: Int32Array,
 };
 const raw = JSON.parse(document.getElementById("data").textContent);
@@ -22,6 +22,7 @@ function columns(packed) {
 }
 
 const run = { ...raw, places: unpacked(raw.places, Float64Array), initial: unpacked(raw.initial, Uint8Array),
+  group: unpacked(raw.group, Int32Array),
   lines: columns(raw.lines), lookups: columns(raw.lookups) };
 const CODE = Object.fromEntries(run.kinds.map((kind, code) => [kind, code]));
 const DOWN = 0, JOINING = 1, MEMBER = 2, STRANDED = 3;

@@ -12,7 +12,7 @@ from chordsim_tools.trace.reading import Run
 HERE = Path(__file__).resolve().parent
 D3 = Path("/usr/share/nodejs/d3/dist/d3.min.js")
 PACKAGE = "node-d3"
-SCRIPTS = ("run.js", "ring.js", "timeline.js", "panel.js", "main.js")
+SCRIPTS = ("run.js", "labels.js", "ring.js", "timeline.js", "panel.js", "main.js")
 
 
 def d3_text() -> str:
@@ -24,10 +24,10 @@ def d3_text() -> str:
         raise Failure(3, f"the page needs the library D3 ({why}): apt-get install {PACKAGE}") from None
 
 
-def page_text(run: Run, scenario: str) -> str:
-    """The page."""
+def page_text(run: Run, scenario: str, groups: list[str] | None = None) -> str:
+    """The page. Nodes are of the groups that are given, in their order, or of those of their names."""
     library = d3_text()
-    data = json.dumps(page_data(run, scenario), separators=(",", ":"))
+    data = json.dumps(page_data(run, scenario, groups), separators=(",", ":"))
     parts = {
         "TITLE": html.escape(Path(scenario).name),
         "STYLE": (HERE / "page.css").read_text(encoding="utf-8"),
@@ -40,6 +40,6 @@ def page_text(run: Run, scenario: str) -> str:
     return "".join(parts[piece] if number % 2 else piece for number, piece in enumerate(pieces))
 
 
-def write_page(name: str, run: Run, scenario: str) -> None:
+def write_page(name: str, run: Run, scenario: str, groups: list[str] | None = None) -> None:
     """Writes the page to a file."""
-    write_whole(name, page_text(run, scenario))
+    write_whole(name, page_text(run, scenario, groups))
