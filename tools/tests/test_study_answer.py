@@ -58,7 +58,7 @@ class MissedGoalTest(TestCase):
     def test_not_decided(self) -> None:
         """The limit lies between both bounds, 94.821 and 95.389 %."""
         text = told(setting(4, 900, 5000), goal=goal(0.951))
-        assert f"Not decided {OPEN}: list=4 (right of begun 95.11 ± 0.21 %). More seeds may decide." in text
+        assert f"Not decided {OPEN}: list=4 (right of begun 95.11 ± 0.21 %). More seeds may decide: the bounds hold at each look." in text
         assert "is shown to miss it" not in text
 
     def test_two_limits_share_the_risk_of_missing(self) -> None:
@@ -137,7 +137,7 @@ class CheaperTest(TestCase):
         text = told(setting(4, 900, 5000), setting(2, 852, 4000), goal=goal(0.9))
         assert "**list=4** is the setting with the least messages" in text
         head = f"Not decided, with a lower mean of messages per member and second {OPEN}: list=2 (4.04"
-        assert head in text and ", 20 % less; right of begun 90.05 ± 0.21 %). More seeds may decide." in text
+        assert head in text and ", 20 % less; right of begun 90.05 ± 0.21 %). More seeds may decide: the bounds hold at each look." in text
 
     def test_what_is_not_named(self) -> None:
         """A cheaper one that misses the goal; one that is not decided and costs more; one whose rings are all lost."""

@@ -136,11 +136,27 @@ class StudyPageTest(TestCase):
         """Equal rows are said to be so; nearly equal ones are not told apart; different ones are."""
         text = told(setting(8, 900, 5000), setting(4, 900, 5000), setting(2, 880, 5000))
         assert less_best(text, "list=8") == "**best**"
-        assert less_best(text, "list=4") == "the same run in 6 of 6 seeds"
+        assert less_best(text, "list=4") == "**best** too: the same run in 6 of 6 seeds"
         # Six of six serve less: 2 / 2 ** 6 = 0.031 is above 0.05 / 3, and six seeds bound no mean of such differences.
         assert less_best(text, "list=2").startswith("-2 (-") and less_best(text, "list=2").endswith(", not told apart")
         ten = told(setting(8, 900, 5000, seeds=10), setting(2, 880, 5000, seeds=10))
         assert less_best(ten, "list=2").startswith("-2 (-") and "apart" not in less_best(ten, "list=2")
+
+    def test_equal_settings_are_named_together(self) -> None:
+        """Those with the runs of the best one are no worse, and a longer list may be safer. Others are left alone."""
+        rows = setting(2, 900, 5000), setting(4, 900, 5000), setting(8, 900, 9000)
+        text = told(*rows, goal=GOAL)
+        assert "**list=2** is the setting with the least" in text
+        assert " **list=4** has the same runs in all seeds, so take the one with the most reserve" in text
+        assert less_best(text, "list=4") == "**best** too: the same run in 6 of 6 seeds" and "**list=8**" not in text
+
+    def test_one_favourite(self) -> None:
+        """Without an answer the nearest setting is the one that the others are compared with."""
+        high = {**GOAL, "limits": [{**LIMIT, "value": 0.999}]}
+        rows = setting(2, 940, 4000), setting(4, 900, 5000)
+        rows = ([one | {"right": str(int(one["right"]) - 20), "wanted": "900"} for one in rows[0]], rows[1])
+        text = told(*rows, goal=high)
+        assert "the nearest is list=2:" in text and less_best(text, "list=2") == "**best**"
 
     def test_worlds_and_warnings(self) -> None:
         """What is the same in all seeds, by the manifest; commands of a base; few seeds; the end's cut."""

@@ -118,7 +118,7 @@ class StudyTablesTest(TestCase):
             for heading in ("Settings", "Lookups", "More numbers", "Who was taken for dead"):
                 names = {re.sub(r"(, | /).*", "", name) for name in headers(text, heading)} - {"setting"}
                 here = {re.sub(r" less best.*", " less best", name) for name in notes(text, heading)}
-                assert names <= here and here - names <= {"±", "(m of n)", "/member/s", "points"}, (names, here)
+                assert names <= here and here - names <= {"±", "(m of n)", "/member/s", "points", "none (< 26 %)"}
                 found += notes(text, heading)
             assert len(found) == len(set(found)), found
 

@@ -81,12 +81,14 @@ class TroubleTest(TestCase):
         assert counts[0] > 3 * counts[1] > 0
 
     def test_table(self) -> None:
-        """A third table, for each member and hour: the rows have 1,000 seconds of members."""
+        """A third table, for each member and hour: the rows have 1,000 seconds of members.
+
+        If five seeds have no timeout, at most 1 - 0.05 ** 0.2 = 45.1 % of worlds have one."""
         counts = {f"cost-{name}": 10 * number for number, name in enumerate(NAMES)}
         rows = [row(list=2, seed=seed) | {word: str(count) for word, count in counts.items()} for seed in range(1, 6)]
         text = page(tables_of(rows, vary={"list": [2]}))
         assert table_of(text, "Who was taken for dead")["list=2"] == {
-            "setting": "list=2", "timeouts": "0", "members taken for dead": "36", "removed as successors": "72",
+            "setting": "list=2", "timeouts": "none (< 46 %)", "members taken for dead": "36", "removed as successors": "72",
             "requests sent again": "108", "members stranded": "144", "joins failed": "180",
         }
         assert "All numbers are for each member and hour, from the warm-up to the end." in text

@@ -5,14 +5,16 @@ import math
 from chordsim_tools.study.bounds import (
     bound_of, level_of, loss_bounds, loss_slack, misses, missing_level, reaches, slack,
 )
-from chordsim_tools.study.compare import Pair, guarded_level
+from chordsim_tools.study.compare import UNDECIDED, Pair, guarded_level
 from chordsim_tools.study.goal import Goal, Limit
 from chordsim_tools.study.interval import LEAST_SEEDS, outward, significant
 from chordsim_tools.study.names import in_words, is_percent
 from chordsim_tools.study.numbers import Summary
 
 OPEN = "shown neither to reach the goal nor to miss it"
-TELL = "More seeds may decide."
+TELL = "More seeds may decide: the bounds hold at each look."
+FRESH_LEVEL = 0.95
+"""The level of the bounds of the fresh seeds, which are of one setting."""
 
 
 def value_told(number: str, value: float) -> str:
@@ -60,23 +62,28 @@ def least_of(found: list[Summary], goal: Goal) -> Summary:
 
 
 def chosen(found: list[Summary], goal: Goal | None) -> Summary | None:
-    """The setting with which the others are compared: that of the answer, else the one that serves most.
+    """The setting with which the others are compared: that of the answer, else the nearest one.
 
-    There is none if every ring was lost."""
-    reaching = those_that_reach(found, goal) if goal is not None else []
-    if goal is not None and reaching:
-        return least_of(reaching, goal)
+    Without a goal it is the one that serves most. There is none if every ring was lost."""
+    there = [one for one in found if one.kept and one.numbers["served"].mean is not None]
+    if goal is not None and there:
+        reaching = those_that_reach(found, goal)
+        return least_of(reaching, goal) if reaching else nearest_of(found, goal, level_of(found))
 
     def serves(one: Summary) -> tuple[float, float]:
         """The rings kept, then the share served."""
         return one.kept / one.seeds, one.numbers["served"].mean or 0.0
 
-    there = [one for one in found if one.kept and one.numbers["served"].mean is not None]
     return max(there, key=serves) if there else None
 
 
-def answer(found: list[Summary], goal: Goal) -> str:
-    """A few sentences, and a paragraph about what is not decided."""
+def same_runs(best: Summary, found: list[Summary]) -> list[Summary]:
+    """The other settings that have the same runs as the best one in all seeds."""
+    return [one for one in found if one is not best and Pair(one, best).equal() == len(best.by_seed) == one.seeds]
+
+
+def answer(found: list[Summary], goal: Goal, fresh: dict[str, Summary] | None = None) -> str:
+    """A few sentences, and a paragraph about what is not decided. Fresh seeds are by the label of their setting."""
     if min(one.seeds for one in found) < LEAST_SEEDS:
         return f"No answer: fewer than {LEAST_SEEDS} seeds."
     reaching = those_that_reach(found, goal)
@@ -84,9 +91,34 @@ def answer(found: list[Summary], goal: Goal) -> str:
     if not reaching:
         return f"No setting reaches {goal_told(goal)} {how}{why_none(found, goal)}"
     best = least_of(reaching, goal)
-    text = f"**{best.label}** is the setting with the least {in_words(goal.least)}, {cost_told(best, goal)}, of those "
-    text += f"that reach {goal_told(goal)} {how}: {reached(best, goal)}."
-    return text + not_apart(best, reaching, goal, len(found)) + cheaper(best, found, goal)
+    shown = (fresh or {}).get(best.label, best)
+    text = f"**{best.label}** is the setting with the least {in_words(goal.least)}, {cost_told(shown, goal)}, of those "
+    text += f"that reach {goal_told(goal)} {how}: {reached(shown, goal)}."
+    text += confirmed_told(best, shown, goal) if len(found) > 1 else ""
+    return text + equals_told(best, found) + not_apart(best, reaching, goal, len(found)) + cheaper(best, found, goal)
+
+
+def confirmed_told(best: Summary, shown: Summary, goal: Goal) -> str:
+    """Whether the numbers of the best setting are those of fresh seeds, and whether these reach the goal too."""
+    if shown is best:
+        return " These numbers are of the seeds by which it was chosen, so they are a little too good."
+    text = f" These numbers are of {shown.seeds} fresh seeds, which had no part in the choice."
+    if reaches(shown, goal, FRESH_LEVEL):
+        return f"{text} They reach the goal by themselves."
+    return f"{text} **They do not reach the goal by themselves**: {'; '.join(missed(shown, goal, FRESH_LEVEL))}."
+
+
+def equals_told(best: Summary, found: list[Summary]) -> str:
+    """The settings whose runs are those of the best one: nothing in these worlds tells them apart."""
+    equal = same_runs(best, found)
+    if not equal:
+        return ""
+    labels = "; ".join(f"**{one.label}**" for one in equal)
+    verb = "has" if len(equal) == 1 else "have"
+    return (
+        f" {labels} {verb} the same runs in all seeds, so take the one with the most reserve (such as the longest list): "
+        "they differ in worlds that were not run."
+    )
 
 
 def why_none(found: list[Summary], goal: Goal) -> str:
@@ -127,8 +159,11 @@ def rest_told(more: int, settings: int) -> str:
 def not_apart(best: Summary, reaching: list[Summary], goal: Goal, settings: int) -> str:
     """Which of those that reach the goal may be as good."""
     level = guarded_level(settings)
-    alike = [one.label for one in reaching if one is not best and not Pair(best, one, level).is_apart(goal.least)]
-    return f" Not told apart from it: {'; '.join(alike)}." if alike else ""
+    others = [one for one in reaching if one is not best and one not in same_runs(best, reaching)]
+    verdicts = {one.label: Pair(best, one, level).verdict(goal.least) for one in others}
+    alike, unknown = ([label for label, verdict in verdicts.items() if verdict == word] for word in UNDECIDED)
+    text = f" Not told apart from it: {'; '.join(alike)}." if alike else ""
+    return text + (f" Too few seeds tell it from: {'; '.join(unknown)}." if unknown else "")
 
 
 def cheaper(best: Summary, found: list[Summary], goal: Goal) -> str:

@@ -7,6 +7,7 @@ from pathlib import Path
 
 from chordsim_tools.cli import Parser, run, write_out
 from chordsim_tools.study.comparison import write_comparison
+from chordsim_tools.study.confirm import confirm_here
 from chordsim_tools.study.parts import merge, share_of
 from chordsim_tools.study.plan import read_study
 from chordsim_tools.study.plot import Wish, write_plots
@@ -41,6 +42,8 @@ Runs chordsim with many settings and seeds, and makes tables, plots and a page o
   least = "messages"
   [sizes]                  may be left out: the bytes of a message of each kind
   step = 60
+
+The setting of an answer is run once more with as many fresh seeds, unless the file has `confirm = false`.
 
 `world = ["loss_ppm"]` names the varied keys that nobody chooses: each world has its own answer. `note = ".."` is a text
 for the page. Both may be left out, and stand above the tables.
@@ -109,6 +112,7 @@ Runs `chordsim run --serial` for each setting and seed and writes into FOLDER:
                  study gives the same bytes
   done/          each run's scenario and result. What is there is not run again, unless study, files or program changed:
                  so the same command goes on after an interruption. A result that was edited is run again.
+  confirm.csv    the runs of the setting of an answer with fresh seeds, with the columns of runs.csv
   runs.json      which study the folder is of, by digests
 
 The trace is read from the program while it runs and is kept nowhere. A run that is refused or fails stops the study.
@@ -286,10 +290,16 @@ def work(args: Namespace) -> None:
     match args.command:
         case "run":
             folder = args.folder or folder_of(args.study)
-            run_study(read_study(args.study), folder, jobs_of(args), args.part, args.dask)
+            study = read_study(args.study)
+            run_study(study, folder, jobs_of(args), args.part, args.dask)
+            if args.part[1] == 1:
+                confirm_here(study, folder, jobs_of(args), args.dask)
             write_out(run_told(folder, args.part))
         case "search":
-            run_search(read_study(args.study), args.folder or folder_of(args.study), jobs_of(args))
+            study, folder = read_study(args.study), args.folder or folder_of(args.study)
+            run_search(study, folder, jobs_of(args))
+            confirm_here(study, folder, jobs_of(args))
+            write_report(folder)
         case "merge":
             merge(args.folders, args.out, args.study)
             write_out(run_told(args.out))

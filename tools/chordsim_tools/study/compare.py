@@ -15,6 +15,8 @@ UNITS = {
     **dict.fromkeys(MILLISECONDS, ("ms", 1.0)), **dict.fromkeys(RATES, (RATE, 1.0)), **dict.fromkeys(COUNTS, ("", 1.0)),
 }
 """The units of the numbers that are no shares, which are told in percent."""
+UNDECIDED = ("not told apart", "no interval")
+"""What is said of a difference that does not tell two settings apart: there was an interval, or none."""
 
 
 @dataclass(frozen=True)
@@ -74,7 +76,7 @@ class Pair:
         """What is said of a difference that does not tell the two apart."""
         if self.is_apart(number):
             return ""
-        return "no interval" if self.difference(number).ends() is None else "not told apart"
+        return UNDECIDED[1] if self.difference(number).ends() is None else UNDECIDED[0]
 
 
 def difference_of(number: str, values: list[float | None], level: float) -> Interval:

@@ -69,6 +69,14 @@ def number_of(path: Path, top: dict[str, Any], key: str, least: int, default: An
     return int(value)
 
 
+def boolean_of(path: Path, top: dict[str, Any], key: str, default: bool) -> bool:
+    """A key of the study file that is true or false."""
+    value = top.get(key, default)
+    if not isinstance(value, bool):
+        raise Refused(f"{path}: {key} has to be true or false")
+    return value
+
+
 def arguments_of(path: Path, top: dict[str, Any], key: str) -> list[str]:
     """A list of arguments. The seed and the file are set by the study."""
     value = top[key]

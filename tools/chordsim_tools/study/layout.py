@@ -1,19 +1,29 @@
 """Chooses what of the varied keys goes where in a plot."""
 
 from chordsim_tools.cli import Refused
+from chordsim_tools.study.keys import OF_GENERATE
 from chordsim_tools.study.looks import Layout, Values
 from chordsim_tools.study.numbers import Summary, groups, setting_label
 from chordsim_tools.study.tables import Tables
 
 WORLD = ("profile", "duration_us", "latency_us", "loss_ppm", "spread_us", "latency", "base")
 """Keys that no designer chooses: these are worlds, as churn and lookups are, if the study file has no `world`."""
+PROTOCOL = (
+    "bits", "list", "window", "timeout", "audit", "stabilize", "finger", "jitter", "max-events", "retries", "join-pause",
+    "join-forever", "check", "detail", "via", "ids",
+)
+"""The options of tools/generate that somebody chooses. All others, as lives and nodes, describe the world."""
 Worlds = dict[str, list[Summary]]
 """The settings of each world, by what the world has."""
 
 
 def is_world(key: str, named: list[str] | None) -> bool:
     """Whether a varied key is of the world, not of the protocol."""
-    return key in named if named is not None else key in WORLD or key.startswith(("churn.", "lookups.", "world"))
+    if named is not None:
+        return key in named
+    if key.startswith(OF_GENERATE):
+        return key.removeprefix(f"{OF_GENERATE}--") not in PROTOCOL
+    return key in WORLD or key.startswith(("churn.", "lookups.", "world"))
 
 
 def worlds_of(tables: Tables) -> list[str]:

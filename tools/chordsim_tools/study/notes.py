@@ -98,8 +98,8 @@ def difference_note(number: str, sizes: list[int], worlds: list[str]) -> str:
     return (
         f"**{difference_header(number)}**: this setting less the best one{same}, seed by seed, "
         f"{ALL if number == 'served' else KEPT} The intervals hold for all {pairs} pairs of settings{same} together "
-        "(Bonferroni). The best one is that of the answer above. Without such an answer it is the one that kept most "
-        f"rings, and of these served most. `not told apart`: the interval reaches 0, and {tests}. `no interval`: too "
+        "(Bonferroni). The best one is that of the answer above, or else the nearest to the goal. Without a goal it is "
+        f"the one that kept most rings, and of these served most. `not told apart`: the interval reaches 0, and {tests}. `no interval`: too "
         "few seeds say anything of it, which is no sign that the two are alike. `all rings lost`: the setting has no ring "
         "to compare, and is never the best one."
     )

@@ -4,6 +4,7 @@ import shlex
 from typing import Any
 
 from chordsim_tools.study.answer import answer
+from chordsim_tools.study.confirm import fresh_of
 from chordsim_tools.study.goal import goal_again
 from chordsim_tools.study.head import head
 from chordsim_tools.study.layout import of_each_world
@@ -38,7 +39,8 @@ def answers(tables: Tables, found: list[Summary]) -> str:
         return ""
     worlds = of_each_world(tables, found)
     heads = {name: f"With {name}: " if len(worlds) > 1 else "" for name in worlds}
-    texts = (f"{heads[name]}{answer(settings, goal)}" for name, settings in worlds.items())
+    fresh = fresh_of(tables)
+    texts = (f"{heads[name]}{answer(settings, goal, fresh)}" for name, settings in worlds.items())
     return "".join(paragraph(part) for text in texts for part in text.split("\n\n"))
 
 

@@ -12,7 +12,7 @@ from chordsim_tools.quantities import time_text
 from chordsim_tools.scenario.tables import PROFILES
 from chordsim_tools.study.goal import Goal, Precision, goal_of, precision_of
 from chordsim_tools.study.keys import (
-    OF_GENERATE, Value, arguments_of, is_integer, number_of, parsed, seeds_of, text_of, world_of,
+    OF_GENERATE, Value, arguments_of, boolean_of, is_integer, number_of, parsed, seeds_of, text_of, world_of,
 )
 from chordsim_tools.study.search import Search, search_of
 from chordsim_tools.study.sizes import Sizes, sizes_of
@@ -27,7 +27,7 @@ PROFILE_KEYS = ("profile", f"{OF_GENERATE}--profile")
 GREATEST_STEPS = 100_000
 KEYS = {
     "question", "base", "generate", "latency", "seeds", "window_us", "warmup_us", "cooldown_us", "vary", "precision",
-    "goal", "sizes", "span", "world", "note", "search",
+    "goal", "sizes", "span", "world", "note", "search", "confirm",
 }
 
 
@@ -55,6 +55,8 @@ class Study:
     spans: Spans
     world: list[str] | None
     note: str | None
+    confirm: bool = True
+    """Whether the setting of an answer is run again with fresh seeds."""
     search: Search | None = None
     tried: list[Setting] | None = None
     """The settings that a search has come to, in place of all combinations."""
@@ -121,6 +123,7 @@ def read_study(path: Path) -> Study:
         spans=spans_of(path, top.get("span", {})),
         world=None,
         note=text_of(path, top, "note") if "note" in top else None,
+        confirm=boolean_of(path, top, "confirm", True),
     )
     study.goal = whole_goal(study.goal, limits_of(path, top.get("span", {})))
     study.search = search_of(path, top)

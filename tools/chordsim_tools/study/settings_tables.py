@@ -93,7 +93,7 @@ def from_best(one: Summary, best: Summary | None, number: str, level: float) -> 
     if one.kept == 0 and found.mean is None:
         return ALL_LOST
     if pair.equal() == len(pair.seeds()):
-        return f"the same run in {pair.equal()} of {len(pair.seeds())} seeds"
+        return f"**best** too: the same run in {pair.equal()} of {len(pair.seeds())} seeds"
     verdict = pair.verdict(number)
     return found.told(scale_of(number)[1]) + (verdict and f", {verdict}")
 

@@ -8,6 +8,7 @@ from pathlib import Path
 from chordsim_tools.cli import Refused
 from chordsim_tools.explain.traps import warn
 from chordsim_tools.files import read_input, sum_of, write_whole
+from chordsim_tools.study import outcome
 from chordsim_tools.study.curves import CDF, STEPS, write_results
 from chordsim_tools.study.numbers import Cells
 from chordsim_tools.study.page import page
@@ -118,6 +119,7 @@ def write_report(folder: Path, named: Path | None = None) -> None:
     drawn = tables_of(folder, named)
     changed = changed_files(folder, named)
     warn([f"{path} has changed since the study was run: the page is of the file as it was" for path in changed])
+    write_whole(folder / outcome.NAME, outcome.outcome(drawn.tables, drawn.mark))
     plots = plots_text(folder, drawn.tables.manifest, drawn.mark)
     title, rest = page(drawn.tables, plots, not drawn.mark).split("\n", 1)
     told = f"\n**{drawn.mark}: the study is not done.** What follows is of the runs that are.\n" if drawn.mark else ""

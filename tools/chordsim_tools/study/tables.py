@@ -5,7 +5,7 @@ import io
 import json
 import subprocess
 from collections import Counter
-from dataclasses import asdict, dataclass
+from dataclasses import asdict, dataclass, field
 from pathlib import Path
 from typing import Any
 
@@ -18,6 +18,7 @@ from chordsim_tools.study.starts import longest_round
 from chordsim_tools.study.sizes import Sizes, bytes_of
 
 VERSION = 2
+FRESH = "confirm.csv"
 SERIES = ("lookups", "found", "right", "members", "ended", "right-of-ended", "wanted")
 """The columns of series.csv."""
 LATER = ("losses", "again", "forgotten")
@@ -121,6 +122,7 @@ def manifest_of(study: Study, program: Path, program_sum: str) -> dict[str, Any]
         "spans": study.spans,
         "world": study.world,
         "note": study.note,
+        "confirm": study.confirm,
         "commands": dict(Counter(one["do"] for one in study.scenario.get("command", []))),
         "own_churn": any(node.get("churn") is True for node in study.scenario["node"]),
         "nodes": len(study.scenario["node"]),
@@ -139,6 +141,8 @@ class Tables:
     manifest: dict[str, Any]
     runs: list[dict[str, str]]
     series: list[dict[str, str]]
+    fresh: list[dict[str, str]] = field(default_factory=list)
+    """The runs of the winners with fresh seeds, as runs.csv has those of all settings."""
 
 
 def read_tables(folder: Path) -> Tables:
@@ -146,7 +150,8 @@ def read_tables(folder: Path) -> Tables:
     try:
         manifest = json.loads(read_input(folder / "manifest.json"))
         sums = manifest["sha256"]
-        tables = [checked_table(folder / name, sums[name]) for name in ("runs.csv", "series.csv")]
+        names = ("runs.csv", "series.csv", *([FRESH] if FRESH in sums else []))
+        tables = [checked_table(folder / name, sums[name]) for name in names]
     except (ValueError, KeyError, TypeError):
         raise Refused(f"{folder / 'manifest.json'} is not one that tools/study run wrote") from None
     return Tables(manifest, *tables)

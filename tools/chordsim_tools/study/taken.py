@@ -3,6 +3,7 @@
 from collections.abc import Callable
 from functools import partial
 
+from chordsim_tools.study.interval import LEAST_SEEDS, outward
 from chordsim_tools.study.notes import AGAIN
 from chordsim_tools.study.numbers import Cells, Summary
 from chordsim_tools.study.settings_tables import Column, table_text
@@ -23,6 +24,7 @@ OF_LOST_RINGS = ("cost-stranded", "cost-join-failed")
 UNIT = "All numbers are for each member and hour, from the warm-up to the end."
 NOTES = (
     AGAIN,
+    "**none (< 26 %)**: no seed has any. So at most 26 % of worlds have any (95 %, exact: 1 - 0.05 ^ (1 / seeds)).",
     "**timeouts**: calls that had no reply in time, to any of their sendings.",
     "**members taken for dead**: timeouts of calls to a node that was a member at that time. A message was lost, or "
     "the node had only just joined.",
@@ -50,9 +52,18 @@ def an_hour(word: str) -> Callable[[Cells], float | None]:
 def cell_of(one: Summary, word: str) -> str:
     """The cell of a count in a setting's line."""
     if word not in OF_LOST_RINGS or one.kept == one.seeds:
-        return one.of(an_hour(word)).told()
-    kept = f"{one.of(an_hour(word)).told()}; " if one.kept else ""
+        return kept_told(one, word)
+    kept = f"{kept_told(one, word)}; " if one.kept else ""
     return f"{kept}lost rings: {lost_told(one, word)} a run"
+
+
+def kept_told(one: Summary, word: str) -> str:
+    """A count of the rings kept. If no seed has any, it is said how many worlds may have some."""
+    found = one.of(an_hour(word))
+    if found.mean != 0 or found.count < LEAST_SEEDS:
+        return found.told()
+    left = f" ({found.count} of {found.of})" if found.count < found.of else ""
+    return f"none (< {outward(100 * (1 - 0.05 ** (1 / found.count)), 2, 1):g} %){left}"
 
 
 def taken_table(tables: Tables, found: list[Summary]) -> str:
