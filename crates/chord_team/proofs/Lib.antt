@@ -1,6 +1,7 @@
 pub mod Heads
 pub mod Keys
 pub mod LeastTimes
+pub mod MailLists
 pub mod Merged
 pub mod Names
 pub mod OpenWindows
@@ -16,7 +17,6 @@ pub mod Sending
 pub mod Slots
 pub mod Starts
 pub mod Swaps
-pub mod TakingIn
 pub mod TeamEnds
 pub mod TeamMail
 pub mod TeamOrders

@@ -1,6 +1,5 @@
 -- The run of a part in its window: its start, one event more, and its end.
-use Rattle.std.proofs.Common.{◌≡◌, ◌≢◌, ◌∙◌, ◌↔◌, ⊎_elim, ℕ, suc, ◌+◌, ◌<◌, ◌≤◌, List, [], ◌∷◌, ◌++◌, Option, None, Vec, length, map, reverse, get_or, refl, ap, sym, subst, arith, append-nil, length-append}
-use Rattle.std.specs.Global.{Global}
+use Rattle.std.proofs.Common.{◌≡◌, ◌≢◌, ◌∙◌, ◌↔◌, ⊎_elim, ℕ, suc, ◌+◌, ◌<◌, ◌≤◌, List, [], ◌∷◌, ◌++◌, Option, None, length, map, reverse, get_or, refl, ap, sym, subst, arith, append-nil, length-append}
 use Rattle.std.specs.List.{All, Contains, cons_option}
 use Rattle.std.specs.Prelude.{option_map, slice_get}
 use Rattle.chord_event.specs.declared.block.Block.{Block}
@@ -31,7 +30,8 @@ use Rattle.chord_team.specs.declared.output.Output.{Output}
 use Rattle.chord_team.specs.declared.part.OwnedPart.{OwnedPart}
 use Rattle.chord_team.specs.Layouts.{IsLayout, slot_of}
 use Rattle.chord_team.specs.Orders.{HasRunAll, MayRun, OpensTo}
-use Rattle.chord_team.specs.Owned.{AreApart, IsOwned, LeastTimeIs, all_of, share_of}
+use Rattle.chord_team.specs.Mail.{all_of}
+use Rattle.chord_team.specs.Owned.{AreApart, IsOwned, LeastTimeIs, share_of}
 use Rattle.chord_team.specs.Running.{HasHandled, HasTakenIn, CanHandle, IsRunning, ran_first, state_at}
 use Rattle.chord_team.proofs.LeastTimes.{least_of_joined, least_of_ordered}
 use Rattle.chord_team.proofs.PartLists.{none_listed}
@@ -67,8 +67,7 @@ running_first sc l count horizon old o order new took = record {
       λ c. subst (λ es. Contains es x) (sym only_pending) ((took.same x).1 ((order.owned.same x).1 (c.0, c.1 ∙ part_is))),
     );
     apart = subst (λ es. AreApart es) (sym only_pending) (ordered_apart new.pending took.ordered);
-    in_long = took.in_long ∙ order.owned.in_long;
-    out_long = ap (λ (z : OwnedPart). length z.outbox.items) took.others ∙ order.owned.out_long;
+    out_long = ap (λ (z : OwnedPart). length z.outbox) took.others ∙ order.owned.out_long;
     tallied = subst (λ (z : OwnedPart). IsTallyOf sc.profile (share_of sc l.division z.part (history (chord sc) count)) z.tally) (sym took.others)
         order.owned.tallied;
   };
@@ -78,7 +77,7 @@ running_first sc l count horizon old o order new took = record {
     λ c. absurd (contains_none x c.0),
   );
   sent_apart = λ q v k. subst (λ es. AreApart es) (sym (nothing_sent q v k)) (AllPairs_none (λ (a b : Event Body). a.key ≢ b.key));
-  soonest_is = ap (λ (z : OwnedPart). all_of z.outbox.items) took.others ∙ order.none_sent;
+  soonest_is = ap (λ (z : OwnedPart). all_of z.outbox) took.others ∙ order.none_sent;
   blocks = [];
   blocks_are = λ i d k. absurd (omega (arith, k));
   pieces_are = refl;
@@ -88,12 +87,12 @@ running_first sc l count horizon old o order new took = record {
     part_is : new.part ≡ old.part
     part_is = ap (λ (z : OwnedPart). z.part) took.others
 
-    only_pending : new.pending ++ all_of new.inbox.items ≡ new.pending
+    only_pending : new.pending ++ new.inbox ≡ new.pending
     only_pending = ap (λ es. new.pending ++ es) took.none_left ∙ append-nil new.pending
 
-    nothing_sent : (q : ℕ) (v : Vec (Event Body) Global) → q < l.division.parts → (get_or new.outbox.items q v).items ≡ []
-    nothing_sent q v k = ap (λ (z : OwnedPart). (get_or z.outbox.items q v).items) took.others
-        ∙ none_listed old.outbox.items order.none_sent q v (omega (arith, k, order.owned.out_long))
+    nothing_sent : (q : ℕ) (v : List (Event Body)) → q < l.division.parts → get_or new.outbox q v ≡ []
+    nothing_sent q v k = ap (λ (z : OwnedPart). get_or z.outbox q v) took.others
+        ∙ none_listed old.outbox order.none_sent q v (omega (arith, k, order.owned.out_long))
 
 module _ (sc : Scenario) (ranges : IsInRange sc) (l : Layout) (lay : IsLayout sc l) (count horizon time : ℕ)
     (o : MayOpen (chord sc) (history (chord sc) count) time horizon) (whole : length (history (chord sc) count) ≡ count)
@@ -114,8 +113,8 @@ module _ (sc : Scenario) (ranges : IsInRange sc) (l : Layout) (lay : IsLayout sc
     taken_in = r.taken_in;
     sent = r.sent;
     sent_apart = r.sent_apart;
-    next_is = subst (LeastTimeIs (p.pending ++ all_of p.outbox.items)) (sym next_is)
-        (least_of_joined (all_of p.outbox.items) p.pending soonest (option_map (λ (e : Event Body). e.key.time) (slice_get p.pending 0))
+    next_is = subst (LeastTimeIs (p.pending ++ all_of p.outbox)) (sym next_is)
+        (least_of_joined (all_of p.outbox) p.pending soonest (option_map (λ (e : Event Body). e.key.time) (slice_get p.pending 0))
         r.soonest_is (least_of_ordered p.pending ordered));
     blocks = r.blocks;
     blocks_are = r.blocks_are;
@@ -148,7 +147,7 @@ module _ (sc : Scenario) (ranges : IsInRange sc) (l : Layout) (lay : IsLayout sc
           e rest is early mid new mid_is before after away same_part handled);
       taken_in = none_came sc ranges l lay (history (chord sc) count) time horizon o p (ran_first sc l count horizon p.part n) r.runs r.owned r.taken_in
           ordered e rest is early mid new mid_is before after away same_part handled;
-      sent = λ q v x k. subst (λ z. Contains (get_or new.outbox.items q v).items x
+      sent = λ q v x k. subst (λ z. Contains (get_or new.outbox q v) x
           ↔ (Contains (made_since (chord sc) (history (chord sc) count) z) x × (part_of l.division x.target ≡ q) × (q ≢ new.part))) (sym grown)
           (still_sent sc ranges l lay (history (chord sc) count) time horizon o p (ran_first sc l count horizon p.part n) r.runs r.owned r.taken_in ordered
           e rest is early mid new mid_is before after away same_part handled r.sent q v x k);

@@ -1,9 +1,8 @@
 -- The first pending event of a part, and what is left when its target has acted on it.
-use Rattle.std.proofs.Common.{◌≡◌, ◌≢◌, ◌∙◌, ◌↔◌, ◌⊎◌, ⊎_elim, inl, inr, ℕ, zero, suc, ◌+◌, ◌<◌, ◌≤◌, Bool, true, false, cond, nat_lt, List, [], ◌∷◌, ◌++◌, Option, Some, Vec, length, map, reverse, get_or, set, refl, ap, sym, subst, arith, append-nil, eq-eqb, lt-ltb, length-append, get_or-set_same, get_or-set_other}
+use Rattle.std.proofs.Common.{◌≡◌, ◌≢◌, ◌∙◌, ◌↔◌, ◌⊎◌, ⊎_elim, inl, inr, ℕ, zero, suc, ◌+◌, ◌<◌, ◌≤◌, Bool, true, false, cond, nat_lt, List, [], ◌∷◌, ◌++◌, Option, Some, length, map, reverse, get_or, set, refl, ap, sym, subst, arith, append-nil, eq-eqb, lt-ltb, length-append, get_or-set_same, get_or-set_other}
 use Rattle.std.proofs.lemmas.Bool.{and_from, and_parts, cases_eq, eqb-true, not-true, not_from_false, ne_eqb}
 use Rattle.std.proofs.lemmas.List.{length-set, map-append}
 use mathlib.Core.List.{reverse-cons}
-use Rattle.std.specs.Global.{Global}
 use Rattle.std.specs.List.{Contains, filter}
 use Rattle.std.specs.Prelude.{◌==◌, ◌&&◌}
 use Rattle.chord_event.specs.declared.block.Block.{Block}
@@ -48,7 +47,8 @@ use Rattle.chord_team.specs.declared.layout.Layout.{Layout}
 use Rattle.chord_team.specs.declared.output.Output.{Output}
 use Rattle.chord_team.specs.declared.part.OwnedPart.{OwnedPart}
 use Rattle.chord_team.specs.Layouts.{IsLayout, slot_of}
-use Rattle.chord_team.specs.Owned.{AreApart, HasTakenAll, IsOwned, LeastTimeIs, all_of, share_of}
+use Rattle.chord_team.specs.Mail.{all_of}
+use Rattle.chord_team.specs.Owned.{AreApart, HasTakenAll, IsOwned, LeastTimeIs, share_of}
 use Rattle.chord_team.specs.Running.{HasHandled, CanHandle, is_for_others, sent_to, state_at}
 use Rattle.chord_team.proofs.LeastTimes.{least_of_both}
 use Rattle.chord_team.proofs.PartLists.{apart_filter, first_list, listed_from, listed_in, none_contained}
@@ -196,12 +196,12 @@ module _ (sc : Scenario) (ranges : IsInRange sc) (l : Layout) (lay : IsLayout sc
       did = subst (λ z. HasHandled sc l e z new before after away) mid_is handled
 
       pub none_came : HasTakenAll new
-      none_came = ap (λ z. all_of z.items) did.same_inbox ∙ none
+      none_came = did.same_inbox ∙ none
 
-      only_pending : new.pending ++ all_of new.inbox.items ≡ new.pending
+      only_pending : new.pending ++ new.inbox ≡ new.pending
       only_pending = ap (λ es. new.pending ++ es) none_came ∙ append-nil new.pending
 
-      out_is_long : length new.outbox.items ≡ l.division.parts
+      out_is_long : length new.outbox ≡ l.division.parts
       out_is_long = did.sent.out_long ∙ owned.out_long
 
       pending_there : (x : Event Body) → Contains new.pending x
@@ -271,14 +271,13 @@ module _ (sc : Scenario) (ranges : IsInRange sc) (l : Layout) (lay : IsLayout sc
           λ c. subst (λ es. Contains es x) (sym only_pending) (pending_back x c),
         );
         apart = subst (λ es. AreApart es) (sym only_pending) (ordered_apart new.pending did.sent.ordered);
-        in_long = ap (λ z. length z.items) did.same_inbox ∙ owned.in_long;
         out_long = out_is_long;
         tallied = subst (λ z. IsTallyOf sc.profile z new.tally) (sym share_is)
             (did.tallied sc.profile (share_of sc l.division p.part (ran ++ h)) owned.tallied);
       }
 
-      mail_is : (q : ℕ) (v : Vec (Event Body) Global) → q < l.division.parts
-          → (get_or new.outbox.items q v).items ≡ (get_or p.outbox.items q v).items
+      mail_is : (q : ℕ) (v : List (Event Body)) → q < l.division.parts
+          → get_or new.outbox q v ≡ (get_or p.outbox q v)
           ++ sent_to l.division p.part q (made_by sc l p e)
       mail_is q v k = did.sent.sent q v (omega (arith, k, owned.out_long))
 
@@ -286,13 +285,13 @@ module _ (sc : Scenario) (ranges : IsInRange sc) (l : Layout) (lay : IsLayout sc
       made_is_known x c = known_in_range (chord sc) w l.division lay.divides (e ∷ (ran ++ h)) (here, ((are_pending e).0 e_there).0) x
           (contains_left (effect_after (chord sc) (ran ++ h) e).events (all_events (chord sc) (ran ++ h)) x (made_there x c))
 
-      pub still_sent : ((q : ℕ) (v : Vec (Event Body) Global) (x : Event Body) → q < l.division.parts → Contains (get_or p.outbox.items q v).items x
+      pub still_sent : ((q : ℕ) (v : List (Event Body)) (x : Event Body) → q < l.division.parts → Contains (get_or p.outbox q v) x
           ↔ (Contains (made_since (chord sc) h ran) x × (part_of l.division x.target ≡ q) × (q ≢ p.part)))
-          → (q : ℕ) (v : Vec (Event Body) Global) (x : Event Body) → q < l.division.parts → Contains (get_or new.outbox.items q v).items x
+          → (q : ℕ) (v : List (Event Body)) (x : Event Body) → q < l.division.parts → Contains (get_or new.outbox q v) x
           ↔ (Contains (made_since (chord sc) h (e ∷ ran)) x × (part_of l.division x.target ≡ q) × (q ≢ new.part))
       still_sent sent q v x k = (there, back)
         where
-          there : Contains (get_or new.outbox.items q v).items x
+          there : Contains (get_or new.outbox q v) x
               → Contains (made_since (chord sc) h (e ∷ ran)) x × (part_of l.division x.target ≡ q) × (q ≢ new.part)
           there c = ⊎_elim
               (λ m.
@@ -307,27 +306,27 @@ module _ (sc : Scenario) (ranges : IsInRange sc) (l : Layout) (lay : IsLayout sc
                 at,
                 λ s. gone_away l.division p.part x b.1 (at ∙ s ∙ same_part),
               ))
-              (contains_append (get_or p.outbox.items q v).items (sent_to l.division p.part q (made_by sc l p e)) x
+              (contains_append (get_or p.outbox q v) (sent_to l.division p.part q (made_by sc l p e)) x
               (subst (λ es. Contains es x) (mail_is q v k) c))
 
           back : Contains (made_since (chord sc) h (e ∷ ran)) x × (part_of l.division x.target ≡ q) × (q ≢ new.part)
-              → Contains (get_or new.outbox.items q v).items x
+              → Contains (get_or new.outbox q v) x
           back c = subst (λ es. Contains es x) (sym (mail_is q v k)) (⊎_elim
-              (λ m. contains_right (get_or p.outbox.items q v).items (sent_to l.division p.part q (made_by sc l p e)) x
+              (λ m. contains_right (get_or p.outbox q v) (sent_to l.division p.part q (made_by sc l p e)) x
               (contains_filter (λ x. part_of l.division x.target == q && is_for_others l.division p.part x)
               (made_by sc l p e) x (made_back x m)
               (and_from (part_of l.division x.target == q) (is_for_others l.division p.part x) (eq-eqb (part_of l.division x.target) q c.1)
               (goes_away l.division p.part x (λ s. c.2 (sym c.1 ∙ s ∙ sym same_part))))))
-              (λ m. contains_left (get_or p.outbox.items q v).items (sent_to l.division p.part q (made_by sc l p e)) x
+              (λ m. contains_left (get_or p.outbox q v) (sent_to l.division p.part q (made_by sc l p e)) x
               ((sent q v x k).1 (m, c.1, λ s. c.2 (s ∙ sym same_part))))
               (contains_append (effect_after (chord sc) (ran ++ h) e).events (made_since (chord sc) h ran) x c.0))
 
-      pub still_sent_apart : ((q : ℕ) (v : Vec (Event Body) Global) (x : Event Body) → q < l.division.parts → Contains (get_or p.outbox.items q v).items x
+      pub still_sent_apart : ((q : ℕ) (v : List (Event Body)) (x : Event Body) → q < l.division.parts → Contains (get_or p.outbox q v) x
           ↔ (Contains (made_since (chord sc) h ran) x × (part_of l.division x.target ≡ q) × (q ≢ p.part)))
-          → ((q : ℕ) (v : Vec (Event Body) Global) → q < l.division.parts → AreApart (get_or p.outbox.items q v).items)
-          → (q : ℕ) (v : Vec (Event Body) Global) → q < l.division.parts → AreApart (get_or new.outbox.items q v).items
+          → ((q : ℕ) (v : List (Event Body)) → q < l.division.parts → AreApart (get_or p.outbox q v))
+          → (q : ℕ) (v : List (Event Body)) → q < l.division.parts → AreApart (get_or new.outbox q v)
       still_sent_apart sent apart q v k = subst (λ es. AreApart es) (sym (mail_is q v k))
-          (AllPairs_append (λ (a b : Event Body). a.key ≢ b.key) (get_or p.outbox.items q v).items
+          (AllPairs_append (λ (a b : Event Body). a.key ≢ b.key) (get_or p.outbox q v)
           (sent_to l.division p.part q (made_by sc l p e)) (apart q v k)
           (apart_filter (λ x. part_of l.division x.target == q && is_for_others l.division p.part x)
           (made_by sc l p e) made_is_apart)
@@ -335,43 +334,43 @@ module _ (sc : Scenario) (ranges : IsInRange sc) (l : Layout) (lay : IsLayout sc
           (filter_contains (λ x. part_of l.division x.target == q && is_for_others l.division p.part x)
           (made_by sc l p e) y m).0))
 
-      pub still_soonest : (soonest : Option ℕ) → LeastTimeIs (all_of p.outbox.items) soonest → LeastTimeIs (all_of new.outbox.items) (sooner soonest away)
-      still_soonest soonest is_soonest = least_of_both (all_of p.outbox.items)
-          (filter (is_for_others l.division p.part) (made_by sc l p e)) (all_of new.outbox.items) soonest away
+      pub still_soonest : (soonest : Option ℕ) → LeastTimeIs (all_of p.outbox) soonest → LeastTimeIs (all_of new.outbox) (sooner soonest away)
+      still_soonest soonest is_soonest = least_of_both (all_of p.outbox)
+          (filter (is_for_others l.division p.part) (made_by sc l p e)) (all_of new.outbox) soonest away
           is_soonest did.sent.soonest_is (λ x. (there x, back x))
         where
-          there : (x : Event Body) → Contains (all_of new.outbox.items) x → Contains (all_of p.outbox.items) x
+          there : (x : Event Body) → Contains (all_of new.outbox) x → Contains (all_of p.outbox) x
               ⊎ Contains (filter (is_for_others l.division p.part) (made_by sc l p e)) x
           there x c =
-              let r = listed_from new.outbox.items x c in
+              let r = listed_from new.outbox x c in
               let k : r.place < l.division.parts = omega (arith, r.inside, out_is_long) in
-              ⊎_elim (λ m. inl (listed_in p.outbox.items r.place r.list x (omega (arith, k, owned.out_long)) m))
+              ⊎_elim (λ m. inl (listed_in p.outbox r.place r.list x (omega (arith, k, owned.out_long)) m))
               (λ m.
               let f = filter_contains (λ x. part_of l.division x.target == r.place && is_for_others l.division p.part x)
               (made_by sc l p e) x m in
               inr (contains_filter (is_for_others l.division p.part) (made_by sc l p e) x f.0
               (and_parts (part_of l.division x.target == r.place) (is_for_others l.division p.part x) f.1).1))
-              (contains_append (get_or p.outbox.items r.place r.list).items
+              (contains_append (get_or p.outbox r.place r.list)
               (sent_to l.division p.part r.place (made_by sc l p e)) x
-              (subst (λ es. Contains es x) (ap (λ (z : Vec (Event Body) Global). z.items) (sym (r.at r.list)) ∙ mail_is r.place r.list k) r.among))
+              (subst (λ es. Contains es x) ((sym (r.at r.list)) ∙ mail_is r.place r.list k) r.among))
 
-          back : (x : Event Body) → Contains (all_of p.outbox.items) x
+          back : (x : Event Body) → Contains (all_of p.outbox) x
               ⊎ Contains (filter (is_for_others l.division p.part) (made_by sc l p e)) x
-              → Contains (all_of new.outbox.items) x
+              → Contains (all_of new.outbox) x
           back x (inl c) =
-              let r = listed_from p.outbox.items x c in
+              let r = listed_from p.outbox x c in
               let k : r.place < l.division.parts = omega (arith, r.inside, owned.out_long) in
-              listed_in new.outbox.items r.place r.list x (omega (arith, k, out_is_long)) (subst (λ es. Contains es x) (sym (mail_is r.place r.list k))
-              (contains_left (get_or p.outbox.items r.place r.list).items
+              listed_in new.outbox r.place r.list x (omega (arith, k, out_is_long)) (subst (λ es. Contains es x) (sym (mail_is r.place r.list k))
+              (contains_left (get_or p.outbox r.place r.list)
               (sent_to l.division p.part r.place (made_by sc l p e)) x
-              (subst (λ (z : Vec (Event Body) Global). Contains z.items x) (sym (r.at r.list)) r.among)))
+              (subst (λ (z : List (Event Body)). Contains z x) (sym (r.at r.list)) r.among)))
           back x (inr c) =
               let f = filter_contains (is_for_others l.division p.part) (made_by sc l p e) x c in
               let k : part_of l.division x.target < l.division.parts = made_is_known x f.0 in
-              let v : Vec (Event Body) Global = first_list new.outbox.items (omega (arith, k, out_is_long)) in
-              listed_in new.outbox.items (part_of l.division x.target) v x (omega (arith, k, out_is_long))
+              let v : List (Event Body) = first_list new.outbox (omega (arith, k, out_is_long)) in
+              listed_in new.outbox (part_of l.division x.target) v x (omega (arith, k, out_is_long))
               (subst (λ es. Contains es x) (sym (mail_is (part_of l.division x.target) v k))
-              (contains_right (get_or p.outbox.items (part_of l.division x.target) v).items
+              (contains_right (get_or p.outbox (part_of l.division x.target) v)
               (sent_to l.division p.part (part_of l.division x.target) (made_by sc l p e)) x
               (contains_filter (λ y. part_of l.division y.target == part_of l.division x.target && is_for_others l.division p.part y)
               (made_by sc l p e) x f.0

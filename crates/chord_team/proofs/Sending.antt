@@ -1,8 +1,7 @@
 -- The events that a part made are sent, one after another.
-use Rattle.std.proofs.Common.{◌≡◌, ◌≢◌, ◌∙◌, ◌⊎◌, ⊎_elim, inl, inr, ℕ, ◌<◌, Bool, true, false, not, List, [], ◌∷◌, ◌++◌, Option, None, Some, Vec, length, get_or, set, reverse, refl, ap, sym, subst, append_assoc, append-nil, eq-eqb, get_or-set_same, get_or-set_other}
+use Rattle.std.proofs.Common.{◌≡◌, ◌≢◌, ◌∙◌, ◌⊎◌, ⊎_elim, inl, inr, ℕ, ◌<◌, Bool, true, false, not, List, [], ◌∷◌, ◌++◌, Option, None, Some, length, get_or, set, reverse, refl, ap, sym, subst, append_assoc, append-nil, eq-eqb, get_or-set_same, get_or-set_other}
 use Rattle.std.proofs.lemmas.Bool.{and_from, cases_eq, ne_eqb, not_from_false}
 use Rattle.std.proofs.lemmas.List.{length-set, reverse-append, reverse-reverse}
-use Rattle.std.specs.Global.{Global}
 use Rattle.std.specs.List.{All, Contains, filter}
 use Rattle.std.specs.Prelude.{◌==◌, ◌&&◌}
 use Rattle.chord_event.specs.declared.body.Body.{Body}
@@ -20,6 +19,7 @@ use Rattle.chord_team.specs.Owned.{AreApart, LeastTimeIs}
 use Rattle.chord_team.specs.Running.{HasSent, is_for_others, sent_to}
 use Rattle.chord_team.proofs.LeastTimes.{least_of_more}
 use Rattle.chord_team.proofs.PartLists.{filter_no_more, filter_one_more}
+use Rattle.chord_team.proofs.TeamMail.{or_same}
 
 neither_left : (x y : Bool) → x ≡ false → (x && y) ≡ false
 neither_left true y e = absurd cc
@@ -34,7 +34,7 @@ sent_none d p ordered = record {
   kept = λ x. (λ c. inl c, ⊎_elim (λ c. c) (λ k. absurd (contains_none x k.0)));
   ordered = ordered;
   out_long = refl;
-  sent = λ q v l. sym (append-nil (get_or p.outbox.items q v).items);
+  sent = λ q v l. sym (append-nil (get_or p.outbox q v));
   soonest_is = refl;
 }
 
@@ -100,9 +100,9 @@ module _ (d : Division) (sent : List (Event Body)) (old now : OwnedPart) (soones
     sent_here new is ordered = record {
       kept = λ x. (there x, back x);
       ordered = ordered;
-      out_long = ap (λ (p : OwnedPart). length p.outbox.items) is ∙ s.out_long;
-      sent = λ q v l. ap (λ (p : OwnedPart). (get_or p.outbox.items q v).items) is ∙ s.sent q v l
-          ∙ ap (λ es. (get_or old.outbox.items q v).items ++ es) (sym (filter_no_more (λ x. part_of d x.target == q && is_for_others d old.part x) sent e
+      out_long = ap (λ (p : OwnedPart). length p.outbox) is ∙ s.out_long;
+      sent = λ q v l. ap (λ (p : OwnedPart). get_or p.outbox q v) is ∙ s.sent q v l
+          ∙ ap (λ es. (get_or old.outbox q v) ++ es) (sym (filter_no_more (λ x. part_of d x.target == q && is_for_others d old.part x) sent e
           (neither_right (part_of d e.target == q) (is_for_others d old.part e) own_stays)));
       soonest_is = subst (λ es. LeastTimeIs es soonest) (sym (filter_no_more (is_for_others d old.part) sent e own_stays)) s.soonest_is;
     }
@@ -128,11 +128,10 @@ module _ (d : Division) (sent : List (Event Body)) (old now : OwnedPart) (soones
     other_goes : is_for_others d old.part e ≡ true
     other_goes = not_from_false (part_of d e.target == old.part) (ne_eqb (part_of d e.target) old.part other)
 
-    pub sent_away : (to : ℕ) (list : Vec (Event Body) Global) (new : OwnedPart) → to ≡ part_of d e.target → to < length now.outbox.items
-        → new ≡ record now { outbox = new.outbox } → new.outbox.items ≡ set now.outbox.items to list
-        → ((v : Vec (Event Body) Global) → list.items ≡ (get_or now.outbox.items to v).items ++ e ∷ [])
+    pub sent_away : (to : ℕ) (new : OwnedPart) → to ≡ part_of d e.target → to < length now.outbox
+        → new ≡ record now { outbox = new.outbox } → new.outbox ≡ set now.outbox to (get_or now.outbox to [] ++ e ∷ [])
         → HasSent d (sent ++ e ∷ []) old new (sooner soonest (Some e.key.time))
-    sent_away to list new to_is inside is put list_is = record {
+    sent_away to new to_is inside is put = record {
       kept = λ x. (
         λ c. ⊎_elim (λ k. inl k) (λ k. inr (contains_left sent (e ∷ []) x k.0, k.1))
             ((s.kept x).0 (subst (λ (p : OwnedPart). Contains p.pending x) is c)),
@@ -141,24 +140,30 @@ module _ (d : Division) (sent : List (Event Body)) (old now : OwnedPart) (soones
             (λ t. absurd (other (ap (λ (z : Event Body). part_of d z.target) t ∙ k.1))) (pushed x k.0)) c)),
       );
       ordered = subst (λ (p : OwnedPart). InKeyOrder event_key p.pending) (sym is) s.ordered;
-      out_long = ap length put ∙ length-set now.outbox.items to list ∙ s.out_long;
-      sent = λ q v l. ap (λ lists. (get_or lists q v).items) put ∙ ⊎_elim (here q v l) (elsewhere q v l) (cases_eq q to);
+      out_long = ap length put ∙ length-set now.outbox to list ∙ s.out_long;
+      sent = λ q v l. ap (λ lists. get_or lists q v) put ∙ ⊎_elim (here q v l) (elsewhere q v l) (cases_eq q to);
       soonest_is = subst (λ es. LeastTimeIs es (sooner soonest (Some e.key.time))) (sym (filter_one_more (is_for_others d old.part) sent e other_goes))
           (least_of_more (filter (is_for_others d old.part) sent) e soonest s.soonest_is);
     }
       where
-        here : (q : ℕ) (v : Vec (Event Body) Global) → q < length old.outbox.items → q ≡ to
-            → (get_or (set now.outbox.items to list) q v).items ≡ (get_or old.outbox.items q v).items ++ sent_to d old.part q (sent ++ e ∷ [])
-        here q v l t = ap (λ i. (get_or (set now.outbox.items to list) i v).items) t
-            ∙ ap (λ (z : Vec (Event Body) Global). z.items) (get_or-set_same now.outbox.items to list v inside)
-            ∙ list_is v ∙ ap (λ i. (get_or now.outbox.items i v).items ++ e ∷ []) (sym t) ∙ ap (λ es. es ++ e ∷ []) (s.sent q v l)
-            ∙ append_assoc (get_or old.outbox.items q v).items (sent_to d old.part q sent) (e ∷ [])
-            ∙ ap (λ es. (get_or old.outbox.items q v).items ++ es) (sym (filter_one_more (λ x. part_of d x.target == q && is_for_others d old.part x) sent e
+        list : List (Event Body)
+        list = get_or now.outbox to [] ++ e ∷ []
+
+        list_is : (v : List (Event Body)) → list ≡ get_or now.outbox to v ++ e ∷ []
+        list_is v = ap (λ es. es ++ e ∷ []) (or_same now.outbox to [] v inside)
+
+        here : (q : ℕ) (v : List (Event Body)) → q < length old.outbox → q ≡ to
+            → (get_or (set now.outbox to list) q v) ≡ get_or old.outbox q v ++ sent_to d old.part q (sent ++ e ∷ [])
+        here q v l t = ap (λ i. (get_or (set now.outbox to list) i v)) t
+            ∙ (get_or-set_same now.outbox to list v inside)
+            ∙ list_is v ∙ ap (λ i. (get_or now.outbox i v) ++ e ∷ []) (sym t) ∙ ap (λ es. es ++ e ∷ []) (s.sent q v l)
+            ∙ append_assoc (get_or old.outbox q v) (sent_to d old.part q sent) (e ∷ [])
+            ∙ ap (λ es. (get_or old.outbox q v) ++ es) (sym (filter_one_more (λ x. part_of d x.target == q && is_for_others d old.part x) sent e
             (and_from (part_of d e.target == q) (is_for_others d old.part e) (eq-eqb (part_of d e.target) q (sym (t ∙ to_is))) other_goes)))
 
-        elsewhere : (q : ℕ) (v : Vec (Event Body) Global) → q < length old.outbox.items → q ≢ to
-            → (get_or (set now.outbox.items to list) q v).items ≡ (get_or old.outbox.items q v).items ++ sent_to d old.part q (sent ++ e ∷ [])
-        elsewhere q v l ne = ap (λ (z : Vec (Event Body) Global). z.items) (get_or-set_other now.outbox.items to q list v ne)
+        elsewhere : (q : ℕ) (v : List (Event Body)) → q < length old.outbox → q ≢ to
+            → (get_or (set now.outbox to list) q v) ≡ get_or old.outbox q v ++ sent_to d old.part q (sent ++ e ∷ [])
+        elsewhere q v l ne = (get_or-set_other now.outbox to q list v ne)
             ∙ s.sent q v l
-            ∙ ap (λ es. (get_or old.outbox.items q v).items ++ es) (sym (filter_no_more (λ x. part_of d x.target == q && is_for_others d old.part x) sent e
+            ∙ ap (λ es. (get_or old.outbox q v) ++ es) (sym (filter_no_more (λ x. part_of d x.target == q && is_for_others d old.part x) sent e
             (neither_left (part_of d e.target == q) (is_for_others d old.part e) (ne_eqb (part_of d e.target) q (λ t. ne (sym (to_is ∙ t)))))))

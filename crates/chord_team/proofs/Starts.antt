@@ -96,18 +96,14 @@ use Rattle.chord_team.specs.declared.layout.Layout.{Layout}
 use Rattle.chord_team.specs.declared.part.OwnedPart.{OwnedPart}
 use Rattle.chord_team.specs.declared.part.Parcel.{Parcel}
 use Rattle.chord_team.specs.Layouts.{IsLayout, nodes_before, slot_of}
-use Rattle.chord_team.specs.Owned.{AreApart, HasSentAll, IsOwned, LeastTimeIs, all_of, events_of, with_part}
+use Rattle.chord_team.specs.Mail.{all_of}
+use Rattle.chord_team.specs.Owned.{AreApart, HasSentAll, IsOwned, LeastTimeIs, events_of, with_part}
 use Rattle.chord_team.specs.Starts.{AreEmptyParts, AreParcelsOf, HasEvents, HasStates, HaveEvents, HaveStates, IsEmptyPart, IsParcelOf, states_for}
 use Rattle.chord_team.specs.Teams.{AreHere, IsHere, IsTeam, before_end}
 use Rattle.chord_team.proofs.Slots.{count_elsewhere, count_grows, count_here}
 use Rattle.chord_team.proofs.TeamMail.{or_same}
 
 -- Empty parts
-
-pub none_more : (lists more : List (Vec (Event Body) Global)) (v : Vec (Event Body) Global) → more ≡ lists ++ v ∷ [] → all_of lists ≡ [] → v.items ≡ []
-    → all_of more ≡ []
-none_more lists more v is none here = ap all_of is ∙ flat_map-append (λ (l : Vec (Event Body) Global). l.items) lists (v ∷ [])
-    ∙ ap (λ l. l ++ (v.items ++ [])) none ∙ ap (λ l. l ++ []) here
 
 pub parts_none : (profile parts : ℕ) (ps : List OwnedPart) → ps ≡ [] → AreEmptyParts profile parts 0 ps
 parts_none profile parts ps none = record { long = ap length none; each = λ p o k. absurd (omega (arith, k)) }
@@ -450,8 +446,8 @@ module _ (sc : Scenario) (ranges : IsInRange sc) where
     tally_is : q.tally ≡ e.tally
     tally_is = ap (λ (z : OwnedPart). z.tally) dealt.others ∙ ap (λ (z : OwnedPart). z.tally) has.others
 
-    none_in : all_of q.inbox.items ≡ []
-    none_in = ap (λ (v : Vec (Vec (Event Body) Global) Global). all_of v.items) inbox_is ∙ empty.none_in
+    none_in : q.inbox ≡ []
+    none_in = inbox_is ∙ empty.none_in
 
     events_is : events_of q ≡ q.pending
     events_is = ap (λ l. q.pending ++ l) none_in ∙ append-nil q.pending
@@ -475,13 +471,12 @@ module _ (sc : Scenario) (ranges : IsInRange sc) where
         λ c. subst (λ es. Contains es x) (sym events_is) ((dealt.same x).1 (((start_stands sc ranges).same x).1 c.0, c.1 ∙ part_is)),
       );
       apart = subst (λ es. AreApart (q.pending ++ es)) (sym none_in) dealt.apart;
-      in_long = ap (λ (v : Vec (Vec (Event Body) Global) Global). length v.items) inbox_is ∙ empty.in_long;
-      out_long = ap (λ (v : Vec (Vec (Event Body) Global) Global). length v.items) outbox_is ∙ empty.out_long;
+      out_long = ap length outbox_is ∙ empty.out_long;
       tallied = subst (λ t. IsTallyOf sc.profile [] t) (sym tally_is) empty.tallied;
     }
 
     pub none_sent : HasSentAll q
-    none_sent = ap (λ (v : Vec (Vec (Event Body) Global) Global). all_of v.items) outbox_is ∙ empty.none_out
+    none_sent = ap all_of outbox_is ∙ empty.none_out
 
     pub part_at_start : q.part ≡ p
     part_at_start = part_is

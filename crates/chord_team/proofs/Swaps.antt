@@ -248,7 +248,6 @@ module _ (sc : Scenario) (ranges : IsInRange sc) (l : Layout) (layout : IsLayout
                   ∙ again.given i s (omega (arith, j, many)) ∙ first.taken i s (omega (arith, j, many)) ∙ placed_is i s j;
               same = r.2.owned.same;
               apart = r.2.owned.apart;
-              in_long = r.2.owned.in_long;
               out_long = r.2.owned.out_long;
               tallied = r.2.owned.tallied;
             };

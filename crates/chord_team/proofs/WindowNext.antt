@@ -18,7 +18,8 @@ use Rattle.chord_team.specs.declared.part.Finished.{Finished}
 use Rattle.chord_team.specs.declared.team.Team.{Team}
 use Rattle.chord_team.specs.Exchanges.{soonest}
 use Rattle.chord_team.specs.Orders.{AreResults, HaveNoFault}
-use Rattle.chord_team.specs.Owned.{LeastTimeIs, all_of}
+use Rattle.chord_team.specs.Mail.{all_of}
+use Rattle.chord_team.specs.Owned.{LeastTimeIs}
 use Rattle.chord_team.specs.Teams.{CanSend, before_end}
 use Rattle.chord_team.proofs.LeastTimes.{least_of_both, least_of_none}
 use Rattle.chord_team.proofs.PartLists.{listed_at, listed_from, listed_in}
@@ -27,7 +28,7 @@ use Rattle.chord_team.proofs.WindowParts.{after_window, made_there, pending_part
 
 -- what a part has left, and what it made for others
 abbrev pub left_of : Finished → List (Event Body)
-left_of f = f.parcel.part.value.pending ++ all_of f.parcel.part.value.outbox.items
+left_of f = f.parcel.part.value.pending ++ all_of f.parcel.part.value.outbox
 
 abbrev pub all_left : List Finished → List (Event Body)
 all_left [] = []
@@ -111,15 +112,15 @@ module _ (sc : Scenario) (ranges : IsInRange sc) (l : Layout) (t : Team) (can : 
       let run = result_of sc ranges l t can fs results none q f lt in
       let part = (get_or fs q f).parcel.part.value in
       ⊎_elim
-      (λ k. let g = (run.owned.same x).0 (contains_left part.pending (all_of part.inbox.items) x k) in
+      (λ k. let g = (run.owned.same x).0 (contains_left part.pending part.inbox x k) in
       waits_here sc ranges l t can fs results none q lt x g.0 (g.1 ∙ run.part_is))
       (λ k.
-      let at = listed_from part.outbox.items x k in
+      let at = listed_from part.outbox x k in
       let inside : at.place < l.division.parts = omega (arith, at.inside, run.owned.out_long) in
-      let v = first part.outbox.items (omega (arith, at.inside)) in
-      let g = (run.sent at.place v x inside).0 (listed_at part.outbox.items x at v) in
+      let v = first part.outbox (omega (arith, at.inside)) in
+      let g = (run.sent at.place v x inside).0 (listed_at part.outbox x at v) in
       made_there sc ranges l t can fs results none q at.place lt x g.0 g.1 g.2)
-      (contains_append part.pending (all_of part.outbox.items) x c)
+      (contains_append part.pending (all_of part.outbox) x c)
 
   pending_left : (x : Event Body) → Contains (pending (chord sc) later) x → Contains (all_left fs) x
   pending_left x c =
@@ -131,10 +132,10 @@ module _ (sc : Scenario) (ranges : IsInRange sc) (l : Layout) (t : Team) (can : 
       let f = first fs (omega (arith, lt)) in
       let run = result_of sc ranges l t can fs results none p f inside in
       let part = (get_or fs p f).parcel.part.value in
-      left_in fs p f x lt (contains_left part.pending (all_of part.outbox.items) x (⊎_elim
+      left_in fs p f x lt (contains_left part.pending (all_of part.outbox) x (⊎_elim
       (λ m. m)
       (λ m. absurd (contains_none x (subst (λ es. Contains es x) run.taken_in m)))
-      (contains_append part.pending (all_of part.inbox.items) x ((run.owned.same x).1 (k, sym run.part_is))))))
+      (contains_append part.pending part.inbox x ((run.owned.same x).1 (k, sym run.part_is))))))
       (λ k.
       let q = k.0 in
       let lt : q < length fs = omega (arith, k.1, results.long) in
@@ -142,10 +143,10 @@ module _ (sc : Scenario) (ranges : IsInRange sc) (l : Layout) (t : Team) (can : 
       let run = result_of sc ranges l t can fs results none q f k.1 in
       let part = (get_or fs q f).parcel.part.value in
       let p = part_of l.division x.target in
-      let at : p < length part.outbox.items = omega (arith, inside, run.owned.out_long) in
-      let v = first part.outbox.items (omega (arith, at)) in
-      left_in fs q f x lt (contains_right part.pending (all_of part.outbox.items) x
-      (listed_in part.outbox.items p v x at ((run.sent p v x inside).1 (k.3, refl, (λ e. k.2 (sym e)))))))
+      let at : p < length part.outbox = omega (arith, inside, run.owned.out_long) in
+      let v = first part.outbox (omega (arith, at)) in
+      left_in fs q f x lt (contains_right part.pending (all_of part.outbox) x
+      (listed_in part.outbox p v x at ((run.sent p v x inside).1 (k.3, refl, (λ e. k.2 (sym e)))))))
       (where_pending sc ranges l t can fs results none x (pending_target sc ranges l t can fs results none x c) c)
 
   pub next_after : option_map (λ (e : Event Body). e.key.time) (next (chord sc) later) ≡ before_end sc.duration (soonest None fs)

@@ -1,6 +1,6 @@
 -- What the parts have after a window, once they have their mail.
-use Rattle.std.proofs.Common.{◌≡◌, ◌≢◌, ◌∙◌, ◌⊎◌, ⊎_elim, inl, inr, ℕ, suc, ◌<◌, List, [], ◌∷◌, ◌++◌, Vec, length, get_or, ap, sym, subst, arith}
-use Rattle.std.specs.Global.{Global}
+use Rattle.std.proofs.Common.{◌≡◌, ◌≢◌, ◌∙◌, ◌↔◌, ◌⊎◌, ⊎_elim, inl, inr, ℕ, suc, ◌<◌, List, [], ◌∷◌, ◌++◌, length, map, get_or, ap, sym, subst, arith}
+use Rattle.std.proofs.lemmas.List.{get_or-map, length-map}
 use Rattle.std.specs.List.{Contains}
 use Rattle.chord_event.specs.declared.body.Body.{Body}
 use Rattle.chord_event.specs.declared.event.Event.{Event}
@@ -25,20 +25,29 @@ use Rattle.chord_team.specs.declared.part.Finished.{Finished}
 use Rattle.chord_team.specs.declared.part.OwnedPart.{OwnedPart}
 use Rattle.chord_team.specs.declared.team.Team.{Team}
 use Rattle.chord_team.specs.Orders.{AreResults, HaveNoFault}
-use Rattle.chord_team.specs.Owned.{AreApart, IsOwned, all_of, share_of}
+use Rattle.chord_team.specs.Mail.{all_of}
+use Rattle.chord_team.specs.Owned.{AreApart, IsOwned, share_of}
 use Rattle.chord_team.specs.Teams.{CanSend}
 use Rattle.chord_team.proofs.PartLists.{listed_at, listed_from, listed_in}
-use Rattle.chord_team.proofs.TeamMail.{first}
+use Rattle.chord_team.proofs.TeamMail.{or_same}
 use Rattle.chord_team.proofs.WindowRuns.{IsRunOf, commuted, events_at, may, past, ran, run_at, sealed, w}
 use Rattle.chord_team.proofs.WindowShares.{share_same}
 
+-- what a result has for a part
+abbrev pub sent_to_part : (part : ℕ) → Finished → List (Event Body)
+sent_to_part part f = get_or f.parcel.part.value.outbox part []
+
+-- what the results have for a part, each one list
+abbrev pub sent_by : List Finished → (part : ℕ) → List (List (Event Body))
+sent_by fs part = map (sent_to_part part) fs
+
 -- no two events have one key, if that is so in each list and for each two lists
-pub apart_in_all : (lists : List (Vec (Event Body) Global))
-    → ((q : ℕ) (v : Vec (Event Body) Global) → q < length lists → AreApart (get_or lists q v).items)
-    → ((q r : ℕ) (v : Vec (Event Body) Global) (x y : Event Body) → q < r → r < length lists → Contains (get_or lists q v).items x
-    → Contains (get_or lists r v).items y → x.key ≢ y.key) → AreApart (all_of lists)
+pub apart_in_all : (lists : List (List (Event Body)))
+    → ((q : ℕ) (v : List (Event Body)) → q < length lists → AreApart (get_or lists q v))
+    → ((q r : ℕ) (v : List (Event Body)) (x y : Event Body) → q < r → r < length lists → Contains (get_or lists q v) x
+    → Contains (get_or lists r v) y → x.key ≢ y.key) → AreApart (all_of lists)
 apart_in_all [] each cross = AllPairs_none (λ (a b : Event Body). a.key ≢ b.key)
-apart_in_all (l ∷ lists) each cross = AllPairs_append (λ (a b : Event Body). a.key ≢ b.key) l.items (all_of lists) (each 0 l (omega arith))
+apart_in_all (l ∷ lists) each cross = AllPairs_append (λ (a b : Event Body). a.key ≢ b.key) l (all_of lists) (each 0 l (omega arith))
     (apart_in_all lists (λ q v k. each (suc q) v (omega (arith, k)))
     (λ q r v x y a b c d. cross (suc q) (suc r) v x y (omega (arith, a)) (omega (arith, b)) c d))
     (λ x y c d. let k = listed_from lists y d in cross 0 (suc k.place) l x y (omega arith) (omega (arith, k.inside)) c (listed_at lists y k l))
@@ -121,66 +130,74 @@ module _ (sc : Scenario) (ranges : IsInRange sc) (l : Layout) (t : Team) (can : 
   pending_part x c = node_in_range (chord sc) (w sc ranges l t can fs results none) l.division can.layout.divides x.target (pending_target x c)
 
   -- a part with its mail
-  module _ (p : ℕ) (inside : p < l.division.parts) (f : Finished) (inbox outbox : Vec (Vec (Event Body) Global) Global)
-      (in_long : length inbox.items ≡ l.division.parts) (out_long : length outbox.items ≡ l.division.parts)
-      (received : (q : ℕ) (v : Vec (Event Body) Global) → q < l.division.parts
-      → (get_or inbox.items q v).items ≡ (get_or (get_or fs q f).parcel.part.value.outbox.items p v).items) where
+  module _ (p : ℕ) (inside : p < l.division.parts) (f : Finished) (inbox : List (Event Body)) (outbox : List (List (Event Body)))
+      (out_long : length outbox ≡ l.division.parts) (received : inbox ≡ all_of (sent_by fs p)) where
+    abbrev mail : List (List (Event Body))
+    mail = sent_by fs p
+
+    in_long : length mail ≡ l.division.parts
+    in_long = length-map fs (sent_to_part p) ∙ results.long
+
+    got : (q : ℕ) (v : List (Event Body)) → q < l.division.parts → get_or mail q v ≡ get_or (get_or fs q f).parcel.part.value.outbox p v
+    got q v lt = get_or-map (sent_to_part p) fs q f v (omega (arith, lt, results.long))
+        ∙ or_same (get_or fs q f).parcel.part.value.outbox p [] v (omega (arith, inside, (result_of q f lt).owned.out_long))
+
     abbrev part : OwnedPart
     part = (get_or fs p f).parcel.part.value
 
     abbrev run : IsRunOf sc l t.count t.window.horizon p (events_at fs p) (get_or fs p f)
     run = result_of p f inside
 
-    any : Vec (Event Body) Global
-    any = first inbox.items (omega (arith, in_long, inside))
+    any : List (Event Body)
+    any = []
 
     -- an event of a list that has come
-    has_come : (q : ℕ) (v : Vec (Event Body) Global) → q < l.division.parts → (x : Event Body) → Contains (get_or inbox.items q v).items x
+    has_come : (q : ℕ) (v : List (Event Body)) → q < l.division.parts → (x : Event Body) → Contains (get_or mail q v) x
         → Contains (made_since (chord sc) before (lists q)) x × (part_of l.division x.target ≡ p) × (p ≢ q)
-    has_come q v lt x c = ((result_of q f lt).sent p v x inside).0 (subst (λ es. Contains es x) (received q v lt) c)
+    has_come q v lt x c = ((result_of q f lt).sent p v x inside).0 (subst (λ es. Contains es x) (got q v lt) c)
 
-    there : (x : Event Body) → Contains (part.pending ++ all_of inbox.items) x
+    there : (x : Event Body) → Contains (part.pending ++ all_of mail) x
         → Contains (pending (chord sc) after_window) x × (part_of l.division x.target ≡ part.part)
     there x c = ⊎_elim
         (λ k.
-        let f = (run.owned.same x).0 (contains_left part.pending (all_of part.inbox.items) x k) in
+        let f = (run.owned.same x).0 (contains_left part.pending part.inbox x k) in
         (waits_here p inside x f.0 (f.1 ∙ run.part_is), f.1))
         (λ k.
-        let at = listed_from inbox.items x k in
+        let at = listed_from mail x k in
         let lt : at.place < l.division.parts = omega (arith, at.inside, in_long) in
-        let f = has_come at.place any lt x (listed_at inbox.items x at any) in
+        let f = has_come at.place any lt x (listed_at mail x at any) in
         (made_there at.place p lt x f.0 f.1 f.2, f.1 ∙ sym run.part_is))
-        (contains_append part.pending (all_of inbox.items) x c)
+        (contains_append part.pending (all_of mail) x c)
 
     back : (x : Event Body) → x.target < node_count sc → Contains (pending (chord sc) after_window) x → part_of l.division x.target ≡ part.part
-        → Contains (part.pending ++ all_of inbox.items) x
+        → Contains (part.pending ++ all_of mail) x
     back x lt c is =
         let here : part_of l.division x.target ≡ p = is ∙ run.part_is in
         ⊎_elim
         (λ k. ⊎_elim
-        (λ m. contains_left part.pending (all_of inbox.items) x m)
+        (λ m. contains_left part.pending (all_of mail) x m)
         (λ m. absurd (contains_none x (subst (λ es. Contains es x) run.taken_in m)))
-        (contains_append part.pending (all_of part.inbox.items) x
+        (contains_append part.pending part.inbox x
         ((run.owned.same x).1 (subst (λ q. Contains (pending (chord sc) (lists q ++ before)) x) here k, is))))
-        (λ k. contains_right part.pending (all_of inbox.items) x (listed_in inbox.items k.0 any x (omega (arith, k.1, in_long))
-        (subst (λ es. Contains es x) (sym (received k.0 any k.1)) (((result_of k.0 f k.1).sent p any x inside).1 (k.3, here, (λ e. k.2 (sym e ∙ sym here)))))))
+        (λ k. contains_right part.pending (all_of mail) x (listed_in mail k.0 any x (omega (arith, k.1, in_long))
+        (subst (λ es. Contains es x) (sym (got k.0 any k.1)) (((result_of k.0 f k.1).sent p any x inside).1 (k.3, here, (λ e. k.2 (sym e ∙ sym here)))))))
         (where_pending x lt c)
 
-    apart : AreApart (part.pending ++ all_of inbox.items)
-    apart = AllPairs_append (λ (a b : Event Body). a.key ≢ b.key) part.pending (all_of inbox.items)
-        (AllPairs_front (λ (a b : Event Body). a.key ≢ b.key) part.pending (all_of part.inbox.items) run.owned.apart)
-        (apart_in_all inbox.items
-        (λ q v lt. let k : q < l.division.parts = omega (arith, lt, in_long) in subst AreApart (sym (received q v k)) ((result_of q f k).sent_apart p v inside))
+    apart : AreApart (part.pending ++ all_of mail)
+    apart = AllPairs_append (λ (a b : Event Body). a.key ≢ b.key) part.pending (all_of mail)
+        (AllPairs_front (λ (a b : Event Body). a.key ≢ b.key) part.pending part.inbox run.owned.apart)
+        (apart_in_all mail
+        (λ q v lt. let k : q < l.division.parts = omega (arith, lt, in_long) in subst AreApart (sym (got q v k)) ((result_of q f k).sent_apart p v inside))
         (λ q r v x y a b c d.
         let lt : r < l.division.parts = omega (arith, b, in_long) in
         let less : q < l.division.parts = omega (arith, a, lt) in
         fresh q r less lt (λ e. omega (arith, e, a)) x y (known_from_since (chord sc) before (lists q) x (has_come q v less x c).0) (has_come r v lt y d).0))
         (λ x y c d.
-        let at = listed_from inbox.items y d in
+        let at = listed_from mail y d in
         let lt : at.place < l.division.parts = omega (arith, at.inside, in_long) in
-        let g = has_come at.place any lt y (listed_at inbox.items y at any) in
+        let g = has_come at.place any lt y (listed_at mail y at any) in
         fresh p at.place inside lt g.2 x y
-        (waits_from (chord sc) (lists p ++ before) x ((run.owned.same x).0 (contains_left part.pending (all_of part.inbox.items) x c)).0).known g.0)
+        (waits_from (chord sc) (lists p ++ before) x ((run.owned.same x).0 (contains_left part.pending part.inbox x c)).0).known g.0)
 
     pub owned_with_mail : IsOwned sc l after_window (record (get_or fs p f).parcel.part.value { inbox = inbox; outbox = outbox })
     owned_with_mail = record {
@@ -188,9 +205,9 @@ module _ (sc : Scenario) (ranges : IsInRange sc) (l : Layout) (t : Team) (can : 
       places = run.owned.places;
       states_are = λ i s lt is. run.owned.states_are i s lt is
           ∙ ap (λ q. state (chord sc) (lists q ++ before) i) (sym (is ∙ run.part_is)) ∙ course.states i lt;
-      same = λ x. (there x, λ c. back x (pending_target x c.0) c.0 c.1);
-      apart = apart;
-      in_long = in_long;
+      same = λ x. subst (λ es. Contains (part.pending ++ es) x ↔ (Contains (pending (chord sc) after_window) x × (part_of l.division x.target ≡ part.part)))
+          (sym received) (there x, λ c. back x (pending_target x c.0) c.0 c.1);
+      apart = subst (λ es. AreApart (part.pending ++ es)) (sym received) apart;
       out_long = out_long;
       tallied = subst (λ ps. IsTallyOf sc.profile ps part.tally)
           (subst (λ q. share_of sc l.division q (lists p ++ before) ≡ share_of sc l.division q after_window) (sym run.part_is)

@@ -1,6 +1,5 @@
 -- What the parts ran in a window.
-use Rattle.std.proofs.Common.{◌≡◌, ◌≢◌, ◌∙◌, ◌↔◌, ℕ, zero, suc, ◌+◌, ◌<◌, List, [], ◌∷◌, ◌++◌, None, Vec, length, map, reverse, get_or, refl, ap, sym, subst, arith}
-use Rattle.std.specs.Global.{Global}
+use Rattle.std.proofs.Common.{◌≡◌, ◌≢◌, ◌∙◌, ◌↔◌, ℕ, zero, suc, ◌+◌, ◌<◌, List, [], ◌∷◌, ◌++◌, None, length, map, reverse, get_or, refl, ap, sym, subst, arith}
 use Rattle.std.specs.List.{All, Contains}
 use Rattle.std.specs.Prelude.{IfNone}
 use Rattle.chord_event.specs.declared.block.Block.{Block}
@@ -28,7 +27,8 @@ use Rattle.chord_team.specs.declared.part.Finished.{Finished}
 use Rattle.chord_team.specs.declared.team.Team.{Team}
 use Rattle.chord_team.specs.Orders.{AreResults, AreResultsFrom, HasRun, HaveNoFault, IsResultOf}
 use Rattle.chord_team.specs.Outputs.{IsText}
-use Rattle.chord_team.specs.Owned.{AreApart, HasTakenAll, IsOwned, LeastTimeIs, all_of}
+use Rattle.chord_team.specs.Mail.{all_of}
+use Rattle.chord_team.specs.Owned.{AreApart, HasTakenAll, IsOwned, LeastTimeIs}
 use Rattle.chord_team.specs.Running.{ran_first}
 use Rattle.chord_team.specs.Teams.{CanSend, events_in}
 use Rattle.chord_team.proofs.TeamMail.{first}
@@ -40,11 +40,11 @@ pub record IsRunOf (sc : Scenario) (l : Layout) (count horizon part n : ℕ) (f 
   pub long : length (ran_first sc l count horizon part n) ≡ n
   pub owned : IsOwned sc l (ran_first sc l count horizon part n ++ history (chord sc) count) f.parcel.part.value
   pub taken_in : HasTakenAll f.parcel.part.value
-  pub sent : (q : ℕ) (v : Vec (Event Body) Global) (x : Event Body) → q < l.division.parts
-      → Contains (get_or f.parcel.part.value.outbox.items q v).items x
+  pub sent : (q : ℕ) (v : List (Event Body)) (x : Event Body) → q < l.division.parts
+      → Contains (get_or f.parcel.part.value.outbox q v) x
       ↔ (Contains (made_since (chord sc) (history (chord sc) count) (ran_first sc l count horizon part n)) x × (part_of l.division x.target ≡ q) × (q ≢ part))
-  pub sent_apart : (q : ℕ) (v : Vec (Event Body) Global) → q < l.division.parts → AreApart (get_or f.parcel.part.value.outbox.items q v).items
-  pub next_is : LeastTimeIs (f.parcel.part.value.pending ++ all_of f.parcel.part.value.outbox.items) f.next
+  pub sent_apart : (q : ℕ) (v : List (Event Body)) → q < l.division.parts → AreApart (get_or f.parcel.part.value.outbox q v)
+  pub next_is : LeastTimeIs (f.parcel.part.value.pending ++ all_of f.parcel.part.value.outbox) f.next
   pub blocks : List Block
   pub blocks_are : All (IsShortBlock sc) blocks
   pub pieces_are : map piece.OfEvent blocks ≡ reverse (map (λ b. b.1) (pieces_since (chord sc) (history (chord sc) count)

@@ -1,5 +1,5 @@
 -- The team after a window.
-use Rattle.std.proofs.Common.{◌≡◌, ◌∙◌, ℕ, suc, ◌+◌, ◌<◌, ◌≤◌, List, [], ◌∷◌, ◌++◌, Option, None, Vec, length, map, get_or, refl, ap, sym, subst, arith, append-nil, length-append, option_map}
+use Rattle.std.proofs.Common.{◌≡◌, ◌∙◌, ℕ, suc, ◌+◌, ◌<◌, ◌≤◌, List, [], ◌∷◌, ◌++◌, Option, None, length, map, get_or, refl, ap, sym, subst, arith, append-nil, length-append, option_map, take_all}
 use Rattle.std.proofs.lemmas.List.{length-map}
 use Rattle.std.proofs.lemmas.List.Elements.{filter-append}
 use Rattle.std.proofs.KnownBytes.{Appends-trans}
@@ -26,23 +26,31 @@ use Rattle.chord_team.specs.declared.part.Finished.{Finished}
 use Rattle.chord_team.specs.declared.part.OwnedPart.{OwnedPart}
 use Rattle.chord_team.specs.declared.part.Parcel.{Parcel}
 use Rattle.chord_team.specs.declared.team.Team.{Team}
-use Rattle.chord_team.specs.Exchanges.{AreBack, AreReady, HasExchanged, HaveExchanged, IsReady, part_in, soonest}
+use Rattle.chord_team.specs.Exchanges.{AreBack, AreReady, HasExchanged, HaveExchanged, IsReady, mail_for, soonest}
 use Rattle.chord_team.specs.Orders.{AreResults, HaveNoFault}
 use Rattle.chord_team.specs.Outputs.{IsText, told}
-use Rattle.chord_team.specs.Owned.{IsOwned, all_of}
+use Rattle.chord_team.specs.Mail.{all_of}
+use Rattle.chord_team.specs.Owned.{IsOwned}
 use Rattle.chord_team.specs.Teams.{AreHere, CanSend, IsHere, IsOpened, IsTeam, audits_due, audits_in, before_end, events_in, is_audit}
-use Rattle.chord_team.proofs.PartLists.{none_contained, none_listed}
+use Rattle.chord_team.proofs.PartLists.{none_contained}
 use Rattle.chord_team.proofs.TeamMail.{first}
 use Rattle.chord_team.proofs.WindowNext.{next_after}
-use Rattle.chord_team.proofs.WindowParts.{after_window, owned_with_mail, result_of}
+use Rattle.chord_team.proofs.WindowParts.{after_window, owned_with_mail, result_of, sent_by}
 use Rattle.chord_team.proofs.WindowRuns.{after_is, after_long}
 use Rattle.chord_team.proofs.Told.{told_text}
 use Rattle.chord_team.proofs.WindowTexts.{blocks_long, text_of_pieces, window_blocks, window_leaves, window_puts_out}
 
-all_empty : (lists : List (Vec (Event Body) Global)) → ((q : ℕ) (v : Vec (Event Body) Global) → q < length lists → (get_or lists q v).items ≡ [])
-    → all_of lists ≡ []
-all_empty [] each = refl
-all_empty (l ∷ lists) each = ap (λ es. es ++ all_of lists) (each 0 l (omega arith)) ∙ all_empty lists (λ q v lt. each (suc q) v (omega (arith, lt)))
+-- what the parts that came back have for one of them is what the results have for it
+mail_of_results : (part : ℕ) (fs : List Finished) (mid : List (Option Parcel)) → AreBack fs mid → length fs ≡ length mid
+    → mail_for part mid ≡ all_of (sent_by fs part)
+mail_of_results part [] [] back long = refl
+mail_of_results part [] (m ∷ mid) back long = absurd (omega (arith, long))
+mail_of_results part (f ∷ fs) [] back long = absurd (omega (arith, long))
+mail_of_results part (f ∷ fs) (m ∷ mid) back long =
+    let b = back 0 f (omega arith) in
+    ap (λ z. mail_for part (z ∷ mid)) b.1 ∙ ap (λ (z : OwnedPart). get_or z.outbox part [] ++ mail_for part mid) b.2
+    ∙ ap (λ es. get_or f.parcel.part.value.outbox part [] ++ es)
+    (mail_of_results part fs mid (λ p g lt. back (suc p) g (omega (arith, lt))) (omega (arith, long)))
 
 module _ (sc : Scenario) (ranges : IsInRange sc) (l : Layout) (t : Team) (can : CanSend sc l t) (fs : List Finished)
     (results : AreResults sc l t.count t.window.horizon fs) (none : HaveNoFault fs) (mid : List (Option Parcel)) (back : AreBack fs mid)
@@ -62,11 +70,9 @@ module _ (sc : Scenario) (ranges : IsInRange sc) (l : Layout) (t : Team) (can : 
         b.0,
         b.1,
         subst (λ (z : OwnedPart). IsReady (length mid) p z) (sym b.2) (record {
-          in_long = run.owned.in_long ∙ sym parts;
           out_long = run.owned.out_long ∙ sym parts;
-          none_in = λ q v k. none_listed (get_or fs p f).parcel.part.value.inbox.items run.taken_in q v (omega (arith, k, parts, run.owned.in_long));
-          none_own = λ v. none_contained (get_or (get_or fs p f).parcel.part.value.outbox.items p v).items
-              (λ x c. let g = (run.sent p v x part).0 c in g.2 refl);
+          none_in = run.taken_in;
+          none_own = none_contained (get_or (get_or fs p f).parcel.part.value.outbox p []) (λ x c. let g = (run.sent p [] x part).0 c in g.2 refl);
         }),
       )
 
@@ -84,14 +90,9 @@ module _ (sc : Scenario) (ranges : IsInRange sc) (l : Layout) (t : Team) (can : 
           part_is = ap (λ (z : OwnedPart). z.part) same ∙ run.part_is;
           owned = subst (λ h. IsOwned sc l h after.part.value) (after_is sc ranges l t can fs results none)
               (subst (λ (z : OwnedPart). IsOwned sc l (after_window sc ranges l t can fs results none) z) (sym same)
-              (owned_with_mail sc ranges l t can fs results none p inside f after.part.value.inbox after.part.value.outbox (x.in_long ∙ parts) (x.out_long ∙ parts)
-              (λ q v k.
-              let there : q < length mid = omega (arith, k, parts) in
-              let b = back q f (omega (arith, there, parts_back)) in
-              x.received q v there (omega (arith, inside, parts))
-              ∙ ap (λ z. (get_or (part_in z before.part.value).outbox.items p v).items) b.1
-              ∙ ap (λ (z : OwnedPart). (get_or z.outbox.items p v).items) b.2)));
-          none_sent = all_empty after.part.value.outbox.items (λ q v k. x.sent q v (omega (arith, k, x.out_long)));
+              (owned_with_mail sc ranges l t can fs results none p inside f after.part.value.inbox after.part.value.outbox (x.out_long ∙ parts)
+              (x.received ∙ ap (mail_for p) (take_all (length mid) mid (omega arith)) ∙ mail_of_results p fs mid back parts_back)));
+          none_sent = x.sent (omega (arith, inside, parts));
           no_text = subst (λ (z : Parcel). IsText sc [] z.output) (sym x.same) text;
         }
 

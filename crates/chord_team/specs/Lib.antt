@@ -1,6 +1,7 @@
 pub mod Exchanges
 pub mod Heads
 pub mod Layouts
+pub mod Mail
 pub mod Orders
 pub mod Outputs
 pub mod Owned

@@ -1,6 +1,5 @@
 -- What goes to the workers and what comes back.
-use Rattle.std.specs.Prelude.{◌≡◌, ◌≢◌, ◌⊎◌, ◌+◌, ◌<◌, ◌≤◌, ◌++◌, ◌↔◌, ℕ, suc, List, [], ◌∷◌, Option, None, Some, IfNone, IfSome, map, reverse, length, slice_index_or, Vec, ⊤}
-use Rattle.std.specs.Global.{Global}
+use Rattle.std.specs.Prelude.{◌≡◌, ◌≢◌, ◌⊎◌, ◌+◌, ◌<◌, ◌≤◌, ◌++◌, ◌↔◌, ℕ, suc, List, [], ◌∷◌, Option, None, Some, IfNone, IfSome, map, reverse, length, slice_index_or, ⊤}
 use Rattle.std.specs.List.{All, Contains}
 use Rattle.chord_event.specs.declared.block.Block.{Block}
 use Rattle.chord_event.specs.declared.body.Body.{Body}
@@ -21,8 +20,9 @@ use Rattle.chord_team.specs.declared.part.OwnedPart.{OwnedPart}
 use Rattle.chord_team.specs.declared.part.Parcel.{Parcel}
 use Rattle.chord_team.specs.declared.part.Finished.{Finished}
 use Rattle.chord_team.specs.Layouts.{IsLayout}
+use Rattle.chord_team.specs.Mail.{all_of}
 use Rattle.chord_team.specs.Outputs.{IsText}
-use Rattle.chord_team.specs.Owned.{AreApart, HasSentAll, HasTakenAll, IsOwned, LeastTimeIs, all_of}
+use Rattle.chord_team.specs.Owned.{AreApart, HasSentAll, HasTakenAll, IsOwned, LeastTimeIs}
 use Rattle.chord_team.specs.Running.{ran_first}
 
 -- the next window after so many events ends at the horizon
@@ -57,12 +57,12 @@ pub record HasRunAll (sc : Scenario) (l : Layout) (count horizon n : ℕ) (next 
   pub within : count + n ≤ sc.max_events
   pub owned : IsOwned sc l (ran_first sc l count horizon p.part n ++ history (chord sc) count) p
   pub taken_in : HasTakenAll p
-  pub sent : (q : ℕ) (v : Vec (Event Body) Global) (x : Event Body) → q < l.division.parts
-      → Contains (slice_index_or p.outbox.items q v).items x
+  pub sent : (q : ℕ) (v : List (Event Body)) (x : Event Body) → q < l.division.parts
+      → Contains (slice_index_or p.outbox q v) x
       ↔ (Contains (made_since (chord sc) (history (chord sc) count) (ran_first sc l count horizon p.part n)) x × (part_of l.division x.target ≡ q)
       × (q ≢ p.part))
-  pub sent_apart : (q : ℕ) (v : Vec (Event Body) Global) → q < l.division.parts → AreApart (slice_index_or p.outbox.items q v).items
-  pub next_is : LeastTimeIs (p.pending ++ all_of p.outbox.items) next
+  pub sent_apart : (q : ℕ) (v : List (Event Body)) → q < l.division.parts → AreApart (slice_index_or p.outbox q v)
+  pub next_is : LeastTimeIs (p.pending ++ all_of p.outbox) next
   pub blocks : List Block
   pub blocks_are : All (IsShortBlock sc) blocks
   pub pieces_are : map piece.OfEvent blocks ≡ reverse (map (λ b. b.1) (pieces_since (chord sc) (history (chord sc) count)

@@ -1,8 +1,7 @@
 -- What a part of the nodes has.
-use Rattle.std.specs.Prelude.{◌≡◌, ◌≢◌, ◌<◌, ◌≤◌, ◌++◌, ◌↔◌, ◌==◌, ℕ, List, [], ◌∷◌, Option, None, Some, if◌then◌else◌, length, slice_index_or, Vec}
+use Rattle.std.specs.Prelude.{◌≡◌, ◌≢◌, ◌<◌, ◌≤◌, ◌++◌, ◌↔◌, ◌==◌, ℕ, List, [], ◌∷◌, Option, None, Some, if◌then◌else◌, length, slice_index_or}
 use Rattle.std.specs.Box.{with_value}
-use Rattle.std.specs.Global.{Global}
-use Rattle.std.specs.List.{AllPairs, Contains, flat_map}
+use Rattle.std.specs.List.{AllPairs, Contains}
 use Rattle.chord_event.specs.declared.body.Body.{Body}
 use Rattle.chord_event.specs.declared.event.Event.{Event}
 use Rattle.chord_machine.specs.Chord.{chord}
@@ -17,10 +16,7 @@ use Rattle.chord_team.specs.declared.layout.Layout.{Layout}
 use Rattle.chord_team.specs.declared.part.OwnedPart.{OwnedPart}
 use Rattle.chord_team.specs.declared.part.Parcel.{Parcel}
 use Rattle.chord_team.specs.Layouts.{slot_of}
-
--- the events of lists, one list after another
-abbrev pub all_of : List (Vec (Event Body) Global) → List (Event Body)
-all_of lists = flat_map (λ l. l.items) lists
+use Rattle.chord_team.specs.Mail.{all_of}
 
 -- no two events have one key
 abbrev pub AreApart : List (Event Body) → Type 0
@@ -28,7 +24,7 @@ AreApart es = AllPairs (λ (a b : Event Body). a.key ≢ b.key) es
 
 -- all events that a part has
 abbrev pub events_of : OwnedPart → List (Event Body)
-events_of p = p.pending ++ all_of p.inbox.items
+events_of p = p.pending ++ p.inbox
 
 -- what the events of a part add to the trace, the oldest first
 abbrev pub share_of : Scenario → Division → (part : ℕ) → List (Event Body) → List Piece
@@ -45,8 +41,7 @@ pub record IsOwned (sc : Scenario) (l : Layout) (h : List (Event Body)) (p : Own
       → slice_index_or p.states.items (slot_of l i) s ≡ state (chord sc) h i
   pub same : (x : Event Body) → Contains (events_of p) x ↔ (Contains (pending (chord sc) h) x × (part_of l.division x.target ≡ p.part))
   pub apart : AreApart (events_of p)
-  pub in_long : length p.inbox.items ≡ l.division.parts
-  pub out_long : length p.outbox.items ≡ l.division.parts
+  pub out_long : length p.outbox ≡ l.division.parts
   pub tallied : IsTallyOf sc.profile (share_of sc l.division p.part h) p.tally
 
 -- the parcel with another part in its box
@@ -55,11 +50,11 @@ with_part parcel part = record parcel { part = with_value parcel.part part }
 
 -- nothing is on its way to other parts
 abbrev pub HasSentAll : OwnedPart → Type 0
-HasSentAll p = all_of p.outbox.items ≡ []
+HasSentAll p = all_of p.outbox ≡ []
 
 -- nothing has come that was not taken in
 abbrev pub HasTakenAll : OwnedPart → Type 0
-HasTakenAll p = all_of p.inbox.items ≡ []
+HasTakenAll p = p.inbox ≡ []
 
 -- the least time of these events, if there is an event
 abbrev pub LeastTimeIs : List (Event Body) → Option ℕ → Type 0

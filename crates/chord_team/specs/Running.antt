@@ -1,6 +1,5 @@
 -- The run of a part in a window, event by event.
-use Rattle.std.specs.Prelude.{◌≡◌, ◌≢◌, ◌⊎◌, ◌+◌, ◌<◌, ◌≤◌, ◌^◌, ◌++◌, ◌∷◌, ◌↔◌, ◌==◌, ◌&&◌, not, nat_lt, ℕ, Bool, false, List, [], Option, None, Some, map, reverse, set, length, slice_index_or, Vec}
-use Rattle.std.specs.Global.{Global}
+use Rattle.std.specs.Prelude.{◌≡◌, ◌≢◌, ◌⊎◌, ◌+◌, ◌<◌, ◌≤◌, ◌^◌, ◌++◌, ◌∷◌, ◌↔◌, ◌==◌, ◌&&◌, not, nat_lt, ℕ, Bool, false, List, [], Option, None, Some, map, reverse, set, length, slice_index_or}
 use Rattle.std.specs.List.{All, Contains, filter}
 use Rattle.chord_event.specs.declared.block.Block.{Block}
 use Rattle.chord_event.specs.declared.body.Body.{Body}
@@ -27,8 +26,9 @@ use Rattle.chord_team.specs.declared.layout.Layout.{Layout}
 use Rattle.chord_team.specs.declared.output.Output.{Output}
 use Rattle.chord_team.specs.declared.part.OwnedPart.{OwnedPart}
 use Rattle.chord_team.specs.Layouts.{IsLayout, slot_of}
+use Rattle.chord_team.specs.Mail.{all_of}
 use Rattle.chord_team.specs.Outputs.{IsText}
-use Rattle.chord_team.specs.Owned.{AreApart, HasTakenAll, IsOwned, LeastTimeIs, all_of}
+use Rattle.chord_team.specs.Owned.{AreApart, HasTakenAll, IsOwned, LeastTimeIs}
 
 -- the state of a node, as the part has it
 abbrev pub state_at : Scenario → Layout → OwnedPart → ℕ → NodeState
@@ -46,9 +46,9 @@ sent_to d part q made = filter (λ x. part_of d x.target == q && is_for_others d
 pub record HasSent (d : Division) (made : List (Event Body)) (old new : OwnedPart) (soonest : Option ℕ) : Type 0 where
   pub kept : (x : Event Body) → Contains new.pending x ↔ (Contains old.pending x ⊎ (Contains made x × (part_of d x.target ≡ old.part)))
   pub ordered : InKeyOrder event_key new.pending
-  pub out_long : length new.outbox.items ≡ length old.outbox.items
-  pub sent : (q : ℕ) (v : Vec (Event Body) Global) → q < length old.outbox.items
-      → (slice_index_or new.outbox.items q v).items ≡ (slice_index_or old.outbox.items q v).items ++ sent_to d old.part q made
+  pub out_long : length new.outbox ≡ length old.outbox
+  pub sent : (q : ℕ) (v : List (Event Body)) → q < length old.outbox
+      → (slice_index_or new.outbox q v) ≡ (slice_index_or old.outbox q v) ++ sent_to d old.part q made
   pub soonest_is : LeastTimeIs (filter (is_for_others d old.part) made) soonest
 
 -- the event may be handled: its target is a node of the part, and the rule table may be asked about its state
@@ -62,7 +62,7 @@ pub record CanHandle (sc : Scenario) (l : Layout) (p : OwnedPart) (event : Event
   pub event_is_sound : IsSoundEvent sc event
   pub in_time : event.key.time < sc.duration
   pub apart : AreApart (p.pending ++ (effect sc (state_at sc l p event.target) event).events)
-  pub out_long : length p.outbox.items ≡ l.division.parts
+  pub out_long : length p.outbox ≡ l.division.parts
   pub tally_room : taken p.tally < 2 ^ 40
 
 -- its target has acted on the event
@@ -87,12 +87,12 @@ pub record IsRunning (sc : Scenario) (l : Layout) (count horizon n : ℕ) (soone
   pub within : count + n ≤ sc.max_events
   pub owned : IsOwned sc l (ran_first sc l count horizon p.part n ++ history (chord sc) count) p
   pub taken_in : HasTakenAll p
-  pub sent : (q : ℕ) (v : Vec (Event Body) Global) (x : Event Body) → q < l.division.parts
-      → Contains (slice_index_or p.outbox.items q v).items x
+  pub sent : (q : ℕ) (v : List (Event Body)) (x : Event Body) → q < l.division.parts
+      → Contains (slice_index_or p.outbox q v) x
       ↔ (Contains (made_since (chord sc) (history (chord sc) count) (ran_first sc l count horizon p.part n)) x × (part_of l.division x.target ≡ q)
       × (q ≢ p.part))
-  pub sent_apart : (q : ℕ) (v : Vec (Event Body) Global) → q < l.division.parts → AreApart (slice_index_or p.outbox.items q v).items
-  pub soonest_is : LeastTimeIs (all_of p.outbox.items) soonest
+  pub sent_apart : (q : ℕ) (v : List (Event Body)) → q < l.division.parts → AreApart (slice_index_or p.outbox q v)
+  pub soonest_is : LeastTimeIs (all_of p.outbox) soonest
   pub blocks : List Block
   pub blocks_are : All (IsShortBlock sc) blocks
   pub pieces_are : map piece.OfEvent blocks ≡ reverse (map (λ b. b.1) (pieces_since (chord sc) (history (chord sc) count)
@@ -106,8 +106,7 @@ is_due (Some time) horizon = nat_lt time horizon
 
 -- what the other parts made is pending
 pub record HasTakenIn (old new : OwnedPart) : Type 0 where
-  pub same : (x : Event Body) → Contains new.pending x ↔ Contains (old.pending ++ all_of old.inbox.items) x
-  pub none_left : all_of new.inbox.items ≡ []
-  pub in_long : length new.inbox.items ≡ length old.inbox.items
+  pub same : (x : Event Body) → Contains new.pending x ↔ Contains (old.pending ++ old.inbox) x
+  pub none_left : new.inbox ≡ []
   pub ordered : InKeyOrder event_key new.pending
   pub others : new ≡ record old { pending = new.pending; inbox = new.inbox }

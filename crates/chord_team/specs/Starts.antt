@@ -11,18 +11,18 @@ use Rattle.chord_scenario.specs.declared.scenario.Scenario.{Scenario}
 use Rattle.chord_trace.specs.Tally.{IsTallyOf}
 use Rattle.chord_team.specs.declared.part.OwnedPart.{OwnedPart}
 use Rattle.chord_team.specs.declared.part.Parcel.{Parcel}
+use Rattle.chord_team.specs.Mail.{all_of}
 use Rattle.chord_team.specs.Outputs.{IsText}
-use Rattle.chord_team.specs.Owned.{AreApart, all_of}
+use Rattle.chord_team.specs.Owned.{AreApart}
 
 -- the part has no states and no events, and a list for each part
 pub record IsEmptyPart (profile parts part : ℕ) (p : OwnedPart) : Type 0 where
   pub part_is : p.part ≡ part
   pub no_states : p.states.items ≡ []
   pub none_pending : p.pending ≡ []
-  pub in_long : length p.inbox.items ≡ parts
-  pub out_long : length p.outbox.items ≡ parts
-  pub none_in : all_of p.inbox.items ≡ []
-  pub none_out : all_of p.outbox.items ≡ []
+  pub out_long : length p.outbox ≡ parts
+  pub none_in : p.inbox ≡ []
+  pub none_out : all_of p.outbox ≡ []
   pub tallied : IsTallyOf profile [] p.tally
 
 -- these are the first n parts

@@ -6,6 +6,7 @@ mod course;
 mod finish;
 mod layout;
 mod link;
+mod mail;
 mod named;
 mod order;
 mod output;
@@ -28,6 +29,8 @@ pub use course::Course;
 pub use course::Hands;
 #[doc(hidden)]
 pub use layout::Layout;
+#[doc(hidden)]
+pub use mail::{Inbox, Outbox};
 #[doc(hidden)]
 pub use named::Named;
 #[doc(hidden)]

@@ -8,9 +8,10 @@ ghost use Rattle.chord_model.specs.Windows.{part_of};
 ghost use Rattle.chord_queue.specs.EventKey.{event_key};
 ghost use Rattle.chord_team.specs.Orders.{HasRunAll, IsFault, IsFinished, IsOrder, MayRun};
 ghost use Rattle.chord_team.specs.Running.{HasHandled, HasSent, HasTakenIn, CanHandle, is_due};
-ghost use Rattle.chord_team.specs.Owned.{AreApart, all_of};
+ghost use Rattle.chord_team.specs.Owned.{AreApart};
 
 use crate::layout::Layout;
+use crate::mail::{Inbox, Outbox};
 use crate::output::Output;
 use chord_event::{Event, Memory, RunError};
 use chord_node::NodeState;
@@ -22,10 +23,6 @@ use chord_window::sooner;
 use std::alloc::Global;
 use std::mem;
 
-/// With more parts than this, lists of mail give their memory back: there is one for each pair of
-/// parts.
-const MOST_KEPT: usize = 64;
-
 /// A part of the nodes, which has their states and their pending events for the whole run.
 #[derive(Drop)]
 pub struct OwnedPart {
@@ -33,10 +30,10 @@ pub struct OwnedPart {
     /// The states of its nodes, at their slots.
     pub states: Vec<NodeState>,
     pub pending: Pending,
-    /// What each part made for this one in the last window.
-    pub inbox: Vec<Vec<Event>>,
+    /// What the others made for this one in the last window.
+    pub inbox: Inbox,
     /// What it made for each part in this one.
-    pub outbox: Vec<Vec<Event>>,
+    pub outbox: Outbox,
     pub tally: Tally,
     /// Room for what the next event makes.
     pub spare: Spare,
@@ -73,20 +70,6 @@ pub struct Finished {
     pub fault: Option<RunError>,
 }
 
-/// Moves the events of a list among the pending ones. The list keeps its memory if it `keeps`.
-fn take_list(pending: &mut Pending, list: &mut Vec<Event>, keeps: bool) -> Result<(), Memory>
-    requires { AreApart (pending.old ++ list.old.items) }
-    ensures same { OnOk result ((x : AnEvent ABody) → Contains pending.new x ↔ Contains (pending.old ++ list.old.items) x) }
-    ensures none_left { OnOk result (list.new.items ≡ []) }
-    ensures ordered { InKeyOrder event_key pending.new }
-{
-    if keeps {
-        return pending.insert_from(list);
-    }
-    let alloc = *list.allocator();
-    pending.insert_all(mem::replace(list, Vec::new(alloc)))
-}
-
 /// Whether the first event, if there is one, is before the horizon.
 fn is_due(first: Option<u64>, horizon: u64) -> bool
     ensures { result ≡ is_due first horizon }
@@ -100,23 +83,18 @@ fn is_due(first: Option<u64>, horizon: u64) -> bool
 impl OwnedPart {
     /// Puts what the other parts made among the pending events.
     fn take_in(&mut self) -> Result<(), Memory>
-        requires { AreApart (self.old.pending ++ all_of self.old.inbox.items) }
+        requires { AreApart (self.old.pending ++ self.old.inbox) }
         ensures taken { OnOk result (HasTakenIn self.old self.new) }
         ensures part { self.new.part ≡ self.old.part }
     {
-        let keeps = self.inbox.len() <= MOST_KEPT;
-        for from in 0..self.inbox.len() {
-            take_list(&mut self.pending, &mut self.inbox[from], keeps)?;
-        }
-        self.pending.recall_order();
-        Ok(())
+        self.inbox.empty_into(&mut self.pending, self.outbox.len())
     }
 
     /// Puts the events that it made for its own nodes among the pending ones, and the others into
     /// the lists of their parts. Returns the least time of the others.
     fn send(&mut self, layout: &Layout, made: &mut Vec<Event>) -> Result<Option<u64>, Memory>
         requires apart { AreApart (self.old.pending ++ made.old.items) }
-        requires parts { All (λ x. part_of layout.now.division x.target < length self.old.outbox.items) made.old.items }
+        requires parts { All (λ x. part_of layout.now.division x.target < length self.old.outbox) made.old.items }
         requires nodes { All (λ x. x.target < length layout.now.division.of_node) made.old.items }
         ensures sent { IfOk result (λ soonest. HasSent layout.now.division made.old.items self.old self.new soonest) }
         ensures part { self.new.part ≡ self.old.part }
@@ -139,7 +117,7 @@ impl OwnedPart {
                 self.pending.recall_order();
             } else {
                 soonest = sooner(soonest, Some(event.key.time));
-                self.outbox[to as usize].push(event)?;
+                self.outbox.push(to, event)?;
             }
         }
         Ok(soonest)

@@ -4,11 +4,12 @@ ghost use Rattle.std.specs.List.{All};
 ghost use Rattle.chord_model.specs.Windows.{Divides};
 ghost use Rattle.chord_team.specs.declared.part.OwnedPart.{OwnedPart as AnOwnedPart};
 ghost use Rattle.chord_team.specs.Layouts.{IsLayout};
-ghost use Rattle.chord_team.specs.Owned.{AreApart, LeastTimeIs, all_of};
+ghost use Rattle.chord_team.specs.Owned.{AreApart, LeastTimeIs};
 ghost use Rattle.chord_team.specs.Starts.{AreEmptyParts, AreParcelsOf, HaveEvents, HaveStates};
 ghost use Rattle.chord_team.specs.Teams.{IsTeam};
 
 use crate::layout::Layout;
+use crate::mail::{Inbox, Outbox};
 use crate::output::Output;
 use crate::part::{OwnedPart, Parcel};
 use crate::team::Team;
@@ -33,31 +34,18 @@ fn blank_states(alloc: Global, nodes: u32) -> Result<Vec<NodeState>, Memory>
     Ok(states)
 }
 
-/// So many empty lists.
-fn empty_lists(alloc: Global, parts: u32) -> Result<Vec<Vec<Event>>, Memory>
-    ensures long { IfOk result (λ lists. length lists.items ≡ parts) }
-    ensures none { IfOk result (λ lists. all_of lists.items ≡ []) }
-{
-    let mut lists = Vec::new(alloc);
-    for _part in 0..parts {
-        lists.push(Vec::new(alloc))?;
-    }
-    Ok(lists)
-}
-
 /// So many parts, without states and events.
 fn empty_parts(alloc: Global, profile: u32, parts: u32) -> Result<Vec<OwnedPart>, Memory>
     ensures { IfOk result (λ list. AreEmptyParts profile parts parts list.items) }
 {
     let mut list = Vec::new(alloc);
     for part in 0..parts {
-        let inbox = empty_lists(alloc, parts)?;
-        let outbox = empty_lists(alloc, parts)?;
+        let outbox = Outbox::new(alloc, parts)?;
         list.push(OwnedPart {
             part,
             states: Vec::new(alloc),
             pending: Pending::new(alloc),
-            inbox,
+            inbox: Inbox::new(alloc),
             outbox,
             tally: Tally::new(alloc, profile),
             spare: Spare::new(alloc),

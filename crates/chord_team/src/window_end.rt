@@ -6,7 +6,7 @@ ghost use Rattle.chord_scenario.specs.declared.scenario.Scenario.{Scenario as AS
 ghost use Rattle.chord_event.specs.declared.body.Body.{Body};
 ghost use Rattle.chord_event.specs.declared.event.Event.{Event as AEvent};
 ghost use Rattle.chord_team.specs.declared.layout.Layout.{Layout as ALayout};
-ghost use Rattle.chord_team.specs.Exchanges.{AreBack, AreReady, HasOnlyOutput, HaveCollected, HaveExchanged, IsBack, IsMailTaken, outputs_of, soonest};
+ghost use Rattle.chord_team.specs.Exchanges.{AreBack, AreReady, HasOnlyOutput, HaveExchanged, IsBack, outputs_of, soonest};
 ghost use Rattle.chord_team.specs.Orders.{AreResults, HaveNoFault};
 ghost use Rattle.chord_team.specs.Teams.{AreHere, IsOpened, IsTeam, events_in};
 ghost use Rattle.chord_trace.specs.Watched.{wrapped, has_failed};
@@ -60,39 +60,19 @@ fn give_output(place: &mut Option<Parcel>, output: Output)
     }
 }
 
-/// Exchanges what a part has for another for this list.
-fn take_mail(sender: &mut Option<Parcel>, to: usize, list: &mut Vec<Event>)
-    requires { IfSome sender.old (λ s. to < length s.part.value.outbox.items) }
-    ensures { IsMailTaken to sender.old list.old sender.new list.new }
-{
-    if let Some(parcel) = sender {
-        mem::swap(&mut parcel.part.outbox[to], list);
-    }
-}
-
-/// Collects what the parts that are here have for a part.
-fn collect_mail(parcels: &mut Vec<Option<Parcel>>, to: usize, inbox: &mut Vec<Vec<Event>>)
-    requires long { length inbox.old.items ≡ length parcels.old.items }
-    requires each { (p : ℕ) → p < length parcels.old.items → IfSome (slice_index_or parcels.old.items p None) (λ s. to < length s.part.value.outbox.items) }
-    ensures { HaveCollected to (length parcels.old.items) parcels.old.items inbox.old.items parcels.new.items inbox.new.items }
+/// Hands what the parts have made for each other to its receivers.
+fn exchange_mail(parcels: &mut Vec<Option<Parcel>>) -> Result<(), Memory>
+    requires { AreReady parcels.old.items }
+    ensures { OnOk result (HaveExchanged parcels.old.items parcels.new.items) }
 {
     for from in 0..parcels.len() {
-        take_mail(&mut parcels[from], to, &mut inbox[from]);
-    }
-}
-
-/// Hands what the parts have made for each other to its receivers.
-fn exchange_mail(parcels: &mut Vec<Option<Parcel>>)
-    requires { AreReady parcels.old.items }
-    ensures { HaveExchanged parcels.old.items parcels.new.items }
-{
-    for to in 0..parcels.len() {
-        if let Some(parcel) = mem::replace(&mut parcels[to], None) {
+        if let Some(parcel) = mem::replace(&mut parcels[from], None) {
             let mut parcel = parcel;
-            collect_mail(parcels, to, &mut parcel.part.inbox);
-            parcels[to] = Some(parcel);
+            parcel.part.outbox.deliver(parcels)?;
+            parcels[from] = Some(parcel);
         }
     }
+    Ok(())
 }
 
 impl Team {
@@ -160,7 +140,7 @@ impl Team {
             return Err(RunError::TooManyEvents);
         };
         let outputs = self.put_back(course.alloc, results)?;
-        exchange_mail(&mut self.parcels);
+        exchange_mail(&mut self.parcels)?;
         self.count += events;
         write_text(self.due.as_slice(), writer)?;
         write_outputs(course.alloc, outputs.as_slice(), writer)?;

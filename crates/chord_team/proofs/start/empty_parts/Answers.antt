@@ -9,11 +9,10 @@ pub loop-part-preserved : goal.loop-part-preserved
 loop-part-preserved c = parts_more c.args.profile c.args.parts c.loop-part.part c.loop-part.list.items c.push.new.self.items _ c.loop-part.invariant
     (record {
       part_is = refl;
-      no_states = c.new.ensures.items;
-      none_pending = c.new-in-loop-part.ensures;
-      in_long = c.in_ok-inbox.ensures.long;
+      no_states = c.new-in-loop-part.ensures.items;
+      none_pending = c.new-in-loop-part-2.ensures;
       out_long = c.in_ok-outbox.ensures.long;
-      none_in = c.in_ok-inbox.ensures.none;
+      none_in = c.new-in-loop-part-3.ensures;
       none_out = c.in_ok-outbox.ensures.none;
-      tallied = c.new-in-loop-part-2.ensures;
+      tallied = c.new-in-loop-part-4.ensures;
     }) c.in_ok-push.ensures.items

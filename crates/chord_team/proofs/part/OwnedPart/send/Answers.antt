@@ -1,5 +1,4 @@
 use Rattle.std.proofs.Common.{◌∙◌, ◌<◌, ◌++◌, ◌∷◌, [], refl, ap, sym, subst, arith, length, reverse}
-use Rattle.std.specs.Vec.{with_item}
 use Rattle.chord_event.specs.declared.body.Body.{Body}
 use Rattle.chord_event.specs.declared.event.Event.{Event}
 use Rattle.chord_model.specs.Windows.{part_of}
@@ -7,7 +6,6 @@ use Rattle.chord_window.proofs.Sorting.{empty}
 use Rattle.chord_team.specs.declared.part.OwnedPart.{OwnedPart}
 use Rattle.chord_team.specs.Running.{HasSent}
 use Rattle.chord_team.proofs.Sending.{all_are_sent, last_is_next, next_has, next_is_new, sending_from, sends_on, sent_away, sent_here}
-use Rattle.chord_team.proofs.TeamMail.{or_same}
 use Rattle.chord_team.proofs.part.OwnedPart.send.Goals as goal
 
 pub loop-event-init : goal.loop-event-init
@@ -44,23 +42,22 @@ loop-event-preserved-then-to-self c =
       others = ap (λ (p : OwnedPart). record p { pending = c.insert.new.self; outbox = c.loop-event.self.outbox }) c.loop-event.invariant.others;
     }
 
-pub index_mut-requires : goal.index_mut-requires
-index_mut-requires c =
+pub push-requires : goal.push-requires
+push-requires c =
     let s = c.loop-event.invariant.sending in
-    let part = next_has (λ (x : Event Body). part_of c.args.layout.now.division x.target < length c.args.self.now.outbox.items) c.args.made.now.items
+    let part = next_has (λ (x : Event Body). part_of c.args.layout.now.division x.target < length c.args.self.now.outbox) c.args.made.now.items
     s.so_far (reverse c.loop-event.made.items) c.in-Some.event (reverse c.pop.new.self.items) c.requires.parts s.whole
     (last_is_next c.loop-event.made.items c.pop.new.self.items c.in-Some.event c.in-Some.ensures.items) in
-    omega (arith, part, c.part_of-to.ensures, s.sent.out_long, c.loop-event.self.outbox.ok.0)
+    omega (arith, part, c.part_of-to.ensures, s.sent.out_long)
 
 pub loop-event-preserved : goal.loop-event-preserved
 loop-event-preserved c =
     let s = c.loop-event.invariant.sending in
-    let part = next_has (λ (x : Event Body). part_of c.args.layout.now.division x.target < length c.args.self.now.outbox.items) c.args.made.now.items
+    let part = next_has (λ (x : Event Body). part_of c.args.layout.now.division x.target < length c.args.self.now.outbox) c.args.made.now.items
     s.so_far (reverse c.loop-event.made.items) c.in-Some.event (reverse c.pop.new.self.items) c.requires.parts s.whole
     (last_is_next c.loop-event.made.items c.pop.new.self.items c.in-Some.event c.in-Some.ensures.items) in
-    let inside : c.part_of-to.result < length c.loop-event.self.outbox.items = omega (arith, part, c.part_of-to.ensures, s.sent.out_long) in
-    let outbox = with_item c.loop-event.self.outbox c.part_of-to.result c.push.new.self in
-    let after : OwnedPart = record c.loop-event.self { outbox = outbox } in
+    let inside : c.part_of-to.result < length c.loop-event.self.outbox = omega (arith, part, c.part_of-to.ensures, s.sent.out_long) in
+    let after : OwnedPart = record c.loop-event.self { outbox = c.push.new.self } in
     record {
       sending = sends_on c.args.layout.now.division c.args.made.now.items c.loop-event.made.items c.pop.new.self.items c.in-Some.event
           c.args.self.now c.loop-event.self after c.loop-event.soonest c.sooner-soonest.result s c.in-Some.ensures.items
@@ -68,11 +65,8 @@ loop-event-preserved c =
           (sent_away c.args.layout.now.division s.so_far c.args.self.now c.loop-event.self c.loop-event.soonest s.sent
           c.in-Some.event
           (λ q. c.if-to-self.false (c.part_of-to.ensures ∙ q ∙ sym (ap (λ (p : OwnedPart). p.part) c.loop-event.invariant.others)))
-          c.part_of-to.result c.push.new.self after
-          c.part_of-to.ensures inside refl refl
-          (λ v. c.in_ok-push.ensures.items ∙ ap (λ z. z.items ++ c.in-Some.event ∷ [])
-          (c.index_mut.ensures.value ∙ or_same c.loop-event.self.outbox.items c.part_of-to.result c.index_mut.result.now v inside))));
-      others = ap (λ (p : OwnedPart). record p { pending = c.loop-event.self.pending; outbox = outbox }) c.loop-event.invariant.others;
+          c.part_of-to.result after c.part_of-to.ensures inside refl c.in_ok-push.ensures));
+      others = ap (λ (p : OwnedPart). record p { pending = c.loop-event.self.pending; outbox = c.push.new.self }) c.loop-event.invariant.others;
     }
 
 pub returns-clause-sent : goal.returns-clause-sent

@@ -30,6 +30,9 @@ returns-in_default-clause-over g c = λ _.
 pub returns-in_err-outputs-clause-front : goal.returns-in_err-outputs-clause-front
 returns-in_err-outputs-clause-front g c = λ old o. begin_opened c.args.course.now.scenario.now c.args.course.now.layout.now old _ c.args.self.now o
 
+pub returns-in_err-exchange_mail-clause-front : goal.returns-in_err-exchange_mail-clause-front
+returns-in_err-exchange_mail-clause-front g c = λ old o. begin_opened c.args.course.now.scenario.now c.args.course.now.layout.now old _ c.args.self.now o
+
 pub returns-in_err-write_text-clause-front : goal.returns-in_err-write_text-clause-front
 returns-in_err-write_text-clause-front g c = λ old o.
     begin_due c.args.course.now.scenario.now c.recall_range.ensures c.args.course.now.layout.now c.args.self.now c.args.results.items
@@ -92,9 +95,9 @@ returns-clause-at g c = λ old o.
     next_team sc ranges l t fs c.requires.results c.requires.no_fault old _ o c.put_back.new.self c.give_outputs.new.self c.in-Some.events _ _
     c.as_slice-2.result.now back.others back.next given.others events
     (omega (arith, events, c.in-Some.ensures.some.1, c.max_events.ensures, can.within))
-    (given.long ∙ c.exchange_mail.ensures.long ∙ back.long)
+    (given.long ∙ c.in_ok-exchange_mail.ensures.long ∙ back.long)
     (given.here sc l (history (chord sc) (t.count + events_in fs)) (parts_here sc ranges l t can fs c.requires.results c.requires.no_fault
-    c.put_back.new.self.parcels.items back.back back.long c.exchange_mail.new.parcels.items c.exchange_mail.ensures))
+    c.put_back.new.self.parcels.items back.back back.long c.exchange_mail.new.parcels.items c.in_ok-exchange_mail.ensures))
     c.as_slice-2.ensures.value c.in_ok-write_text.ensures.whole
     (c.in_ok-write_outputs.ensures.whole sc (told (window_blocks sc ranges l t can fs c.requires.results c.requires.no_fault))
     (merged_blocks sc ranges l t can fs c.requires.results c.requires.no_fault c.as_slice-3.result.now (c.as_slice-3.ensures.value ∙ back.outputs)))
@@ -115,6 +118,18 @@ returns-clause-within g c =
 
 pub returns-in_err-outputs-clause-counted_first : goal.returns-in_err-outputs-clause-counted_first
 returns-in_err-outputs-clause-counted_first g c = λ over.
+    absurd (omega (
+      arith,
+      over,
+      c.in-Some.ensures.some.0,
+      c.in-Some.ensures.some.1,
+      ap events_in c.as_slice.ensures.value,
+      c.max_events.ensures,
+      c.requires.at.1.can_send.within,
+    ))
+
+pub returns-in_err-exchange_mail-clause-counted_first : goal.returns-in_err-exchange_mail-clause-counted_first
+returns-in_err-exchange_mail-clause-counted_first g c = λ over.
     absurd (omega (
       arith,
       over,
@@ -182,7 +197,7 @@ give_outputs-requires g c = omega (
   arith,
   ap length c.in_ok-outputs.ensures.outputs,
   length-map c.args.results.items (λ (f : Finished). f.parcel.output),
-  c.exchange_mail.ensures.long,
+  c.in_ok-exchange_mail.ensures.long,
   c.in_ok-outputs.ensures.long,
   c.requires.results.long,
   c.requires.at.1.can_send.parcels_long,
