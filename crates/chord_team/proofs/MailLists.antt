@@ -1,10 +1,10 @@
 -- Lists of mail, and what becomes of them.
-use Rattle.std.proofs.Common.{◌≡◌, ◌≢◌, ◌∙◌, ◌↔◌, ◌⊎◌, ⊎_elim, inl, inr, ℕ, suc, ◌+◌, ◌<◌, List, [], ◌∷◌, ◌++◌, Option, None, Some, Vec, length, map, get_or, set, take, refl, ap, sym, subst, arith, append_assoc, append-nil, take_all, get_or-set_same, get_or-set_other}
+use Rattle.std.proofs.Common.{◌≡◌, ◌≢◌, ◌∙◌, ◌↔◌, ◌⊎◌, ⊎_elim, inl, inr, ℕ, suc, ◌+◌, ◌<◌, List, [], ◌∷◌, ◌++◌, Option, None, Some, Vec, length, get_or, set, take, refl, ap, sym, subst, arith, append-nil, take_all, get_or-set_same, get_or-set_other}
 use Rattle.std.proofs.lemmas.Bool.{cases_eq}
 use Rattle.std.proofs.lemmas.Grind.{flat_map-append}
 use Rattle.std.proofs.lemmas.List.{get_or-map, length-map, length-set, map-append, map-set, take_more}
 use Rattle.std.specs.Global.{Global}
-use Rattle.std.specs.List.{All, Contains, flat_map}
+use Rattle.std.specs.List.{All, Contains}
 use Rattle.chord_event.specs.declared.body.Body.{Body}
 use Rattle.chord_event.specs.declared.event.Event.{Event}
 use Rattle.chord_event.specs.KeyOrder.{InKeyOrder}
@@ -12,7 +12,6 @@ use Rattle.chord_event.proofs.Members.{All_at, All_from, AllPairs_append, AllPai
 use Rattle.chord_queue.specs.EventKey.{event_key}
 use Rattle.chord_queue.proofs.Inserting.{apart_across, ordered_apart}
 use Rattle.chord_window.proofs.Sorting.{apart_end}
-use Rattle.chord_team.specs.declared.part.OwnedPart.{OwnedPart}
 use Rattle.chord_team.specs.declared.part.Parcel.{Parcel}
 use Rattle.chord_team.specs.Exchanges.{HaveDelivered, given}
 use Rattle.chord_team.specs.Mail.{AreEmpty, AreNamed, all_of, items_of, lists_of, mail_in}

@@ -47,7 +47,6 @@ use Rattle.std.proofs.Common.{
   get_or-set_other,
 }
 use Rattle.std.proofs.lemmas.Bool.{cases_eq, cond-true, cond-false, ltb-false, ne_eqb}
-use Rattle.std.proofs.lemmas.Grind.{flat_map-append}
 use Rattle.std.proofs.lemmas.List.{get_or_append_left, get_or-append-add, length-set}
 use Rattle.std.proofs.KnownBytes.{Appends-nil}
 use Rattle.std.specs.Global.{Global}

@@ -23,19 +23,24 @@ use Rattle.std.proofs.Common.{
   subst,
   sym,
   take,
+  take_all,
   refl,
   suc,
+  ◌++◌,
 }
-use Rattle.std.specs.Prelude.{IfSome}
-use Rattle.std.specs.List.{All}
+use Rattle.std.specs.Prelude.{IfSome, ⊤}
+use Rattle.std.specs.List.{All, Contains}
+use Rattle.std.proofs.lemmas.List.{take_more}
 use Rattle.std.proofs.lemmas.List.Elements.{All-cons, All-more, All-nil, All-weaker}
 use Rattle.chord_event.specs.declared.error.RunError.{RunError}
 use Rattle.chord_event.specs.declared.error.RunError.TheVariants as run
+use Rattle.chord_event.proofs.Members.{All_at, contains_here, contains_left, contains_right}
 use Rattle.chord_machine.specs.Run.{HasTooManyEvents}
 use Rattle.chord_output.specs.Faults.{rank_of}
 use Rattle.chord_scenario.specs.declared.scenario.Scenario.{Scenario}
 use Rattle.chord_team.specs.declared.layout.Layout.{Layout}
 use Rattle.chord_team.specs.declared.part.Finished.{Finished}
+use Rattle.chord_team.specs.Faults.{IsGravestOf}
 use Rattle.chord_team.specs.Orders.{AreResultsFrom, HaveNoFault, IsFault}
 
 -- the fault is at least as grave as that of the result, if it has one
@@ -46,12 +51,18 @@ IsGraver e f = IfSome f.fault (λ g. rank_of e ≤ rank_of g)
 pub record IsGravest (fs : List Finished) (gravest : Option RunError) : Type 0 where
   pub none : gravest ≡ None → HaveNoFault fs
   pub first : (e : RunError) → gravest ≡ Some e → All (IsGraver e) fs
+  pub whose : (e : RunError) → gravest ≡ Some e → (f : Finished) × Contains fs f × (f.fault ≡ Some e)
 
 pub gravest_at_start : IsGravest [] None
 gravest_at_start = record {
   none = λ is. All-nil (λ (f : Finished). f.fault ≡ None);
   first = λ e is. All-nil (IsGraver e);
+  whose = λ e is. absurd (subst is_none is tt);
 }
+  where
+    is_none : Option RunError → Type 0
+    is_none None = ⊤
+    is_none (Some e) = ⊥
 
 if_some : {X : Type 0} (o : Option X) (P : X → Type 0) (x : X) → o ≡ Some x → IfSome o P → P x
 if_some o P x is fact = rw is at fact
@@ -69,35 +80,47 @@ still_graver e old f le is = go f.fault is
 -- the graver of this fault and that of one result more
 pub gravest_more : (fs : List Finished) (i : ℕ) (f : Finished) (old new : Option RunError) → i < length fs → f ≡ get_or fs i f → IsGravest (take i fs) old
     → (new ≡ None → (old ≡ None) × (f.fault ≡ None))
+    → IfSome new (λ e. (old ≡ Some e) ⊎ (f.fault ≡ Some e))
     → IfSome new (λ e. IfSome old (λ g. rank_of e ≤ rank_of g)) → IfSome new (λ e. IfSome f.fault (λ g. rank_of e ≤ rank_of g))
     → IsGravest (take (i + 1) fs) new
-gravest_more fs i f old new lt is before none first second = record {
+gravest_more fs i f old new lt is before none either first second = record {
   none = λ n. All-more (λ (g : Finished). g.fault ≡ None) fs i f lt (before.none (none n).0) (ap (λ (g : Finished). g.fault) (sym is) ∙ (none n).1);
   first = λ e n. All-more (IsGraver e) fs i f lt (rest e n old refl) (subst (IsGraver e) is (if_some new (λ x. IsGraver x f) e n second));
+  whose = λ e n. ⊎_elim
+      (λ o. let w = before.whose e o in (w.0, subst (λ l. Contains l w.0) (sym longer) (contains_left (take i fs) (f ∷ []) w.0 w.1), w.2))
+      (λ o. (f, subst (λ l. Contains l f) (sym longer) (contains_right (take i fs) (f ∷ []) f (contains_here f [])), o))
+      (if_some new (λ x. (old ≡ Some x) ⊎ (f.fault ≡ Some x)) e n either);
 }
   where
+    longer : take (i + 1) fs ≡ take i fs ++ f ∷ []
+    longer = take_more fs i f lt ∙ ap (λ g. take i fs ++ g ∷ []) (sym is)
+
     rest : (e : RunError) → new ≡ Some e → (o : Option RunError) → old ≡ o → All (IsGraver e) (take i fs)
     rest e n None o = All-weaker (λ (g : Finished). g.fault ≡ None) (IsGraver e) (λ g is. no_graver e g is) (take i fs) (before.none o)
     rest e n (Some g) o = All-weaker (IsGraver g) (IsGraver e)
         (λ x h. still_graver e g x (if_some old (λ y. rank_of e ≤ rank_of y) g o (if_some new (λ z. IfSome old (λ y. rank_of z ≤ rank_of y)) e n first)) h)
         (take i fs) (before.first g o)
 
--- a fault of one result is one of the scenario, if those of all are
-pub fault_more : (sc : Scenario) (fs : List Finished) (i : ℕ) (f : Finished) (old new : Option RunError) → i < length fs → f ≡ get_or fs i f
-    → All (λ (g : Finished). IfSome g.fault (IsFault sc)) fs → IfSome old (IsFault sc) → IfSome new (λ e. (old ≡ Some e) ⊎ (f.fault ≡ Some e))
-    → IfSome new (IsFault sc)
-fault_more sc fs i f old None lt is all before either = tt
-fault_more sc fs i f old (Some e) lt is all before either = ⊎_elim
-    (λ o. if_some old (IsFault sc) e o before)
-    (λ o. if_some f.fault (IsFault sc) e o (subst (λ (g : Finished). IfSome g.fault (IsFault sc)) (sym is) (all i f lt)))
-    either
+-- when all results were looked at
+pub gravest_of_all : (fs : List Finished) (k : ℕ) → length fs ≤ k → (gravest : Option RunError) → IsGravest (take k fs) gravest
+    → IfSome gravest (IsGravestOf fs)
+gravest_of_all fs k all None g = tt
+gravest_of_all fs k all (Some e) g =
+    subst (λ l. IsGravestOf l e) (take_all k fs all) (record { whose = g.whose e refl; none_graver = g.first e refl })
 
 -- the faults of all results are of the scenario
-pub faults_are : (sc : Scenario) (l : Layout) (count horizon k : ℕ) (fs : List Finished) → AreResultsFrom sc l count horizon k fs
+faults_are : (sc : Scenario) (l : Layout) (count horizon k : ℕ) (fs : List Finished) → AreResultsFrom sc l count horizon k fs
     → All (λ (f : Finished). IfSome f.fault (IsFault sc)) fs
 faults_are sc l count horizon k [] each = All-nil (λ (f : Finished). IfSome f.fault (IsFault sc))
 faults_are sc l count horizon k (f ∷ fs) each =
     All-cons (λ (f : Finished). IfSome f.fault (IsFault sc)) f fs each.0.finished.failed (faults_are sc l count horizon (suc k) fs each.1)
+
+-- so the gravest is of the scenario
+pub gravest_is : (sc : Scenario) (l : Layout) (count horizon : ℕ) (fs : List Finished) (e : RunError) → AreResultsFrom sc l count horizon 0 fs
+    → IsGravestOf fs e → IsFault sc e
+gravest_is sc l count horizon fs e each g =
+    let w = g.whose in
+    if_some w.0.fault (IsFault sc) e w.2 (All_at (λ (f : Finished). IfSome f.fault (IsFault sc)) fs w.0 (faults_are sc l count horizon 0 fs each) w.1)
 
 -- a fault of the scenario is memory or too many events
 pub too_many_from : (sc : Scenario) (e : RunError) → IsFault sc e → e ≡ run.TooManyEvents → HasTooManyEvents sc

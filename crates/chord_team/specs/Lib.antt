@@ -1,4 +1,5 @@
 pub mod Exchanges
+pub mod Faults
 pub mod Heads
 pub mod Layouts
 pub mod Mail

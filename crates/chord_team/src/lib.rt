@@ -1,4 +1,4 @@
-//! The team: workers that stand for the whole run, each with parts of its own.
+//! The team: workers whose threads stand for the whole run, and run the parts of its windows.
 #![tactic(auto)]
 
 mod audits;

@@ -8,6 +8,7 @@ ghost use Rattle.chord_team.specs.Layouts.{IsLayout};
 ghost use Rattle.chord_team.specs.Teams.{IsTeam};
 ghost use Rattle.chord_trace.specs.Watched.{wrapped, has_failed};
 ghost use Rattle.chord_trace.specs.Writing.{is_write};
+ghost use Rattle.rtrb.specs.Ring.{producer_capacity};
 
 use crate::course::{Course, Hands};
 use crate::layout::Layout;
@@ -73,7 +74,8 @@ fn drive<J: Named, R: Wait, W: Write>(
         let before = team.count;
         // A window is likely to have as many events as the one before it.
         let others = pace.others(events, links.len());
-        let results = run_window(rt, course, team, first_links(links, others))?;
+        let mut results = Vec::new(course.alloc);
+        run_window(rt, course, team, first_links(links, others), &mut results)?;
         pace.learn(events, links.len(), take_slow(links));
         team.put_window(course, results, writer)?;
         events = team.count - before;
@@ -83,6 +85,8 @@ fn drive<J: Named, R: Wait, W: Write>(
 
 /// The ends of the rings of a worker, which has at most `parts` parts.
 fn make_ends<J: Named>(alloc: Global, parts: usize) -> Result<(Link<J>, Desk<J>), RunError>
+    ensures orders { IfOk result (λ ends. producer_capacity ends.0.orders ≡ parts) }
+    ensures replies { IfOk result (λ ends. producer_capacity ends.1.replies ≡ parts) }
     ensures only { IfErr result (λ e. e ≡ RunError.Memory) }
 {
     let Ok((to_worker, from_caller)) = RingBuffer::new(alloc, parts) else {
@@ -134,8 +138,7 @@ fn start_worker<'s, E, J: Named + Send + Sync + 's, R: Wait + Sync + 's>(
                 parkers,
                 worth,
             };
-            let mut desk = desk;
-            serve(rt, &course, &mut desk, worker)
+            serve(rt, &course, desk, worker)
         },
     );
     match child {
@@ -152,6 +155,7 @@ fn start_workers<'s, E, J: Named + Send + Sync + 's, R: Wait + Sync + 's>(
     links: &mut Vec<Link<J>>,
 ) -> Result<(), RunError>
     requires named { J.run ≡ Some (course.now.scenario.now, course.now.layout.now) }
+    ensures all { OnOk result (0 < length course.now.parkers.now → length links.new.items + 1 ≡ length links.old.items + length course.now.parkers.now) }
     ensures only { IfErr result (λ e. (e ≡ RunError.Worker) ⊎ (e ≡ RunError.Memory)) }
 {
     let workers = course.parkers.len();

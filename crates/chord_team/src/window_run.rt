@@ -1,10 +1,9 @@
 //! The run of one window by the team.
-ghost use Rattle.std.specs.Prelude.{◌≡◌, ◌⊎◌, ◌<◌, ◌≤◌, ℕ, List, Option, None, Some, length, OnOk, IfOk, IfErr, IfSome, Err};
-ghost use Rattle.std.specs.List.{All};
+ghost use Rattle.std.specs.Prelude.{◌≡◌, ◌⊎◌, ◌*◌, ◌/◌, ◌^◌, ◌<◌, ◌≤◌, ℕ, List, [], Option, None, Some, length, max, OnOk, IfOk, IfErr, IfSome, Err};
 ghost use Rattle.chord_machine.specs.Run.{HasTooManyEvents};
 ghost use Rattle.chord_output.specs.Faults.{rank_of};
-ghost use Rattle.chord_scenario.specs.declared.scenario.Scenario.{Scenario as AScenario};
-ghost use Rattle.chord_team.specs.Orders.{AreResults, HaveNoFault, IsFault, IsResultOf};
+ghost use Rattle.chord_team.specs.Faults.{IsGravestOf, IsWindowFault};
+ghost use Rattle.chord_team.specs.Orders.{AreResults, HaveNoFault, IsResultOf};
 ghost use Rattle.chord_team.specs.Teams.{CanSend};
 
 use crate::course::Course;
@@ -18,9 +17,11 @@ use chord_event::RunError;
 use chord_output::graver;
 use std::sync::Wait;
 
-/// The worker that has a part for the whole run. Neighbouring parts have one worker, so those of
-/// worker 0, which is the calling thread, come first.
-fn worker_of(part: u32, parts: u32, workers: usize) -> usize {
+/// The worker that runs a part in a window of so many workers. Neighbouring parts have one worker,
+/// so those of worker 0, which is the calling thread, come first.
+fn worker_of(part: u32, parts: u32, workers: usize) -> usize
+    ensures { part * workers < 2 ^ 64 → result ≡ part * workers / max parts 1 }
+{
     let before = u64::from(part).saturating_mul(workers as u64);
     (before / u64::from(parts.max(1))) as usize
 }
@@ -133,26 +134,27 @@ fn finish_part<J: Named, R: Wait>(
     receive(rt, course, team, &mut links[worker - 1], part)
 }
 
-/// What the window leaves of all parts, in their order.
+/// Adds what the window leaves of all parts, in their order.
 fn finish_parts<J: Named, R: Wait>(
     rt: &R,
     course: &Course<'_>,
     team: &mut Team,
     links: &mut [Link<J>],
-) -> Result<Vec<Finished>, RunError>
+    results: &mut Vec<Finished>,
+) -> Result<(), RunError>
     requires named { J.run ≡ Some (course.now.scenario.now, course.now.layout.now) }
     requires can_send { CanSend course.now.scenario.now course.now.layout.now team.old }
+    requires none { results.old.items ≡ [] }
     ensures can_send { CanSend course.now.scenario.now course.now.layout.now team.new }
     ensures others { team.new ≡ record team.old { parcels = team.new.parcels } }
-    ensures results { IfOk result (λ list. AreResults course.now.scenario.now course.now.layout.now team.old.count team.old.window.horizon list.items) }
-    ensures only { IfErr result (λ e. (e ≡ RunError.Worker) ⊎ (e ≡ RunError.Memory)) }
+    ensures results { OnOk result (AreResults course.now.scenario.now course.now.layout.now team.old.count team.old.window.horizon results.new.items) }
+    ensures only { IfErr result (λ e. (e ≡ RunError.Worker) ⊎ ((e ≡ RunError.Memory) × (length results.new.items < course.now.layout.now.division.parts))) }
 {
-    let mut results = Vec::new(course.alloc);
     for part in 0..course.layout.division.parts() {
         let left = finish_part(rt, course, team, links, part)?;
         results.push(left)?;
     }
-    Ok(results)
+    Ok(())
 }
 
 /// The graver of two faults, of which either may be missing.
@@ -172,8 +174,7 @@ fn graver_of(one: Option<RunError>, other: Option<RunError>) -> Option<RunError>
 /// The gravest fault of the results, if there is one.
 fn gravest_fault(results: &[Finished]) -> Option<RunError>
     ensures none { result ≡ None → HaveNoFault results.now }
-    ensures fault { (sc : AScenario) → All (λ f. IfSome f.fault (IsFault sc)) results.now → IfSome result (IsFault sc) }
-    ensures gravest { IfSome result (λ e. All (λ f. IfSome f.fault (λ g. rank_of e ≤ rank_of g)) results.now) }
+    ensures gravest { IfSome result (IsGravestOf results.now) }
 {
     let mut gravest = None;
     for left in results {
@@ -183,27 +184,30 @@ fn gravest_fault(results: &[Finished]) -> Option<RunError>
 }
 
 /// Runs the window that is open, by as many workers as there are links and the calling thread: its
-/// parts here, those of the others by them. Returns what is left of all parts, in their order, or
-/// the gravest of their faults.
+/// parts here, those of the others by them. Adds what is left of all parts to the results, in their
+/// order. Returns the gravest of their faults, if there is one.
 pub fn run_window<J: Named, R: Wait>(
     rt: &R,
     course: &Course<'_>,
     team: &mut Team,
     links: &mut [Link<J>],
-) -> Result<Vec<Finished>, RunError>
+    results: &mut Vec<Finished>,
+) -> Result<(), RunError>
     requires named { J.run ≡ Some (course.now.scenario.now, course.now.layout.now) }
     requires can_send { CanSend course.now.scenario.now course.now.layout.now team.old }
+    requires none { results.old.items ≡ [] }
     ensures can_send { CanSend course.now.scenario.now course.now.layout.now team.new }
     ensures others { team.new ≡ record team.old { parcels = team.new.parcels } }
-    ensures results { IfOk result (λ list. AreResults course.now.scenario.now course.now.layout.now team.old.count team.old.window.horizon list.items) }
-    ensures no_fault { IfOk result (λ list. HaveNoFault list.items) }
+    ensures results { OnOk result (AreResults course.now.scenario.now course.now.layout.now team.old.count team.old.window.horizon results.new.items) }
+    ensures no_fault { OnOk result (HaveNoFault results.new.items) }
+    ensures fault { IfErr result (IsWindowFault course.now.layout.now.division.parts results.new.items) }
     ensures over { result ≡ Err RunError.TooManyEvents → HasTooManyEvents course.now.scenario.now }
     ensures only { IfErr result (λ e. (e ≡ RunError.Worker) ⊎ (e ≡ RunError.Memory) ⊎ (e ≡ RunError.TooManyEvents)) }
 {
     send_others(course, team, links)?;
-    let results = finish_parts(rt, course, team, links)?;
+    finish_parts(rt, course, team, links, results)?;
     match gravest_fault(results.as_slice()) {
         Some(fault) => Err(fault),
-        None => Ok(results),
+        None => Ok(()),
     }
 }

@@ -6,8 +6,8 @@ use crate::link::{Desk, next_item};
 use crate::named::Named;
 use std::sync::Wait;
 
-/// Runs the parts that come, until no more can come.
-pub fn serve<J: Named, R: Wait>(rt: &R, course: &Course<'_>, desk: &mut Desk<J>, worker: usize)
+/// Runs the parts that come, until no more can come or a reply finds no room.
+pub fn serve<J: Named, R: Wait>(rt: &R, course: &Course<'_>, desk: Desk<J>, worker: usize)
     requires { J.run ≡ Some (course.now.scenario.now, course.now.layout.now) }
 {
     let &Course {
@@ -20,6 +20,7 @@ pub fn serve<J: Named, R: Wait>(rt: &R, course: &Course<'_>, desk: &mut Desk<J>,
     let (Some(caller), Some(mine)) = (parkers.first(), parkers.get(worker)) else {
         return;
     };
+    let mut desk = desk;
     for _ in rt.forever() {
         let (order, _turns) = next_item(rt, &mut desk.orders, mine);
         let Some(order) = order else {
@@ -31,4 +32,7 @@ pub fn serve<J: Named, R: Wait>(rt: &R, course: &Course<'_>, desk: &mut Desk<J>,
         }
         caller.unpark();
     }
+    // A caller that waits for a reply has to see that none can come.
+    drop(desk);
+    caller.unpark();
 }

@@ -1,4 +1,4 @@
-use Rattle.std.proofs.Common.{◌≡◌, ◌∙◌, ◌<◌, ℕ, List, ap, arith, inr, get_or, length, sym, subst}
+use Rattle.std.proofs.Common.{◌≡◌, ◌<◌, ℕ, List, ap, arith, inr, get_or, length, sym, subst}
 use Rattle.std.specs.List.{Contains}
 use Rattle.chord_event.proofs.Members.{contains_at}
 use Rattle.chord_team.specs.Mail.{lists_of}

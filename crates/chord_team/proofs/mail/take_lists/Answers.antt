@@ -1,4 +1,4 @@
-use Rattle.std.proofs.Common.{◌≡◌, ◌∙◌, ◌↔◌, ◌++◌, [], List, ap, arith, append-nil, rules, subst, sym}
+use Rattle.std.proofs.Common.{◌≡◌, ◌∙◌, ◌↔◌, ◌++◌, [], ap, arith, append-nil, subst}
 use Rattle.std.specs.List.{Contains}
 use Rattle.chord_event.specs.declared.body.Body.{Body}
 use Rattle.chord_event.specs.declared.event.Event.{Event}

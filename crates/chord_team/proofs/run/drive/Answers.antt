@@ -9,22 +9,22 @@ returns-in_err-open_window-clause-run g c = run_failed c.args.course.now.scenari
     (search (rules, c.from_residual.ensures)) (inl c.in_err-open_window.ensures.only)
     (begin_team c.args.course.now.scenario.now c.args.course.now.layout.now _ _ c.loop-opening.team c.loop-opening.invariant.at)
 
-pub returns-in_err-results-clause-run : goal.returns-in_err-results-clause-run
-returns-in_err-results-clause-run g c = run_stopped c.args.course.now.scenario.now _ _ _ c.in_err-results.field-0.0
-    (search (rules, c.from_residual-in_err-results.ensures)) (λ is. c.in_err-results.ensures.over (ap Err is))
+pub returns-in_err-run_window-clause-run : goal.returns-in_err-run_window-clause-run
+returns-in_err-run_window-clause-run g c = run_stopped c.args.course.now.scenario.now _ _ _ c.in_err-run_window.field-0.0
+    (search (rules, c.from_residual-in_err-run_window.ensures)) (λ is. c.in_err-run_window.ensures.over (ap Err is))
     (begin_team c.args.course.now.scenario.now c.args.course.now.layout.now _ _ c.loop-opening.team c.loop-opening.invariant.at)
 
 pub put_window-requires-clause-at : goal.put_window-requires-clause-at
 put_window-requires-clause-at g c = (
   _,
-  opened_still c.args.course.now.scenario.now c.args.course.now.layout.now _ _ _ _ c.in_ok-results.ensures.others c.in_ok-results.ensures.can_send
+  opened_still c.args.course.now.scenario.now c.args.course.now.layout.now _ _ _ _ c.in_ok-run_window.ensures.others c.in_ok-run_window.ensures.can_send
       (c.in_ok-open_window.ensures.at _ _ c.loop-opening.invariant.at),
 )
 
 pub loop-opening-preserved : goal.loop-opening-preserved
 loop-opening-preserved g c = record {
   at = c.in_ok-put_window.ensures.at _
-      (opened_still c.args.course.now.scenario.now c.args.course.now.layout.now _ _ _ _ c.in_ok-results.ensures.others c.in_ok-results.ensures.can_send
+      (opened_still c.args.course.now.scenario.now c.args.course.now.layout.now _ _ _ _ c.in_ok-run_window.ensures.others c.in_ok-run_window.ensures.can_send
       (c.in_ok-open_window.ensures.at _ _ c.loop-opening.invariant.at));
   sound = search (rules, c.in_ok-put_window.ensures.writer);
 }
@@ -33,7 +33,7 @@ pub returns-in_err-put_window-clause-run : goal.returns-in_err-put_window-clause
 returns-in_err-put_window-clause-run g c = run_stopped c.args.course.now.scenario.now _ _ _ c.in_err-put_window.field-0.0
     (search (rules, c.from_residual-in_err-put_window.ensures)) (λ is. c.in_err-put_window.ensures.over (ap Err is))
     (c.put_window.ensures.front _
-    (opened_still c.args.course.now.scenario.now c.args.course.now.layout.now _ _ _ _ c.in_ok-results.ensures.others c.in_ok-results.ensures.can_send
+    (opened_still c.args.course.now.scenario.now c.args.course.now.layout.now _ _ _ _ c.in_ok-run_window.ensures.others c.in_ok-run_window.ensures.can_send
     (c.in_ok-open_window.ensures.at _ _ c.loop-opening.invariant.at)))
 
 pub loop-opening-init : goal.loop-opening-init
@@ -47,12 +47,12 @@ loop-opening-smaller g c = omega (
   arith,
   c.in_ok-put_window.ensures.more,
   c.in_ok-put_window.ensures.within,
-  ap (λ (t : Team). t.count) c.in_ok-results.ensures.others,
+  ap (λ (t : Team). t.count) c.in_ok-run_window.ensures.others,
   c.in_ok-open_window.ensures.count,
 )
 
 pub overflow_sub-events : goal.overflow_sub-events
-overflow_sub-events g c = omega (arith, c.in_ok-put_window.ensures.more, ap (λ (t : Team). t.count) c.in_ok-results.ensures.others)
+overflow_sub-events g c = omega (arith, c.in_ok-put_window.ensures.more, ap (λ (t : Team). t.count) c.in_ok-run_window.ensures.others)
 
 pub finish-requires-clause-at : goal.finish-requires-clause-at
 finish-requires-clause-at g c = (_, c.loop-opening.invariant.at)
