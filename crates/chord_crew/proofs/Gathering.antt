@@ -41,7 +41,7 @@ use Rattle.chord_crew.specs.declared.gathered.Gathered.{Gathered}
 use Rattle.chord_crew.specs.declared.shift.Shift.{Shift}
 use Rattle.chord_crew.specs.Seats.{SeatState}
 use Rattle.chord_crew.specs.Shifts.{AreResults, IsShift}
-use Rattle.chord_crew.specs.Windows.{IsGathered, IsWindowFault, JoinsBoth, joined_seats}
+use Rattle.chord_crew.specs.Windows.{IsFaultOf, IsGathered, IsWindowFault, JoinsBoth, joined_seats}
 
 -- a fact of no value, if there is none
 pub from_none : {X : Type 0} (o : Option X) (P : Type 0) → o ≡ None → IfNone o P → P
@@ -88,11 +88,11 @@ gathered_joined sc w horizon first mine others shift whole g s j =
 pub fault_of_either : (sc : Scenario) (w : World) (horizon : ℕ) (mine : SeatState) (others : Result Gathered RunError) (shift : Shift) (fault : RunError)
     → IfErr others (IsWindowFault sc)
     → IsShift sc w horizon mine shift
-    → (fault ≡ run.Memory) ⊎ (others ≡ Err fault) ⊎ (shift.fault ≡ Some fault)
+    → IsFaultOf others shift fault
     → IsWindowFault sc fault
-fault_of_either sc w horizon mine others shift fault g s (inl memory) = inr (inl memory)
-fault_of_either sc w horizon mine others shift fault g s (inr (inl theirs)) = rw theirs at g
-fault_of_either sc w horizon mine others shift fault g s (inr (inr mine_is)) = inr (rw mine_is at s.fault)
+fault_of_either sc w horizon mine others shift fault g s (inl theirs) = rw theirs at g
+fault_of_either sc w horizon mine others shift fault g s (inr (inl mine_is)) = inr (rw mine_is at s.fault)
+fault_of_either sc w horizon mine others shift fault g s (inr (inr memory)) = inr (inl memory.0)
 
 -- if the joined seat has each part once, there is one result of each part
 pub all_gathered : (sc : Scenario) (w : World) (horizon : ℕ) (seat : SeatState) (gathered : Gathered) → IsHorizon w horizon

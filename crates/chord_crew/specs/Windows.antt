@@ -1,5 +1,5 @@
 -- The joined results of the workers of a window.
-use Rattle.std.specs.Prelude.{◌≡◌, ◌⊎◌, ◌+◌, ◌&&◌, ◌||◌, ◌++◌, ℕ, true, None, Result, IsOk, IfOk}
+use Rattle.std.specs.Prelude.{◌≡◌, ◌⊎◌, ◌+◌, ◌&&◌, ◌||◌, ◌++◌, ℕ, true, None, Some, Result, Err, IsOk, IfOk}
 use Rattle.chord_crew.specs.declared.gathered.Gathered.{Gathered}
 use Rattle.chord_crew.specs.declared.shift.Shift.{Shift}
 use Rattle.chord_crew.specs.Seats.{SeatState}
@@ -28,6 +28,10 @@ pub record IsGathered (sc : Scenario) (w : World) (horizon : ℕ) (seat : SeatSt
   pub same_seat : IsSameSeat seat gathered.seat
   pub exhausted : gathered.seat.is_exhausted ≡ true
   pub results : AreResults sc w horizon gathered.seat.numbers gathered.done.items
+
+-- a fault of the others or of one more worker; or there is no memory for what they leave together, and none of them has a fault
+abbrev pub IsFaultOf : Result Gathered RunError → Shift → RunError → Type 0
+IsFaultOf others shift fault = (others ≡ Err fault) ⊎ (shift.fault ≡ Some fault) ⊎ ((fault ≡ run.Memory) × IsOk others × (shift.fault ≡ None))
 
 -- the joined results of the others and one more worker, none of them with a fault
 pub record JoinsBoth (others : Result Gathered RunError) (shift : Shift) (whole : Gathered) : Type 0 where

@@ -1,6 +1,6 @@
 //! The joined results of a window's workers.
 ghost use Rattle.std.specs.Prelude.{◌≡◌, ◌⊎◌, ◌≤◌, ◌++◌, Some, None, Err, IfOk, IfErr, IfSome};
-ghost use Rattle.chord_crew.specs.Windows.{JoinsBoth, joined_seats};
+ghost use Rattle.chord_crew.specs.Windows.{IsFaultOf, JoinsBoth, joined_seats};
 ghost use Rattle.chord_output.specs.Faults.{rank_of};
 ghost use Rattle.std.specs.Result.{ForOk};
 
@@ -62,7 +62,7 @@ pub(crate) fn gather(
     requires others { ForOk others (λ o. o.seat.table ≡ draws.now.table) }
     requires shift { shift.seat.table ≡ draws.now.table }
     ensures ok { IfOk result (JoinsBoth others shift) }
-    ensures fault { IfErr result (λ e. (e ≡ RunError.Memory) ⊎ (others ≡ Err e) ⊎ (shift.fault ≡ Some e)) }
+    ensures fault { IfErr result (IsFaultOf others shift) }
 
     // Neither the others nor this worker has a graver fault.
     ensures theirs { IfErr result (λ e. IfErr others (λ f. rank_of e ≤ rank_of f)) }
