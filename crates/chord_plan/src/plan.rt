@@ -17,7 +17,7 @@ pub enum Engine {
     Serial,
     /// Workers that start anew in each window and draw its parts.
     Crew,
-    /// Workers that stand for the whole run, each with parts of its own.
+    /// Workers whose threads stand for the whole run, and run the parts that they are sent.
     Team,
 }
 
