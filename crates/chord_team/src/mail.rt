@@ -236,4 +236,15 @@ impl Outbox {
         self.receivers.clear();
         Ok(())
     }
+
+    /// The lists, with that of each part at its number. No run calls it: a test reads them.
+    pub fn into_lists(self) -> Vec<Vec<Event>>
+        ensures { lists_of result.items ≡ self }
+    {
+        let Outbox {
+            lists,
+            receivers: _,
+        } = self;
+        lists
+    }
 }
