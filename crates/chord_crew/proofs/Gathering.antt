@@ -25,13 +25,17 @@ use Rattle.std.proofs.Common.{
   IfErr,
   IfNone,
   IsOk,
+  OnOk,
+  Vec,
 }
+use Rattle.std.specs.Global.{Global}
 use Rattle.std.specs.List.{All}
 use Rattle.std.proofs.lemmas.List.{map-append}
 use Rattle.std.proofs.lemmas.Option.{none-some}
 use Rattle.std.proofs.lemmas.List.Elements.{All-append}
 use Rattle.chord_event.specs.declared.error.RunError.{RunError}
 use Rattle.chord_event.specs.declared.error.RunError.TheVariants as run
+use Rattle.chord_machine.specs.Run.{HasTooManyEvents}
 use Rattle.chord_scenario.specs.declared.scenario.Scenario.{Scenario}
 use Rattle.chord_window.specs.declared.part_run.Done.{Done}
 use Rattle.chord_window.specs.declared.world.World.{World}
@@ -39,7 +43,7 @@ use Rattle.chord_window.specs.Ordering.{ArePartsDone, HasEachOnce, IsResult, par
 use Rattle.chord_window.specs.PartRuns.{IsHorizon}
 use Rattle.chord_crew.specs.declared.gathered.Gathered.{Gathered}
 use Rattle.chord_crew.specs.declared.shift.Shift.{Shift}
-use Rattle.chord_crew.specs.Seats.{SeatState}
+use Rattle.chord_crew.specs.Seats.{Counter, IsWholeSeat, SeatState}
 use Rattle.chord_crew.specs.Shifts.{AreResults, IsShift}
 use Rattle.chord_crew.specs.Windows.{IsFaultOf, IsGathered, IsWindowFault, JoinsBoth, joined_seats}
 
@@ -103,3 +107,47 @@ all_gathered sc w horizon seat gathered next is once = record {
   once = subst (HasEachOnce w.division.parts) (sym is.results.parts_are) once;
   each = is.results.each;
 }
+
+-- the whole seat of which the workers got parts
+pub gathered_whole : (sc : Scenario) (w : World) (horizon : ℕ) (draws : Counter) (seat : SeatState) (gathered : Result Gathered RunError)
+    → IsWholeSeat draws seat → IfOk gathered (IsGathered sc w horizon seat)
+    → IfOk gathered (λ g. (s : SeatState) × IsWholeSeat draws s × IsGathered sc w horizon s g)
+gathered_whole sc w horizon draws seat (Ok g) whole is = (seat, whole, is)
+gathered_whole sc w horizon draws seat (Err e) whole is = tt
+
+-- what a window returns is the fault of its workers, or memory if they have none
+
+pub fault_of_window : (sc : Scenario) (gathered : Result Gathered RunError) (result : Result (Vec Done Global) RunError) → IfErr gathered (IsWindowFault sc)
+    → IfErr gathered (λ e. result ≡ Err e) → OnOk gathered (IfErr result (λ e. e ≡ run.Memory))
+    → IfErr result (λ e. (e ≡ run.Worker) ⊎ (e ≡ run.Memory) ⊎ (e ≡ run.TooManyEvents))
+fault_of_window sc (Ok g) (Ok dones) fault passes memory = tt
+fault_of_window sc (Ok g) (Err e) fault passes memory = inr (inl memory)
+fault_of_window sc (Err e) result fault passes memory = rw passes (kind fault)
+  where
+    kind : IsWindowFault sc e → (e ≡ run.Worker) ⊎ (e ≡ run.Memory) ⊎ (e ≡ run.TooManyEvents)
+    kind (inl w) = inl w
+    kind (inr (inl m)) = inr (inl m)
+    kind (inr (inr t)) = inr (inr t.0)
+
+pub too_many_of_window : (sc : Scenario) (gathered : Result Gathered RunError) (result : Result (Vec Done Global) RunError)
+    → IfErr gathered (IsWindowFault sc) → IfErr gathered (λ e. result ≡ Err e) → OnOk gathered (IfErr result (λ e. e ≡ run.Memory))
+    → result ≡ Err run.TooManyEvents → HasTooManyEvents sc
+too_many_of_window sc (Ok g) result fault passes memory is = absurd (told (rw is at memory))
+  where
+    told : run.TooManyEvents ≡ run.Memory → ⊥
+    told same = cc
+too_many_of_window sc (Err e) result fault passes memory is = of fault
+  where
+    worker_differs : run.Worker ≡ run.TooManyEvents → ⊥
+    worker_differs same = cc
+
+    memory_differs : run.Memory ≡ run.TooManyEvents → ⊥
+    memory_differs same = cc
+
+    same : e ≡ run.TooManyEvents
+    same = let p : result ≡ Err e = passes in cc (p, is)
+
+    of : IsWindowFault sc e → HasTooManyEvents sc
+    of (inl w) = absurd (worker_differs (sym w ∙ same))
+    of (inr (inl m)) = absurd (memory_differs (sym m ∙ same))
+    of (inr (inr t)) = t.1

@@ -44,3 +44,8 @@ IsDrawnOnlyAt place x views = (k : ℕ) (v : View) → slice_get views k ≡ Som
 -- each number below `parts` was drawn once
 abbrev pub AllAreDrawn : ℕ → List View → Type 0
 AllAreDrawn parts views = (x : ℕ) → x < parts → draws_of x views ≡ 1
+
+-- the seat is of this counter, and has its whole allowance
+pub record IsWholeSeat (draws : Counter) (seat : SeatState) : Type 0 where
+  pub of_this : seat.table ≡ draws.table
+  pub whole : seat.allowance ≡ draws.seats

@@ -1,5 +1,8 @@
 //! Runs by crews: windows whose parts are run by workers in threads.
 ghost use Rattle.std.specs.Prelude.{◌≡◌, ◌≢◌, ◌⊎◌, ◌<◌, ◌≤◌, false, length, OnOk, IfOk, IfErr, Err};
+ghost use Rattle.chord_crew.specs.Seats.{IsWholeSeat, SeatState};
+ghost use Rattle.chord_crew.specs.Shifts.{IsWindowOf};
+ghost use Rattle.chord_crew.specs.Windows.{IsGathered};
 ghost use Rattle.chord_machine.specs.Run.{HasTooManyEvents};
 ghost use Rattle.chord_output.specs.Runs.{IsRun};
 ghost use Rattle.chord_scenario.specs.World.{node_count};
@@ -23,6 +26,28 @@ use std::io::Write;
 use std::sync::Wait;
 use std::thread::Threads;
 
+/// What the parts of a window leave, in their order, once its workers have ended. If the workers
+/// have a fault, it is returned as it is.
+fn in_order(
+    window: &Window<'_>,
+    draws: Draws,
+    gathered: Result<Gathered, RunError>,
+) -> Result<Vec<Done>, RunError>
+    requires window { IsWindowOf window.now.scenario.now window.now.world.now window.now.horizon draws }
+    requires gathered { IfOk gathered (λ g. (seat : SeatState) × IsWholeSeat draws seat × IsGathered window.now.scenario.now window.now.world.now window.now.horizon seat g) }
+    ensures done { IfOk result (λ dones. AreDone window.now.scenario.now window.now.world.now window.now.horizon dones.items) }
+    ensures fault { IfErr gathered (λ e. result ≡ Err e) }
+    ensures memory { OnOk gathered (IfErr result (λ e. e ≡ RunError.Memory)) }
+{
+    let Gathered { seat, done } = match gathered {
+        Ok(gathered) => gathered,
+        Err(fault) => return Err(fault),
+    };
+    draws.close(seat);
+    let dones = in_part_order(window.alloc, window.world.division.parts(), done)?;
+    Ok(dones)
+}
+
 /// Lets `workers` workers run the parts of the world's next window. Returns what the parts leave,
 /// in the order of the parts. Of several faults it returns `Worker`, else `Memory`, else
 /// `TooManyEvents`.
@@ -41,23 +66,16 @@ pub(crate) fn run_parts<R: Threads + Wait + Sync, S: Starter, G: Gate + Sync>(
 {
     let division = &window.world.division;
     division.recall_division();
-    let parts = division.parts();
-    let alloc = window.alloc;
     // New in each window: a seat that is dropped with a fault spoils the counter of one window
     // only, which then has no result.
-    let (draws, seat) = Draws::start(alloc, parts, workers)?;
+    let (draws, seat) = Draws::start(window.alloc, division.parts(), workers)?;
     let run = WindowRun {
         window: *window,
         draws: &draws,
         gate,
     };
-    let Gathered { seat, done } = match run_workers(rt, &run, seat, 0, workers, starter) {
-        Ok(gathered) => gathered,
-        Err(fault) => return Err(fault),
-    };
-    draws.close(seat);
-    let dones = in_part_order(alloc, parts, done)?;
-    Ok(dones)
+    let gathered = run_workers(rt, &run, seat, 0, workers, starter);
+    in_order(window, draws, gathered)
 }
 
 /// Runs a scenario by windows. 1 to 64 workers, each in its own thread, run the parts of a window.

@@ -1,6 +1,5 @@
 use Rattle.std.proofs.Common.{◌∙◌, ap, arith}
 use Rattle.std.proofs.lemmas.List.{at_drop_more}
-use Rattle.chord_event.specs.declared.block.Block.{Block}
 use Rattle.chord_window.specs.declared.part_run.Done.{Done}
 use Rattle.chord_crew.specs.Loads.{events_at, events_of}
 use Rattle.chord_crew.proofs.loads.count_events.Goals as goal
