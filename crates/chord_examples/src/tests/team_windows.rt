@@ -137,12 +137,13 @@ fn by_worker<T: Abort + AllocGlobal>(rt: &T, course: &Course<'_>, parcel: Parcel
     let OwnedPart {
         states,
         pending,
-        mut outbox,
+        outbox,
         ..
     } = Box::into_inner(part);
-    lies_apart(rt, course.layout, outbox.as_slice());
+    let mut lists = outbox.into_lists();
+    lies_apart(rt, course.layout, lists.as_slice());
     let mut coming = value_of(rt, pending.up_to(u64::MAX));
-    for list in outbox.iter_mut() {
+    for list in lists.iter_mut() {
         value_of(rt, coming.append(list));
     }
     coming.sort_unstable_by_key(|event| event.key);
