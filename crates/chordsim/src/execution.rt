@@ -38,9 +38,12 @@ pub fn carry_out<T: FileSystem + AllocGlobal + Threads + Wait + Sync, C: Print +
 /// Takes the descriptors of the standard streams that are closed. Without this, a file that is opened later gets one of
 /// them, and what is meant for the stream is written into it. Nothing can be written to the root folder, and it is there
 /// on every system.
-fn hold_standard_streams<T: FileSystem>(rt: &T) -> [io::Result<T::File>; 3] {
-    [fs::open(rt, "/"), fs::open(rt, "/"), fs::open(rt, "/")]
+fn hold_standard_streams<T: FileSystem>(rt: &T) -> Held<T::File> {
+    (fs::open(rt, "/"), fs::open(rt, "/"), fs::open(rt, "/"))
 }
+
+/// What takes the place of the three streams, or of later descriptors if they are open.
+type Held<F> = (io::Result<F>, io::Result<F>, io::Result<F>);
 
 /// The input file that the trace of the order would overwrite.
 fn overwritten_by_trace(rt: &impl FileSystem, order: &Order) -> Option<Text> {
