@@ -74,7 +74,7 @@ def layout_of(tables: Tables, x: str | None, by: list[str] | None, panels: list[
             x = panels.pop()
     others = [key for key in keys if key != x and key not in panels]
     by = [*(by or []), *(key for key in others if key not in (by or []))]
-    return Layout(x, [key for key in by if key != x and key not in panels], panels, keys, settings)
+    return Layout(x, [key for key in by if key != x and key not in panels], panels, keys, settings, tables.manifest)
 
 
 def axis_key(keys: list[str], settings: list[Values], taken: list[str]) -> str:

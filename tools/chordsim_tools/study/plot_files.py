@@ -13,13 +13,14 @@ NAME = "plots.json"
 FORMS = ("png", "svg")
 PLOTS = {
     "times": "Right answers and lookup time, by setting",
-    "right": "Right answers and members over time",
+    "right": "Served, right answers and members over time",
     "cost": "Cost against right answers and against lookup time",
     "network": "Timeouts and lost messages over time",
     "cdf": "How lookup times and hops are distributed",
+    "tail": "The slowest lookups",
 }
 """The plots that a page has, in their order."""
-NEEDS = {"network": "steps.csv", "cdf": "cdf.csv"}
+NEEDS = {"network": "steps.csv", "cdf": "cdf.csv", "tail": "tail.csv"}
 """Tables that older studies do not have, and the plots that are drawn of them."""
 DRAWS = "`tools/study plot FOLDER` draws them."
 NO_PLOTS = f"No plots: {DRAWS}\n\n"

@@ -82,6 +82,6 @@ def result_of(task: Task, program: Path, scenario: Path, latency: Path | None) -
             **numbers, **message_numbers(reader.traffic, span), **trouble.numbers(),
             "scenario-list": top["list"], "scenario-bits": top["bits"],
         },
-        "curves": curves.numbers(),
+        "curves": {**curves.numbers(), "tail": reader.judged.times.tail()},
         "series": reader.over_time.rows(),
     }
