@@ -12,11 +12,11 @@ import math
 from collections.abc import Sequence
 from dataclasses import dataclass
 
-from chordsim_tools.study.exact import root
 from chordsim_tools.study.interval import LEAST_SEEDS, Interval, interval, of_there, outward, significant
 
 STAKES = ((1.0, 0.5), (0.5, 0.2), (0.25, 0.1), (0.125, 0.1), (0.0625, 0.1))
 """The parts c, and how the 1 is divided among them."""
+HALVINGS = 40
 
 
 def wealth(shares: Sequence[float], mean: float) -> float:
@@ -31,9 +31,12 @@ def wealth(shares: Sequence[float], mean: float) -> float:
 
 
 def least_mean(shares: Sequence[float], risk: float) -> float:
-    """The greatest mean up to which all are refuted at this risk."""
-    most = max(shares)
-    return root(lambda mean: 1 / risk - wealth(shares, mean), most * 1e-9, most) if most > 0 else 0.0
+    """The greatest mean up to which all are refuted at this risk, by bisection: what is won falls with the mean."""
+    low, high = 0.0, max(shares)
+    for _ in range(HALVINGS):
+        middle = (low + high) / 2
+        low, high = (middle, high) if middle > 0 and wealth(shares, middle) >= 1 / risk else (low, middle)
+    return low
 
 
 @dataclass(frozen=True)
