@@ -175,7 +175,8 @@ def steadiness(tables: Tables, found: list[Summary], named: set[str]) -> str:
     looked = look(tables, found)
     rest = sorted(named - {"served", "right_of_begun", "members", "rings_lost"})
     blind = f" Not looked at: {', '.join(map(name_of, rest))}." if rest else ""
-    left = f" {looked.left} of {len(found)} settings are left out: too few seeds kept the ring." if looked.left else ""
+    verb = "is" if looked.left == 1 else "are"
+    left = f" {looked.left} of {len(found)} settings {verb} left out: too few seeds kept the ring." if looked.left else ""
     if not looked.trends:
         return "Whether the judged span is steady cannot be said: too few seeds kept their ring, or too few steps." + blind
     strong = strongest(looked.changes)
