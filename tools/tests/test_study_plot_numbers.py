@@ -26,15 +26,17 @@ def limit(number: str, value: float) -> dict[str, Any]:
 
 def step(at: int, seed: int, **counts: int) -> dict[str, str]:
     """A line of series.csv, of a step of a second."""
-    return {"from_us": str(at * 1_000_000), "seed": str(seed)} | {word.replace("_", "-"): str(n) for word, n in counts.items()}
+    cells = {word.replace("_", "-"): str(number) for word, number in counts.items()}
+    return {"from_us": str(at * 1_000_000), "seed": str(seed)} | cells
 
 
 class PlotNumbersTest(TestCase):
     """Points and lines."""
 
     def test_times_are_those_of_the_page(self) -> None:
-        """p99 of all lookups: none of runs with fewer than 1,000, and a setting with a run that never gets there has none."""
-        rows = [row(list=1, seed=seed, **{"all-us-p99": time}) for seed, time in ((1, 2_000_000), (2, 4_000_000), (3, "never"))]
+        """p99 of all lookups: none with fewer than 1,000, and a setting with a run that never gets there has none."""
+        times = (2_000_000, 4_000_000, "never")
+        rows = [row(list=1, seed=seed, **{"all-us-p99": time}) for seed, time in enumerate(times, start=1)]
         rows.append(row(list=1, seed=4, **{"judged-lookups": 999}))
         column = Column("all-us-p99", tables_of(rows, vary={"list": [1]}))
         assert [column.of(cells) for cells in rows] == [2e6, 4e6, inf, None] and column.values(rows) == [2e6, 4e6]
@@ -60,9 +62,11 @@ class PlotNumbersTest(TestCase):
 
     def test_members_at_the_end_of_a_step(self) -> None:
         """What is counted when a step ends is drawn there, and what begins in it where it begins."""
-        lines = [step(at, seed, members=9 - at, right_of_ended=8, ended=9, wanted=16) for at in range(4) for seed in (1, 2, 3)]
+        counts = {"right_of_ended": 8, "ended": 9, "wanted": 16}
+        lines = [step(at, seed, members=9 - at, **counts) for at in range(4) for seed in (1, 2, 3)]
         both = Lines(lines, lines)
-        assert [(point[0], point[1]) for point in quantity_points(both, MEMBERS, MANIFEST)] == [(1, 9), (2, 8), (3, 7), (4, 6)]
+        members = quantity_points(both, MEMBERS, MANIFEST)
+        assert [(point[0], point[1]) for point in members] == [(1, 9), (2, 8), (3, 7), (4, 6)]
         served, right = (quantity_points(both, quantity, MANIFEST) for quantity in RIGHT[:2])
         assert [(point[0], point[1]) for point in served] == [(0, 50), (1, 50), (2, 50)]
         assert [round(point[1], 6) for point in right] == [88.888889] * 3
@@ -82,7 +86,8 @@ class PlotNumbersTest(TestCase):
         title, quantities = right_of([{"found": "4", "right": "3", "members": "2"}])
         assert title == "Right answers and members over time"
         assert [one.label for one in quantities] == ["right answers,\n% of all found", "members"]
-        assert quantities[0].take({"found": "4", "right": "3"}) == 75.0 and quantities[0].take({"found": "0", "right": "0"}) is None
+        assert quantities[0].take({"found": "4", "right": "3"}) == 75.0
+        assert quantities[0].take({"found": "0", "right": "0"}) is None
 
     def test_tail(self) -> None:
         """Of 1,000 lookups that took 1 to 999 us, and one that was given up: up to p99, as ten have to be beyond."""
@@ -94,8 +99,8 @@ class PlotNumbersTest(TestCase):
 
     def test_tail_of_a_setting(self) -> None:
         """Means over the seeds; a percentile that one seed does not reach ends the line."""
-        lines = [{"percent": percent, "us": str(us + 10 * seed), "seed": str(seed)}
-                 for seed in range(5) for percent, us in (("50", 100), ("99", 200), ("99.9", 900)) if seed or percent != "99.9"]
+        lines = [{"percent": percent, "us": str(us + 10 * seed), "seed": str(seed)} for seed in range(5)
+                 for percent, us in (("50", 100), ("99", 200), ("99.9", 900)) if seed or percent != "99.9"]
         points = tail_points(lines)
         assert [(round(point[0], 6), point[1]) for point in points] == [(50, 120), (1, 220)]
         assert points[0][2] < 120 < points[0][3]

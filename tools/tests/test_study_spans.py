@@ -71,8 +71,9 @@ class StudySpansTest(TestCase):
 
     def test_a_span_changes_nothing_else(self) -> None:
         """The numbers of the whole are those without a span."""
+        both: list[dict[str, Scope]] = [{}, {"outage": Scope(250, 100, 100, 100)}]
         readers = [TraceReader(Members({"a": 10, "b": 20, "c": 30}, ["a", "b", "c"]), Scope(250, 100), spans)
-                   for spans in ({}, {"outage": Scope(250, 100, 100, 100)})]
+                   for spans in both]
         for reader in readers:
             for line in LINES:
                 reader.read(line)
@@ -81,7 +82,8 @@ class StudySpansTest(TestCase):
 
     def test_study_file(self) -> None:
         """The ends of a span, and its limits after those of [goal]."""
-        study = in_folder(HEAD + SEEDS + "[goal]\nserved_min = 0.5\n" + SPAN + "[span.outage.goal]\np99_ms_max = '2s'\n")
+        goal = "[goal]\nserved_min = 0.5\n"
+        study = in_folder(HEAD + SEEDS + goal + SPAN + "[span.outage.goal]\np99_ms_max = '2s'\n")
         assert study.spans == {"outage": (100, 150)}
         assert study.goal.limits == (Limit("served", True, 0.5), Limit("outage.p99_ms", False, 2000.0))
         alone = in_folder(HEAD + SEEDS + SPAN + "[span.outage.goal]\nserved_min = 0.5\n")
@@ -101,7 +103,7 @@ class StudySpansTest(TestCase):
             (SPAN + "till = 1\n", "[span.outage] till: a span has from, to and [span.outage.goal]"),
             (SPAN + "goal = 1\n", "[span.outage.goal] has to be a table"),
             (goal + "least = 'hops'\n", "[span.outage.goal] least: rings lost, costs and `least` are of [goal]"),
-            (goal + "messages_max = 1\n", "[span.outage.goal] messages_max: rings lost, costs and `least` are of [goal]"),
+            (goal + "messages_max = 1\n", "[span.outage.goal] messages_max: rings lost, costs and `least` are of"),
             (goal + "p99_max = 1\n", "did you mean `p99_ms_max`?"),
         ):
             with self.subTest(study=text):

@@ -42,8 +42,9 @@ class StudyVaryTest(TestCase):
 
     def test_ranges(self) -> None:
         """The end is a value if a step reaches it; counts go up by 1; options take times as texts."""
-        assert labels('stabilize_us = "1s..2s step 500ms"') == [f"stabilize_us={time}" for time in ("1s", "1500ms", "2s")]
-        assert labels('stabilize_us = "0..25ms step 10ms"') == [f"stabilize_us={time}" for time in ("0us", "10ms", "20ms")]
+        ranges = {"1s..2s step 500ms": ("1s", "1500ms", "2s"), "0..25ms step 10ms": ("0us", "10ms", "20ms")}
+        for text, values in ranges.items():
+            assert labels(f'stabilize_us = "{text}"') == [f"stabilize_us={time}" for time in values]
         assert labels('list = "2..8 step 3"') == ["list=2", "list=5", "list=8"]
         assert labels('list = "2..4"') == ["list=2", "list=3", "list=4"]
         made = in_folder(MADE_VARY + '"--stabilize" = "1s..2s step 1s"\n"--nodes" = "5..6"\n')

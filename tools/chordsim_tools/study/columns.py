@@ -14,8 +14,9 @@ NAMED = {
     "whole-of-audits": ("whole-rings", "judged-audits", "audits with a whole ring"),
 }
 """Quotients with names: the two columns, and what the quotient is."""
-AS_ON_PAGES = {"right-of-begun": ("right_of_begun", 1.0)} | {
-    f"all-us-p{share}": (f"{name}_ms", 1000.0) for share, name in (("50", "p50"), ("90", "p90"), ("99", "p99"), ("99.9", "p999"))
+AS_ON_PAGES = {
+    "right-of-begun": ("right_of_begun", 1.0), "all-us-p50": ("p50_ms", 1000.0), "all-us-p90": ("p90_ms", 1000.0),
+    "all-us-p99": ("p99_ms", 1000.0), "all-us-p99.9": ("p999_ms", 1000.0),
 }
 """Columns whose numbers are those of the page: which number, and what it is multiplied with."""
 COST = "cost"

@@ -11,10 +11,12 @@ from chordsim_tools.study.numbers import Cells, groups
 from chordsim_tools.study.overtime import cell_words, hide_spare, small_plots
 from chordsim_tools.study.so_far import Drawn
 
-CDF_NOTE = "thin: each seed; a line that ends below 100% has lookups that found nothing or were cut off by their asker's end"
+CDF_NOTE = (
+    "thin: each seed; a line that ends below 100% has lookups that found nothing or were cut off by their asker's end"
+)
 TAIL_NOTE = (
-    "means over the seeds that kept their ring, bands: pointwise 95% intervals; as p99 on the page: a lookup that was given "
-    "up never ends, one that was cut off is censored; a line ends if fewer than ten lookups of a run are beyond"
+    "means over the seeds that kept their ring, bands: pointwise 95% intervals; as p99 on the page: a lookup that was "
+    "given up never ends, one that was cut off is censored; a line ends if fewer than ten lookups of a run are beyond"
 )
 
 

@@ -54,7 +54,8 @@ def goal_of(path: Path, table: Any, has_sizes: bool = False) -> Goal | None:
         return None
     if not isinstance(table, dict):
         raise Refused(f"{path}: goal has to be a table")
-    limits = tuple(limit_of(f"{path}: [goal]", key, value) for key, value in table.items() if key not in ("least", "lost_max"))
+    keys = [key for key in table if key not in ("least", "lost_max")]
+    limits = tuple(limit_of(f"{path}: [goal]", key, table[key]) for key in keys)
     least, lost = table.get("least", "messages"), table.get("lost_max")
     if least not in NUMBERS:
         raise Refused(f"{path}: [goal] least has to be one of {', '.join(NUMBERS)}")

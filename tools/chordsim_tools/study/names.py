@@ -1,4 +1,4 @@
-"""What pages call the numbers of a setting: each has one name, and its unit. A number of a span is as `outage.p99_ms`."""
+"""What pages call the numbers of a setting: each has one name, and its unit. One of a span is as `outage.p99_ms`."""
 
 from chordsim_tools.study.goal import SHARES
 

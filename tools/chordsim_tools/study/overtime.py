@@ -60,7 +60,8 @@ MEMBERS = Quantity("members", count_of("members"), NODES, is_at_end=True)
 RIGHT = (
     Quantity("served, %", percent("right-of-ended", SERVED), 100.0, "served", is_by_begin=True),
     Quantity(
-        "right of begun, %", percent("right-of-ended", "ended"), 100.0, "right-of-begun", is_of_kept=True, is_by_begin=True
+        "right of begun, %", percent("right-of-ended", "ended"), 100.0, "right-of-begun", is_of_kept=True,
+        is_by_begin=True,
     ),
     MEMBERS,
 )
@@ -158,8 +159,8 @@ def time_figure(pyplot: Any, drawn: Drawn, layout: Layout, quantities: Any, line
 def note_of(drawn: Drawn, quantities: Any) -> str:
     """How to read the figure."""
     seeds = len({cells["seed"] for cells in drawn.tables.runs})
-    note = f"means over those of {seeds} seeds that have the number; bands: pointwise 95% intervals, from {LEAST_SEEDS} seeds "
-    note += "on; dashed: fewer than three seeds"
+    note = f"means over those of {seeds} seeds that have the number; bands: pointwise 95% intervals, from "
+    note += f"{LEAST_SEEDS} seeds on; dashed: fewer than three seeds"
     if any(ring_lost([cells]) for cells in drawn.tables.runs):
         kept = [quantity.label.partition(",")[0] for quantity in quantities if quantity.is_of_kept]
         note += "; no band: rings were lost in some seeds" + (f"; {kept[0]}: of rings kept" if kept else "")

@@ -38,7 +38,7 @@ class Axis:
     def steps(self) -> int:
         """How many steps the range has: a power of 2."""
         wanted = self.high - self.low if self.is_count else math.log(self.high / self.low) / math.log(SMALL)
-        return int(2 ** max(1, math.ceil(math.log2(wanted))))
+        return 1 << max(1, math.ceil(math.log2(wanted)))
 
     def value(self, place: int) -> Value:
         """The value at a step. The ends are those of the file."""
@@ -109,7 +109,7 @@ class Search:
 
     def most_settings(self) -> int:
         """So many settings it may try at most."""
-        rounds = 3 ** len(self.axes) + 2 * len(self.axes) * (self.most_rounds - 1)
+        rounds = int(3 ** len(self.axes)) + 2 * len(self.axes) * (self.most_rounds - 1)
         return min(rounds, math.prod(axis.steps + 1 for axis in self.axes))
 
     def sorted(self) -> list[Setting]:

@@ -98,4 +98,5 @@ def round_told(number: int, new: list[Setting], best: Best, goal: Goal) -> str:
     by_label = {one.label: one for one in best.found}
     lines = [f"round {number}: {best.told(by_label[label(setting)])}\n" for setting in new]
     wanted = "the least " + in_words(goal.least) if best.reaching else "the nearest to the goal"
-    return "".join(lines) + f"round {number}: best so far {best.summary().label} ({wanted} of {len(best.found)} settings)\n"
+    told = f"best so far {best.summary().label} ({wanted} of {len(best.found)} settings)"
+    return "".join(lines) + f"round {number}: {told}\n"

@@ -9,7 +9,9 @@ from chordsim_tools.study.answer import chosen, those_that_reach
 from chordsim_tools.study.compare import Pair, guarded_level, scale_of
 from chordsim_tools.study.goal import Goal, goal_again, precision_again
 from chordsim_tools.study.layout import Worlds, choice_label, of_each_world, worlds_of
-from chordsim_tools.study.names import COUNTS, MILLISECONDS, NAMES, base_of, difference_header, header, is_percent, span_of
+from chordsim_tools.study.names import (
+    COUNTS, MILLISECONDS, NAMES, base_of, difference_header, header, is_percent, span_of,
+)
 from chordsim_tools.study.notes import AGAIN, FIRST, difference_note, notes_of
 from chordsim_tools.study.numbers import Cells, Summary, has_number, ratio
 from chordsim_tools.study.tables import Tables
@@ -155,6 +157,7 @@ def span_tables(tables: Tables) -> list[Part]:
     """A table for each span."""
     parts: list[Part] = []
     for span, (begin, end) in (tables.manifest.get("spans") or {}).items():
-        told = f"Of the lookups that began from {time_text(begin)} to {time_text(end)}. The columns are as in the other tables."
+        told = f"Of the lookups that began from {time_text(begin)} to {time_text(end)}. "
+        told += "The columns are as in the other tables."
         parts.append((f"Span {span}", columns_of(span_numbers(tables, span)), [told, AGAIN]))
     return parts

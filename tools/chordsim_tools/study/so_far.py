@@ -57,8 +57,9 @@ def drawn_of(folder: Path) -> Drawn:
     """The tables that were written. Older studies have none of curves."""
     tables = read_tables(folder)
     sums = tables.manifest["sha256"]
-    of_curves = (checked_table(folder / name, sums[name]) if name in sums else [] for name in (CDF, STEPS, TAIL))
-    return Drawn(tables, *of_curves)
+    names = (CDF, STEPS, TAIL)
+    cdf, steps, tail = (checked_table(folder / name, sums[name]) if name in sums else [] for name in names)
+    return Drawn(tables, cdf, steps, tail)
 
 
 def is_of(tables: Tables, record: Record) -> bool:

@@ -33,7 +33,7 @@ class Times:
         return len(self.ended) + len(self.cut) + self.lost
 
     def percentile(self, share: float) -> int | str | None:
-        """The time by which this share of a hundred has ended, `never` if it is never reached, nothing without lookups."""
+        """The time by which this share of a hundred has ended; `never` if that is never so, nothing without lookups."""
         return self.percentiles((share,))[share]
 
     def percentiles(self, shares: Iterable[float]) -> dict[float, int | str | None]:

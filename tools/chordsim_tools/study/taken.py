@@ -33,8 +33,8 @@ NOTES = (
     "successor left the list though it was a member. In all other cases a lookup, a join or a ping went on without the "
     "node.",
     "**requests sent again**: each time that a request was sent again (`retries`).",
-    "**members stranded**: members whose successor list ran empty. Of rings that were lost it is the mean for each run, "
-    "with the least and the greatest.",
+    "**members stranded**: members whose successor list ran empty. Of rings that were lost it is the mean for each "
+    "run, with the least and the greatest.",
     "**joins failed**: times that a join had failed eight times, of rings that were lost as members stranded.",
 )
 

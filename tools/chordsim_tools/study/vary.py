@@ -72,7 +72,8 @@ def checked(path: Path, key: str, value: Any) -> Value:
         return booleans_of(path, key, [value])[0]
     found = micros_of(key, value)
     if not is_integer(found) and not (key.startswith(OF_GENERATE) and isinstance(found, str)):
-        raise Refused(f"{path}: [vary] {key} cannot be {value!r}: an integer is wanted (times may have units, as \"1s\")")
+        wanted = 'an integer is wanted (times may have units, as "1s")'
+        raise Refused(f"{path}: [vary] {key} cannot be {value!r}: {wanted}")
     return int(found) if is_integer(found) else str(found)
 
 
