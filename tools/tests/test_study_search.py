@@ -116,5 +116,7 @@ class StudySearchTest(TestCase):
             assert periods == ["500000", "1410000", "2380000", "4000000"]
             assert "**stabilize_us=4s** is the setting with the least messages" in (out / "report.md").read_text()
             assert ended(main, *command)[1] == text
+            refused, _, told = ended(main, "merge", str(out), "-o", str(Path(name) / "all"))
+            assert refused == 1 and "has [search], which has no parts" in told
             refused, _, told = ended(main, "run", str(study), "-o", str(out))
             assert refused == 1 and "has [search]: `tools/study search` does this study" in told

@@ -1,6 +1,7 @@
 """The table [vary] of a study file: values that belong together, and ranges."""
 
 import tomllib
+from pathlib import Path
 from unittest import TestCase
 
 from chordsim_tools.study.comparison import named
@@ -78,3 +79,16 @@ class StudyVaryTest(TestCase):
         found = summaries(tables_of(rows, vary={"list": [4, 8], "retries": [0, 1]}))
         for name in ("retries=1, list=8", "list=8,retries=1", "4"):
             assert named(found, name).label == "list=8, retries=1"
+
+    def test_examples_of_the_page(self) -> None:
+        """The study file of docs/studies.md is one, and so are its other tables in place of its [vary]."""
+        page = (Path(__file__).resolve().parents[2] / "docs" / "studies.md").read_text(encoding="utf-8")
+        whole, vary, span, search = (block.split("```")[0] for block in page.split("```toml\n")[1:5])
+        assert len(in_folder(whole).settings()) == 8
+        head, goal = whole.split("[vary]")[0], "[goal]" + whole.split("[goal]")[1]
+        lively = '["exp:2h", "exp:10m"]', '["exp:1h", "exp:5m"]'
+        assert all(pair in vary for pair in lively)
+        study = in_folder(head.replace('"--nodes", "200"', '"--nodes", "200", "--profile", "4"') + vary)
+        assert len(study.settings()) == 2 * 4 * 4 * 2 * 2
+        assert in_folder(head + span + goal).spans == {"outage": (360_000_000, 420_000_000)}
+        assert len(in_folder(head + goal + search).settings()) == 9

@@ -6,7 +6,7 @@ from typing import Any
 
 from chordsim_tools.cli import Refused
 from chordsim_tools.explain.hints import close_to
-from chordsim_tools.quantities import time_of
+from chordsim_tools.quantities import UNIT_NAMES, time_of
 
 SHARES = ("served", "right_of_begun", "defensible", "given_up")
 OF_SPANS = (*SHARES, "members", "p50_ms", "p90_ms", "p99_ms", "p999_ms", "mean_ms", "hops", "timeouts")
@@ -107,7 +107,7 @@ def milliseconds_of(place: str, key: str, value: Any) -> float:
         return float(value)
     micros = time_of(value) if isinstance(value, str) and not value[-1:].isdecimal() else None
     if micros is None:
-        raise Refused(f'{place} {key} has to be a number of milliseconds, or a time such as "800ms" (us, ms, s, m)')
+        raise Refused(f'{place} {key} has to be a number of milliseconds, or a time such as "800ms" ({UNIT_NAMES})')
     return micros / 1000
 
 
