@@ -16,7 +16,8 @@ from chordsim_tools.study.interval import LEAST_SEEDS, Interval, interval, of_th
 
 STAKES = ((1.0, 0.5), (0.5, 0.2), (0.25, 0.1), (0.125, 0.1), (0.0625, 0.1))
 """The parts c, and how the 1 is divided among them."""
-HALVINGS = 40
+HALVINGS = 24
+"""Bounds are exact to seven digits, and never beyond what is refuted."""
 
 
 def wealth(shares: Sequence[float], mean: float) -> float:
@@ -24,10 +25,11 @@ def wealth(shares: Sequence[float], mean: float) -> float:
 
     def grown(part: float) -> float:
         """The logarithm of what 1 has become that bets this part."""
-        factors = [1 - part + part * share / mean for share in shares]
-        return math.fsum(map(math.log, factors)) if min(factors) > 0 else -math.inf
+        kept, won = 1 - part, part / mean
+        factors = [kept + won * share for share in shares]
+        return sum(map(math.log, factors)) if min(factors) > 0 else -math.inf
 
-    return math.fsum(stake * math.exp(min(700.0, grown(part))) for part, stake in STAKES)
+    return sum(stake * math.exp(min(700.0, grown(part))) for part, stake in STAKES)
 
 
 def least_mean(shares: Sequence[float], risk: float) -> float:
