@@ -141,11 +141,11 @@ def error_told(regions: Regions, places: Sequence[Coordinates]) -> str:
     """The greatest relative error of the latencies that follow from coordinates, and of which regions it is."""
     pairs = list(combinations(range(len(places)), 2))
     if not pairs:
-        return "coordinates of 1 region, exact"
+        return "Coordinates of 1 region, exact"
     errors = [abs(places[a].latency_to(places[b]) - regions.micros[a][b]) / regions.micros[a][b] for a, b in pairs]
     worst = max(range(len(pairs)), key=errors.__getitem__)
     a, b = pairs[worst]
     made, asked = places[a].latency_to(places[b]), regions.micros[a][b]
     most = f"{100 * errors[worst]:.2g} % at most"
-    text = f"coordinates of {len(places)} regions: latencies between them are off by {most}"
+    text = f"Coordinates of {len(places)} regions: latencies between them are off by {most}"
     return f"{text} ({regions.names[a]} to {regions.names[b]}: {made} us one-way, {asked} us in the file)"

@@ -128,11 +128,13 @@ class RegionsTest(TestCase):
             words = ["--profile", "4", "--group", "eu:2", "--group", "us:1", "--group", "asia:2"]
             ring = made(*words, "--coordinates", f"regions:{file}")
             err = ended(main, *words, "--coordinates", f"regions:{file}")[2]
+            head = ended(main, *words, "--coordinates", f"regions:{file}")[1].partition("\n\n")[0]
             regions = read_regions(file)
+        assert f"# {err}" in head + "\n"
         pairs = {(0, 1): 2000, (3, 4): 2000, (0, 2): 32_000, (0, 3): 42_000, (2, 3): 52_000, (1, 4): 42_000}
         assert all(abs(ring.latency(a, b) - micros) <= 1 for (a, b), micros in pairs.items())
         assert ring.latency(0, 1) == ring.latency(3, 4) == 2000 and ring.window_us == 2000
-        assert err.startswith("coordinates of 3 regions: latencies between them are off by 0") and err.count("\n") == 1
+        assert err.startswith("Coordinates of 3 regions: latencies between them are off by 0") and err.count("\n") == 1
         assert regions.latency("eu", "asia") == 42_000
 
     def test_error_is_told(self) -> None:

@@ -64,6 +64,7 @@ def head(plan: Plan, made: Made, arguments: list[str]) -> str:
         f"Nodes: {plan.nodes}, of which {len(made.initial)} are members at the start. Commands: {', '.join(counts)}.",
         *nodes_told(plan),
         *made.told,
+        *plan.notes,
         round_told(plan.top),
     ]
     return "".join(f"# {line}".rstrip() + "\n" for line in lines)
