@@ -45,7 +45,7 @@ class TraceLookupsTest(TestCase):
         """The tool writes it and says nothing else; it writes over no input."""
         with tempfile.TemporaryDirectory() as folder:
             trace, scenario, table = (str(Path(folder) / name) for name in ("a.trace", "a.toml", "a.csv"))
-            Path(trace).write_text("".join(line + "\n" for line in LINES))
+            Path(trace).write_text("".join(line + "\n" for line in LINES), encoding="ascii")
             Path(scenario).write_text(SCENARIO)
             assert ended(main, trace, scenario, "--lookups", table) == (0, "", "")
             with open(table, encoding="ascii", newline="") as file:
@@ -61,7 +61,7 @@ class TraceLookupsTest(TestCase):
         """The message names the file that is no scenario, and says to swap the two if the other one is."""
         with tempfile.TemporaryDirectory() as folder:
             trace, scenario, rows = (str(Path(folder) / name) for name in ("a.trace", "a.toml", "a.csv"))
-            Path(trace).write_text("".join(line + "\n" for line in LINES))
+            Path(trace).write_text("".join(line + "\n" for line in LINES), encoding="ascii")
             Path(scenario).write_text(SCENARIO)
             Path(rows).write_text("a,b\n")
             told = f"{scenario} is a scenario: swap the two, as tools/trace TRACE SCENARIO\n"

@@ -10,7 +10,7 @@ from typing import Any
 
 from chordsim_tools.cli import Failure
 from chordsim_tools.trace.lines import ASKS, CHANGES, FOUND, KINDS, LOOKUP, LOST, Audit, Lookup
-from chordsim_tools.trace.page.bins import bins, times as lookup_times
+from chordsim_tools.trace.page.bins import bins, lookup_times
 from chordsim_tools.trace.page.groups import groups_by_name
 from chordsim_tools.trace.reading import Run
 from chordsim_tools.trace.tables import most_wrong, slowest
