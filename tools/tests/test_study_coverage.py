@@ -1,7 +1,7 @@
 """How often printed intervals and bounds hold the truth: 500 draws of seeds from a fixed population of worlds.
 
-The population is made by a formula. A few worlds lose their rings, some keep half of their members, and nearly none has a
-lookup that was given up: the cases in which an interval can miss."""
+The population is made by a formula. A few worlds lose their rings, some keep half of their members, and nearly none has
+a lookup that was given up: the cases in which an interval can miss."""
 
 import math
 from collections import Counter

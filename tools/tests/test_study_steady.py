@@ -2,6 +2,7 @@
 
 from collections.abc import Callable
 from random import Random
+from typing import Any
 from unittest import TestCase
 
 from chordsim_tools.study.numbers import summaries
@@ -19,18 +20,18 @@ Shares = Callable[[int, int, int], float]
 """The share of members for a list, a seed and a step."""
 
 
-def study_of(members: Shares, sizes: int = 1, seeds: int = 6, lost: int = 0, **changes: object) -> Tables:
+def study_of(members: Shares, sizes: int = 1, seeds: int = 6, lost: int = 0, **changes: Any) -> Tables:
     """A study of 120 s with steps of 10 s and a million nodes, in which only the members change."""
     runs, series = [], []
     for size in range(1, sizes + 1):
         for seed in range(1, seeds + 1):
-            cells = {"ringless": 1, "lost-at-us": 5} if seed <= lost else {}
-            runs.append(row(list=size, seed=seed, **{"duration-us": 120_000_000}, **cells))
+            cells: dict[str, Any] = {"ringless": 1, "lost-at-us": 5} if seed <= lost else {}
+            runs.append(row(**{"list": size, "seed": seed, "duration-us": 120_000_000, **cells}))
             for step in range(STEPS):
                 series.append({
                     "list": str(size), "seed": str(seed), "from_us": str(10_000_000 * step), "lookups": "100",
-                    "found": "100", "right": "99", "members": str(round(NODES * members(size, seed, step))), "ended": "100",
-                    "right-of-ended": "99", "wanted": "110",
+                    "found": "100", "right": "99", "members": str(round(NODES * members(size, seed, step))),
+                    "ended": "100", "right-of-ended": "99", "wanted": "110",
                 })
     tables = tables_of(runs, vary={"list": list(range(1, sizes + 1))}, **{"nodes": NODES, **changes})
     return Tables(tables.manifest, runs, series)
@@ -74,12 +75,12 @@ class SteadyTest(TestCase):
     def test_false_alarms(self) -> None:
         """Of steady studies of four settings about one in twenty, or fewer, is said not to be steady."""
         draws = Random(9)
-        count = 0
+        worlds = {seed: draws.gauss(0.8, 0.03) for seed in range(1, 9)}
+        alarms = []
         for _ in range(120):
-            worlds = {seed: draws.gauss(0.8, 0.03) for seed in range(1, 9)}
             tables = study_of(lambda _, seed, step: worlds[seed] + draws.gauss(0, 0.01), 4, 8)
-            count += bool(look(tables, summaries(tables)).changes)
-        assert count <= 12, count
+            alarms.append(bool(look(tables, summaries(tables)).changes))
+        assert sum(alarms) <= 12, sum(alarms)
 
     def test_a_common_drift_is_seen_in_the_mean_of_the_settings(self) -> None:
         """A drift of three points that no setting shows by itself."""
@@ -111,8 +112,8 @@ class StartTest(TestCase):
     def test_churn(self) -> None:
         """Lives of tools/generate need --stationary, in the arguments or in [vary]."""
         life = ["--nodes", "8", "--lifetime", "exp:40s"]
-        [told] = churn_trap(life, {})
-        assert told.startswith("--lifetime without --stationary: all nodes are new at the start, so that crashes come")
+        told = churn_trap(life, {})
+        assert len(told) == 1 and told[0].startswith("--lifetime without --stationary: all nodes are new at the start, so that crashes come")
         assert "set --lifetime with --stationary" in churn_trap(["--churn-uniform", "1s..2s", "1s..2s"], {})[0]
         assert churn_trap(["--nodes=8"], {"generate.--lifetime": ["exp:4s"]})
         for quiet in ([*life, "--stationary"], ["--nodes", "8"], None):
@@ -132,13 +133,14 @@ class StartTest(TestCase):
     def test_short_rounds(self) -> None:
         """A warm-up and a judged span of 20 s, and rounds of 20 and 21 s."""
         facts = {"duration_us": 45_000_000, "warmup_us": 20_000_000, "cooldown_us": 5_000_000}
-        [told] = round_traps({**facts, "finger_round_us": 21_000_000})
-        assert told.startswith("warmup_us (20s) and the judged span (20s) are below one round of fingers, 21s: (bits")
+        told = round_traps({**facts, "finger_round_us": 21_000_000})
+        assert len(told) == 1 and told[0].startswith("warmup_us (20s) and the judged span (20s) are below one round of fingers, 21s: (bits")
         assert round_traps({**facts, "finger_round_us": 20_000_000}) == round_traps(facts) == []
 
     def test_before_the_first_run(self) -> None:
         """Both are told on standard error, and on the page. The round is 15 times 275 ms."""
-        text = 'question = "How?"\nseeds = 2\nwarmup_us = "4s"\ngenerate = ["--nodes", "16", "--bits", "16", "--duration", "20s", '
+        text = 'question = "How?"\nseeds = 2\nwarmup_us = "4s"\ngenerate = ["--nodes", "16", "--bits", "16", '
+        text += '"--duration", "20s", '
         with study_folder(text + '"--lifetime", "exp:40s", "--stay", "2"]\n') as folder:
             status, _, told = called(folder)
             assert status == 0 and "warning: --lifetime without --stationary" in told, told

@@ -1,9 +1,9 @@
 """Whether the judged span is steady: served, right answers and members in six pieces of it, seed by seed.
 
 Two questions are asked of each number, by contrasts of the pieces (multiple contrast tests: Bretz, Genz and Hothorn,
-Biometrical Journal 43, 2001): does it rise or fall over the span, and is a piece other than the rest, as in a wave? They
-are asked of the mean of all settings, which have the same seeds, and of each setting. All of them share a risk of 5 %
-(Bonferroni), so of twenty steady studies about one is said not to be."""
+Biometrical Journal 43, 2001): does it rise or fall over the span, and is a piece other than the rest, as in a wave?
+They are asked of the mean of all settings, which have the same seeds, and of each setting. All of them share a risk of
+5 % (Bonferroni), so of twenty steady studies about one is said not to be."""
 
 from dataclasses import dataclass
 from statistics import fmean
@@ -91,7 +91,8 @@ class Pieces:
 
     def spans(self, one: Summary, window: int) -> list[tuple[int, int]]:
         """The begin and the end of each piece."""
-        pieces = next((self.runs[(*one.values, seed)] for seed in one.by_seed if (*one.values, seed) in self.runs), [])
+        runs = [(*one.values, seed) for seed in one.by_seed]
+        pieces = [self.runs[run] for run in runs if run in self.runs][0]
         return [(int(piece[0]["from_us"]), int(piece[-1]["from_us"]) + window) for piece in pieces]
 
 
@@ -176,9 +177,10 @@ def steadiness(tables: Tables, found: list[Summary], named: set[str]) -> str:
     rest = sorted(named - {"served", "right_of_begun", "members", "rings_lost"})
     blind = f" Not looked at: {', '.join(map(name_of, rest))}." if rest else ""
     verb = "is" if looked.left == 1 else "are"
-    left = f" {looked.left} of {len(found)} settings {verb} left out: too few seeds kept the ring." if looked.left else ""
+    count = f"{looked.left} of {len(found)} settings"
+    left = f" {count} {verb} left out: too few seeds kept the ring." if looked.left else ""
     if not looked.trends:
-        return "Whether the judged span is steady cannot be said: too few seeds kept their ring, or too few steps." + blind
+        return f"Whether the judged span is steady cannot be said: too few seeds with a ring, or too few steps.{blind}"
     strong = strongest(looked.changes)
     if strong:
         more = f"; and {len(strong) - MOST_TOLD} more" if len(strong) > MOST_TOLD else ""
