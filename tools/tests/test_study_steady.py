@@ -6,8 +6,10 @@ from typing import Any
 from unittest import TestCase
 
 from chordsim_tools.study.numbers import summaries
+from chordsim_tools.study.pieces import PieceTimes
 from chordsim_tools.study.page import page
 from chordsim_tools.study.plan import read_study
+from chordsim_tools.study.served import Scope
 from chordsim_tools.study.starts import churn_trap, longest_round, round_traps
 from chordsim_tools.study.steady import look
 from chordsim_tools.study.tables import Tables
@@ -70,7 +72,7 @@ class SteadyTest(TestCase):
         draws = Random(5)
         text = sentence(study_of(lambda *_: 0.9 + draws.gauss(0, 0.01), goal=goal))
         assert text.startswith("No drift and no waves seen in the judged span."), text
-        assert "served 0, right of begun 0, members " in text and text.endswith("Not looked at: messages, p99.")
+        assert "From its begin to its end: served 0 points, right of begun 0 points, members " in text and text.endswith("Not looked at: messages, p99.")
 
     def test_false_alarms(self) -> None:
         """Of steady studies of four settings about one in twenty, or fewer, is said not to be steady."""
@@ -104,6 +106,35 @@ class SteadyTest(TestCase):
                 del line[word]
         assert sentence(tables).startswith("No drift and no waves seen") and "right of begun" in sentence(tables)
         assert "served" not in sentence(tables)
+
+
+    def test_times_of_the_goal(self) -> None:
+        """If the goal names p99 it is looked at: 2,000 ms in the first piece, and 50 ms more in each of the next."""
+        limits = [{"number": "p99_ms", "is_least": False, "value": 3000.0}]
+        tables = study_of(lambda *_: 0.9, goal={"limits": limits, "lost_max": None, "least": "messages"})
+        for cells in tables.runs:
+            times = [2_000_000 + 50_000 * place + 1000 * int(cells["seed"]) * (place % 2) for place in range(6)]
+            cells["pieces-us-p99"] = " ".join(map(str, times))
+        text = sentence(tables)
+        # Seeds add s ms to every second piece: s * 5 / 17.5 * (-1.5 + 0.5 + 2.5), on average 1.5 ms.
+        assert "**Not steady** in the judged span: p99 +251.5" in text and "Not looked at: messages." in text, text
+
+
+class PiecesTest(TestCase):
+    """Times of lookups in the six pieces of the judged span."""
+
+    def test_percentiles(self) -> None:
+        """Ten lookups in each piece of 100 us from 100 on; in the second one five have no answer, in the third one six."""
+        pieces = PieceTimes(Scope(800, 100, 100, 100))
+        for place in range(-1, 7):
+            for number in range(10):
+                begin, taken = 100 + 100 * place + number, 20 + 10 * place + number
+                end = "lost 5" if number >= 10 - {1: 5, 2: 6}.get(place, 0) else "found 5 n1"
+                pieces.read(f"{begin + taken} n0 {end} hops=1 timeouts=0 us={taken}")
+        # By nearest rank the fifth of ten, which the third piece does not have.
+        assert pieces.numbers() == {"pieces-us-p50": None, "pieces-us-p90": None, "pieces-us-p99": None}
+        pieces.lost[2], pieces.times[2] = 5, [40, 41, 42, 43, 44]
+        assert pieces.numbers()["pieces-us-p50"] == "24 34 44 54 64 74"
 
 
 class StartTest(TestCase):

@@ -95,6 +95,7 @@ Runs `chordsim run --serial` for each setting and seed and writes into FOLDER:
                  wanted           lookups begun or refused, and those that nodes missed which were up but no members;
                                   wanted-1, right-1, wanted-2, right-2: in the two halves of the judged span
                  up-us, member-us time that nodes were up, and members, in the judged span
+                 pieces-us-p50 .. percentiles of the judged lookups in six pieces of the judged span
                  cost-...         from warmup_us to the end: time as members, and events; timeouts, those that take a
                                   member for dead, and of these such that remove it from a successor list; requests sent
                                   again; members stranded, joins failed
@@ -177,12 +178,12 @@ It needs Debian's packages python3-numpy and python3-matplotlib, and Debian's Py
 PATH, `/usr/bin/python3 tools/study plot FOLDER`."""
 
 REPORT_HELP = """\
-Writes the page FOLDER/report.md: the question; the answer to [goal]; what is new in each world and what is the same;
-tables with a line a setting; links to the plots, which `tools/study plot` draws; the commands and digests. A plot
-of other tables is not linked. The first table has what a decision rests on: rings kept, served, right of begun, p50,
-p99, messages, each number that [goal] or [precision] names, and the difference from the best setting. Then follow a
-table for each span, the times, hops and timeouts of lookups, all other numbers, and who was taken for dead. Below each
-table the page says what its numbers are."""
+Writes FOLDER/answer.json, for programs (docs/studies.md), and the page FOLDER/report.md: the question; the answer to
+[goal]; what is new in each world and what is the same; tables with a line a setting; links to the plots, which
+`tools/study plot` draws; the commands and digests. A plot of other tables is not linked. The first table has what a
+decision rests on: rings kept, served, right of begun, p50, p99, messages, each number that [goal] or [precision] names,
+and the difference from the best setting. Then follow a table for each span, the times, hops and timeouts of lookups,
+all other numbers, and who was taken for dead. Below each table the page says what its numbers are."""
 COMPARE_HELP = """\
 Compares two settings seed by seed, prints the mean differences of A less B with 95% intervals, and writes them to
 FOLDER/compare.csv. Settings are named by their numbers on the page, or by their labels, as "list=4, stabilize_us=1s",
