@@ -9,7 +9,7 @@ from chordsim_tools.study.page import page
 from chordsim_tools.study.served import Scope
 from chordsim_tools.study.trace import TraceReader
 from tests.support.studies import row, table_of, tables_of, unwrapped
-from tests.test_study_plan import HEAD, SEEDS, in_folder
+from tests.test_study_plan import HEAD, MADE, SEEDS, in_folder
 
 SPAN = '[span.outage]\nfrom = "100us"\nto = "150us"\n'
 LINES = (
@@ -110,6 +110,12 @@ class StudySpansTest(TestCase):
                 answer = in_folder(HEAD + SEEDS + text)
                 assert isinstance(answer, str) and wanted in answer, answer
 
+    def test_runs_of_several_lengths(self) -> None:
+        """A span has to end before the shortest of them does, also if tools/generate makes them."""
+        made = MADE + SEEDS + '[vary]\n"--duration" = ["9s", "5s"]\n[span.outage]\nfrom = "2s"\nto = '
+        assert in_folder(made + '"5s"\n').spans == {"outage": (2_000_000, 5_000_000)}
+        assert in_folder(made + '"6s"\n').endswith("[span.outage] to (6s) is after the end of the run (5s)")
+
     def test_an_answer_needs_all_spans(self) -> None:
         """Lists of 2 reach the limit of the whole, and lists of 4 that of the outage too."""
         whole, outage = Limit("p99_ms", False, 2500.0), Limit("outage.p99_ms", False, 3000.0)
@@ -125,5 +131,5 @@ class StudySpansTest(TestCase):
         cells = table_of(text, "Span outage")["list=2"]
         assert cells["p99, ms"] == "4000.0035 ± 0.0020" and cells["defensible, %"].startswith("96.84")
         assert cells["members, %"].startswith("98 (") and cells["members, %"].endswith("..99.1)")
-        assert "Of the lookups that began from 360s to 420s." in text
+        assert "Of the lookups that began from 360s to 420s, 1000 to 1000 in a run." in text
         assert table_of(text, "Settings")["list=2"]["p99, ms"] == "2000"

@@ -57,7 +57,7 @@ EXAMPLES = {
     "plot": """\
   tools/study plot out                            all plots, also of a study that still runs
   tools/study plot out --x stabilize_us --by list --panels loss_ppm --y right-of-begun
-  tools/study plot out --y us-p99 losses/lookups
+  tools/study plot out --y all-us-p99 losses/lookups
 """,
     "report": """\
   tools/study plot out && tools/study report out  plots, and a page with them, also of a study that still runs
@@ -136,8 +136,9 @@ range:
 The first round tries both ends and the middle of each range, in every combination. Each later round tries the settings
 beside the best one so far, one step up and one down by each key. If all of these were tried, the step is halved. The
 best one is that of the page: the least cost of those that are shown to reach the goal, else the nearest to it. The
-search ends if the step is small (a tenth of a time, or 1), or after most_rounds. All settings have the same seeds. The
-intervals hold for all settings that were tried together, so that more rounds need more seeds.
+search ends if the best one reaches the goal and nothing beside it costs less by more than 1 %, if the step is small (a
+tenth of a time, or 1), or after most_rounds. All settings have the same seeds. The intervals hold for all settings that
+may be tried together, so that more rounds need more seeds.
 
 Each round is printed. Its runs are kept as by `tools/study run`, and the tables and the page FOLDER/report.md are
 written after it. The same command goes on after an interruption."""

@@ -143,7 +143,7 @@ def settings_tables(tables: Tables, found: list[Summary]) -> str:
     first, (lookups, more) = first_numbers(tables.manifest), other_numbers(tables, found[0].rows[0])
     last, last_note = differences(tables, found)
     columns = [("rings kept", Summary.kept_told), *columns_of(first), *last]
-    parts = [("Settings", columns, [*FIRST, *notes_of(first, []), *last_note]), *span_tables(tables)]
+    parts = [("Settings", columns, [*FIRST, *notes_of(first, []), *last_note]), *span_tables(tables, found)]
     if lookups:
         parts.append(("Lookups", columns_of(lookups), [AGAIN, *notes_of(lookups, first)]))
     parts.append(("More numbers", columns_of(more), [AGAIN, *notes_of(more, [*first, *lookups])]))
@@ -153,11 +153,12 @@ def settings_tables(tables: Tables, found: list[Summary]) -> str:
     )
 
 
-def span_tables(tables: Tables) -> list[Part]:
-    """A table for each span."""
+def span_tables(tables: Tables, found: list[Summary]) -> list[Part]:
+    """A table for each span. Its note says how many lookups a run has there, as few of them have no percentiles."""
     parts: list[Part] = []
     for span, (begin, end) in (tables.manifest.get("spans") or {}).items():
-        told = f"Of the lookups that began from {time_text(begin)} to {time_text(end)}. "
-        told += "The columns are as in the other tables."
+        counts = [int(cells[f"{span}.judged-lookups"]) for one in found for cells in one.rows]
+        told = f"Of the lookups that began from {time_text(begin)} to {time_text(end)}, {min(counts)} to {max(counts)} "
+        told += "in a run. The columns are as in the other tables."
         parts.append((f"Span {span}", columns_of(span_numbers(tables, span)), [told, AGAIN]))
     return parts
