@@ -10,7 +10,7 @@ from chordsim_tools.study.pieces import PieceTimes
 from chordsim_tools.study.page import page
 from chordsim_tools.study.plan import read_study
 from chordsim_tools.study.served import Scope
-from chordsim_tools.study.starts import churn_trap, longest_round, round_traps
+from chordsim_tools.study.starts import churn_trap, longest_round, round_traps, seeds_traps
 from chordsim_tools.study.steady import look
 from chordsim_tools.study.tables import Tables
 from tests.support.studies import row, tables_of, unwrapped
@@ -167,6 +167,15 @@ class StartTest(TestCase):
         told = round_traps({**facts, "finger_round_us": 21_000_000})
         assert len(told) == 1 and told[0].startswith("warmup_us (20s) and the judged span (20s) are below one round of fingers, 21s: (bits")
         assert round_traps({**facts, "finger_round_us": 20_000_000}) == round_traps(facts) == []
+
+    def test_limits_that_seeds_cannot_show(self) -> None:
+        """Ten worlds show 0.025 ** 0.1 = 69.1 % served at most, and 90 % takes ln 40 / -ln 0.9 = 35.01 of them."""
+        for limit, wanted in ((0.69, 0), (0.7, 1), (0.9, 1)):
+            text = STUDY.replace("seeds = [1, 2]", "seeds = 10") + f"[goal]\nserved_min = {limit}\n"
+            with study_folder(text) as folder:
+                told = seeds_traps(read_study(folder / "study.toml"))
+                assert len(told) == wanted, (limit, told)
+        assert told[0].startswith("[goal] served_min = 0.9 cannot be shown by 10 seeds: it takes 36 or more")
 
     def test_before_the_first_run(self) -> None:
         """Both are told on standard error, and on the page. The round is 15 times 275 ms."""

@@ -41,6 +41,11 @@ def least_mean(shares: Sequence[float], risk: float) -> float:
     return low
 
 
+def seeds_to_show(share: float, risk: float = 0.05) -> int:
+    """How many seeds can show that a mean is at least this share, if all of them have 1: fewer never can."""
+    return math.ceil(math.log(risk * STAKES[0][1]) / math.log(share))
+
+
 @dataclass(frozen=True)
 class Bounded(Interval):
     """A mean of numbers of `floor` to 1, whose interval holds for any law and however often somebody looks."""

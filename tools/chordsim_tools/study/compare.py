@@ -7,8 +7,8 @@ from chordsim_tools.study.bounded import bounded
 from chordsim_tools.study.exact import mcnemar
 from chordsim_tools.study.interval import LEAST_SEEDS, Interval, interval, of_there
 from chordsim_tools.study.layout import of_each_world
-from chordsim_tools.study.names import COUNTS, MILLISECONDS, RATE, RATES, base_of, is_percent
-from chordsim_tools.study.numbers import Cells, Summary, is_kept, is_wild, summaries, take_of
+from chordsim_tools.study.names import COUNTS, MILLISECONDS, RATE, RATES, base_of, is_percent, is_wild
+from chordsim_tools.study.numbers import Cells, Summary, is_kept, summaries, take_of
 from chordsim_tools.study.tables import Tables
 
 UNITS = {

@@ -2,8 +2,7 @@
 
 from chordsim_tools.study.interval import LEAST_SEEDS
 from chordsim_tools.study.messages import MOST_ERROR
-from chordsim_tools.study.names import NAMES, RATE, RATES, TIMES, difference_header
-from chordsim_tools.study.numbers import is_wild
+from chordsim_tools.study.names import NAMES, RATE, RATES, TIMES, difference_header, is_wild
 
 ERROR = f"{100 * MOST_ERROR:g} %"
 FIRST = (
