@@ -74,12 +74,16 @@ class PlotFilesTest(TestCase):
             assert linked(page_of(folder)) == ["right", "network", "cdf", "tail"]
 
     def test_a_file_that_is_gone(self) -> None:
-        """A plot needs both of its files."""
+        """A plot needs its picture; without its SVG the page has no link to that."""
         with study_folder() as folder:
             call(folder)
             draw(folder, *PLOTS)
+            (folder / "study" / "right.png").unlink()
             (folder / "study" / "right.svg").unlink()
             assert linked(page_of(folder)) == ["times", "cost", "network", "cdf", "tail"]
+            (folder / "study" / "cost.svg").unlink()
+            text = page_of(folder)
+            assert "](cost.png)" in text and "](cost.svg)" not in text and "](cdf.svg)" in text
 
     def test_plots_of_an_older_tool(self) -> None:
         """Without plots.json those count that are no older than runs.csv."""
