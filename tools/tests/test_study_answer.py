@@ -4,9 +4,9 @@ from random import Random
 from typing import Any
 from unittest import TestCase
 
-from chordsim_tools.study.answer import goal_told
 from chordsim_tools.study.bounds import level_of, misses, missing_level, reaches
 from chordsim_tools.study.goal import Goal, Limit
+from chordsim_tools.study.goal_words import goal_told
 from chordsim_tools.study.interval import outward
 from chordsim_tools.study.numbers import Summary, summaries
 from chordsim_tools.study.page import page

@@ -72,7 +72,8 @@ class SteadyTest(TestCase):
         draws = Random(5)
         text = sentence(study_of(lambda *_: 0.9 + draws.gauss(0, 0.01), goal=goal))
         assert text.startswith("No drift and no waves seen in the judged span."), text
-        assert "From its begin to its end: served 0 points, right of begun 0 points, members " in text and text.endswith("Not looked at: messages, p99.")
+        assert "From its begin to its end: served 0 points, right of begun 0 points, members " in text
+        assert text.endswith("Not looked at: messages, p99.")
 
     def test_false_alarms(self) -> None:
         """Of steady studies of four settings about one in twenty, or fewer, is said not to be steady."""
@@ -124,7 +125,7 @@ class PiecesTest(TestCase):
     """Times of lookups in the six pieces of the judged span."""
 
     def test_percentiles(self) -> None:
-        """Ten lookups in each piece of 100 us from 100 on; in the second one five have no answer, in the third one six."""
+        """Ten lookups in each piece of 100 us from 100 on; in the second one five have no answer, in the third six."""
         pieces = PieceTimes(Scope(800, 100, 100, 100))
         for place in range(-1, 7):
             for number in range(10):
@@ -144,7 +145,8 @@ class StartTest(TestCase):
         """Lives of tools/generate need --stationary, in the arguments or in [vary]."""
         life = ["--nodes", "8", "--lifetime", "exp:40s"]
         told = churn_trap(life, {})
-        assert len(told) == 1 and told[0].startswith("--lifetime without --stationary: all nodes are new at the start, so that crashes come")
+        first = "--lifetime without --stationary: all nodes are new at the start, so that crashes come"
+        assert len(told) == 1 and told[0].startswith(first)
         assert "set --lifetime with --stationary" in churn_trap(["--churn-uniform", "1s..2s", "1s..2s"], {})[0]
         assert churn_trap(["--nodes=8"], {"generate.--lifetime": ["exp:4s"]})
         for quiet in ([*life, "--stationary"], ["--nodes", "8"], None):
@@ -165,7 +167,8 @@ class StartTest(TestCase):
         """A warm-up and a judged span of 20 s, and rounds of 20 and 21 s."""
         facts = {"duration_us": 45_000_000, "warmup_us": 20_000_000, "cooldown_us": 5_000_000}
         told = round_traps({**facts, "finger_round_us": 21_000_000})
-        assert len(told) == 1 and told[0].startswith("warmup_us (20s) and the judged span (20s) are below one round of fingers, 21s: (bits")
+        first = "warmup_us (20s) and the judged span (20s) are below one round of fingers, 21s: (bits"
+        assert len(told) == 1 and told[0].startswith(first)
         assert round_traps({**facts, "finger_round_us": 20_000_000}) == round_traps(facts) == []
 
     def test_limits_that_seeds_cannot_show(self) -> None:

@@ -50,8 +50,8 @@ def judged(manifest: dict[str, Any]) -> str:
     begin, end = warmup or "the start", f"{cooldown} before the end" if cooldown else "the end"
     return (
         f"Judged: lookups begun from {begin} to {end}, by what becomes of them until the end. "
-        f"Costs: of the time from {begin} to the end. Served and members are those of this span: nodes whose join failed "
-        "stay away, so that a longer run may serve less."
+        f"Costs: of the time from {begin} to the end. Served and members are those of this span: nodes whose join "
+        "failed stay away, so that a longer run may serve less."
     )
 
 

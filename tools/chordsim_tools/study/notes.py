@@ -46,7 +46,8 @@ NOTES = {
         "a trace has no line for a message that arrives: every call makes a request, a timeout and mostly a reply, so "
         "the events that are neither timers nor commands say how many calls there were. The estimate is off by "
         f"{ERROR} at most, as far as it was tried against the reference simulator, if the ring is kept for 40 timeouts "
-        f"and 30 periods. Goals and comparisons allow for {ERROR}. Tables of older tools have estimates in profile 4 too.",
+        f"and 30 periods. Goals and comparisons allow for {ERROR}. Tables of older tools have estimates in profile 4 "
+        "too.",
     "upkeep": "**upkeep**: the messages that are no steps of lookups.",
     "events": "**events**: all events of the run. They are counted.",
     "bytes": "**bytes**: the messages of each kind times their size in `[sizes]`.",
@@ -99,6 +100,6 @@ def difference_note(number: str, sizes: list[int], worlds: list[str]) -> str:
         f"{ALL if number == 'served' else KEPT} The intervals hold for all {pairs} pairs of settings{same} together "
         "(Bonferroni). The best one is that of the answer above, or else the nearest to the goal. Without a goal it is "
         "the one that kept most rings, and of these served most. `not told apart`: the interval reaches 0, and "
-        f"{tests}. `no interval`: too few seeds say anything of it, which is no sign that the two are alike. `all rings "
-        "lost`: the setting has no ring to compare, and is never the best one."
+        f"{tests}. `no interval`: too few seeds say anything of it, which is no sign that the two are alike. `all "
+        "rings lost`: the setting has no ring to compare, and is never the best one."
     )

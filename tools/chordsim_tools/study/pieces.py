@@ -11,7 +11,7 @@ COLUMN = "pieces-us-"
 
 
 def ranked(times: list[int], lost: int, share: int) -> str:
-    """A percentile of the times by nearest rank, in which a lookup without an answer never ends; empty if there is none."""
+    """A percentile of the times by nearest rank, or nothing. A lookup without an answer never ends."""
     count = len(times) + lost
     place = (count * share + 99) // 100
     return str(times[place - 1]) if LEAST_LOOKUPS[share] <= count and place <= len(times) else ""

@@ -28,7 +28,8 @@ def churn_trap(generate: list[str] | None, vary: Mapping[str, Any]) -> list[str]
     if not churn:
         return []
     remedy = STATIONARY if churn[0] == CHURN[0] else f"{CHURN[0]} with {STATIONARY}"
-    return [f"{churn[0]} without {STATIONARY}: all nodes are new at the start, so that crashes come in waves; set {remedy}"]
+    text = f"{churn[0]} without {STATIONARY}: all nodes are new at the start, so that crashes come in waves"
+    return [f"{text}; set {remedy}"]
 
 
 def value_in(study: Study, setting: Setting, key: str) -> int:
@@ -53,7 +54,7 @@ def longest_round(study: Study) -> int:
 
 
 def round_traps(manifest: Mapping[str, Any]) -> list[str]:
-    """That a warm-up, if there is one, or a judged span is below one round of fingers. Older manifests know no rounds."""
+    """That a warm-up, if there is one, or a judged span is below one round of fingers, if the manifest has it."""
     micros, duration = manifest.get("finger_round_us"), manifest.get("duration_us")
     if micros is None or duration is None:
         return []
@@ -73,8 +74,8 @@ def seeds_traps(study: Study) -> list[str]:
     needs = {one: seeds_to_show(one.value) for one in limits if is_wild(one.number)}
     most = len(study.seeds) if study.precision is None else study.precision.most_seeds
     return [
-        f"[goal] {one.number}_min = {one.value:g} cannot be shown by {most} seeds: it takes {seeds} or more, as a world "
-        "that serves nothing may be missing among fewer" for one, seeds in needs.items() if most < seeds
+        f"[goal] {one.number}_min = {one.value:g} cannot be shown by {most} seeds: it takes {seeds} or more, as a "
+        "world that serves nothing may be missing among fewer" for one, seeds in needs.items() if most < seeds
     ]
 
 

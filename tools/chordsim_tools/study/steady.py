@@ -206,8 +206,9 @@ def steadiness(tables: Tables, found: list[Summary], named: set[str]) -> str:
         more = f"; and {len(strong) - MOST_TOLD} more" if len(strong) > MOST_TOLD else ""
         listed = "; ".join(one.told() for one in strong[:MOST_TOLD])
         return f"**Not steady** in the judged span: {listed}{more}.{blind}{left}"
+    units = {number: unit_of(number) for number in looked.trends}
     told = ", ".join(
-        f"{name_of(number)} {one.told(unit_of(number)[1])} {unit_of(number)[0]}" for number, one in looked.trends.items()
+        f"{name_of(number)} {one.told(units[number][1])} {units[number][0]}" for number, one in looked.trends.items()
     )
     return f"No drift and no waves seen in the judged span. From its begin to its end: {told}.{blind}{left}"
 
