@@ -57,10 +57,12 @@ def read_regions(file: str) -> Regions:
     if not 1 <= len(names) <= MOST or len(set(names)) < len(names) or "" in names:
         raise Refused(f"{file}: the first line has to name 1 to {MOST} different regions")
     if [row[0] for row in rows[1:]] != names or any(len(row) != len(rows[0]) for row in rows):
-        raise Refused(f"{file}: a line for each region is wanted, in the order of the first line, with {len(names)} times")
+        told = f"in the order of the first line, with {len(names)} times"
+        raise Refused(f"{file}: a line for each region is wanted, {told}")
     times = [[time_in(file, names, a, b, rows) for b in range(len(names))] for a in range(len(names))]
     halves = 2 * HALVES[rows[0][0]]
-    micros = tuple(tuple(-(-(times[a][b] + times[b][a]) // halves) for b in range(len(names))) for a in range(len(names)))
+    places = range(len(names))
+    micros = tuple(tuple(-(-(times[a][b] + times[b][a]) // halves) for b in places) for a in places)
     return Regions(file, tuple(names), micros)
 
 
@@ -90,12 +92,13 @@ def placed(regions: Regions) -> Placed:
     count = len(regions.names)
     heights = [-(-regions.micros[place][place] // 2) for place in range(count)]
     wanted = [[max(0.0, regions.micros[a][b] - heights[a] - heights[b]) for b in range(count)] for a in range(count)]
-    draws, side = Draws(1), max(map(max, regions.micros))
+    draws, side = Draws(1), max(max(row) for row in regions.micros)
     starts = [[(float(draws.below(side)), float(draws.below(side))) for _ in range(count)] for _ in range(STARTS)]
     tried = [settled(points, wanted, regions.micros) for points in starts]
     points = min(tried, key=lambda one: stress(one, wanted, regions.micros))
     left, low = min(x for x, _ in points), min(y for _, y in points)
-    places = [Coordinates(round(x - left), round(y - low), height) for (x, y), height in zip(points, heights, strict=True)]
+    pairs = zip(points, heights, strict=True)
+    places = [Coordinates(round(x - left), round(y - low), height) for (x, y), height in pairs]
     return Placed(tuple(places), error_told(regions, places))
 
 
@@ -138,10 +141,11 @@ def error_told(regions: Regions, places: Sequence[Coordinates]) -> str:
     """The greatest relative error of the latencies that follow from coordinates, and of which regions it is."""
     pairs = list(combinations(range(len(places)), 2))
     if not pairs:
-        return "coordinates of 1 region, exact"
+        return "Coordinates of 1 region, exact"
     errors = [abs(places[a].latency_to(places[b]) - regions.micros[a][b]) / regions.micros[a][b] for a, b in pairs]
     worst = max(range(len(pairs)), key=errors.__getitem__)
     a, b = pairs[worst]
     made, asked = places[a].latency_to(places[b]), regions.micros[a][b]
-    text = f"coordinates of {len(places)} regions: latencies between them are off by {100 * errors[worst]:.2g} % at most"
+    most = f"{100 * errors[worst]:.2g} % at most"
+    text = f"Coordinates of {len(places)} regions: latencies between them are off by {most}"
     return f"{text} ({regions.names[a]} to {regions.names[b]}: {made} us one-way, {asked} us in the file)"

@@ -87,7 +87,7 @@ class GroupTest(TestCase):
         words = "--group a:20:lifetime=uniform:3s..3s,down=uniform:1s..1s --group b:20:lifetime=none --group c:20"
         ring = made(words + " --stay 0 --lifetime uniform:7s..7s --down uniform:2s..2s --duration 12s")
         moves = Counter((command.at_us // 10**6, ring.nodes[command.node].name[0]) for command in ring.commands)
-        assert moves == {(3, "a"): 20, (4, "a"): 20, (7, "a"): 20, (8, "a"): 20, (11, "a"): 20, (7, "c"): 20, (9, "c"): 20}
+        assert moves == {**{(second, "a"): 20 for second in (3, 4, 7, 8, 11)}, (7, "c"): 20, (9, "c"): 20}
         alone = made("--group a:4:lifetime=uniform:3s..3s --group b:4 --stay 0 --duration 12s")
         assert {alone.nodes[command.node].name[0] for command in alone.commands} == {"a"}
 
@@ -115,7 +115,8 @@ class GroupTest(TestCase):
 
     def test_arrivals_of_a_group(self) -> None:
         """They have the next names of their group, and its law; without a law they stay."""
-        ring = made("--group a:9:lifetime=uniform:2s..2s,arrivals=30/m --group b:9:arrivals=30/m --stay 0 --duration 1m")
+        words = "--group a:9:lifetime=uniform:2s..2s,arrivals=30/m --group b:9:arrivals=30/m --stay 0 --duration 1m"
+        ring = made(words)
         new = ring.nodes[18:]
         for letter in "ab":
             names = [node.name for node in new if node.name[0] == letter]
@@ -128,10 +129,10 @@ class GroupTest(TestCase):
 
     def test_program_takes_them(self) -> None:
         """A file with all of it is accepted."""
-        words = "--profile 4 --group a:9:lifetime=exp:9s --group b:30:arrivals=1/s --crash b@10s --crash 20%@30s --back 5s"
+        words = "--profile 4 --group a:9:lifetime=exp:9s --group b:30:arrivals=1/s --crash b@10s --crash 20%@30s"
         with tempfile.TemporaryDirectory() as folder:
             file = Path(folder) / "x.toml"
-            assert ended(main, *words.split(), "--duration", "1m", "-o", str(file)) == (0, "", "")
+            assert ended(main, *words.split(), "--back", "5s", "--duration", "1m", "-o", str(file)) == (0, "", "")
             assert checked(file).startswith("ok nodes=")
 
 

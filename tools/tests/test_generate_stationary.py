@@ -6,7 +6,8 @@ from statistics import fmean, stdev
 from unittest import TestCase
 
 from chordsim_tools.draws import Distribution, Draws, distribution_of
-from chordsim_tools.generate.command import main, parser_of
+from chordsim_tools.generate.arguments import parser_of
+from chordsim_tools.generate.command import main
 from chordsim_tools.generate.commands import CRASH, JOIN, Streams, commands_of, initial_nodes, lives_of
 from chordsim_tools.generate.equilibrium import mean_of, rest_of
 from chordsim_tools.generate.plan import Plan, check

@@ -4,9 +4,10 @@ from random import Random
 from typing import Any
 from unittest import TestCase
 
-from chordsim_tools.study.answer import goal_told, outward
 from chordsim_tools.study.bounds import level_of, misses, missing_level, reaches
 from chordsim_tools.study.goal import Goal, Limit
+from chordsim_tools.study.goal_words import goal_told
+from chordsim_tools.study.interval import outward
 from chordsim_tools.study.numbers import Summary, summaries
 from chordsim_tools.study.page import page
 from chordsim_tools.study.survival import NEVER
@@ -15,6 +16,7 @@ from tests.test_study_compare import rights, settings
 from tests.test_study_page import GOAL, LIMIT, less_best, setting, told
 
 FEW = "too few seeds with these numbers for a bound."
+TELL = "More seeds may decide: the bounds hold at each look."
 OPEN = "(shown neither to reach the goal nor to miss it)"
 
 
@@ -58,7 +60,7 @@ class MissedGoalTest(TestCase):
     def test_not_decided(self) -> None:
         """The limit lies between both bounds, 94.821 and 95.389 %."""
         text = told(setting(4, 900, 5000), goal=goal(0.951))
-        assert f"Not decided {OPEN}: list=4 (right of begun 95.11 ± 0.21 %). More seeds may decide: the bounds hold at each look." in text
+        assert f"Not decided {OPEN}: list=4 (right of begun 95.11 ± 0.21 %). {TELL}" in text
         assert "is shown to miss it" not in text
 
     def test_two_limits_share_the_risk_of_missing(self) -> None:
@@ -137,7 +139,7 @@ class CheaperTest(TestCase):
         text = told(setting(4, 900, 5000), setting(2, 852, 4000), goal=goal(0.9))
         assert "**list=4** is the setting with the least messages" in text
         head = f"Not decided, with a lower mean of messages per member and second {OPEN}: list=2 (4.04"
-        assert head in text and ", 20 % less; right of begun 90.05 ± 0.21 %). More seeds may decide: the bounds hold at each look." in text
+        assert head in text and f", 20 % less; right of begun 90.05 ± 0.21 %). {TELL}" in text
 
     def test_what_is_not_named(self) -> None:
         """A cheaper one that misses the goal; one that is not decided and costs more; one whose rings are all lost."""

@@ -27,7 +27,8 @@ class CommandTest(TestCase):
     def test_study_file_without_a_command(self) -> None:
         """The command that was likely meant."""
         status, out, told = ended(main, "lists.toml", "-o", "out")
-        wanted = "tools/study: lists.toml is no command: did you mean `tools/study run lists.toml`? (see tools/study --help)\n"
+        wanted = "tools/study: lists.toml is no command: did you mean `tools/study run lists.toml`? (see tools/study "
+        wanted += "--help)\n"
         assert (status, out, told) == (2, "", wanted)
 
     def test_last_lines(self) -> None:

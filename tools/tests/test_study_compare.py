@@ -92,6 +92,14 @@ class StudyCompareTest(TestCase):
         first, second = settings(rights(*range(900, 910)), rights(*range(900, 909), 1))
         assert "the same run in 9 of 10 seeds: at most 40 % of runs differ (95%)" in text_of(Pair(first, second))
 
+    def test_equal_runs_of_two_lists(self) -> None:
+        """What repeats the setting in a row, and the bytes that follow from it, make no other run."""
+        lists = [[{"scenario-list": size, "bytes": 40 * size, "right": 900} for _ in range(5)] for size in (3, 6)]
+        first, second = settings(*lists)
+        assert Pair(first, second).equal() == 5
+        first, second = settings(lists[0], [{**cells, "right": 901} for cells in lists[1]])
+        assert Pair(first, second).equal() == 0
+
     def test_equal_but_for_a_lost_ring(self) -> None:
         """Nothing is called equal without the seed that was left out: served has the mean of all."""
         dead = {"right": 140, "ringless": 1, "lost-at-us": 5}

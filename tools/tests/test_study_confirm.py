@@ -2,7 +2,6 @@
 
 import json
 from dataclasses import replace
-from pathlib import Path
 from typing import Any
 from unittest import TestCase
 
@@ -53,7 +52,7 @@ class ConfirmTest(TestCase):
     def test_fresh_seeds_that_do_not_reach_the_goal(self) -> None:
         """89.42 %, with the limit 90 %: said in bold, with the bound, 89.42 - 3.534 * 0.0804."""
         text = first(made(setting(2, 846, 4500)))
-        assert "**They do not reach the goal by themselves**: right of begun, shown to be at least 89.13 %" in text, text
+        assert "**They do not reach the goal by themselves**: right of begun, shown to be at least 89.13 %" in text
 
     def test_study(self) -> None:
         """Six fresh seeds of the winner in a table of their own; no other table has them, and a second run has none."""
@@ -93,7 +92,8 @@ class OutcomeTest(TestCase):
         assert {one["setting"]: one["verdict"] for one in world["settings"]} == {
             "list=4": "reached", "list=2": "reached", "list=1": "open"}
         limit, losses = world["settings"][1]["limits"]
-        assert (limit["number"], limit["at"], limit["limit"], limit["verdict"]) == ("right_of_begun", "least", 0.9, "reached")
+        words = [limit[word] for word in ("number", "at", "limit", "verdict")]
+        assert words == ["right_of_begun", "least", 0.9, "reached"]
         # t of five degrees is 4.655 at 1 - 0.05 / 3 / 6.
         assert abs(limit["mean"] - 0.951053) < 1e-6 and abs(limit["shown"] - (0.951053 - 4.655 * 0.000804)) < 1e-5
         assert (losses["number"], losses["limit"], losses["verdict"]) == ("rings_lost", 0, "reached")
@@ -114,13 +114,14 @@ class OutcomeTest(TestCase):
         goal = {**GOAL, "limits": [{"number": "p99_ms", "is_least": False, "value": 9.0}]}
         told = json.loads(outcome(tables_of(rows, vary={"list": [1, 2]}, goal=goal)))
         one = told["worlds"][0]["settings"][0]
-        assert one["verdict"] == "open" and one["limits"][0]["shown"] is one["limits"][0]["mean"] is one["cost"]["low"] is None
+        limit = one["limits"][0]
+        assert one["verdict"] == "open" and limit["shown"] is limit["mean"] is one["cost"]["low"] is None
 
     def test_report_writes_it(self) -> None:
         """Beside the page, also without a goal."""
         with study_folder() as folder:
             assert call(folder) == (0, "") and said("report", folder / "study")[0] == 0
-            told = json.loads(Path(folder / "study" / "answer.json").read_text())
+            told = json.loads((folder / "study" / "answer.json").read_bytes())
             assert told["worlds"] == [] and told["goal"] is None and told["question"] == "How?"
 
 

@@ -40,7 +40,8 @@ class StudyGoalTest(TestCase):
     def test_the_nearest(self) -> None:
         """Of 0.1 % that may be wrong 0.15 % are half as much too many, and 818 ms are 2.25 % above 800."""
         rows = [row(list=1, seed=seed, **{"all-us-p99": 818_000}) for seed in range(1, 7)]
-        rows += [row(list=2, seed=seed, **{"judged-found": 100_000, "judged-lost": 0, "right": 99_850}) for seed in range(1, 7)]
+        wrong_ones = {"judged-found": 100_000, "judged-lost": 0, "right": 99_850}
+        rows += [row(list=2, seed=seed, **wrong_ones) for seed in range(1, 7)]
         for one in rows[:6]:
             one |= {"judged-found": "100000", "judged-lost": "0", "right": "99900"}
         for one in rows[6:]:

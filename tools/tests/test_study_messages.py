@@ -78,7 +78,7 @@ class StudyMessagesTest(TestCase):
                 self.check(shortened(f"{name}.toml", seconds * 1_000_000))
 
     def test_round_trips_above_the_period(self) -> None:
-        """A member whose stabilization waits for a reply skips the next one: one of 400 ms lasts two turns of 250 ms."""
+        """A member whose stabilization waits for a reply skips the next one: 400 ms last two turns of 250 ms."""
         words = "--nodes 12 --duration 45s --window 1ms --timeout 1s --audit 5s --stabilize 250ms --finger 1s"
         for more in (
             "--latency 200ms --jitter 50ms --lookup-gap 5s..15s", "--latency 200ms --jitter 0us",
@@ -96,7 +96,8 @@ class StudyMessagesTest(TestCase):
         for seed in range(8):
             draws = Random(seed)
             latency, timeout = draws.choice([20, 130, 300]), draws.choice([650, 1000])
-            words = f"--nodes {draws.randint(8, 20)} --duration 45s --window 1ms --audit 5s --finger 500ms --jitter 50ms "
+            words = f"--nodes {draws.randint(8, 20)} --duration 45s --window 1ms --audit 5s --finger 500ms "
+            words += "--jitter 50ms "
             words += f"--latency {latency}ms --timeout {timeout}ms --stabilize {draws.choice([250, 400, 1000])}ms "
             words += draws.choice(["", "--profile 2 --loss 10000 ", "--profile 2 --spread 40ms "])
             words += draws.choice(["", "--lifetime exp:40s --down exp:8s", "--churn-uniform 20s..60s 5s..15s"])

@@ -98,15 +98,15 @@ class CoordinateFilesTest(TestCase):
     def test_changed_file(self) -> None:
         """After a change of the file the report says so, on the page too; the runs are those of the old file."""
         with study_folder(GENERATED.format(law="file:places.csv")) as folder:
-            places, page = folder / "places.csv", folder / "study" / "report.md"
+            places, report = folder / "places.csv", folder / "study" / "report.md"
             places.write_text(PLACES)
             assert call(folder, chordsim=program()) == (0, "")
             assert said("report", folder / "study") == (0, "")
-            assert "(by the coordinates in places.csv)" in page.read_text() and "has changed" not in page.read_text()
+            assert "(by the coordinates in places.csv)" in report.read_text() and "changed" not in report.read_text()
             places.write_text(PLACES.replace("5000", "6000"))
             status, text = said("report", folder / "study")
             assert status == 0 and text.startswith(f"warning: {places} has changed since the study was run"), text
-            assert "**places.csv has changed since the study was run.**" in page.read_text()
+            assert "**places.csv has changed since the study was run.**" in report.read_text()
 
     def test_changed_base(self) -> None:
         """A base is noticed too; a file that is gone, or a study that was never run again, is not."""

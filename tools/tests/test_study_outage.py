@@ -8,7 +8,7 @@ from unittest import TestCase
 
 from chordsim_tools.cli import Refused
 from chordsim_tools.files import sum_of
-from chordsim_tools.study.head import worlds
+from chordsim_tools.study.head import worlds as worlds_told
 from chordsim_tools.study.network import input_sums
 from chordsim_tools.study.plan import Study, read_study
 from chordsim_tools.study.worlds import latency_of, scenario_of
@@ -62,14 +62,14 @@ class StudyOutageTest(TestCase):
             worlds = [tomllib.loads(scenario_of(study, first, seed)) for seed in (1, 2, 3)]
             again = tomllib.loads(scenario_of(study, second, 1))
         shares = [crashed(top, 20_000_000) for top in worlds]
-        assert all(4 <= len(names) <= 7 for names in shares) and len(set(map(tuple, shares))) == 3
+        assert all(4 <= len(names) <= 7 for names in shares) and len({" ".join(names) for names in shares}) == 3
         regions = [crashed(top, 40_000_000) for top in worlds]
         assert all(names and all(name.startswith("us-") for name in names) for names in regions)
         assert len({len(top["node"]) for top in worlds} | {0}) > 2
         assert len({top["node"][0]["id"] for top in worlds}) == 3
         assert (again["command"], again["list"]) == (worlds[0]["command"], 4)
-        assert {(node["x_us"], node["y_us"], node["height_us"]) for node in again["node"] if node["name"][0] == "e"} == {
-            (worlds[0]["node"][0]["x_us"], worlds[0]["node"][0]["y_us"], 500)}
+        places = {(node["x_us"], node["y_us"], node["height_us"]) for node in again["node"] if node["name"][0] == "e"}
+        assert places == {(worlds[0]["node"][0]["x_us"], worlds[0]["node"][0]["y_us"], 500)}
 
     def test_rows_between_regions(self) -> None:
         """A file of latencies between regions is beside the study file, and the names are those of the scenario."""
@@ -107,9 +107,9 @@ class StudyOutageTest(TestCase):
     def test_page_says_what_is_the_same(self) -> None:
         """Identifiers by names, measured churn and latencies between regions are the same in all seeds."""
         words = ["--churn-trace", "up.csv", "--ids", "names", "--coordinates", "regions:r.csv"]
-        told = worlds({**MANIFEST, "base": None, "generate": words, "commands": {"crash": 2}})
+        told = worlds_told({**MANIFEST, "base": None, "generate": words, "commands": {"crash": 2}})
         assert "New in each: timers and random keys, the nodes that others join through. **The same in all: " in told
         assert "identifiers, lives (up.csv), latencies (by the coordinates in r.csv).**" in told
-        rows = worlds({**MANIFEST, "base": None, "generate": [], "latency_arguments": ["--regions", "r.csv"]})
-        assert "New in each: timers and random keys, identifiers. **The same in all: latencies (between the regions of " \
-            "r.csv).**" in rows
+        rows = worlds_told({**MANIFEST, "base": None, "generate": [], "latency_arguments": ["--regions", "r.csv"]})
+        assert "New in each: timers and random keys, identifiers. **The same in all: " in rows
+        assert "latencies (between the regions of r.csv).**" in rows

@@ -181,8 +181,8 @@ class StudyPageTest(TestCase):
         wanted: dict[str, Any] = {"number": "right_of_begun", "half": 0.01, "least_seeds": 5, "most_seeds": 9}
         reached = told(setting(1, 900, 5000), precision=wanted)
         assert "Stopped at 6 seeds by [precision]: right_of_begun to ± 1 points" in reached
-        for other in ({"half": 0.0001}, {"number": "served"}):
-            assert "Stopped at most_seeds, 6" in told(setting(1, 900, 5000), precision={**wanted, **other})
+        for key, value in (("half", 0.0001), ("number", "served")):
+            assert "Stopped at most_seeds, 6" in told(setting(1, 900, 5000), precision={**wanted, key: value})
 
     def test_precision_of_a_number_that_no_run_has(self) -> None:
         """A number without an interval is not narrow."""

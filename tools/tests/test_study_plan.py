@@ -154,7 +154,7 @@ class StudyPlanTest(TestCase):
         """The study file of docs/studies.md is one, and the program accepts its first world."""
         text = (EXAMPLES.parent / "docs" / "studies.md").read_text().partition("```toml\n")[2].partition("```")[0]
         study = in_folder(text)
-        assert len(study.settings()) == 6 and study.seeds == list(range(1, 21))
+        assert len(study.settings()) == 8 and study.seeds == list(range(1, 21))
         with tempfile.TemporaryDirectory() as name:
             scenario, rows = Path(name) / "world.toml", Path(name) / "rows.csv"
             scenario.write_text(scenario_of(study, study.settings()[0], 1))

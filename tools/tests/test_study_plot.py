@@ -22,11 +22,11 @@ from chordsim_tools.study.front import BELOW, LOST, ON, UNSURE, Plane, spots_of
 from chordsim_tools.study.layout import layout_of
 from chordsim_tools.study.looks import Axis, look_of, setting_words, value_words
 from chordsim_tools.study.numbers import groups
-from chordsim_tools.study.overtime import network_of, pieces, points_of, share_right
+from chordsim_tools.study.overtime import network_of, percent, pieces, points_of
 from chordsim_tools.study.tables import Tables
 from tests.test_study_run import TOOL, call, study_folder
 
-PLOTS = [f"{name}.{form}" for name in ("cost", "right", "times", "network", "cdf") for form in ("png", "svg")]
+PLOTS = [f"{name}.{form}" for name in ("cost", "right", "times", "network", "cdf", "tail") for form in ("png", "svg")]
 VARY: dict[str, list[int]] = {"list": [2, 4, 8], "stabilize_us": [1, 5, 15, 30, 60], "loss_ppm": [0, 10000]}
 
 
@@ -85,7 +85,7 @@ class StudyPlotTest(TestCase):
             assert not list((folder / "study").glob("*.png"))
 
     def test_same_bytes(self) -> None:
-        """Ten files, the same each time, without a date; and one of a column."""
+        """Twelve files, the same each time, without a date; and one of a column."""
         python = python_with_packages()
         with study_folder() as folder:
             call(folder)
@@ -210,7 +210,7 @@ class OverTimeTest(TestCase):
 
     def test_steps_with_few_seeds(self) -> None:
         """A step with one or two seeds is dashed, and has no interval; the band is cut at 100%."""
-        points = points_of(self.lines(6, 6, 2, 1, 0, 6), share_right, 100)
+        points = points_of(self.lines(6, 6, 2, 1, 0, 6), percent("right", "found"), 100)
         assert [point[4] for point in points] == [6, 6, 2, 1, 6]
         found: list[tuple[bool, list[float]]] = [(few, [point[0] for point in part]) for few, part in pieces(points)]
         assert found == [(False, [0, 1]), (True, [1, 2, 3, 5]), (False, [5])]
@@ -258,7 +258,7 @@ class CurvesTest(TestCase):
         def told(*steps: dict[str, str]) -> tuple[str, list[str]]:
             """The title and the labels."""
             title, quantities = network_of(list(steps))
-            return title, [label.split("\n")[0] for label, _, _ in quantities]
+            return title, [quantity.label.split("\n")[0] for quantity in quantities]
 
         quiet, lossy = {"timeouts": "0", "losses": "0"}, {"timeouts": "1", "losses": "2"}
         assert told(quiet) == ("Timeouts over time (no message is lost)", ["timeouts"])

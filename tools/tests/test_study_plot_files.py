@@ -9,7 +9,7 @@ from unittest import TestCase
 from unittest.mock import Mock, patch
 
 from chordsim_tools.study.plot import write_plots
-from chordsim_tools.study.plot_files import FORMS, NAME, PLOTS, origin_of, write_origins
+from chordsim_tools.study.plot_files import FORMS, NAME, NEEDS, PLOTS, origin_of, write_origins
 from chordsim_tools.study.so_far import tables_of
 from tests.test_study_plot import plot, python_with_packages
 from tests.test_study_run import STUDY, TOP, call, said, study_folder
@@ -68,18 +68,22 @@ class PlotFilesTest(TestCase):
             draw(folder, "times", "cost")
             text = page_of(folder)
             assert linked(text) == ["times", "cost"]
-            assert "Plots that are not there or are of other tables: right, network, cdf. `tools/study plot" in text
+            assert "Plots that are not there or are of other tables: right, network, cdf, tail. `tools/study plot" in text
             (folder / "study.toml").write_text(STUDY)
             call(folder)
-            assert linked(page_of(folder)) == ["right", "network", "cdf"]
+            assert linked(page_of(folder)) == ["right", "network", "cdf", "tail"]
 
     def test_a_file_that_is_gone(self) -> None:
-        """A plot needs both of its files."""
+        """A plot needs its picture; without its SVG the page has no link to that."""
         with study_folder() as folder:
             call(folder)
             draw(folder, *PLOTS)
+            (folder / "study" / "right.png").unlink()
             (folder / "study" / "right.svg").unlink()
-            assert linked(page_of(folder)) == ["times", "cost", "network", "cdf"]
+            assert linked(page_of(folder)) == ["times", "cost", "network", "cdf", "tail"]
+            (folder / "study" / "cost.svg").unlink()
+            text = page_of(folder)
+            assert "](cost.png)" in text and "](cost.svg)" not in text and "](cdf.svg)" in text
 
     def test_plots_of_an_older_tool(self) -> None:
         """Without plots.json those count that are no older than runs.csv."""
@@ -154,11 +158,12 @@ class PlotFilesTest(TestCase):
             assert linked(page_of(folder)) == list(PLOTS)
 
     def test_examples(self) -> None:
-        """Their plots are of their tables."""
+        """Their plots are of their tables, and all are there that the tables have the numbers for."""
         for name in ("study", "loss", "retries"):
             folder = TOP / "examples" / name
             drawn = tables_of(folder)
             origins = json.loads((folder / NAME).read_text())
             wanted = origin_of(drawn.tables.manifest, "")
-            assert [origins[plot]["tables"] for plot in PLOTS] == [wanted.tables] * len(PLOTS)
-            assert linked((folder / "report.md").read_text()) == list(PLOTS)
+            names = [plot for plot in PLOTS if NEEDS.get(plot, "runs.csv") in drawn.tables.manifest["sha256"]]
+            assert len(names) >= 5 and [origins[plot]["tables"] for plot in names] == [wanted.tables] * len(names)
+            assert linked((folder / "report.md").read_text()) == names

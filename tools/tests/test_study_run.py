@@ -405,13 +405,13 @@ class StudyRunTest(TestCase):
         """A list of 9 needs ten nodes; latencies and coordinates exclude each other. Both name the setting."""
         program()
         lists = 'generate = ["--nodes", "8", "--duration", "20s"]\n[vary]\nlist = [1, 9]\n'
-        king = '["--profile", "4", "--nodes", "8", "--duration", "20s", "--coordinates", "king", "--timeout", "400ms"]\n'
-        both = f'generate = {king}latency = ["--plane", "60ms"]\n'
+        king = '"--profile", "4", "--nodes", "8", "--duration", "20s", "--coordinates", "king", "--timeout", "400ms"'
+        both = f'generate = [{king}]\nlatency = ["--plane", "60ms"]\n'
         for text, told in (
-            (lists, "the setting list=9 is refused: S10 TooFewInitial: too few nodes are members at the start: list = 9, and "
-                    "8 nodes are initial; allowed: list + 1 = 10 initial nodes or more"),
-            (both, "the setting base is refused: the nodes have coordinates and there are latencies: drop `latency`, or "
-                   "--coordinates of `generate`"),
+            (lists, "the setting list=9 is refused: S10 TooFewInitial: too few nodes are members at the start: list = "
+                    "9, and 8 nodes are initial; allowed: list + 1 = 10 initial nodes or more"),
+            (both, "the setting base is refused: the nodes have coordinates and there are latencies: drop `latency`, "
+                   "or --coordinates of `generate`"),
         ):
             with study_folder('question = "How?"\nseeds = 1\n' + text) as folder:
                 assert call(folder, chordsim=program()) == (1, f"refused: {folder}/study.toml: {told}")

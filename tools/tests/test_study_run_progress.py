@@ -50,7 +50,7 @@ class ProgressTest(TestCase):
         )
 
     def test_settings_that_differ(self) -> None:
-        """Two runs of a setting took 10 s each, side by side. Two of another one, of ten times the weight, take 100 s each."""
+        """Two runs of a setting took 10 s each, side by side. Two of another one weigh ten times as much: 100 s."""
         clock = Clock()
         load = Load([("fast", 1.0), ("fast", 1.0), ("slow", 10.0), ("slow", 10.0)])
         progress = RunProgress(4, 0, clock, load)

@@ -5,7 +5,7 @@ from unittest import TestCase
 from chordsim_tools.messages import MESSAGES
 from chordsim_tools.study.formula import BadFormula, value_of
 from chordsim_tools.study.numbers import summaries
-from chordsim_tools.study.sizes import bytes_of
+from chordsim_tools.study.sizes import Sizes, bytes_of
 from tests.support.studies import row, tables_of
 from tests.test_study_plan import HEAD, SEEDS, in_folder
 
@@ -32,7 +32,8 @@ class StudySizesTest(TestCase):
             ("nodes", "'nodes' is not allowed"), ("__import__('os')", "'__import__' is not allowed"),
             ("1.5 * list", "'1.5' is not allowed"), ("list / 2", "'/' is not allowed"), ("", "it ends too early"),
             ("(list", "a parenthesis is not closed"), ("list)", "')' stands where it may not"),
-            ("-1", "'-' stands where it may not"), ("1" * 10, "is not allowed"), ("1+" * 70, "more than 120 characters"),
+            ("-1", "'-' stands where it may not"), ("1" * 10, "is not allowed"),
+            ("1+" * 70, "more than 120 characters"),
             ("(" * 60 + "list", "a parenthesis is not closed"),
         ):
             try:
@@ -62,7 +63,7 @@ class StudySizesTest(TestCase):
 
     def test_bytes_grow_with_the_list(self) -> None:
         """Ten messages of each kind in 1,000 s of members: with 8 entries 0.08 + 10 * (40 + 160) / 1,000 a second."""
-        sizes = {**dict.fromkeys(MESSAGES, 1), "state-reply": "40 + 20 * list"}
+        sizes: Sizes = {**{kind: 1 for kind in MESSAGES}, "state-reply": "40 + 20 * list"}
         rows = [row(list=size, seed=1) | {"scenario-list": str(size), "scenario-bits": "32"} for size in (2, 8)]
         assert [bytes_of(sizes, cells) for cells in rows] == [80 + 800, 80 + 2000]
         found = summaries(tables_of(rows, vary={"list": [2, 8]}, sizes=sizes))

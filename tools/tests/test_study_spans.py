@@ -9,7 +9,7 @@ from chordsim_tools.study.page import page
 from chordsim_tools.study.served import Scope
 from chordsim_tools.study.trace import TraceReader
 from tests.support.studies import row, table_of, tables_of, unwrapped
-from tests.test_study_plan import HEAD, SEEDS, in_folder
+from tests.test_study_plan import HEAD, MADE, SEEDS, in_folder
 
 SPAN = '[span.outage]\nfrom = "100us"\nto = "150us"\n'
 LINES = (
@@ -71,8 +71,9 @@ class StudySpansTest(TestCase):
 
     def test_a_span_changes_nothing_else(self) -> None:
         """The numbers of the whole are those without a span."""
+        both: list[dict[str, Scope]] = [{}, {"outage": Scope(250, 100, 100, 100)}]
         readers = [TraceReader(Members({"a": 10, "b": 20, "c": 30}, ["a", "b", "c"]), Scope(250, 100), spans)
-                   for spans in ({}, {"outage": Scope(250, 100, 100, 100)})]
+                   for spans in both]
         for reader in readers:
             for line in LINES:
                 reader.read(line)
@@ -81,7 +82,8 @@ class StudySpansTest(TestCase):
 
     def test_study_file(self) -> None:
         """The ends of a span, and its limits after those of [goal]."""
-        study = in_folder(HEAD + SEEDS + "[goal]\nserved_min = 0.5\n" + SPAN + "[span.outage.goal]\np99_ms_max = '2s'\n")
+        goal = "[goal]\nserved_min = 0.5\n"
+        study = in_folder(HEAD + SEEDS + goal + SPAN + "[span.outage.goal]\np99_ms_max = '2s'\n")
         assert study.spans == {"outage": (100, 150)}
         assert study.goal.limits == (Limit("served", True, 0.5), Limit("outage.p99_ms", False, 2000.0))
         alone = in_folder(HEAD + SEEDS + SPAN + "[span.outage.goal]\nserved_min = 0.5\n")
@@ -101,12 +103,18 @@ class StudySpansTest(TestCase):
             (SPAN + "till = 1\n", "[span.outage] till: a span has from, to and [span.outage.goal]"),
             (SPAN + "goal = 1\n", "[span.outage.goal] has to be a table"),
             (goal + "least = 'hops'\n", "[span.outage.goal] least: rings lost, costs and `least` are of [goal]"),
-            (goal + "messages_max = 1\n", "[span.outage.goal] messages_max: rings lost, costs and `least` are of [goal]"),
+            (goal + "messages_max = 1\n", "[span.outage.goal] messages_max: rings lost, costs and `least` are of"),
             (goal + "p99_max = 1\n", "did you mean `p99_ms_max`?"),
         ):
             with self.subTest(study=text):
                 answer = in_folder(HEAD + SEEDS + text)
                 assert isinstance(answer, str) and wanted in answer, answer
+
+    def test_runs_of_several_lengths(self) -> None:
+        """A span has to end before the shortest of them does, also if tools/generate makes them."""
+        made = MADE + SEEDS + '[vary]\n"--duration" = ["9s", "5s"]\n[span.outage]\nfrom = "2s"\nto = '
+        assert in_folder(made + '"5s"\n').spans == {"outage": (2_000_000, 5_000_000)}
+        assert in_folder(made + '"6s"\n').endswith("[span.outage] to (6s) is after the end of the run (5s)")
 
     def test_an_answer_needs_all_spans(self) -> None:
         """Lists of 2 reach the limit of the whole, and lists of 4 that of the outage too."""
@@ -123,5 +131,5 @@ class StudySpansTest(TestCase):
         cells = table_of(text, "Span outage")["list=2"]
         assert cells["p99, ms"] == "4000.0035 ± 0.0020" and cells["defensible, %"].startswith("96.84")
         assert cells["members, %"].startswith("98 (") and cells["members, %"].endswith("..99.1)")
-        assert "Of the lookups that began from 360s to 420s." in text
+        assert "Of the lookups that began from 360s to 420s, 1000 to 1000 in a run." in text
         assert table_of(text, "Settings")["list=2"]["p99, ms"] == "2000"

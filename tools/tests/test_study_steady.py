@@ -2,12 +2,15 @@
 
 from collections.abc import Callable
 from random import Random
+from typing import Any
 from unittest import TestCase
 
 from chordsim_tools.study.numbers import summaries
+from chordsim_tools.study.pieces import PieceTimes
 from chordsim_tools.study.page import page
 from chordsim_tools.study.plan import read_study
-from chordsim_tools.study.starts import churn_trap, longest_round, round_traps
+from chordsim_tools.study.served import Scope
+from chordsim_tools.study.starts import churn_trap, longest_round, round_traps, seeds_traps
 from chordsim_tools.study.steady import look
 from chordsim_tools.study.tables import Tables
 from tests.support.studies import row, tables_of, unwrapped
@@ -19,18 +22,18 @@ Shares = Callable[[int, int, int], float]
 """The share of members for a list, a seed and a step."""
 
 
-def study_of(members: Shares, sizes: int = 1, seeds: int = 6, lost: int = 0, **changes: object) -> Tables:
+def study_of(members: Shares, sizes: int = 1, seeds: int = 6, lost: int = 0, **changes: Any) -> Tables:
     """A study of 120 s with steps of 10 s and a million nodes, in which only the members change."""
     runs, series = [], []
     for size in range(1, sizes + 1):
         for seed in range(1, seeds + 1):
-            cells = {"ringless": 1, "lost-at-us": 5} if seed <= lost else {}
-            runs.append(row(list=size, seed=seed, **{"duration-us": 120_000_000}, **cells))
+            cells: dict[str, Any] = {"ringless": 1, "lost-at-us": 5} if seed <= lost else {}
+            runs.append(row(**{"list": size, "seed": seed, "duration-us": 120_000_000, **cells}))
             for step in range(STEPS):
                 series.append({
                     "list": str(size), "seed": str(seed), "from_us": str(10_000_000 * step), "lookups": "100",
-                    "found": "100", "right": "99", "members": str(round(NODES * members(size, seed, step))), "ended": "100",
-                    "right-of-ended": "99", "wanted": "110",
+                    "found": "100", "right": "99", "members": str(round(NODES * members(size, seed, step))),
+                    "ended": "100", "right-of-ended": "99", "wanted": "110",
                 })
     tables = tables_of(runs, vary={"list": list(range(1, sizes + 1))}, **{"nodes": NODES, **changes})
     return Tables(tables.manifest, runs, series)
@@ -69,17 +72,18 @@ class SteadyTest(TestCase):
         draws = Random(5)
         text = sentence(study_of(lambda *_: 0.9 + draws.gauss(0, 0.01), goal=goal))
         assert text.startswith("No drift and no waves seen in the judged span."), text
-        assert "served 0, right of begun 0, members " in text and text.endswith("Not looked at: messages, p99.")
+        assert "From its begin to its end: served 0 points, right of begun 0 points, members " in text
+        assert text.endswith("Not looked at: messages, p99.")
 
     def test_false_alarms(self) -> None:
         """Of steady studies of four settings about one in twenty, or fewer, is said not to be steady."""
         draws = Random(9)
-        count = 0
+        worlds = {seed: draws.gauss(0.8, 0.03) for seed in range(1, 9)}
+        alarms = []
         for _ in range(120):
-            worlds = {seed: draws.gauss(0.8, 0.03) for seed in range(1, 9)}
             tables = study_of(lambda _, seed, step: worlds[seed] + draws.gauss(0, 0.01), 4, 8)
-            count += bool(look(tables, summaries(tables)).changes)
-        assert count <= 12, count
+            alarms.append(bool(look(tables, summaries(tables)).changes))
+        assert sum(alarms) <= 12, sum(alarms)
 
     def test_a_common_drift_is_seen_in_the_mean_of_the_settings(self) -> None:
         """A drift of three points that no setting shows by itself."""
@@ -105,14 +109,44 @@ class SteadyTest(TestCase):
         assert "served" not in sentence(tables)
 
 
+    def test_times_of_the_goal(self) -> None:
+        """If the goal names p99 it is looked at: 2,000 ms in the first piece, and 50 ms more in each of the next."""
+        limits = [{"number": "p99_ms", "is_least": False, "value": 3000.0}]
+        tables = study_of(lambda *_: 0.9, goal={"limits": limits, "lost_max": None, "least": "messages"})
+        for cells in tables.runs:
+            times = [2_000_000 + 50_000 * place + 1000 * int(cells["seed"]) * (place % 2) for place in range(6)]
+            cells["pieces-us-p99"] = " ".join(map(str, times))
+        text = sentence(tables)
+        # Seeds add s ms to every second piece: s * 5 / 17.5 * (-1.5 + 0.5 + 2.5), on average 1.5 ms.
+        assert "**Not steady** in the judged span: p99 +251.5" in text and "Not looked at: messages." in text, text
+
+
+class PiecesTest(TestCase):
+    """Times of lookups in the six pieces of the judged span."""
+
+    def test_percentiles(self) -> None:
+        """Ten lookups in each piece of 100 us from 100 on; in the second one five have no answer, in the third six."""
+        pieces = PieceTimes(Scope(800, 100, 100, 100))
+        for place in range(-1, 7):
+            for number in range(10):
+                begin, taken = 100 + 100 * place + number, 20 + 10 * place + number
+                end = "lost 5" if number >= 10 - {1: 5, 2: 6}.get(place, 0) else "found 5 n1"
+                pieces.read(f"{begin + taken} n0 {end} hops=1 timeouts=0 us={taken}")
+        # By nearest rank the fifth of ten, which the third piece does not have.
+        assert pieces.numbers() == {"pieces-us-p50": None, "pieces-us-p90": None, "pieces-us-p99": None}
+        pieces.lost[2], pieces.times[2] = 5, [40, 41, 42, 43, 44]
+        assert pieces.numbers()["pieces-us-p50"] == "24 34 44 54 64 74"
+
+
 class StartTest(TestCase):
     """What does not last."""
 
     def test_churn(self) -> None:
         """Lives of tools/generate need --stationary, in the arguments or in [vary]."""
         life = ["--nodes", "8", "--lifetime", "exp:40s"]
-        [told] = churn_trap(life, {})
-        assert told.startswith("--lifetime without --stationary: all nodes are new at the start, so that crashes come")
+        told = churn_trap(life, {})
+        first = "--lifetime without --stationary: all nodes are new at the start, so that crashes come"
+        assert len(told) == 1 and told[0].startswith(first)
         assert "set --lifetime with --stationary" in churn_trap(["--churn-uniform", "1s..2s", "1s..2s"], {})[0]
         assert churn_trap(["--nodes=8"], {"generate.--lifetime": ["exp:4s"]})
         for quiet in ([*life, "--stationary"], ["--nodes", "8"], None):
@@ -132,13 +166,24 @@ class StartTest(TestCase):
     def test_short_rounds(self) -> None:
         """A warm-up and a judged span of 20 s, and rounds of 20 and 21 s."""
         facts = {"duration_us": 45_000_000, "warmup_us": 20_000_000, "cooldown_us": 5_000_000}
-        [told] = round_traps({**facts, "finger_round_us": 21_000_000})
-        assert told.startswith("warmup_us (20s) and the judged span (20s) are below one round of fingers, 21s: (bits")
+        told = round_traps({**facts, "finger_round_us": 21_000_000})
+        first = "warmup_us (20s) and the judged span (20s) are below one round of fingers, 21s: (bits"
+        assert len(told) == 1 and told[0].startswith(first)
         assert round_traps({**facts, "finger_round_us": 20_000_000}) == round_traps(facts) == []
+
+    def test_limits_that_seeds_cannot_show(self) -> None:
+        """Ten worlds show 0.025 ** 0.1 = 69.1 % served at most, and 90 % takes ln 40 / -ln 0.9 = 35.01 of them."""
+        for limit, wanted in ((0.69, 0), (0.7, 1), (0.9, 1)):
+            text = STUDY.replace("seeds = [1, 2]", "seeds = 10") + f"[goal]\nserved_min = {limit}\n"
+            with study_folder(text) as folder:
+                told = seeds_traps(read_study(folder / "study.toml"))
+                assert len(told) == wanted, (limit, told)
+        assert told[0].startswith("[goal] served_min = 0.9 cannot be shown by 10 seeds: it takes 36 or more")
 
     def test_before_the_first_run(self) -> None:
         """Both are told on standard error, and on the page. The round is 15 times 275 ms."""
-        text = 'question = "How?"\nseeds = 2\nwarmup_us = "4s"\ngenerate = ["--nodes", "16", "--bits", "16", "--duration", "20s", '
+        text = 'question = "How?"\nseeds = 2\nwarmup_us = "4s"\ngenerate = ["--nodes", "16", "--bits", "16", '
+        text += '"--duration", "20s", '
         with study_folder(text + '"--lifetime", "exp:40s", "--stay", "2"]\n') as folder:
             status, _, told = called(folder)
             assert status == 0 and "warning: --lifetime without --stationary" in told, told

@@ -131,9 +131,9 @@ class StudyTablesTest(TestCase):
 
     def test_names(self) -> None:
         """A number has the name of its key, in headers and in sentences."""
-        others = {"p999_ms": "p99.9", "mean_ms": "mean time", "hops": "hops a lookup", "timeouts": "timeouts a lookup"}
+        words = {"p999_ms": "p99.9", "mean_ms": "mean time", "hops": "hops a lookup", "timeouts": "timeouts a lookup"}
         for number in NUMBERS:
-            assert NAMES[number] == others.get(number, number.removesuffix("_ms").replace("_", " "))
+            assert NAMES[number] == words.get(number, number.removesuffix("_ms").replace("_", " "))
         assert in_words("upkeep") == "upkeep per member and second" and in_words("p99_ms") == "p99"
         assert difference_header("events") == "events less best"
 

@@ -88,8 +88,13 @@ class TroubleTest(TestCase):
         rows = [row(list=2, seed=seed) | {word: str(count) for word, count in counts.items()} for seed in range(1, 6)]
         text = page(tables_of(rows, vary={"list": [2]}))
         assert table_of(text, "Who was taken for dead")["list=2"] == {
-            "setting": "list=2", "timeouts": "none (< 46 %)", "members taken for dead": "36", "removed as successors": "72",
+            "setting": "list=2", "timeouts": "none (< 46 %)", "members taken for dead": "36",
+            "removed as successors": "72",
             "requests sent again": "108", "members stranded": "144", "joins failed": "180",
         }
+        few = [one | {"cost-timeouts": str(int(one["seed"] in "12"))} for one in rows]
+        cells = table_of(page(tables_of(few, vary={"list": [2]})), "Who was taken for dead")["list=2"]
+        # Two timeouts in 5,000 seconds of members are 1.44 an hour.
+        assert cells["timeouts"] == "1.4, in 2 seeds"
         assert "All numbers are for each member and hour, from the warm-up to the end." in text
         assert "taken for dead" not in page(tables_of([row(list=2, seed=1)], vary={"list": [2]}))

@@ -10,8 +10,8 @@ from chordsim_tools.study.trace import TraceReader
 from tests.support.studies import row, table_of, tables_of, unwrapped
 
 COUNTS = dict.fromkeys(
-    ("cost-timeouts", "cost-timeouts-of-members", "cost-removed-members", "cost-again", "cost-stranded", "cost-join-failed"),
-    "0",
+    ("cost-timeouts", "cost-timeouts-of-members", "cost-removed-members", "cost-again", "cost-stranded",
+     "cost-join-failed"), "0",
 )
 
 
@@ -26,7 +26,8 @@ def told(*rings: dict[str, Any], size: int = 4) -> str:
 
 def lost(at: int, count: int) -> dict[str, Any]:
     """A run whose ring was lost at 400 s, with so many stranded members, the first at this time in us."""
-    return {"ringless": 3, "lost-at-us": 400_000_000, "stranded-at-us": at, "cost-stranded": count, "cost-join-failed": 2}
+    cells = {"ringless": 3, "lost-at-us": 400_000_000, "stranded-at-us": at}
+    return {**cells, "cost-stranded": count, "cost-join-failed": 2}
 
 
 class UnravelTest(TestCase):

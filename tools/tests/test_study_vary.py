@@ -1,6 +1,7 @@
 """The table [vary] of a study file: values that belong together, and ranges."""
 
 import tomllib
+from pathlib import Path
 from unittest import TestCase
 
 from chordsim_tools.study.comparison import named
@@ -42,8 +43,9 @@ class StudyVaryTest(TestCase):
 
     def test_ranges(self) -> None:
         """The end is a value if a step reaches it; counts go up by 1; options take times as texts."""
-        assert labels('stabilize_us = "1s..2s step 500ms"') == [f"stabilize_us={time}" for time in ("1s", "1500ms", "2s")]
-        assert labels('stabilize_us = "0..25ms step 10ms"') == [f"stabilize_us={time}" for time in ("0us", "10ms", "20ms")]
+        ranges = {"1s..2s step 500ms": ("1s", "1500ms", "2s"), "0..25ms step 10ms": ("0us", "10ms", "20ms")}
+        for text, values in ranges.items():
+            assert labels(f'stabilize_us = "{text}"') == [f"stabilize_us={time}" for time in values]
         assert labels('list = "2..8 step 3"') == ["list=2", "list=5", "list=8"]
         assert labels('list = "2..4"') == ["list=2", "list=3", "list=4"]
         made = in_folder(MADE_VARY + '"--stabilize" = "1s..2s step 1s"\n"--nodes" = "5..6"\n')
@@ -77,3 +79,16 @@ class StudyVaryTest(TestCase):
         found = summaries(tables_of(rows, vary={"list": [4, 8], "retries": [0, 1]}))
         for name in ("retries=1, list=8", "list=8,retries=1", "4"):
             assert named(found, name).label == "list=8, retries=1"
+
+    def test_examples_of_the_page(self) -> None:
+        """The study file of docs/studies.md is one, and so are its other tables in place of its [vary]."""
+        page = (Path(__file__).resolve().parents[2] / "docs" / "studies.md").read_text(encoding="utf-8")
+        whole, vary, span, search = (block.split("```")[0] for block in page.split("```toml\n")[1:5])
+        assert len(in_folder(whole).settings()) == 8
+        head, goal = whole.split("[vary]")[0], "[goal]" + whole.split("[goal]")[1]
+        lively = '["exp:2h", "exp:10m"]', '["exp:1h", "exp:5m"]'
+        assert all(pair in vary for pair in lively)
+        study = in_folder(head.replace('"--nodes", "200"', '"--nodes", "200", "--profile", "4"') + vary)
+        assert len(study.settings()) == 2 * 4 * 4 * 2 * 2
+        assert in_folder(head + span + goal).spans == {"outage": (360_000_000, 420_000_000)}
+        assert len(in_folder(head + goal + search).settings()) == 9

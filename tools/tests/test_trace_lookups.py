@@ -17,7 +17,7 @@ LINES = (
     "150 b lost 5 hops=0 timeouts=9 us=40", "200 a lookup 35", "210 a found 35 b hops=3 timeouts=0 us=10",
     audit(500, 3), "900 a lookup 7", audit(1000, 3),
 )
-"""Right; wrong but defensible, since d became a member meanwhile; cut off by a crash; lost; wrong; cut off by the end."""
+"""Right; wrong but defensible, since d became a member; cut off by a crash; lost; wrong; cut off by the end."""
 ROWS = [
     "a,15,10,30,20,1,0,b,b,right,right",
     "b,35,20,60,40,2,1,a,d,wrong,right",
@@ -45,7 +45,7 @@ class TraceLookupsTest(TestCase):
         """The tool writes it and says nothing else; it writes over no input."""
         with tempfile.TemporaryDirectory() as folder:
             trace, scenario, table = (str(Path(folder) / name) for name in ("a.trace", "a.toml", "a.csv"))
-            Path(trace).write_text("".join(line + "\n" for line in LINES))
+            Path(trace).write_text("".join(line + "\n" for line in LINES), encoding="ascii")
             Path(scenario).write_text(SCENARIO)
             assert ended(main, trace, scenario, "--lookups", table) == (0, "", "")
             with open(table, encoding="ascii", newline="") as file:
@@ -61,11 +61,11 @@ class TraceLookupsTest(TestCase):
         """The message names the file that is no scenario, and says to swap the two if the other one is."""
         with tempfile.TemporaryDirectory() as folder:
             trace, scenario, rows = (str(Path(folder) / name) for name in ("a.trace", "a.toml", "a.csv"))
-            Path(trace).write_text("".join(line + "\n" for line in LINES))
+            Path(trace).write_text("".join(line + "\n" for line in LINES), encoding="ascii")
             Path(scenario).write_text(SCENARIO)
             Path(rows).write_text("a,b\n")
-            line = f"refused: {trace}: S1 NotToml; {scenario} is a scenario: swap the two, as tools/trace TRACE SCENARIO\n"
-            assert ended(main, scenario, trace) == (1, "", line)
+            told = f"{scenario} is a scenario: swap the two, as tools/trace TRACE SCENARIO\n"
+            assert ended(main, scenario, trace) == (1, "", f"refused: {trace}: S1 NotToml; {told}")
             line = f"refused: {trace}: S1 NotToml; tools/explain says more\n"
             assert ended(main, trace, trace) == (1, "", line)
             line = f"refused: {rows}: S12 BadLatencyRow row 1; tools/explain says more\n"

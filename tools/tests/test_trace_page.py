@@ -111,7 +111,8 @@ class Data(TestCase):
             self.assertEqual(groups.read_groups(str(file), ["a", "b", "c"]), ["east", "", "west"])
             page = data.page_data(run_of(*LINES), "x.toml", ["east", "", "west", "east"])
             self.assertEqual((page["groups"], unpacked(page["group"], "i")), (["east", "", "west"], [0, 1, 2, 0]))
-            for text, told in (("a\n", "line 1 is not NODE,GROUP"), ("a,x\ne,x\n", "line 2: the scenario has no node 'e'")):
+            none = "line 2: the scenario has no node 'e'"
+            for text, told in (("a\n", "line 1 is not NODE,GROUP"), ("a,x\ne,x\n", none)):
                 file.write_text(text)
                 self.assertRaisesRegex(Refused, told, groups.read_groups, str(file), ["a", "b"])
         plain = data.page_data(run_of(*LINES), "x.toml")
@@ -123,13 +124,14 @@ class Data(TestCase):
         self.assertEqual((status, err), (2, "tools/trace: --groups: only with --html (see tools/trace --help)\n"))
 
     def test_times(self) -> None:
-        """250 steps of 4 us: in step 5, from 20 us on, one lookup of 30 us begins; too few for p99. Lost ones have none."""
+        """250 steps of 4 us: in step 5, from 20 us on, a lookup of 30 us begins, too few for p99. Lost ones: none."""
         found = data.page_data(run_of(*LINES), "ring.toml")["times"]
         self.assertEqual((found["step"], len(found["p50"])), (4, 250))
         self.assertEqual([(at, one) for at, one in enumerate(found["p50"]) if one is not None], [(5, 30)])
         self.assertEqual(set(found["p99"]), {None})
         lines = [f"8 a lookup {at % 64}" for at in range(100)]
-        lines += [f"{10 + 5 * (at > 97)} a found {at % 64} a hops=0 timeouts=0 us={2 + 5 * (at > 97)}" for at in range(100)]
+        taken = [2 + 5 * (at > 97) for at in range(100)]
+        lines += [f"{8 + us} a found {at % 64} a hops=0 timeouts=0 us={us}" for at, us in enumerate(taken)]
         many = data.page_data(run_of(*lines, audit(1000, 3)), "ring.toml")["times"]
         self.assertEqual((many["p50"][2], many["p99"][2]), (2, 7))
         lost = data.page_data(run_of("8 a lookup 1", "9 a lost 1 hops=0 timeouts=9 us=1", audit(1000, 3)), "r")["times"]
@@ -180,7 +182,8 @@ class Labels(TestCase):
         """Seconds, as they are written; what is none has no time."""
         self.assertEqual(self.value_of('["#t=965", "#t=0.25", "#t=", "#t=1e3", "", "#x"].map(timeOfAddress)'),
                          [965_000_000, 250_000, None, None, None, None])
-        self.assertEqual(self.value_of("[965000000, 250000, 1].map(addressOfTime)"), ["#t=965", "#t=0.25", "#t=0.000001"])
+        written = self.value_of("[965000000, 250000, 1].map(addressOfTime)")
+        self.assertEqual(written, ["#t=965", "#t=0.25", "#t=0.000001"])
 
     def test_zoom(self) -> None:
         """Around a time, which stays where it is; within the run, and not below the least span; then after a time."""

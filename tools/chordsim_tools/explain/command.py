@@ -36,18 +36,19 @@ called unexplained. That can be for these reasons, since Python's tomllib reads 
 Without the program the first line is that of this tool.
 
 Of files that are accepted, the second line says how often each finger is refreshed: in (bits - 1) times (finger_us +
-jitter_us / 2) a node refreshes each of its fingers once. A section "accepted, but:" names traps, and the status stays 0:
-a timeout below the greatest round trip, a duration below the periods, a round of fingers that takes longer than the run
-or a mean life, joins that go on for ever without a pause, a time at which no node is up (no ring is ever made again),
-and a `max_events` below what the run is likely to need. This last one is estimated if the timers alone come near to it: the program runs the scenario's first seconds (six, or four periods) and
-half of them, and the events of the second half are taken for the rest of the duration. If such a run takes longer than
-twenty seconds, the estimate is that of the timers alone."""
+jitter_us / 2) a node refreshes each of its fingers once. A section "accepted, but:" names traps, and the status stays
+0: a timeout below the greatest round trip, a duration below the periods, a round of fingers that takes longer than the
+run or a mean life, joins that go on for ever without a pause, a time at which no node is up (no ring is ever made
+again), and a `max_events` below what the run is likely to need. This last one is estimated if the timers alone come
+near to it: the program runs the scenario's first seconds (six, or four periods) and half of them, and the events of the
+second half are taken for the rest of the duration. If such a run takes longer than twenty seconds, the estimate is that
+of the timers alone."""
 EXAMPLES = """\
 examples:
   tools/explain world.toml                     all faults of a scenario
   tools/explain world.toml links.csv           ... and of its latency file
   tools/explain world.toml links.csv --most 3  at most three of each of the sixteen kinds
-  tools/explain world.toml --json              for other programs: `answer`, `told`, `traps`, and `faults` with `line`, `hints`
+  tools/explain world.toml --json              for other programs: `answer`, `told`, `traps` and `faults`
 
 status: 0 the files are accepted; 1 they are refused, or cannot be read; 2 the arguments are wrong; 3 something failed
 (the program that CHORDSIM names is not there or does not end as it should, or standard output is full); 130 stopped by

@@ -30,7 +30,8 @@ def round_told(top: dict[str, Any]) -> str:
     """How often each finger is refreshed."""
     count = int(top["bits"]) - 1
     period = about(-(-finger_period(top) // 2))
-    return f"Each finger is refreshed about every {about(finger_round(top))}: {count} fingers in turn, one each {period}."
+    whole = about(finger_round(top))
+    return f"Each finger is refreshed about every {whole}: {count} fingers in turn, one each {period}."
 
 
 def mean_life(top: dict[str, Any]) -> float | None:
@@ -60,8 +61,8 @@ def round_traps(top: dict[str, Any]) -> list[str]:
     above += [f"the mean life of a node ({about(round(life))})"] if life is not None and whole > life else []
     if not above:
         return []
-    told = f"finger_us = {top['finger_us']} with bits = {top['bits']}: each finger is refreshed about every {about(whole)}"
-    return [f"{told}, which is longer than {' and '.join(above)}"]
+    told = f"finger_us = {top['finger_us']} with bits = {top['bits']}: each finger is refreshed about every "
+    return [f"{told}{about(whole)}, which is longer than {' and '.join(above)}"]
 
 
 def join_traps(top: dict[str, Any]) -> list[str]:
@@ -86,8 +87,8 @@ def alone_traps(top: dict[str, Any]) -> list[str]:
     if len(first) * math.log10(share) < math.log10(RARE):
         return []
     return [
-        f"churn = true of all {len(first)} initial nodes: all are down at once in about {100 * share ** len(first):.2g} % of "
-        f"the time; {told}. Let one stay"
+        f"churn = true of all {len(first)} initial nodes: all are down at once in about "
+        f"{100 * share ** len(first):.2g} % of the time; {told}. Let one stay"
     ]
 
 

@@ -17,7 +17,6 @@ from chordsim_tools.generate.random_scenario import scenario_files
 from chordsim_tools.generate.text import Made, document_of, idents_of, text_of
 from chordsim_tools.options import Options
 from chordsim_tools.places import PlacesFile, RegionsFile
-from chordsim_tools.regions import placed, read_regions
 from chordsim_tools.scenario.coordinates import greatest_latency
 from chordsim_tools.scenario.tables import GREATEST_SIZE
 
@@ -83,8 +82,7 @@ def write_planned(plan: Plan, args: Namespace) -> None:
     """Writes the scenario of a plan, and warns of what is hardly meant."""
     made = made_of(plan)
     put(whole_text(plan, made, arguments_again(args)), args.file)
-    if args.coordinates is not None and isinstance(args.coordinates.value, RegionsFile):
-        say(f"{placed(read_regions(args.coordinates.value.name)).told}\n")
+    say("".join(f"{note}\n" for note in plan.notes))
     latency = greatest_latency(plan.places) if plan.places else plan.top["latency_us"]
     slowest = latency + plan.top.get("spread_us", 0)
     traps = timeout_trap(plan.top["timeout_us"], slowest, plan.top.get("retries", 0))

@@ -43,9 +43,9 @@ Lookups in two forms, also together:
   by commands  --lookups: each node looks up at the times of a Poisson process, while it is up by the commands. (A node
                that churns by itself gets its lookups also while it is down: the trace has lines `ignored lookup`.)
                --keys zipf:S:COUNT draws COUNT keys once; the one at place k is looked up in proportion to 1/k^S.
-Lives, joins, lookups, arrivals, outages and coordinates are drawn from streams of their own, for each node: other lookups do
-not change the lives; more nodes do not change what is drawn for the others (but for the nodes that they join through);
-and a longer run begins as the shorter one (if --arrive is given).
+Lives, joins, lookups, arrivals, outages and coordinates are drawn from streams of their own, for each node: other
+lookups do not change the lives; more nodes do not change what is drawn for the others (but for the nodes that they join
+through); and a longer run begins as the shorter one (if --arrive is given).
 
 --coordinates gives each node a place and a height. The latency of two nodes is then the sum of their heights and the
 way between their places; --latency only makes the default of --timeout.
@@ -80,5 +80,6 @@ examples:
 A scenario that is run with a latency file wants a --window of at most the file's least latency and a --timeout above
 twice its greatest one; tools/latency says both when it writes the file.
 
-status: 0 the scenario is written; 1 a file is refused; 2 the arguments are wrong, or ask for more than 100,000 commands or for more than the
-16,777,216 bytes that chordsim reads; 3 the file could not be written. 130 interrupted. A file is whole or not there."""
+status: 0 the scenario is written; 1 a file is refused; 2 the arguments are wrong, or ask for more than 100,000 commands
+or for more than the 16,777,216 bytes that chordsim reads; 3 the file could not be written. 130 interrupted. A file is
+whole or not there."""

@@ -15,8 +15,8 @@ STREAM = 8
 """Which stream of a seed arrivals are drawn from. The earlier ones are those of commands and coordinates."""
 RATES = "NUMBER/s, /m, /h or /d, as 0.2/s, the number above 0 with at most nine digits after the point"
 GROUPS = (
-    "NAME:NODES, or NAME:NODES:KEY=VALUE,.. with the keys lifetime (a LAW or none), down (a LAW) and arrivals (a RATE); "
-    "NAME has at most 24 letters, digits, dots and underscores"
+    "NAME:NODES, or NAME:NODES:KEY=VALUE,.. with the keys lifetime (a LAW or none), down (a LAW) and arrivals (a "
+    "RATE); NAME has at most 24 letters, digits, dots and underscores"
 )
 Span = tuple[int, int]
 

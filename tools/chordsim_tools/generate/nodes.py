@@ -8,7 +8,9 @@ from chordsim_tools.options import Given, Options
 from chordsim_tools.quantities import time_text
 from chordsim_tools.scenario.tables import PROFILES
 
-OF_TRACE = ("nodes", "initial", "arrive", "group", "arrivals", "churn-uniform", "lifetime", "down", "stationary", "stay")
+OF_TRACE = (
+    "nodes", "initial", "arrive", "group", "arrivals", "churn-uniform", "lifetime", "down", "stationary", "stay",
+)
 """The options that say who is up when, which a churn trace says by itself."""
 
 
@@ -43,7 +45,8 @@ def first_hosts(options: Options, profile: int, bits: int) -> list[Host]:
     if grouped > room:
         options.refuse("group", f"the groups have {grouped} nodes{beyond(profile, bits)}")
     least = max(2, grouped)
-    why = f" (at most {PROFILES[profile].greatest('node')} in profile {profile}, and 2^{bits}, by --bits){later(profile)}"
+    most = PROFILES[profile].greatest("node")
+    why = f" (at most {most} in profile {profile}, and 2^{bits}, by --bits){later(profile)}"
     nodes = options.whole("nodes", least if groups else min(64, room), least, room, why)
     return hosts_of(common_of(options, nodes - grouped), groups)
 
@@ -65,11 +68,12 @@ def traced_hosts(options: Options, room: int) -> list[Host]:
     file: str = options.get("churn-trace", "")
     hosts = read_sessions(file)
     if len(hosts) > room:
-        options.refuse("churn-trace", f"{file} has {len(hosts)} hosts, and there is room for {room} nodes, by --profile "
-                       "and --bits")
+        options.refuse("churn-trace", f"{file} has {len(hosts)} hosts, and there is room for {room} nodes, by "
+                       "--profile and --bits")
     initial = sum(host.sessions is not None and host.sessions[0][0] == 0 for host in hosts)
     if initial < 2:
-        options.refuse("churn-trace", f"{initial} of the hosts of {file} are up at 0s, and a ring begins with 2 or more")
+        told = f"{initial} of the hosts of {file} are up at 0s, and a ring begins with 2 or more"
+        options.refuse("churn-trace", told)
     return hosts
 
 
@@ -96,8 +100,8 @@ def newcomers(options: Options, first: int, room: int, duration: int) -> list[Ho
     common = common_of(options, first - sum(group.nodes for group in groups))
     found = list(islice(arriving(common, groups, options.get("seed", 1), duration), room - first + 1))
     if first + len(found) > room:
-        options.refuse(name, f"more than {room - first} nodes arrive in {time_text(duration)} beside the {first} of the "
-                       f"start, and there is room for {room} nodes, by --profile and --bits")
+        options.refuse(name, f"more than {room - first} nodes arrive in {time_text(duration)} beside the {first} of "
+                       f"the start, and there is room for {room} nodes, by --profile and --bits")
     return found
 
 

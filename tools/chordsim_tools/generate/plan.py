@@ -15,8 +15,9 @@ from chordsim_tools.generate.nodes import (
 from chordsim_tools.generate.outages import Outage
 from chordsim_tools.generate.top import network_of, top_of
 from chordsim_tools.options import Given, Options
-from chordsim_tools.places import Law, places_of
+from chordsim_tools.places import Law, RegionsFile, places_of
 from chordsim_tools.quantities import time_text
+from chordsim_tools.regions import placed, read_regions
 from chordsim_tools.scenario.coordinates import Coordinates
 from chordsim_tools.scenario.reading import Churn, Lookups
 from chordsim_tools.scenario.tables import PROFILES
@@ -47,6 +48,7 @@ class Plan:
     outages: tuple[Outage, ...] = ()
     back: Span | None = None
     are_names: bool = False
+    notes: tuple[str, ...] = ()
 
     @property
     def nodes(self) -> int:
@@ -89,6 +91,7 @@ def check(args: Namespace, parser: Parser) -> Plan:
         outages=outages_of(options, hosts, duration),
         back=options.get("back", None),
         are_names=options.get("ids", "random") == "names",
+        notes=notes_of(options),
     )
 
 
@@ -107,6 +110,12 @@ def outages_of(options: Options, hosts: tuple[Host, ...], duration: int) -> tupl
             there = ", ".join(sorted(names - {""})) or "none: name some by --group"
             options.refuse("crash", f"no group {outage.value.group!r}; the groups are {there}")
     return tuple(outage.value for outage in given)
+
+
+def notes_of(options: Options) -> tuple[str, ...]:
+    """How far the coordinates of regions are from their latencies."""
+    law: Law | None = options.get("coordinates", None)
+    return (f"{placed(read_regions(law.name)).told}.",) if isinstance(law, RegionsFile) else ()
 
 
 def is_stationary(options: Options) -> bool:

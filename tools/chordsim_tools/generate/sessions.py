@@ -13,7 +13,9 @@ from chordsim_tools.scenario.tables import GREATEST_SIZE
 
 SECOND = 1_000_000
 HEADING = ("host", "up", "down")
-WANTED = 'HOST,UP,DOWN: a name of at most 32 letters, digits, ".", "_" or "-" (not audit), and times of at most 1000000s'
+WANTED = (
+    'HOST,UP,DOWN: a name of at most 32 letters, digits, ".", "_" or "-" (not audit), and times of at most 1000000s'
+)
 FOREVER = 1 << 62
 """The end of a session that does not end."""
 MOST = 10**12

@@ -17,7 +17,7 @@ DOES = {CRASH: "crash", JOIN: "join", LOOKUP: "lookup"}
 
 @dataclass(frozen=True)
 class Made:
-    """What was drawn for a plan: commands, the nodes that begin as members, lines that say more of it, and identifiers."""
+    """What was drawn for a plan: commands, nodes that begin as members, lines that say more of it, and identifiers."""
 
     commands: list[Command]
     initial: set[int]
@@ -64,6 +64,7 @@ def head(plan: Plan, made: Made, arguments: list[str]) -> str:
         f"Nodes: {plan.nodes}, of which {len(made.initial)} are members at the start. Commands: {', '.join(counts)}.",
         *nodes_told(plan),
         *made.told,
+        *plan.notes,
         round_told(plan.top),
     ]
     return "".join(f"# {line}".rstrip() + "\n" for line in lines)
@@ -73,7 +74,8 @@ def nodes_told(plan: Plan) -> list[str]:
     """The groups, with their nodes that arrive, and how many nodes arrive in all."""
     groups = Counter(host.group for host in plan.hosts)
     come = sum(host.arrives is not None for host in plan.hosts)
-    lines = [f"Groups: {', '.join(f'{name} {count}' for name, count in groups.items() if name)}."] if any(groups) else []
+    told = ", ".join(f"{name} {count}" for name, count in groups.items() if name)
+    lines = [f"Groups: {told}."] if told else []
     return lines + ([f"{come} of the nodes arrive during the run, and do not return."] if come else [])
 
 

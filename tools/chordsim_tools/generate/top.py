@@ -52,6 +52,6 @@ def network_of(options: Options, profile: int) -> dict[str, int]:
     network = {"loss_ppm": options.get("loss", 0), "spread_us": options.get("spread", 0)}
     if profile == 2:
         return network
-    later_keys = {"join-pause": "join_pause_us", "join-forever": "join_forever", "check": "check_us", "detail": "detail"}
-    given = {key: options.get(name, 0) for name, key in later_keys.items() if options.has(name)}
+    later = {"join-pause": "join_pause_us", "join-forever": "join_forever", "check": "check_us", "detail": "detail"}
+    given = {key: options.get(name, 0) for name, key in later.items() if options.has(name)}
     return network | {"retries": options.get("retries", 0)} | given

@@ -7,7 +7,8 @@ from chordsim_tools.study.bounds import (
 )
 from chordsim_tools.study.compare import UNDECIDED, Pair, guarded_level
 from chordsim_tools.study.goal import Goal, Limit
-from chordsim_tools.study.interval import LEAST_SEEDS, outward, significant
+from chordsim_tools.study.goal_words import goal_told, value_told
+from chordsim_tools.study.interval import LEAST_SEEDS, outward
 from chordsim_tools.study.names import in_words, is_percent
 from chordsim_tools.study.numbers import Summary
 
@@ -15,31 +16,6 @@ OPEN = "shown neither to reach the goal nor to miss it"
 TELL = "More seeds may decide: the bounds hold at each look."
 FRESH_LEVEL = 0.95
 """The level of the bounds of the fresh seeds, which are of one setting."""
-
-
-def value_told(number: str, value: float) -> str:
-    """A value with its unit."""
-    if is_percent(number):
-        return f"{significant(value * 100, 4)} %"
-    return f"{significant(value, 4)} ms" if number.endswith("_ms") else significant(value, 3)
-
-
-def limit_told(limit: Limit) -> str:
-    """A limit as the answer names it."""
-    bound = "least" if limit.is_least else "most"
-    return f"at {bound} {value_told(limit.number, limit.value)} {in_words(limit.number)}"
-
-
-def goal_told(goal: Goal) -> str:
-    """All limits. Without a limit to losses no ring may have been lost."""
-    lost = "no ring lost" if goal.lost_max is None else f"less than {rings(goal.lost_max)} lost per hour"
-    limits = " and ".join(map(limit_told, goal.limits))
-    return f"{limits}, with {lost}" if limits else lost
-
-
-def rings(count: float) -> str:
-    """A number of rings."""
-    return f"{count:g} ring" + ("" if count == 1 else "s")
 
 
 def those_that_reach(found: list[Summary], goal: Goal) -> list[Summary]:
@@ -116,8 +92,8 @@ def equals_told(best: Summary, found: list[Summary]) -> str:
     labels = "; ".join(f"**{one.label}**" for one in equal)
     verb = "has" if len(equal) == 1 else "have"
     return (
-        f" {labels} {verb} the same runs in all seeds, so take the one with the most reserve (such as the longest list): "
-        "they differ in worlds that were not run."
+        f" {labels} {verb} the same runs in all seeds, so take the one with the most reserve (such as the longest "
+        "list): they differ in worlds that were not run."
     )
 
 

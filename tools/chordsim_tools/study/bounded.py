@@ -12,11 +12,12 @@ import math
 from collections.abc import Sequence
 from dataclasses import dataclass
 
-from chordsim_tools.study.exact import root
 from chordsim_tools.study.interval import LEAST_SEEDS, Interval, interval, of_there, outward, significant
 
 STAKES = ((1.0, 0.5), (0.5, 0.2), (0.25, 0.1), (0.125, 0.1), (0.0625, 0.1))
 """The parts c, and how the 1 is divided among them."""
+HALVINGS = 24
+"""Bounds are exact to seven digits, and never beyond what is refuted."""
 
 
 def wealth(shares: Sequence[float], mean: float) -> float:
@@ -24,16 +25,25 @@ def wealth(shares: Sequence[float], mean: float) -> float:
 
     def grown(part: float) -> float:
         """The logarithm of what 1 has become that bets this part."""
-        factors = [1 - part + part * share / mean for share in shares]
-        return math.fsum(map(math.log, factors)) if min(factors) > 0 else -math.inf
+        kept, won = 1 - part, part / mean
+        factors = [kept + won * share for share in shares]
+        return sum(map(math.log, factors)) if min(factors) > 0 else -math.inf
 
-    return math.fsum(stake * math.exp(min(700.0, grown(part))) for part, stake in STAKES)
+    return sum(stake * math.exp(min(700.0, grown(part))) for part, stake in STAKES)
 
 
 def least_mean(shares: Sequence[float], risk: float) -> float:
-    """The greatest mean up to which all are refuted at this risk."""
-    most = max(shares)
-    return root(lambda mean: 1 / risk - wealth(shares, mean), most * 1e-9, most) if most > 0 else 0.0
+    """The greatest mean up to which all are refuted at this risk, by bisection: what is won falls with the mean."""
+    low, high = 0.0, max(shares)
+    for _ in range(HALVINGS):
+        middle = (low + high) / 2
+        low, high = (middle, high) if middle > 0 and wealth(shares, middle) >= 1 / risk else (low, middle)
+    return low
+
+
+def seeds_to_show(share: float, risk: float = 0.05) -> int:
+    """How many seeds can show that a mean is at least this share, if all of them have 1: fewer never can."""
+    return math.ceil(math.log(risk * STAKES[0][1]) / math.log(share))
 
 
 @dataclass(frozen=True)

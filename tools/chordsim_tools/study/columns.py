@@ -1,5 +1,7 @@
 """The numbers that plots draw: any column of runs.csv, quotients of two, and a few with names."""
 
+from math import isfinite
+
 from chordsim_tools.cli import Refused
 from chordsim_tools.study.numbers import TAKES, Cells
 from chordsim_tools.study.tables import Tables
@@ -12,11 +14,15 @@ NAMED = {
     "whole-of-audits": ("whole-rings", "judged-audits", "audits with a whole ring"),
 }
 """Quotients with names: the two columns, and what the quotient is."""
-AS_ON_PAGES = {"right-of-begun": "right_of_begun"}
-"""Names whose number is that of the page: lookups that their asker's crash or the end cut off are left out."""
+AS_ON_PAGES = {
+    "right-of-begun": ("right_of_begun", 1.0), "all-us-p50": ("p50_ms", 1000.0), "all-us-p90": ("p90_ms", 1000.0),
+    "all-us-p99": ("p99_ms", 1000.0), "all-us-p99.9": ("p999_ms", 1000.0),
+}
+"""Columns whose numbers are those of the page: which number, and what it is multiplied with."""
 COST = "cost"
 GREATER_IS_BETTER = {"right-of-begun", "right-of-found", "found-of-begun", "served", "whole-of-audits", "right"}
-WORDS = {"us-p50": "lookup time, p50", "us-p90": "lookup time, p90", "us-p99": "lookup time, p99"}
+WORDS = {f"all-us-p{share}": f"lookup time, p{share}" for share in ("50", "90", "99", "99.9")}
+WORDS |= {f"us-p{share}": f"time of the found ones, p{share}" for share in ("50", "90", "99")}
 
 
 class Column:
@@ -44,7 +50,8 @@ class Column:
     @property
     def is_time(self) -> bool:
         """Whether it is in microseconds."""
-        return self.parts is None and (self.name.startswith("us-") or self.name.endswith(("-us", "_us")))
+        is_named = self.name.startswith(("us-", "all-us-")) or self.name.endswith(("-us", "_us"))
+        return self.parts is None and is_named
 
     @property
     def is_share(self) -> bool:
@@ -61,8 +68,8 @@ class Column:
         return [self.of(cells) for cells in rows if self.name == "served" or not ring_lost([cells])]
 
     def values(self, rows: list[Cells]) -> list[float]:
-        """The numbers of the runs that have it."""
-        return [value for cells in rows if (value := self.of(cells)) is not None]
+        """The numbers of the runs that have it. A time that is never reached is none."""
+        return [value for cells in rows if (value := self.of(cells)) is not None and isfinite(value)]
 
     def is_wide(self, values: list[float]) -> bool:
         """Whether these are times that span more than two decades."""
@@ -70,11 +77,13 @@ class Column:
         return self.is_time and bool(positive) and max(positive) / min(positive) > 100
 
     def of(self, cells: Cells) -> float | None:
-        """The number of a run, if it has it."""
+        """The number of a run, if it has it; infinite if it is never reached."""
         if self.name == COST:
             return self.cost(cells)
-        if self.name in AS_ON_PAGES and self.parts is not None:
-            return TAKES[AS_ON_PAGES[self.name]](cells)
+        if self.name in AS_ON_PAGES:
+            number, scale = AS_ON_PAGES[self.name]
+            value = TAKES[number](cells)
+            return None if value is None else scale * value
         if self.parts is None:
             return plain(cells[self.name])
         above, below = (plain(cells[part]) for part in self.parts)

@@ -7,14 +7,16 @@ from chordsim_tools.study.bounded import bounded
 from chordsim_tools.study.exact import mcnemar
 from chordsim_tools.study.interval import LEAST_SEEDS, Interval, interval, of_there
 from chordsim_tools.study.layout import of_each_world
-from chordsim_tools.study.names import COUNTS, MILLISECONDS, RATE, RATES, base_of, is_percent
-from chordsim_tools.study.numbers import Cells, Summary, is_kept, is_wild, summaries, take_of
+from chordsim_tools.study.names import COUNTS, MILLISECONDS, RATE, RATES, base_of, is_percent, is_wild
+from chordsim_tools.study.numbers import Cells, Summary, is_kept, summaries, take_of
 from chordsim_tools.study.tables import Tables
 
 UNITS = {
     **dict.fromkeys(MILLISECONDS, ("ms", 1.0)), **dict.fromkeys(RATES, (RATE, 1.0)), **dict.fromkeys(COUNTS, ("", 1.0)),
 }
 """The units of the numbers that are no shares, which are told in percent."""
+OF_SETTING = ("scenario-list", "scenario-bits", "bytes")
+"""Columns that are other in another setting though the run is the same."""
 UNDECIDED = ("not told apart", "no interval")
 """What is said of a difference that does not tell two settings apart: there was an interval, or none."""
 
@@ -89,8 +91,9 @@ def difference_of(number: str, values: list[float | None], level: float) -> Inte
 
 
 def core(summary: Summary, cells: Cells) -> list[str]:
-    """A row without the values of its setting."""
-    return list(cells.values())[len(summary.values):]
+    """A row without what the setting alone says: its values, and what repeats or weighs them."""
+    places = list(cells.items())[len(summary.values) :]
+    return [cell for word, cell in places if word not in OF_SETTING]
 
 
 def guarded_level(*worlds: int) -> float:

@@ -7,8 +7,8 @@ from chordsim_tools.files import write_whole
 from chordsim_tools.study.compare import Pair, scale_of, settings_of
 from chordsim_tools.study.exact import mcnemar, share_interval
 from chordsim_tools.study.interval import outward
-from chordsim_tools.study.names import name_of
-from chordsim_tools.study.numbers import Summary, has_number, is_wild
+from chordsim_tools.study.names import is_wild, name_of
+from chordsim_tools.study.numbers import Summary, has_number
 from chordsim_tools.study.so_far import whole_tables
 from chordsim_tools.study.tables import csv_text
 

@@ -11,7 +11,7 @@ from chordsim_tools.study.tables import Row, csv_text, write_tables
 
 POINTS = 100
 """How many equal shares of the found lookups a curve of times has points for."""
-CDF, STEPS = "cdf.csv", "steps.csv"
+CDF, STEPS, TAIL = "cdf.csv", "steps.csv", "tail.csv"
 
 
 class Curves:
@@ -61,7 +61,7 @@ def write_results(study: Study, folder: Path, program: Path, program_sum: str, r
     write_tables(study, folder, program, program_sum, rows)
     path = folder / "manifest.json"
     manifest = json.loads(read_input(path))
-    for name, text in ((CDF, cdf_text(study, rows)), (STEPS, steps_text(study, rows))):
+    for name, text in ((CDF, cdf_text(study, rows)), (STEPS, steps_text(study, rows)), (TAIL, tail_text(study, rows))):
         write_whole(folder / name, text)
         manifest["sha256"][name] = sum_of(text)
     write_whole(path, json.dumps(manifest, indent=2) + "\n")
@@ -75,6 +75,15 @@ def cdf_text(study: Study, rows: list[Row]) -> str:
         curves = result["curves"]
         lines += [[*head, "us", value, f"{share:.5f}"] for value, share in time_points(curves)]
         lines += [[*head, "hops", value, f"{share:.5f}"] for value, share in hop_points(curves)]
+    return csv_text(lines)
+
+
+def tail_text(study: Study, rows: list[Row]) -> str:
+    """A line for each run and percentile of the time of all lookups, as far as the run has it."""
+    lines: list[list[Any]] = [[*study.vary, "seed", "percent", "us"]]
+    for setting, seed, result in rows:
+        head = [*(value for _, value in setting), seed]
+        lines += [[*head, f"{share:g}", time] for share, time in result["curves"]["tail"]]
     return csv_text(lines)
 
 

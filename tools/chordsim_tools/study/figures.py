@@ -5,7 +5,7 @@ import textwrap
 from typing import Any
 
 from chordsim_tools.cli import Failure
-from chordsim_tools.study.looks import Layout, Values, setting_words
+from chordsim_tools.study.looks import Layout, Values, key_words, value_words
 
 MISSING = (
     "plots need numpy and matplotlib: apt-get install python3-numpy python3-matplotlib, "
@@ -80,11 +80,10 @@ def line_handles(pyplot: Any, layout: Layout, line: str | None) -> list[Any]:
 
 
 def legend_head(keys: list[str]) -> str:
-    """The head of a legend whose entries are values of one key; more keys are named by the entries."""
-    return setting_words(keys, ("",)).strip() if len(keys) == 1 else ""
+    """The head of a legend: the keys, whose values alone are in its entries."""
+    return ", ".join(map(key_words, keys))
 
 
 def legend_words(keys: list[str], part: Values) -> str:
-    """An entry: of one key the value alone."""
-    text = setting_words(keys, part)
-    return text.removeprefix(legend_head(keys)).strip() if len(keys) == 1 else text
+    """An entry: the values of the keys."""
+    return ", ".join(value_words(key, value) for key, value in zip(keys, part, strict=True))

@@ -1,6 +1,7 @@
 """What a setting costs and what it gives: the Pareto front of each world."""
 
 from dataclasses import dataclass
+from math import isfinite
 from typing import Any
 
 from chordsim_tools.known import known
@@ -8,14 +9,15 @@ from chordsim_tools.study.columns import Column, ring_lost
 from chordsim_tools.study.exact import student
 from chordsim_tools.study.figures import finish, legend_head, line_handles
 from chordsim_tools.study.interval import Interval, interval
+from chordsim_tools.study.limits import draw_across, handle, limits_of
 from chordsim_tools.study.lines import Rows, blocks_of, cut_bars
 from chordsim_tools.study.looks import Layout, Values, setting_words
 from chordsim_tools.study.numbers import Cells
 from chordsim_tools.study.so_far import Drawn
 
 MOST_LABELS = 10
-ON, UNSURE, BELOW, LOST = "on the front", "not told apart from it", "dominated", "a ring was lost: not in it"
-EDGE = "(at an edge: beyond it)"
+ON, UNSURE, BELOW, LOST = "on the front", "not told apart", "dominated", "rings were lost"
+EDGE = "at an edge: beyond it"
 LEVEL = 0.05
 TITLE = "Cost, and what it gives"
 NOTE = (
@@ -61,7 +63,7 @@ def spots_of(plane: Plane, settings: list[Values], rows: Rows, most_lost: float 
     spots = []
     for setting in settings:
         x, y = (interval(column.averaged(rows[setting])) for column in (plane.cost, plane.gain))
-        if x.mean is not None and y.mean is not None:
+        if x.mean is not None and y.mean is not None and isfinite(x.mean) and isfinite(y.mean):
             lost = sum(ring_lost([cells]) for cells in rows[setting]) / len(rows[setting])
             spots.append(Spot(setting, x, y, rows[setting], LOST if lost > most_lost else BELOW))
     kept = [spot for spot in spots if spot.state != LOST]
@@ -87,7 +89,7 @@ def surely_beats(plane: Plane, one: Spot, other: Spot, tests: int) -> bool:
     pairs = [(cells, theirs[cells["seed"]]) for cells in one.rows if cells["seed"] in theirs]
     for column, sign in ((plane.cost, 1), (plane.gain, plane.sign)):
         both = [(column.of(mine), column.of(other_cells)) for mine, other_cells in pairs]
-        differences = [sign * (a - b) for a, b in both if a is not None and b is not None]
+        differences = [sign * (a - b) for a, b in both if a is not None and b is not None and isfinite(a + b)]
         if not is_below_zero(differences, LEVEL / tests):
             return False
     return True
@@ -123,6 +125,8 @@ def front_figure(pyplot: Any, drawn: Drawn, layout: Layout, planes: list[Plane],
     for one in written:
         write_labels(*one)
     handles = line_handles(pyplot, layout, "none") + state_handles(pyplot, states)
+    if any(limits_of(layout.manifest, plane.gain.name) for plane in planes):
+        handles.append(handle(pyplot))
     return finish(figure, TITLE, note_of(most_lost), drawn.mark, handles, legend_head(layout.by))
 
 
@@ -144,20 +148,30 @@ def draw_front(axes: Any, layout: Layout, plane: Plane, spots: list[Spot], value
     for spot in kept if len(kept) > 1 else spots:
         draw_spot(axes, layout, plane, spot, scale)
     axes.margins(0.12)
+    if plane.gain.is_share:
+        axes.set_ylim(top=min(100.0, axes.get_ylim()[1]))
     limits = (axes.get_xlim(), axes.get_ylim())
     for spot in spots:
         if spot.state == LOST:
             draw_lost(axes, layout, spot, scale, limits)
     labelled = spots if len(spots) <= MOST_LABELS else front
     labels = [
-        (setting_words(layout.x_keys, layout.part(spot.setting, layout.x_keys)), known(spot.x.mean),
-         scale * known(spot.y.mean)) for spot in sorted(labelled, key=plane.point)
+        (label_of(layout, spot), known(spot.x.mean), scale * known(spot.y.mean))
+        for spot in sorted(labelled, key=plane.point)
     ]
     axes.set_xlabel(across)
     axes.set_ylabel(label)
+    draw_across(axes, limits_of(layout.manifest, plane.gain.name), scale)
     if plane.gain.is_wide(values):
         axes.set_yscale("log")
     return labels
+
+
+def label_of(layout: Layout, spot: Spot) -> str:
+    """The value of the axis' key, and how many seeds lost their rings."""
+    words = setting_words(layout.x_keys, layout.part(spot.setting, layout.x_keys))
+    lost = sum(ring_lost([cells]) for cells in spot.rows)
+    return words + (f" ({lost} of {len(spot.rows)} lost)" if lost else "")
 
 
 def write_labels(axes: Any, labels: list[Label]) -> None:

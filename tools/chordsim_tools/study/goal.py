@@ -6,7 +6,7 @@ from typing import Any
 
 from chordsim_tools.cli import Refused
 from chordsim_tools.explain.hints import close_to
-from chordsim_tools.quantities import time_of
+from chordsim_tools.quantities import UNIT_NAMES, time_of
 
 SHARES = ("served", "right_of_begun", "defensible", "given_up")
 OF_SPANS = (*SHARES, "members", "p50_ms", "p90_ms", "p99_ms", "p999_ms", "mean_ms", "hops", "timeouts")
@@ -54,7 +54,8 @@ def goal_of(path: Path, table: Any, has_sizes: bool = False) -> Goal | None:
         return None
     if not isinstance(table, dict):
         raise Refused(f"{path}: goal has to be a table")
-    limits = tuple(limit_of(f"{path}: [goal]", key, value) for key, value in table.items() if key not in ("least", "lost_max"))
+    keys = [key for key in table if key not in ("least", "lost_max")]
+    limits = tuple(limit_of(f"{path}: [goal]", key, table[key]) for key in keys)
     least, lost = table.get("least", "messages"), table.get("lost_max")
     if least not in NUMBERS:
         raise Refused(f"{path}: [goal] least has to be one of {', '.join(NUMBERS)}")
@@ -106,7 +107,7 @@ def milliseconds_of(place: str, key: str, value: Any) -> float:
         return float(value)
     micros = time_of(value) if isinstance(value, str) and not value[-1:].isdecimal() else None
     if micros is None:
-        raise Refused(f'{place} {key} has to be a number of milliseconds, or a time such as "800ms" (us, ms, s, m)')
+        raise Refused(f'{place} {key} has to be a number of milliseconds, or a time such as "800ms" ({UNIT_NAMES})')
     return micros / 1000
 
 

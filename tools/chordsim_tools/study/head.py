@@ -50,9 +50,17 @@ def judged(manifest: dict[str, Any]) -> str:
     begin, end = warmup or "the start", f"{cooldown} before the end" if cooldown else "the end"
     return (
         f"Judged: lookups begun from {begin} to {end}, by what becomes of them until the end. "
-        f"Costs: of the time from {begin} to the end. Served and members are those of this span: nodes whose join failed "
-        "stay away, so that a longer run may serve less."
+        f"Costs: of the time from {begin} to the end. Served and members are those of this span: nodes whose join "
+        "failed stay away, so that a longer run may serve less."
     )
+
+
+def estimated(found: list[Summary]) -> str:
+    """That messages are not counted, and how far they may be off."""
+    text = f"Messages are estimated, to within {ERROR}. Goals and comparisons allow for that."
+    if any("messages-counted" not in cells for one in found for cells in one.rows):
+        return f"{text} An older `tools/study` did so: it is further off if round trips are above the repair period."
+    return f"{text} With `profile = 4` they are counted."
 
 
 def warnings(manifest: dict[str, Any], found: list[Summary]) -> list[str]:
@@ -71,10 +79,7 @@ def warnings(manifest: dict[str, Any], found: list[Summary]) -> list[str]:
         share = 100 * cut / all_of_them
         told.append(f"The end cut off {share:.2g} % of the judged lookups, which are left out: set cooldown_us.")
     if not all(one.is_counted for one in found):
-        told.append(
-            f"Messages are estimated, to within {ERROR}. Goals and comparisons allow for that. With `profile = 4` they "
-            "are counted."
-        )
+        told.append(estimated(found))
     told += [*churn_trap(manifest["generate"], manifest["vary"]), *round_traps(manifest)]
     if manifest["warmup_us"] == 0 and (manifest["own_churn"] or moves):
         told.append("Without warmup_us the time before the first crashes is judged too.")

@@ -9,8 +9,8 @@ from chordsim_tools.study.tables import Tables
 WORLD = ("profile", "duration_us", "latency_us", "loss_ppm", "spread_us", "latency", "base")
 """Keys that no designer chooses: these are worlds, as churn and lookups are, if the study file has no `world`."""
 PROTOCOL = (
-    "bits", "list", "window", "timeout", "audit", "stabilize", "finger", "jitter", "max-events", "retries", "join-pause",
-    "join-forever", "check", "detail", "via", "ids",
+    "bits", "list", "window", "timeout", "audit", "stabilize", "finger", "jitter", "max-events", "retries",
+    "join-pause", "join-forever", "check", "detail", "via", "ids",
 )
 """The options of tools/generate that somebody chooses. All others, as lives and nodes, describe the world."""
 Worlds = dict[str, list[Summary]]
@@ -74,7 +74,7 @@ def layout_of(tables: Tables, x: str | None, by: list[str] | None, panels: list[
             x = panels.pop()
     others = [key for key in keys if key != x and key not in panels]
     by = [*(by or []), *(key for key in others if key not in (by or []))]
-    return Layout(x, [key for key in by if key != x and key not in panels], panels, keys, settings)
+    return Layout(x, [key for key in by if key != x and key not in panels], panels, keys, settings, tables.manifest)
 
 
 def axis_key(keys: list[str], settings: list[Values], taken: list[str]) -> str:

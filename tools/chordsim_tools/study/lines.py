@@ -1,12 +1,14 @@
 """A column of the table against a varied key: a line for each value of others, a panel for each world."""
 
 from dataclasses import dataclass
+from math import isfinite
 from typing import Any
 
 from chordsim_tools.known import known
 from chordsim_tools.study.columns import Column, ring_lost
 from chordsim_tools.study.figures import finish, grid, legend_head, line_handles
 from chordsim_tools.study.interval import LEAST_SEEDS, interval
+from chordsim_tools.study.limits import draw_across, handle, limits_of
 from chordsim_tools.study.looks import Axis, Layout, setting_words
 from chordsim_tools.study.numbers import Cells
 from chordsim_tools.study.so_far import Drawn
@@ -24,13 +26,16 @@ def lines_figure(pyplot: Any, drawn: Drawn, layout: Layout, columns: list[Column
         values = column.values(drawn.tables.runs)
         for place, panel in enumerate(panels):
             draw_panel(block[place], layout, panel, column, rows, max(values, default=0), place % across == 0)
+            draw_across(block[place], limits_of(layout.manifest, column.name), column.scale(max(values, default=0))[0])
         for spare in block[len(panels) :]:
             spare.set_axis_off()
         same_limits(block[: len(panels)], column, values)
     handles = [] if not layout.by else line_handles(pyplot, layout, None if layout.x else "none")
     if any(ring_lost(group) for group in rows.values()):
         style = {"color": "0.3", "marker": "o", "linestyle": "none", "markerfacecolor": "white", "markersize": 5}
-        handles.append(pyplot.Line2D([], [], label="hollow: a ring was lost,\nand is not in the mean", **style))
+        handles.append(pyplot.Line2D([], [], label="rings were lost\n(mean of so many seeds)", **style))
+    if any(limits_of(layout.manifest, column.name) for column in columns):
+        handles.append(handle(pyplot))
     return finish(figure, title, note_of(rows), drawn.mark, handles, legend_head(layout.by))
 
 
@@ -90,27 +95,32 @@ def draw_line(
     for place, point in drawn:
         face = "white" if point.is_hollow else look.colour
         axes.plot(
-            [place], [point.mean], marker=look.marker, color=look.colour, markerfacecolor=face, markersize=5, zorder=3
+            [place], [point.mean], marker=look.marker, color=look.colour, markerfacecolor=face, markersize=5, zorder=3,
+            clip_on=False,
         )
+        if point.is_hollow:
+            axes.annotate(point.told, (place, point.mean), (4, 4), textcoords="offset points", fontsize=6, color="0.25")
 
 
 @dataclass(frozen=True)
 class Point:
-    """A mean as it is drawn, half its interval, and whether a seed lost its ring."""
+    """A mean as it is drawn, half its interval, whether a seed lost its ring, and how many seeds the mean is of."""
 
     mean: float
     half: float
     is_hollow: bool
+    told: str
 
 
 def point_of(column: Column, runs: list[Cells], scale: float) -> Point | None:
     """The point of a setting with these runs, if they have a mean."""
     found, is_hollow = interval(column.averaged(runs)), ring_lost(runs)
-    if found.mean is None:
+    if found.mean is None or not isfinite(found.mean):
         return None
     # Over rings that were kept and rings that were lost no interval holds.
     is_mixed = column.name == "served" and is_hollow
-    return Point(scale * found.mean, 0.0 if is_mixed else scale * (found.half or 0), is_hollow)
+    half = 0.0 if is_mixed else scale * (found.half or 0)
+    return Point(scale * found.mean, half, is_hollow, f"{found.count} of {len(runs)}")
 
 
 def cut_bars(means: list[float], halves: list[float], column: Column) -> list[list[float]]:
@@ -135,7 +145,7 @@ def same_limits(block: Any, column: Column, values: list[float]) -> None:
     low = min(axes.get_ylim()[0] for axes in block)
     high = max(axes.get_ylim()[1] for axes in block)
     if column.is_share:
-        low, high = max(low, 0), min(high, 100 + (high - max(low, 0)) * 0.03)
+        low, high = max(low, 0), min(high, 100)
     elif block[0].get_yscale() != "log":
         low, high = 0, high * 1.04
     for axes in block:

@@ -1,4 +1,4 @@
-"""How much work a study has left: runs of one setting take about the same time, those of another one ten times as long."""
+"""How much work a study has left: runs of a setting are about as long, those of another one ten times as long."""
 
 from collections import Counter
 from collections.abc import Iterable

@@ -1,7 +1,7 @@
 """How plots name and draw keys and values."""
 
 from collections.abc import Sequence
-from dataclasses import dataclass
+from dataclasses import dataclass, field
 from itertools import product
 from typing import Any
 
@@ -117,6 +117,7 @@ class Layout:
     panels: list[str]
     keys: list[str]
     settings: list[Values]
+    manifest: dict[str, Any] = field(default_factory=dict)
 
     def part(self, values: Values, keys: list[str]) -> Values:
         """The values of some keys in a setting."""

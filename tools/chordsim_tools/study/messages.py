@@ -1,8 +1,8 @@
-"""The messages of a run: counted in the extended profile, whose traces have lines of detail, and estimated in the others
-(docs/studies.md)."""
+"""The messages of a run: counted in the extended profile, whose traces have lines of detail, and estimated in the
+others (docs/studies.md)."""
 
-import math
 import re
+import sys
 from bisect import bisect_left
 from collections import Counter
 from dataclasses import dataclass
@@ -13,8 +13,8 @@ from chordsim_tools.study.served import Population, Scope
 
 
 MOST_ERROR = 0.06
-"""How far off the estimate was at most, as a share, in random scenarios of all kinds; tests/test_study_messages.py draws
-some of them. A ring has to be kept for 40 timeouts and 30 periods."""
+"""How far off the estimate was at most, as a share, in random scenarios of all kinds; tests/test_study_messages.py
+draws some of them. A ring has to be kept for 40 timeouts and 30 periods."""
 ENDS = ("crash", "join-failed")
 """The words of lines after which a node is down, in the profiles whose messages are estimated."""
 DETAIL = re.compile(rb"^\d+ [^ \n]+ (?:ask|send) [^\n]*\n", re.MULTILINE)
@@ -23,10 +23,10 @@ MADE = (*(f"ask {kind}" for kind in REQUESTS), *(f"send {kind}" for kind in MESS
 """What lines of detail say was made."""
 
 
-def time_of(line: bytes) -> float:
+def time_of(line: bytes) -> int:
     """The time of the first line; the report comes after all times."""
     word = line.partition(b" ")[0]
-    return int(word) if word.isdigit() else math.inf
+    return int(word) if word.isdigit() else sys.maxsize
 
 
 class Traffic:

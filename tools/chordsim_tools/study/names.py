@@ -1,4 +1,4 @@
-"""What pages call the numbers of a setting: each has one name, and its unit. A number of a span is as `outage.p99_ms`."""
+"""What pages call the numbers of a setting: each has one name, and its unit. One of a span is as `outage.p99_ms`."""
 
 from chordsim_tools.study.goal import SHARES
 
@@ -11,6 +11,8 @@ NAMES = {
 }
 """The names, in the order of the columns of a page."""
 PERCENT = (*SHARES, "cut_off", "members")
+WILD = ("served", "members")
+"""Shares that few worlds can move far: a world whose ring dies, or half dies, has 30 % where the others have 99 %."""
 TIMES = ("p50_ms", "p90_ms", "p99_ms", "p999_ms")
 MILLISECONDS = (*TIMES, "mean_ms")
 RATES = ("messages", "upkeep", "events", "bytes")
@@ -34,6 +36,11 @@ def name_of(number: str) -> str:
     """The name of a number, with its span."""
     span = span_of(number)
     return NAMES[base_of(number)] + (f" in {span}" if span else "")
+
+
+def is_wild(number: str) -> bool:
+    """Whether few worlds can move the mean of a number far."""
+    return base_of(number) in WILD
 
 
 def is_percent(number: str) -> bool:

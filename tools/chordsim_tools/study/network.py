@@ -43,7 +43,8 @@ def input_files(study: Study) -> list[str]:
     """The files that tools/generate and tools/latency read for a study: coordinates, regions and churn traces."""
     laws = values_of(OPTION, study.generate, study.vary)
     traces = values_of(TRACE, study.generate, study.vary)
-    return [file_of(law) for law in laws if is_file(law)] + traces + given_to("--regions", study.latency_arguments or [])
+    regions = given_to("--regions", study.latency_arguments or [])
+    return [file_of(law) for law in laws if is_file(law)] + traces + regions
 
 
 def input_sums(study: Study) -> dict[str, str]:
@@ -54,11 +55,11 @@ def input_sums(study: Study) -> dict[str, str]:
 def made_told(generate: list[str], vary: Mapping[str, list[Any]], has_commands: bool) -> tuple[list[str], list[str]]:
     """Which of identifiers and commands that tools/generate makes are new in each seed, and which are the same."""
     traces = values_of(TRACE, generate, vary)
-    idents = (["identifiers"], []) if values_of("--ids", generate, vary) != ["names"] else ([], ["identifiers"])
-    commands = ["commands (lives, joins, lookups and their keys)"] if has_commands else []
+    are_names = values_of("--ids", generate, vary) == ["names"]
+    new, same = ([], ["identifiers"]) if are_names else (["identifiers"], [])
     if traces:
-        return idents[0] + ["the nodes that others join through"], idents[1] + [f"lives ({', '.join(traces)})"]
-    return idents[0] + commands, idents[1]
+        return [*new, "the nodes that others join through"], [*same, f"lives ({', '.join(traces)})"]
+    return [*new, *(["commands (lives, joins, lookups and their keys)"] if has_commands else [])], same
 
 
 def are_placed(study: Study) -> bool:

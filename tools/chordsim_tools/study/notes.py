@@ -2,15 +2,14 @@
 
 from chordsim_tools.study.interval import LEAST_SEEDS
 from chordsim_tools.study.messages import MOST_ERROR
-from chordsim_tools.study.names import NAMES, RATE, RATES, TIMES, difference_header
-from chordsim_tools.study.numbers import is_wild
+from chordsim_tools.study.names import NAMES, RATE, RATES, TIMES, difference_header, is_wild
 
 ERROR = f"{100 * MOST_ERROR:g} %"
 FIRST = (
     "**±** is half of a 95 % interval, for each cell by itself: Student's t over the seeds. **(low..high)** is one "
-    "that holds whatever the worlds are like (by betting, Waudby-Smith and Ramdas 2024). Served and members have it, and "
-    f"shares that are 0 or 100 % in nearly all seeds: of ten worlds that were run, none shows that all others are like "
-    f"them. With fewer than {LEAST_SEEDS} seeds there is no interval.",
+    "that holds whatever the worlds are like (by betting, Waudby-Smith and Ramdas 2024). Served and members have it, "
+    "and shares that are 0 or 100 % in nearly all seeds: of ten worlds that were run, none shows that all others are "
+    f"like them. With fewer than {LEAST_SEEDS} seeds there is no interval.",
     "**(m of n)**: the mean is of m of the n seeds. A seed is left out if its ring was lost, or if it has no such "
     "number. `-`: all seeds are left out.",
     "**rings kept**: seeds in which every audit found a ring. In brackets: the exact interval of their share (Clopper "
@@ -43,11 +42,12 @@ NOTES = {
     "timeouts": "**timeouts a lookup**: the mean, of the same lookups as mean time.",
     "members": "**members**: the time that nodes are members, of the time that they are up.",
     "messages":
-        "**messages**: all messages sent. In profile 4 they are counted. In profiles 1 and 2 they are estimated, since a "
-        "trace has no line for a message that arrives: every call makes a request, a timeout and mostly a reply, so the "
-        f"events that are neither timers nor commands say how many calls there were. The estimate is off by {ERROR} at "
-        "most, as far as it was tried against the reference simulator, if the ring is kept for 40 timeouts and 30 periods. Goals and "
-        f"comparisons allow for {ERROR}. Tables of older tools have estimates in profile 4 too.",
+        "**messages**: all messages sent. In profile 4 they are counted. In profiles 1 and 2 they are estimated, since "
+        "a trace has no line for a message that arrives: every call makes a request, a timeout and mostly a reply, so "
+        "the events that are neither timers nor commands say how many calls there were. The estimate is off by "
+        f"{ERROR} at most, as far as it was tried against the reference simulator, if the ring is kept for 40 timeouts "
+        f"and 30 periods. Goals and comparisons allow for {ERROR}. Tables of older tools have estimates in profile 4 "
+        "too.",
     "upkeep": "**upkeep**: the messages that are no steps of lookups.",
     "events": "**events**: all events of the run. They are counted.",
     "bytes": "**bytes**: the messages of each kind times their size in `[sizes]`.",
@@ -99,7 +99,7 @@ def difference_note(number: str, sizes: list[int], worlds: list[str]) -> str:
         f"**{difference_header(number)}**: this setting less the best one{same}, seed by seed, "
         f"{ALL if number == 'served' else KEPT} The intervals hold for all {pairs} pairs of settings{same} together "
         "(Bonferroni). The best one is that of the answer above, or else the nearest to the goal. Without a goal it is "
-        f"the one that kept most rings, and of these served most. `not told apart`: the interval reaches 0, and {tests}. `no interval`: too "
-        "few seeds say anything of it, which is no sign that the two are alike. `all rings lost`: the setting has no ring "
-        "to compare, and is never the best one."
+        "the one that kept most rings, and of these served most. `not told apart`: the interval reaches 0, and "
+        f"{tests}. `no interval`: too few seeds say anything of it, which is no sign that the two are alike. `all "
+        "rings lost`: the setting has no ring to compare, and is never the best one."
     )

@@ -10,7 +10,7 @@ from chordsim_tools.study.exact import count_interval, share_interval
 from chordsim_tools.study.goal import OF_SPANS
 from chordsim_tools.study.interval import Interval, interval
 from chordsim_tools.study.messages import MOST_ERROR
-from chordsim_tools.study.names import base_of, is_percent, span_of
+from chordsim_tools.study.names import base_of, is_percent, is_wild, span_of
 from chordsim_tools.study.plan import told
 from chordsim_tools.study.sizes import bytes_of
 from chordsim_tools.study.survival import NEVER
@@ -98,8 +98,6 @@ TAKES: dict[str, Callable[[Cells], float | None]] = {
 """What each number of a setting is in one run. All but the first are averaged over the runs that kept their ring."""
 OF_MESSAGES = ("messages", "upkeep", "bytes")
 """The numbers that are made of messages, which profiles 1 and 2 estimate."""
-WILD = ("served", "members")
-"""Shares that few worlds can move far: a world whose ring dies, or half dies, has 30 % where the others have 99 %."""
 
 
 def mean_of(number: str, values: list[float | None], level: float = 0.95) -> Interval:
@@ -107,11 +105,6 @@ def mean_of(number: str, values: list[float | None], level: float = 0.95) -> Int
     if is_wild(number):
         return bounded(values, level)
     return share_mean(values, level) if is_percent(number) else interval(values, level)
-
-
-def is_wild(number: str) -> bool:
-    """Whether few worlds can move the mean of a number far."""
-    return base_of(number) in WILD
 
 
 COLUMNS = {

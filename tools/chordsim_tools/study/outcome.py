@@ -77,7 +77,8 @@ def world_told(world: str, found: list[Summary], goal: Goal, fresh: dict[str, Su
     level, missing = level_of(found), missing_level(found, goal)
     reaching = those_that_reach(found, goal) if min(one.seeds for one in found) >= LEAST_SEEDS else []
     best = least_of(reaching, goal) if reaching else None
-    told: Table = {"world": world, "answer": None, "same_runs": [], "not_told_apart": [], "fresh": None, "nearest": None}
+    told: Table = {"world": world, "answer": None, "same_runs": [], "not_told_apart": []}
+    told |= {"fresh": None, "nearest": None}
     if best is not None:
         guarded = guarded_level(len(found))
         same = same_runs(best, found)

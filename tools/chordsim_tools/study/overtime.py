@@ -1,11 +1,14 @@
-"""Numbers over time, and distributions: small plots for each value of a key, with a line for each value of others."""
+"""Numbers over time: small plots for each value of a key, with a line for each value of others."""
 
 from collections.abc import Callable, Iterable
+from dataclasses import dataclass
 from typing import Any
 
+from chordsim_tools.study.columns import ring_lost
 from chordsim_tools.study.figures import finish, grid, legend_head, line_handles
 from chordsim_tools.study.interval import LEAST_SEEDS, interval
-from chordsim_tools.study.looks import FEW, Layout, Look, Values, setting_words, time_words
+from chordsim_tools.study.limits import draw_across, handle, limits_of
+from chordsim_tools.study.looks import FEW, Layout, Look, Values, setting_words
 from chordsim_tools.study.numbers import Cells, groups
 from chordsim_tools.study.so_far import Drawn
 
@@ -15,15 +18,37 @@ NODES = -1.0
 """Stands for the number of nodes, which bands of members are cut at."""
 MOST_ACROSS = 6
 Take = Callable[[Cells], float | None]
-Quantity = tuple[str, Take, float]
-"""A label, the number of a line, and the greatest value that it may have."""
+SERVED = "wanted"
+"""The column of series.csv that older tables do not have."""
+
+
+@dataclass(frozen=True)
+class Quantity:
+    """A label, the number of a line, and the greatest value that it may have. `column` names its limits.
+
+    Some are of the rings kept alone, some are at the end of a step, and some are of the lookups that begin in it."""
+
+    label: str
+    take: Take
+    most: float = float("inf")
+    column: str = ""
+    is_of_kept: bool = False
+    is_at_end: bool = False
+    is_by_begin: bool = False
+
+
 Point = tuple[float, float, float, float, int]
 """A place, the mean, the ends of its interval, and how many seeds have the number."""
 
 
-def share_right(cells: Cells) -> float | None:
-    """Right answers of those found in a step, in percent, if any was found."""
-    return 100 * int(cells["right"]) / int(cells["found"]) if cells["found"] not in ("", "0") else None
+def percent(above: str, below: str) -> Take:
+    """A column of another one in percent, if that is not 0."""
+
+    def take(cells: Cells) -> float | None:
+        """The share of a step."""
+        return 100 * float(cells[above]) / float(cells[below]) if cells[below] and float(cells[below]) else None
+
+    return take
 
 
 def count_of(name: str) -> Take:
@@ -31,7 +56,17 @@ def count_of(name: str) -> Take:
     return lambda cells: float(cells[name])
 
 
-RIGHT = (("right answers,\n% of all found", share_right, 100.0), ("members", count_of("members"), NODES))
+MEMBERS = Quantity("members", count_of("members"), NODES, is_at_end=True)
+RIGHT = (
+    Quantity("served, %", percent("right-of-ended", SERVED), 100.0, "served", is_by_begin=True),
+    Quantity(
+        "right of begun, %", percent("right-of-ended", "ended"), 100.0, "right-of-begun", is_of_kept=True,
+        is_by_begin=True,
+    ),
+    MEMBERS,
+)
+OF_FOUND = Quantity("right answers,\n% of all found", percent("right", "found"), 100.0, is_of_kept=True)
+"""In place of the first two in tables of an older tools/study."""
 NETWORK = (
     ("timeouts", "timeouts", "timeouts\nin a step"),
     ("losses", "lost messages", "messages lost\nin a step"),
@@ -40,26 +75,33 @@ NETWORK = (
 """Columns of steps.csv: what they count, in a title, and their labels."""
 
 
+def right_of(lines: list[Cells]) -> tuple[str, tuple[Quantity, ...]]:
+    """The title, and what there is of answers over time."""
+    if lines and SERVED not in lines[0]:
+        return "Right answers and members over time", (OF_FOUND, MEMBERS)
+    return "Served, right answers and members over time", RIGHT
+
+
 def network_of(lines: list[Cells]) -> tuple[str, list[Quantity]]:
     """The title, and the counts to draw: timeouts, and what else is not 0 in all steps."""
     drawn = [one for one in NETWORK if one is NETWORK[0] or any(line.get(one[0], "0") != "0" for line in lines)]
     *words, last = [words for _, words, _ in drawn]
     title = f"{', '.join(words)} and {last}".capitalize() if words else "Timeouts"
     title += " over time" if any(one[0] == "losses" for one in drawn) else " over time (no message is lost)"
-    return title, [(label, count_of(name), float("inf")) for name, _, label in drawn]
+    return title, [Quantity(label, count_of(name)) for name, _, label in drawn]
 
 
-def points_of(lines: list[Cells], take: Take, most: float) -> list[Point]:
-    """The points of a line over time. Intervals are cut at 0 and at the greatest value."""
+def points_of(lines: list[Cells], take: Take, most: float, later: int = 0, has_bands: bool = True) -> list[Point]:
+    """The points of a line over time, each so much later than its step begins. Intervals are cut at 0 and the most."""
     points = []
     for (place,), cells in groups(lines, ["from_us"]).items():
         values = [take(one) for one in cells]
         found = interval(values)
         if found.mean is not None:
-            half = found.half or 0.0
+            half = found.half or 0.0 if has_bands else 0.0
             count = sum(value is not None for value in values)
             low, high = max(0.0, found.mean - half), min(most, found.mean + half)
-            points.append((int(place) / 1e6, found.mean, low, high, count))
+            points.append(((int(place) + later) / 1e6, found.mean, low, high, count))
     return sorted(points)
 
 
@@ -96,36 +138,85 @@ def pieces(points: list[Point]) -> Iterable[tuple[bool, list[Point]]]:
 
 def time_figure(pyplot: Any, drawn: Drawn, layout: Layout, quantities: Any, lines: list[Cells], title: str) -> Any:
     """The quantities over time, one below the other, for each panel and value of the axis."""
-    by_setting = groups(lines, layout.keys)
+    by_setting = lines_of(drawn, lines, layout.keys)
     high = len(quantities)
     figure, axes, across = small_plots(pyplot, layout, high)
     for number, cell in enumerate(layout.cells()):
         places = [axes[number // across * high + row][number % across] for row in range(high)]
-        draw_cell(places, cell, by_setting, layout, quantities, drawn.tables.manifest)
+        draw_cell(places, cell, by_setting, layout, quantities)
         if number % across == 0:
             for place, quantity in zip(places, quantities, strict=True):
-                place.set_ylabel(quantity[0])
-    for row, (_, _, most) in enumerate(quantities):
-        row_limits([axes[place][0] for place in range(row, len(axes), high)], most)
+                place.set_ylabel(quantity.label)
+    for row, quantity in enumerate(quantities):
+        row_limits([axes[place][0] for place in range(row, len(axes), high)], quantity.most)
     hide_spare(axes, len(layout.cells()), across, high)
-    note = f"means over the seeds that have the number; bands: pointwise 95% intervals, from {LEAST_SEEDS} seeds on; "
-    note += "dashed: fewer than three seeds" + ("; dotted: warm-up" if drawn.tables.manifest["warmup_us"] else "")
-    return finish(figure, title, note, drawn.mark, line_handles(pyplot, layout, "-"), legend_head(layout.by))
+    handles = line_handles(pyplot, layout, "-")
+    if any(limits_of(drawn.tables.manifest, quantity.column) for quantity in quantities):
+        handles.append(handle(pyplot))
+    return finish(figure, title, note_of(drawn, quantities), drawn.mark, handles, legend_head(layout.by))
+
+
+def note_of(drawn: Drawn, quantities: Any) -> str:
+    """How to read the figure."""
+    seeds = len({cells["seed"] for cells in drawn.tables.runs})
+    note = f"means over those of {seeds} seeds that have the number; bands: pointwise 95% intervals, from "
+    note += f"{LEAST_SEEDS} seeds on; dashed: fewer than three seeds"
+    if any(ring_lost([cells]) for cells in drawn.tables.runs):
+        kept = [quantity.label.partition(",")[0] for quantity in quantities if quantity.is_of_kept]
+        note += "; no band: rings were lost in some seeds" + (f"; {kept[0]}: of rings kept" if kept else "")
+    return note + ("; dotted: warm-up" if drawn.tables.manifest["warmup_us"] else "")
+
+
+@dataclass(frozen=True)
+class Lines:
+    """The lines of a setting: of all seeds, and of those whose rings were kept."""
+
+    every: list[Cells]
+    kept: list[Cells]
+
+    @property
+    def is_mixed(self) -> bool:
+        """Whether some rings were lost and some kept. Over both kinds no interval holds."""
+        return 0 < len(self.kept) < len(self.every)
+
+
+def lines_of(drawn: Drawn, lines: list[Cells], keys: list[str]) -> dict[tuple[str, ...], Lines]:
+    """The lines of each setting."""
+    names = [*keys, "seed"]
+    lost = {tuple(cells[name] for name in names) for cells in drawn.tables.runs if ring_lost([cells])}
+    return {
+        setting: Lines(group, [line for line in group if tuple(line[name] for name in names) not in lost])
+        for setting, group in groups(lines, keys).items()
+    }
 
 
 def draw_cell(
-    places: list[Any], cell: list[Values], by_setting: dict[tuple[str, ...], list[Cells]], layout: Layout,
-    quantities: Any, manifest: dict[str, Any],
+    places: list[Any], cell: list[Values], by_setting: dict[tuple[str, ...], Lines], layout: Layout, quantities: Any
 ) -> None:
     """The plots of one cell, from top to bottom."""
-    for place, (_, take, most) in zip(places, quantities, strict=True):
+    manifest = layout.manifest
+    for place, quantity in zip(places, quantities, strict=True):
         for turn, one in enumerate(cell):
-            greatest = float(manifest["nodes"]) if most == NODES else most
-            draw_points(place, points_of(by_setting.get(one, []), take, greatest), layout.look(one), turn)
+            found = quantity_points(by_setting.get(one, Lines([], [])), quantity, manifest)
+            draw_points(place, found, layout.look(one), turn)
+        draw_across(place, limits_of(manifest, quantity.column), 100.0)
         if manifest["warmup_us"]:
             place.axvline(manifest["warmup_us"] / 1e6, color="0.5", linestyle=":", linewidth=1)
     places[0].set_title(cell_words(layout, cell[0]))
     places[-1].set_xlabel("time, s")
+
+
+def quantity_points(lines: Lines, quantity: Quantity, manifest: dict[str, Any]) -> list[Point]:
+    """The points of a quantity in a setting. What is counted at the end of a step is drawn there."""
+    greatest = float(manifest["nodes"]) if quantity.most == NODES else quantity.most
+    shown = lines.kept if quantity.is_of_kept else lines.every
+    if quantity.is_by_begin:
+        # Lookups that begin in the cool-down may be cut off by the end.
+        end = max((int(line["from_us"]) for line in shown), default=0) + int(manifest["window_us"])
+        last = end - int(manifest["cooldown_us"])
+        shown = [line for line in shown if int(line["from_us"]) + int(manifest["window_us"]) <= last]
+    later = int(manifest["window_us"]) if quantity.is_at_end else 0
+    return points_of(shown, quantity.take, greatest, later, quantity.is_of_kept or not lines.is_mixed)
 
 
 def small_plots(pyplot: Any, layout: Layout, high: int, sharex: str = "all") -> tuple[Any, Any, int]:
@@ -151,7 +242,7 @@ def row_limits(rows: list[Any], most: float) -> None:
     """The same scale for a quantity in all rows, from 0; shares keep to where they are, up to 100%."""
     low = 0.0 if most != 100 else max(0.0, min(axes.get_ylim()[0] for axes in rows))
     high = max(axes.get_ylim()[1] for axes in rows)
-    high = high if most != 100 else 100 + (100 - low) * 0.03
+    high = high if most != 100 else 100.0
     for axes in rows:
         axes.set_ylim(low, max(high, low + 1))
 
@@ -161,56 +252,3 @@ def cell_words(layout: Layout, one: Values) -> str:
     across = setting_words(layout.x_keys, layout.part(one, layout.x_keys))
     panel = setting_words(layout.panels, layout.part(one, layout.panels))
     return "\n".join(text for text in (panel, across) if text)
-
-
-def cdf_figure(pyplot: Any, drawn: Drawn, layout: Layout) -> Any:
-    """The share of lookups begun that had found an owner within a time, and within so many hops."""
-    cells = layout.cells()
-    figure, axes, across = small_plots(pyplot, layout, 2, "row")
-    times = [float(line["value"]) for line in drawn.cdf if line["number"] == "us"]
-    least, greatest = min((time for time in times if time > 0), default=1), max(times, default=1)
-    by_setting = groups(drawn.cdf, ["number", *layout.keys])
-    for number, cell in enumerate(cells):
-        top, column = number // across * 2, number % across
-        for row, word in enumerate(("us", "hops")):
-            place = axes[top + row][column]
-            for one in cell:
-                draw_cdf(place, by_setting.get((word, *one), []), layout.look(one), word == "hops")
-            place.set_ylim(0, 103)
-            place.set_xlabel("lookup time" if word == "us" else "hops")
-            if column == 0:
-                place.set_ylabel("found, %\nof lookups begun")
-        time_axis(axes[top][column], least, greatest)
-        axes[top][column].set_title(cell_words(layout, cell[0]))
-    hide_spare(axes, len(cells), across, 2)
-    note = "thin: each seed; a line that ends below 100% has lookups that found nothing"
-    return finish(
-        figure, "How long lookups take", note, drawn.mark, line_handles(pyplot, layout, "-"), legend_head(layout.by)
-    )
-
-
-def time_axis(axes: Any, least: float, greatest: float) -> None:
-    """An axis of times with units: logarithmic if they span more than two decades."""
-    if greatest / least > 100:
-        axes.set_xscale("log")
-        axes.set_xticks([], minor=True)
-        axes.set_xlim(least, greatest)
-    else:
-        axes.set_xlim(0, greatest)
-        axes.locator_params(axis="x", nbins=4)
-    axes.xaxis.set_major_formatter(lambda value, _: time_words(value) if value else "0")
-
-
-def draw_cdf(axes: Any, lines: list[Cells], look: Look, steps: bool) -> None:
-    """A line for each seed, the paler the more they are; the first five have two markers, at places of their own."""
-    seeds = list(groups(lines, ["seed"]).values())
-    pale = 0.7 * max(0.25, min(1, 8 / max(1, len(seeds))))
-    for number, seed in enumerate(seeds):
-        xs, ys = [float(line["value"]) for line in seed], [100 * float(line["share"]) for line in seed]
-        style = {"drawstyle": "steps-post"} if steps else {}
-        axes.plot(xs, ys, color=look.colour, linewidth=0.8, alpha=pale, **style)
-        places = [len(xs) * ((7 * number + 5 + turn) % 23) // 23 for turn in (0, 11)] if number < 5 else []
-        axes.plot(
-            [xs[place] for place in places], [ys[place] for place in places], linestyle="none", marker=look.marker,
-            markersize=3.5, color=look.colour,
-        )

@@ -27,6 +27,8 @@ def merge(folders: list[Path], out: Path, named: Path | None = None) -> None:
     records = [read_record(folder) for folder in folders]
     check_same(folders, records)
     study = study_of(folders[0], records[0], named)
+    if study.search is not None:
+        raise Refused(f"{study.path} has [search], which has no parts: each round depends on the one before")
     make_folder(out / "done")
     program, program_sum = records[0].program_path(), records[0].program
     write_record(study, out, program, program_sum, READING)

@@ -8,7 +8,7 @@ from typing import Any
 from chordsim_tools.cli import Refused
 from chordsim_tools.explain.hints import close_to
 from chordsim_tools.files import read_input
-from chordsim_tools.quantities import time_text
+from chordsim_tools.quantities import time_of, time_text
 from chordsim_tools.scenario.tables import PROFILES
 from chordsim_tools.study.goal import Goal, Precision, goal_of, precision_of
 from chordsim_tools.study.keys import (
@@ -165,7 +165,7 @@ def read_files(study: Study, top: dict[str, Any]) -> None:
         study.latency_content = read_input(study.beside(study.latency))
     study.window_us = number_of(study.path, top, "window_us", 1, study.scenario.get("audit_us"))
     for setting in study.settings():
-        check_times(study, value_of(study, setting, "duration_us"))
+        check_times(study, duration_of(study, setting))
         check_profile(study, setting)
 
 
@@ -180,6 +180,15 @@ def first_world(study: Study) -> str:
 def value_of(study: Study, setting: Setting, key: str) -> Any:
     """The value of a key of the top table in a setting."""
     return dict(setting).get(key, study.scenario.get(key))
+
+
+def duration_of(study: Study, setting: Setting) -> Any:
+    """How long the runs of a setting are. A key of the scenario has the last word, as it does when one is made."""
+    varied = dict(setting)
+    option = varied.get(f"{OF_GENERATE}--duration")
+    if option is None or "duration_us" in varied:
+        return value_of(study, setting, "duration_us")
+    return time_of(str(option))
 
 
 def check_profile(study: Study, setting: Setting) -> None:

@@ -6,6 +6,7 @@ from pathlib import Path
 from typing import Any
 
 from chordsim_tools.cli import Progress
+from chordsim_tools.explain.traps import warn
 from chordsim_tools.files import write_whole
 from chordsim_tools.study.columns import COST, Column
 from chordsim_tools.study.figures import drawing, rendered
@@ -14,11 +15,13 @@ from chordsim_tools.study.layout import layout_of
 from chordsim_tools.study.lines import Rows, lines_figure
 from chordsim_tools.study.looks import Layout
 from chordsim_tools.study.numbers import groups
-from chordsim_tools.study.overtime import RIGHT, cdf_figure, network_of, time_figure
+from chordsim_tools.study.curves import TAIL
+from chordsim_tools.study.distribution import cdf_figure, tail_figure
+from chordsim_tools.study.overtime import SERVED, network_of, right_of, time_figure
 from chordsim_tools.study.plot_files import FORMS, origin_of, write_origins
 from chordsim_tools.study.so_far import Drawn, tables_of
 
-TIMES = ("us-p50", "us-p99")
+TIMES = ("all-us-p50", "all-us-p99")
 GAIN = "right-of-begun"
 
 
@@ -44,6 +47,8 @@ def write_plots(folder: Path, named: Path | None = None, wish: Wish | None = Non
     columns = [Column(name, drawn.tables) for name in wish.y or []]
     pyplot = drawing()
     figures = asked(pyplot, drawn, layout, columns) if columns else all_figures(pyplot, drawn, layout, wish.most_lost)
+    if not columns:
+        warn(left_out(drawn))
     origin = origin_of(drawn.tables.manifest, drawn.mark)
     with Progress("plots", stays=True) as progress:
         for name, figure in figures:
@@ -54,6 +59,16 @@ def write_plots(folder: Path, named: Path | None = None, wish: Wish | None = Non
                 write_whole(folder / f"{name}.{form}", content)
                 progress.one_more()
             write_origins(folder, [name], origin)
+
+
+def left_out(drawn: Drawn) -> list[str]:
+    """What the tables of an older tools/study do not have, so that no plot draws it."""
+    told = []
+    if drawn.tables.series and SERVED not in drawn.tables.series[0]:
+        told.append("right: no served, and right answers of those found; series.csv is of an older tools/study")
+    if TAIL not in drawn.tables.manifest["sha256"]:
+        told.append("tail: not drawn, since an older tools/study wrote no tail.csv")
+    return told
 
 
 def rows_of(drawn: Drawn, layout: Layout) -> Rows:
@@ -74,10 +89,13 @@ def all_figures(pyplot: Any, drawn: Drawn, layout: Layout, most_lost: float) -> 
     times = [Column(name, drawn.tables) for name in TIMES]
     cost, gain = Column(COST, drawn.tables), Column(GAIN, drawn.tables)
     yield "times", lines_figure(pyplot, drawn, layout, [gain, *times], rows, "Right answers, and lookup time")
-    yield "right", time_figure(pyplot, drawn, layout, RIGHT, drawn.tables.series, "Right answers and members over time")
+    title, quantities = right_of(drawn.tables.series)
+    yield "right", time_figure(pyplot, drawn, layout, quantities, drawn.tables.series, title)
     yield "cost", front_figure(pyplot, drawn, layout, [Plane(cost, gain), Plane(cost, times[1])], rows, most_lost)
     if drawn.steps:
-        title, quantities = network_of(drawn.steps)
-        yield "network", time_figure(pyplot, drawn, layout, quantities, drawn.steps, title)
+        title, counts = network_of(drawn.steps)
+        yield "network", time_figure(pyplot, drawn, layout, counts, drawn.steps, title)
     if drawn.cdf:
         yield "cdf", cdf_figure(pyplot, drawn, layout)
+    if TAIL in drawn.tables.manifest["sha256"]:
+        yield "tail", tail_figure(pyplot, drawn, layout)

@@ -13,13 +13,14 @@ NAME = "plots.json"
 FORMS = ("png", "svg")
 PLOTS = {
     "times": "Right answers and lookup time, by setting",
-    "right": "Right answers and members over time",
+    "right": "Served, right answers and members over time",
     "cost": "Cost against right answers and against lookup time",
     "network": "Timeouts and lost messages over time",
     "cdf": "How lookup times and hops are distributed",
+    "tail": "The slowest lookups",
 }
 """The plots that a page has, in their order."""
-NEEDS = {"network": "steps.csv", "cdf": "cdf.csv"}
+NEEDS = {"network": "steps.csv", "cdf": "cdf.csv", "tail": "tail.csv"}
 """Tables that older studies do not have, and the plots that are drawn of them."""
 DRAWS = "`tools/study plot FOLDER` draws them."
 NO_PLOTS = f"No plots: {DRAWS}\n\n"
@@ -68,7 +69,7 @@ def is_newer(folder: Path, name: str) -> bool:
 
 def is_drawn(folder: Path, name: str, wanted: Origin, found: Origin | None) -> bool:
     """Whether a plot is there and of the tables of a page, or of earlier ones of the same study that is not done."""
-    if not all((folder / f"{name}.{form}").is_file() for form in FORMS):
+    if not (folder / f"{name}.png").is_file():
         return False
     if found is None:
         return not wanted.mark and is_newer(folder, name)
@@ -96,5 +97,10 @@ def plots_text(folder: Path, manifest: dict[str, Any], mark: str) -> str:
     if left:
         is_any_there = any((folder / f"{name}.{form}").exists() for name in left for form in FORMS)
         told.append(missing_told(left, not drawn, is_any_there))
-    links = "".join(f"![{PLOTS[name]}]({name}.png)\n\n[{PLOTS[name]} (SVG)]({name}.svg)\n\n" for name in drawn)
-    return "".join(map(paragraph, told)) + links
+    return "".join(map(paragraph, told)) + "".join(links_of(folder, name) for name in drawn)
+
+
+def links_of(folder: Path, name: str) -> str:
+    """The picture of a plot, and a link to its SVG if that was kept."""
+    vector = f"[{PLOTS[name]} (SVG)]({name}.svg)\n\n" if (folder / f"{name}.svg").is_file() else ""
+    return f"![{PLOTS[name]}]({name}.png)\n\n{vector}"

@@ -7,7 +7,7 @@ from pathlib import Path
 from typing import Any
 
 from chordsim_tools.cli import Refused
-from chordsim_tools.quantities import time_of, time_text
+from chordsim_tools.quantities import UNIT_NAMES, time_of, time_text
 from chordsim_tools.study.keys import (
     BOOLEANS, OF_GENERATE, Value, is_integer, unknown_told, varied_keys, varied_options,
 )
@@ -38,7 +38,7 @@ class Axis:
     def steps(self) -> int:
         """How many steps the range has: a power of 2."""
         wanted = self.high - self.low if self.is_count else math.log(self.high / self.low) / math.log(SMALL)
-        return int(2 ** max(1, math.ceil(math.log2(wanted))))
+        return 1 << max(1, math.ceil(math.log2(wanted)))
 
     def value(self, place: int) -> Value:
         """The value at a step. The ends are those of the file."""
@@ -109,7 +109,7 @@ class Search:
 
     def most_settings(self) -> int:
         """So many settings it may try at most."""
-        rounds = 3 ** len(self.axes) + 2 * len(self.axes) * (self.most_rounds - 1)
+        rounds = int(3 ** len(self.axes)) + 2 * len(self.axes) * (self.most_rounds - 1)
         return min(rounds, math.prod(axis.steps + 1 for axis in self.axes))
 
     def sorted(self) -> list[Setting]:
@@ -156,5 +156,5 @@ def axis_of(path: Path, name: str, value: Any, is_generated: bool) -> Axis:
         raise Refused(f'{place} has to be a range, as "2..16", or of times with units, as "250ms..8s"')
     low, high = (time_of(end) if are_counts or not end.isdecimal() else None for end in ends)
     if low is None or high is None or low >= high or (low == 0 and not are_counts):
-        raise Refused(f'{place} = "{value}" has to go up, and times from above 0, with units (us, ms, s, m)')
+        raise Refused(f'{place} = "{value}" has to go up, and times from above 0, with units ({UNIT_NAMES})')
     return Axis(key, low, high, are_counts)

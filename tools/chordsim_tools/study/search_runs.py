@@ -9,7 +9,7 @@ from chordsim_tools.files import make_folder, read_input, sum_of
 from chordsim_tools.explain.traps import warn
 from chordsim_tools.known import known
 from chordsim_tools.program import find_program
-from chordsim_tools.study.answer import cost_told, least_of, nearest_of
+from chordsim_tools.study.answer import cost, cost_told, least_of, nearest_of
 from chordsim_tools.study.bounds import misses, missing_level, reaches
 from chordsim_tools.study.curves import write_results
 from chordsim_tools.study.goal import Goal
@@ -19,9 +19,13 @@ from chordsim_tools.study.numbers import Summary, summaries
 from chordsim_tools.study.plan import Setting, Study, label
 from chordsim_tools.study.record import write_record
 from chordsim_tools.study.runs import READING, do_left, runs_of, whole_result
+from chordsim_tools.study.search import Search
 from chordsim_tools.study.so_far import write_report
 from chordsim_tools.study.tables import Row, Tables, runs_text
 from chordsim_tools.study.worlds import argument_traps
+
+NEGLIGIBLE = 0.01
+"""A setting that costs less by this share or a smaller one is not worth a smaller step."""
 
 
 def run_search(study: Study, folder: Path, jobs: int) -> None:
@@ -36,16 +40,33 @@ def run_search(study: Study, folder: Path, jobs: int) -> None:
         raise Failure(3, "the program is missing")
     make_folder(folder / "done")
     warn(argument_traps(study))
-    new, count, told = search.first(), 0, set[str]()
-    while new and count < search.most_rounds:
+    new, told, why, count = search.first(), set[str](), "", 0
+    while not why:
         count += 1
         study.tried, study.groups = search.sorted(), search.groups()
         best = one_round(study, folder, program, jobs, told)
         write_out(round_told(count, new, best, goal))
         write_report(folder)
+        why = "nothing beside the best one costs less" if is_decided(search, best) else ""
         new = search.next(best.setting())
-    why = f"after {count} rounds, which is most_rounds" if new else f"after {count} rounds: the step is small"
-    write_out(f"done {why}; page: {folder / 'report.md'}\n")
+        why = why or ("" if new else "the step is small") or ("most_rounds" if count == search.most_rounds else "")
+    rounds = f"{count} round{'' if count == 1 else 's'}"
+    write_out(f"done after {rounds}: {why}; page: {folder / 'report.md'}\n{''.join(at_an_end(search, best))}")
+
+
+def is_decided(search: Search, best: "Best") -> bool:
+    """Whether the best setting reaches the goal, and no setting beside it costs less by more than can be neglected."""
+    costs = dict(zip(best.settings, (cost(one, best.goal) for one in best.found), strict=True))
+    beside = [search.setting(place) for place in search.beside(search.tried[best.setting()])]
+    are_dearer = all(costs.get(setting, 0.0) >= (1 - NEGLIGIBLE) * costs[best.setting()] for setting in beside)
+    return bool(best.reaching) and are_dearer
+
+
+def at_an_end(search: Search, best: "Best") -> list[str]:
+    """The keys whose best value is an end of its range."""
+    places = zip(search.axes, search.tried[best.setting()], strict=True)
+    keys = [axis.key for axis, place in places if place in (0, axis.steps)]
+    return [f"{key} is best at the end of its range: beyond it there may be a better one\n" for key in keys]
 
 
 class Best:
@@ -98,4 +119,5 @@ def round_told(number: int, new: list[Setting], best: Best, goal: Goal) -> str:
     by_label = {one.label: one for one in best.found}
     lines = [f"round {number}: {best.told(by_label[label(setting)])}\n" for setting in new]
     wanted = "the least " + in_words(goal.least) if best.reaching else "the nearest to the goal"
-    return "".join(lines) + f"round {number}: best so far {best.summary().label} ({wanted} of {len(best.found)} settings)\n"
+    told = f"best so far {best.summary().label} ({wanted} of {len(best.found)} settings)"
+    return "".join(lines) + f"round {number}: {told}\n"

@@ -9,7 +9,9 @@ from chordsim_tools.study.answer import chosen, those_that_reach
 from chordsim_tools.study.compare import Pair, guarded_level, scale_of
 from chordsim_tools.study.goal import Goal, goal_again, precision_again
 from chordsim_tools.study.layout import Worlds, choice_label, of_each_world, worlds_of
-from chordsim_tools.study.names import COUNTS, MILLISECONDS, NAMES, base_of, difference_header, header, is_percent, span_of
+from chordsim_tools.study.names import (
+    COUNTS, MILLISECONDS, NAMES, base_of, difference_header, header, is_percent, span_of,
+)
 from chordsim_tools.study.notes import AGAIN, FIRST, difference_note, notes_of
 from chordsim_tools.study.numbers import Cells, Summary, has_number, ratio
 from chordsim_tools.study.tables import Tables
@@ -141,7 +143,7 @@ def settings_tables(tables: Tables, found: list[Summary]) -> str:
     first, (lookups, more) = first_numbers(tables.manifest), other_numbers(tables, found[0].rows[0])
     last, last_note = differences(tables, found)
     columns = [("rings kept", Summary.kept_told), *columns_of(first), *last]
-    parts = [("Settings", columns, [*FIRST, *notes_of(first, []), *last_note]), *span_tables(tables)]
+    parts = [("Settings", columns, [*FIRST, *notes_of(first, []), *last_note]), *span_tables(tables, found)]
     if lookups:
         parts.append(("Lookups", columns_of(lookups), [AGAIN, *notes_of(lookups, first)]))
     parts.append(("More numbers", columns_of(more), [AGAIN, *notes_of(more, [*first, *lookups])]))
@@ -151,10 +153,12 @@ def settings_tables(tables: Tables, found: list[Summary]) -> str:
     )
 
 
-def span_tables(tables: Tables) -> list[Part]:
-    """A table for each span."""
+def span_tables(tables: Tables, found: list[Summary]) -> list[Part]:
+    """A table for each span. Its note says how many lookups a run has there, as few of them have no percentiles."""
     parts: list[Part] = []
     for span, (begin, end) in (tables.manifest.get("spans") or {}).items():
-        told = f"Of the lookups that began from {time_text(begin)} to {time_text(end)}. The columns are as in the other tables."
+        counts = [int(cells[f"{span}.judged-lookups"]) for one in found for cells in one.rows]
+        told = f"Of the lookups that began from {time_text(begin)} to {time_text(end)}, {min(counts)} to {max(counts)} "
+        told += "in a run. The columns are as in the other tables."
         parts.append((f"Span {span}", columns_of(span_numbers(tables, span)), [told, AGAIN]))
     return parts

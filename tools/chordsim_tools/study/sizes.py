@@ -25,7 +25,8 @@ def sizes_of(path: Path, table: Any) -> Sizes:
 def check_size(path: Path, kind: str, size: Any) -> None:
     """Fails if a size is none, and says what is allowed."""
     if isinstance(size, bool) or not isinstance(size, int | str) or (isinstance(size, int) and size < 0):
-        raise Refused(f"{path}: [sizes] {kind} has to be a number of bytes, 0 or more, or a formula as \"40 + 20 * list\"")
+        wanted = 'a number of bytes, 0 or more, or a formula as "40 + 20 * list"'
+        raise Refused(f"{path}: [sizes] {kind} has to be {wanted}")
     if isinstance(size, str):
         try:
             value_of(size, LEAST_KEYS)

@@ -2,14 +2,14 @@
 
 import os
 import tempfile
-from dataclasses import dataclass
+from dataclasses import dataclass, field
 from pathlib import Path
 
 from chordsim_tools.cli import Refused
 from chordsim_tools.explain.traps import warn
 from chordsim_tools.files import read_input, sum_of, write_whole
 from chordsim_tools.study import outcome
-from chordsim_tools.study.curves import CDF, STEPS, write_results
+from chordsim_tools.study.curves import CDF, STEPS, TAIL, write_results
 from chordsim_tools.study.numbers import Cells
 from chordsim_tools.study.page import page
 from chordsim_tools.study.plan import Study
@@ -28,6 +28,7 @@ class Drawn:
     tables: Tables
     cdf: list[Cells]
     steps: list[Cells]
+    tail: list[Cells] = field(default_factory=list)
     mark: str = ""
 
 
@@ -56,8 +57,9 @@ def drawn_of(folder: Path) -> Drawn:
     """The tables that were written. Older studies have none of curves."""
     tables = read_tables(folder)
     sums = tables.manifest["sha256"]
-    cdf, steps = (checked_table(folder / name, sums[name]) if name in sums else [] for name in (CDF, STEPS))
-    return Drawn(tables, cdf, steps)
+    names = (CDF, STEPS, TAIL)
+    cdf, steps, tail = (checked_table(folder / name, sums[name]) if name in sums else [] for name in names)
+    return Drawn(tables, cdf, steps, tail)
 
 
 def is_of(tables: Tables, record: Record) -> bool:

@@ -63,7 +63,8 @@ def limits_in(path: Path, name: str, goal: Any) -> Iterable[Limit]:
     for key, value in goal.items():
         number = key.rpartition("_")[0]
         if key in ("least", "lost_max") or number in set(NUMBERS) - set(OF_SPANS):
-            raise Refused(f"{place} {key}: rings lost, costs and `least` are of [goal]; a span has {', '.join(OF_SPANS)}")
+            has = ", ".join(OF_SPANS)
+            raise Refused(f"{place} {key}: rings lost, costs and `least` are of [goal]; a span has {has}")
         yield limit_of(place, key, value, OF_SPANS)
 
 
@@ -78,4 +79,5 @@ def check_spans(path: Path, spans: Spans, duration: int) -> None:
     """Fails if a span goes on after the end of a run."""
     for name, (_, end) in spans.items():
         if end > duration:
-            raise Refused(f"{path}: [span.{name}] to ({time_text(end)}) is after the end of the run ({time_text(duration)})")
+            run = f"the end of the run ({time_text(duration)})"
+            raise Refused(f"{path}: [span.{name}] to ({time_text(end)}) is after {run}")

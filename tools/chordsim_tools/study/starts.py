@@ -4,7 +4,9 @@ from collections.abc import Mapping
 from typing import Any
 
 from chordsim_tools.quantities import time_of, time_text
+from chordsim_tools.study.bounded import seeds_to_show
 from chordsim_tools.study.keys import OF_GENERATE
+from chordsim_tools.study.names import is_wild
 from chordsim_tools.study.plan import Setting, Study
 
 CHURN = ("--lifetime", "--churn-uniform")
@@ -26,7 +28,8 @@ def churn_trap(generate: list[str] | None, vary: Mapping[str, Any]) -> list[str]
     if not churn:
         return []
     remedy = STATIONARY if churn[0] == CHURN[0] else f"{CHURN[0]} with {STATIONARY}"
-    return [f"{churn[0]} without {STATIONARY}: all nodes are new at the start, so that crashes come in waves; set {remedy}"]
+    text = f"{churn[0]} without {STATIONARY}: all nodes are new at the start, so that crashes come in waves"
+    return [f"{text}; set {remedy}"]
 
 
 def value_in(study: Study, setting: Setting, key: str) -> int:
@@ -51,7 +54,7 @@ def longest_round(study: Study) -> int:
 
 
 def round_traps(manifest: Mapping[str, Any]) -> list[str]:
-    """That a warm-up, if there is one, or a judged span is below one round of fingers. Older manifests know no rounds."""
+    """That a warm-up, if there is one, or a judged span is below one round of fingers, if the manifest has it."""
     micros, duration = manifest.get("finger_round_us"), manifest.get("duration_us")
     if micros is None or duration is None:
         return []
@@ -65,10 +68,21 @@ def round_traps(manifest: Mapping[str, Any]) -> list[str]:
     return [f"{' and '.join(short)} {verb} {text}; {why}"] if short else []
 
 
+def seeds_traps(study: Study) -> list[str]:
+    """The limits that so few seeds cannot show, whatever they have."""
+    limits = [] if study.goal is None else [one for one in study.goal.limits if one.is_least and 0 < one.value < 1]
+    needs = {one: seeds_to_show(one.value) for one in limits if is_wild(one.number)}
+    most = len(study.seeds) if study.precision is None else study.precision.most_seeds
+    return [
+        f"[goal] {one.number}_min = {one.value:g} cannot be shown by {most} seeds: it takes {seeds} or more, as a "
+        "world that serves nothing may be missing among fewer" for one, seeds in needs.items() if most < seeds
+    ]
+
+
 def start_traps(study: Study) -> list[str]:
     """What `tools/study run` warns of before the first run."""
     facts = {
         "finger_round_us": longest_round(study), "duration_us": study.scenario.get("duration_us"),
         "warmup_us": study.warmup_us, "cooldown_us": study.cooldown_us,
     }
-    return [*churn_trap(study.generate, study.vary), *round_traps(facts)]
+    return [*seeds_traps(study), *churn_trap(study.generate, study.vary), *round_traps(facts)]

@@ -1,10 +1,11 @@
 """Whether the judged span is steady: served, right answers and members in six pieces of it, seed by seed.
 
 Two questions are asked of each number, by contrasts of the pieces (multiple contrast tests: Bretz, Genz and Hothorn,
-Biometrical Journal 43, 2001): does it rise or fall over the span, and is a piece other than the rest, as in a wave? They
-are asked of the mean of all settings, which have the same seeds, and of each setting. All of them share a risk of 5 %
-(Bonferroni), so of twenty steady studies about one is said not to be."""
+Biometrical Journal 43, 2001): does it rise or fall over the span, and is a piece other than the rest, as in a wave?
+They are asked of the mean of all settings, which have the same seeds, and of each setting. All of them share a risk of
+5 % (Bonferroni), so of twenty steady studies about one is said not to be."""
 
+from collections.abc import Set
 from dataclasses import dataclass
 from statistics import fmean
 from typing import Any
@@ -13,11 +14,15 @@ from chordsim_tools.quantities import time_text
 from chordsim_tools.study.interval import LEAST_SEEDS, Interval, interval
 from chordsim_tools.study.names import name_of
 from chordsim_tools.study.numbers import Cells, Summary, groups, is_kept
+from chordsim_tools.study.pieces import COLUMN, PIECES
 from chordsim_tools.study.tables import Tables
 
-PIECES = 6
 PARTS = {"served": ("right-of-ended", "wanted"), "right_of_begun": ("right-of-ended", "ended")}
 """The columns of series.csv whose sums' quotient a number is in a piece."""
+SHARES = ("served", "right_of_begun", "members")
+"""The numbers that are always looked at."""
+TIMES = {"p50_ms": f"{COLUMN}p50", "p90_ms": f"{COLUMN}p90", "p99_ms": f"{COLUMN}p99"}
+"""Those that are looked at if a goal names them, and the columns of runs.csv that have them for each piece."""
 OLDER = {"right_of_begun": ("right", "found")}
 """The same for tables of an older tools/study."""
 MOST_TOLD = 5
@@ -39,12 +44,18 @@ class Change:
     def told(self) -> str:
         """As `served -4.7 ± 1.9 points from its begin to its end (list=4)`."""
         mean = self.found.mean or 0.0
-        size = Interval(abs(mean), self.found.half, self.found.count, self.found.count).told(100)
-        sign = "+" if mean > 0 else "-"
+        unit, scale = unit_of(self.number)
+        size = Interval(abs(mean), self.found.half, self.found.count, self.found.count).told(scale)
+        head = f"{name_of(self.number)} {'+' if mean > 0 else '-'}{size} {unit}"
         if self.piece is None:
-            return f"{name_of(self.number)} {sign}{size} points from its begin to its end ({self.where})"
+            return f"{head} from its begin to its end ({self.where})"
         begin, end = map(time_text, self.piece)
-        return f"{name_of(self.number)} {sign}{size} points from {begin} to {end}, against the rest ({self.where})"
+        return f"{head} from {begin} to {end}, against the rest ({self.where})"
+
+
+def unit_of(number: str) -> tuple[str, float]:
+    """The unit of changes of a number, and what they are multiplied with."""
+    return ("ms", 0.001) if number in TIMES else ("points", 100.0)
 
 
 def steps_of(tables: Tables, cells: Cells, lines: list[Cells]) -> list[list[Cells]]:
@@ -74,7 +85,7 @@ class Pieces:
         """Those of the tables."""
         keys = [*tables.manifest["vary"], "seed"]
         lines = groups(tables.series, keys)
-        rows = {tuple(cells[key] for key in keys): cells for cells in tables.runs}
+        self.rows = rows = {tuple(cells[key] for key in keys): cells for cells in tables.runs}
         self.nodes = int(tables.manifest["nodes"])
         self.runs = {run: steps_of(tables, cells, lines.get(run, [])) for run, cells in rows.items() if is_kept(cells)}
 
@@ -85,13 +96,17 @@ class Pieces:
 
     def in_run(self, run: tuple[str, ...], number: str) -> list[float]:
         """A number in the pieces of a run; none if one of them does not have it."""
+        if number in TIMES:
+            cell = self.rows[run].get(TIMES[number], "") if run in self.runs else ""
+            return [float(word) for word in cell.split()]
         values = [number_in(number, piece, self.nodes) for piece in self.runs.get(run, [])]
         there = [value for value in values if value is not None]
         return there if len(there) == len(values) else []
 
     def spans(self, one: Summary, window: int) -> list[tuple[int, int]]:
         """The begin and the end of each piece."""
-        pieces = next((self.runs[(*one.values, seed)] for seed in one.by_seed if (*one.values, seed) in self.runs), [])
+        runs = [(*one.values, seed) for seed in one.by_seed]
+        pieces = [self.runs[run] for run in runs if run in self.runs][0]
         return [(int(piece[0]["from_us"]), int(piece[-1]["from_us"]) + window) for piece in pieces]
 
 
@@ -136,10 +151,16 @@ class Looked:
     left: int
 
 
-def look(tables: Tables, found: list[Summary]) -> Looked:
+def looked_at(named: Set[str], found: list[Summary]) -> list[str]:
+    """The three shares, and those of the named numbers that runs.csv has for each piece."""
+    columns = set(found[0].rows[0])
+    return [*SHARES, *(number for number, column in TIMES.items() if number in named and column in columns)]
+
+
+def look(tables: Tables, found: list[Summary], named: Set[str] = frozenset()) -> Looked:
     """Looks at all settings that kept their rings in five seeds or more."""
     pieces, window = Pieces(tables), int(tables.manifest["window_us"])
-    numbers = ("served", "right_of_begun", "members")
+    numbers = looked_at(named, found)
     values = {(one.label, number): pieces.values(one, number) for one in found for number in numbers}
     whole = [one for one in found if len(values[one.label, "members"]) >= LEAST_SEEDS]
     risk = 0.05 / len(numbers) / (2 if len(whole) > 1 else 1)
@@ -172,19 +193,24 @@ def strongest(told: list[Change]) -> list[Change]:
 
 def steadiness(tables: Tables, found: list[Summary], named: set[str]) -> str:
     """What a page says of it; `named` are the numbers of the goal."""
-    looked = look(tables, found)
-    rest = sorted(named - {"served", "right_of_begun", "members", "rings_lost"})
+    looked = look(tables, found, named)
+    rest = sorted(named - {*looked_at(named, found), "rings_lost"})
     blind = f" Not looked at: {', '.join(map(name_of, rest))}." if rest else ""
-    left = f" {looked.left} of {len(found)} settings are left out: too few seeds kept the ring." if looked.left else ""
+    verb = "is" if looked.left == 1 else "are"
+    count = f"{looked.left} of {len(found)} settings"
+    left = f" {count} {verb} left out: too few seeds kept the ring." if looked.left else ""
     if not looked.trends:
-        return "Whether the judged span is steady cannot be said: too few seeds kept their ring, or too few steps." + blind
+        return f"Whether the judged span is steady cannot be said: too few seeds with a ring, or too few steps.{blind}"
     strong = strongest(looked.changes)
     if strong:
         more = f"; and {len(strong) - MOST_TOLD} more" if len(strong) > MOST_TOLD else ""
         listed = "; ".join(one.told() for one in strong[:MOST_TOLD])
         return f"**Not steady** in the judged span: {listed}{more}.{blind}{left}"
-    told = ", ".join(f"{name_of(number)} {one.told(100)}" for number, one in looked.trends.items())
-    return f"No drift and no waves seen in the judged span. Points from its begin to its end: {told}.{blind}{left}"
+    units = {number: unit_of(number) for number in looked.trends}
+    told = ", ".join(
+        f"{name_of(number)} {one.told(units[number][1])} {units[number][0]}" for number, one in looked.trends.items()
+    )
+    return f"No drift and no waves seen in the judged span. From its begin to its end: {told}.{blind}{left}"
 
 
 def manifest_numbers(manifest: dict[str, Any]) -> set[str]:

@@ -5,6 +5,10 @@ from collections.abc import Iterable
 
 NEVER = "never"
 ROUNDING = 1e-9
+TAIL = (0, 20, 40, 50, 60, 70, 80, 90, 95, 98, 99, 99.5, 99.8, 99.9, 99.95, 99.98, 99.99)
+"""The percentiles of a tail."""
+LEAST_BEYOND = 10
+"""So many lookups have to take longer than a percentile, or it is nearly the greatest one."""
 
 
 def percentile(values: list[int], share: int) -> int | None:
@@ -29,20 +33,24 @@ class Times:
         return len(self.ended) + len(self.cut) + self.lost
 
     def percentile(self, share: float) -> int | str | None:
-        """The time by which this share of a hundred has ended, `never` if it is never reached, nothing without lookups.
+        """The time by which this share of a hundred has ended; `never` if that is never so, nothing without lookups."""
+        return self.percentiles((share,))[share]
 
-        At equal times those that were cut off come after those that ended."""
-        if self.count() == 0:
-            return None
-        left, rest = 1.0, self.count()
+    def percentiles(self, shares: Iterable[float]) -> dict[float, int | str | None]:
+        """Some percentiles. At equal times lookups that were cut off come after those that ended."""
+        wanted = sorted(shares)
+        found: dict[float, int | str | None] = dict.fromkeys(wanted, NEVER if self.count() else None)
+        left, rest, reached = 1.0, self.count(), 0
         ended, cut = Counter(self.ended), Counter(self.cut)
         for time in sorted({*ended, *cut}):
             left *= 1 - ended[time] / rest
-            if ended[time] and left <= 1 - share / 100 + ROUNDING:
-                return time
+            while ended[time] and reached < len(wanted) and left <= 1 - wanted[reached] / 100 + ROUNDING:
+                found[wanted[reached]] = time
+                reached += 1
             rest -= ended[time] + cut[time]
-        return NEVER
+        return found
 
-    def percentiles(self, shares: Iterable[float]) -> dict[float, int | str | None]:
-        """Some percentiles."""
-        return {share: self.percentile(share) for share in shares}
+    def tail(self) -> list[tuple[float, int]]:
+        """The percentiles that a plot of the tail has: those that are reached, with ten lookups or more beyond them."""
+        known = [share for share in TAIL if self.count() * (1 - share / 100) >= LEAST_BEYOND - ROUNDING]
+        return [(share, time) for share, time in self.percentiles(known).items() if isinstance(time, int)]

@@ -5,7 +5,7 @@ from functools import partial
 
 from chordsim_tools.study.interval import LEAST_SEEDS, outward
 from chordsim_tools.study.notes import AGAIN
-from chordsim_tools.study.numbers import Cells, Summary
+from chordsim_tools.study.numbers import Cells, Summary, is_kept
 from chordsim_tools.study.settings_tables import Column, table_text
 from chordsim_tools.study.tables import Tables
 from chordsim_tools.study.unravel import lost_told
@@ -24,7 +24,8 @@ OF_LOST_RINGS = ("cost-stranded", "cost-join-failed")
 UNIT = "All numbers are for each member and hour, from the warm-up to the end."
 NOTES = (
     AGAIN,
-    "**none (< 26 %)**: no seed has any. So at most 26 % of worlds have any (95 %, exact: 1 - 0.05 ^ (1 / seeds)).",
+    "**none (< 26 %)**: no seed has any. So at most 26 % of worlds have any (95 %, exact: 1 - 0.05 ^ (1 / seeds)). "
+    "`in 2 seeds`: so few have any that the mean has no interval.",
     "**timeouts**: calls that had no reply in time, to any of their sendings.",
     "**members taken for dead**: timeouts of calls to a node that was a member at that time. A message was lost, or "
     "the node had only just joined.",
@@ -32,8 +33,8 @@ NOTES = (
     "successor left the list though it was a member. In all other cases a lookup, a join or a ping went on without the "
     "node.",
     "**requests sent again**: each time that a request was sent again (`retries`).",
-    "**members stranded**: members whose successor list ran empty. Of rings that were lost it is the mean for each run, "
-    "with the least and the greatest.",
+    "**members stranded**: members whose successor list ran empty. Of rings that were lost it is the mean for each "
+    "run, with the least and the greatest.",
     "**joins failed**: times that a join had failed eight times, of rings that were lost as members stranded.",
 )
 
@@ -60,10 +61,13 @@ def cell_of(one: Summary, word: str) -> str:
 def kept_told(one: Summary, word: str) -> str:
     """A count of the rings kept. If no seed has any, it is said how many worlds may have some."""
     found = one.of(an_hour(word))
-    if found.mean != 0 or found.count < LEAST_SEEDS:
+    some = sum(int(cells[word]) > 0 for cells in one.rows if is_kept(cells))
+    if found.mean is None or found.count < LEAST_SEEDS or some >= LEAST_SEEDS:
         return found.told()
-    left = f" ({found.count} of {found.of})" if found.count < found.of else ""
-    return f"none (< {outward(100 * (1 - 0.05 ** (1 / found.count)), 2, 1):g} %){left}"
+    text = f"none (< {outward(100 * (1 - 0.05 ** (1 / found.count)), 2, 1):g} %)"
+    if some:
+        text = f"{found.mean:.2g}, in {some} seed{'' if some == 1 else 's'}"
+    return text + (f" ({found.count} of {found.of})" if found.count < found.of else "")
 
 
 def taken_table(tables: Tables, found: list[Summary]) -> str:

@@ -11,6 +11,7 @@ from chordsim_tools.members import Members
 from chordsim_tools.study.curves import Curves
 from chordsim_tools.study.document import toml_text
 from chordsim_tools.study.messages import Span, message_numbers
+from chordsim_tools.study.pieces import PieceTimes
 from chordsim_tools.study.program import Program
 from chordsim_tools.study.repairs import Repairs
 from chordsim_tools.study.served import scope_of
@@ -61,12 +62,14 @@ def result_of(task: Task, program: Path, scenario: Path, latency: Path | None) -
     top = tomllib.loads(task.scenario)
     idents = caller.idents([node["name"] for node in top["node"]])
     reader, curves, trouble = readers_of(task, top, idents)
+    pieces = PieceTimes(reader.scope)
 
     def read(line: str) -> None:
         """Each reader takes a line."""
         reader.read(line)
         curves.read(line)
         trouble.read(line)
+        pieces.read(line)
 
     report = caller.run(read, reader.traffic.sift)
     if (reader.all_lookups, reader.all_found) != (report.get("lookups"), report.get("found")):
@@ -80,8 +83,9 @@ def result_of(task: Task, program: Path, scenario: Path, latency: Path | None) -
         "report": report,
         "numbers": {
             **numbers, **message_numbers(reader.traffic, span), **trouble.numbers(),
+            **pieces.numbers(),
             "scenario-list": top["list"], "scenario-bits": top["bits"],
         },
-        "curves": curves.numbers(),
+        "curves": {**curves.numbers(), "tail": reader.judged.times.tail()},
         "series": reader.over_time.rows(),
     }

@@ -1,4 +1,4 @@
-"""Rings that unravel: a member whose successor list runs empty strands and joins again, and then its predecessor's does."""
+"""Rings that unravel: a member whose successor list runs empty strands and joins again, and so may its predecessor."""
 
 from statistics import fmean
 

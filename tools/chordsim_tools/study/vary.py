@@ -5,7 +5,7 @@ from pathlib import Path
 from typing import Any
 
 from chordsim_tools.cli import Refused
-from chordsim_tools.quantities import time_of, time_text
+from chordsim_tools.quantities import UNIT_NAMES, time_of, time_text
 from chordsim_tools.study.keys import (
     BOOLEANS, OF_GENERATE, Value, booleans_of, is_integer, micros_of, unknown_told, varied_keys, varied_options,
 )
@@ -72,7 +72,8 @@ def checked(path: Path, key: str, value: Any) -> Value:
         return booleans_of(path, key, [value])[0]
     found = micros_of(key, value)
     if not is_integer(found) and not (key.startswith(OF_GENERATE) and isinstance(found, str)):
-        raise Refused(f"{path}: [vary] {key} cannot be {value!r}: an integer is wanted (times may have units, as \"1s\")")
+        wanted = 'an integer is wanted (times may have units, as "1s")'
+        raise Refused(f"{path}: [vary] {key} cannot be {value!r}: {wanted}")
     return int(found) if is_integer(found) else str(found)
 
 
@@ -112,7 +113,7 @@ def number_in(place: str, part: str, are_counts: bool) -> int:
     """A part of a range: a count, or a time with its unit in microseconds."""
     time = None if not are_counts and part.isdecimal() and part != "0" else time_of(part)
     if time is None:
-        raise Refused(f"{place}: {part} is no time with a unit (us, ms, s, m)")
+        raise Refused(f"{place}: {part} is no time with a unit ({UNIT_NAMES})")
     return time
 
 

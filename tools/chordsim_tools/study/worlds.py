@@ -8,6 +8,7 @@ from pathlib import Path
 from typing import Any, TypeVar
 
 from chordsim_tools.cli import Failure, Parser, Refused
+from chordsim_tools.generate import arguments as made_by
 from chordsim_tools.generate import command as generate
 from chordsim_tools.generate import plan as generate_plan
 from chordsim_tools.generate.bare import LIMITS, bare_traps
@@ -82,11 +83,11 @@ def text_of(path: str, arguments: tuple[str, ...]) -> str:
 
     def work() -> str:
         """The tool itself."""
-        parser = generate.parser_of()
+        parser = made_by.parser_of()
         args = parser.parse_args(list(arguments))
         # A file is named relative to the study file.
         generate.beside(args, Path(path).parent)
-        return generate.scenario_of(generate_plan.check(args, parser), generate.arguments_again(args))
+        return generate.scenario_of(generate_plan.check(args, parser), made_by.arguments_again(args))
 
     return called(f"{path}: generate", work)
 
@@ -96,7 +97,7 @@ def argument_traps(study: Study) -> list[str]:
     told: list[str] = []
     if study.generate is not None:
         for setting in study.settings():
-            told += bare_times(study, generate.parser_of(), arguments_of(study, setting, study.seeds[0]), LIMITS)
+            told += bare_times(study, made_by.parser_of(), arguments_of(study, setting, study.seeds[0]), LIMITS)
     if study.latency_arguments is not None:
         told += bare_times(study, latency.parser_of(), study.latency_arguments, latency.TIMES)
     return list(dict.fromkeys(told))

@@ -66,7 +66,7 @@ def parsed(arguments: list[str]) -> Namespace:
     parser.add_argument("--removed", metavar="NODE", help="each successor that a node has removed, and why")
     parser.add_argument("--lookups", metavar="FILE", help="write a table of all lookups into FILE (CSV)")
     parser.add_argument("--html", metavar="FILE", help="write a page for a browser into FILE")
-    parser.add_argument("--groups", metavar="FILE", help="the groups of nodes in the page: rows NODE,GROUP (by names eu-0)")
+    parser.add_argument("--groups", metavar="FILE", help="groups of nodes for the page: rows NODE,GROUP (by names)")
     parser.add_argument("--json", action="store_true", help="print the summary, and the tables asked for, as JSON")
     return parser.parse_args(arguments)
 

@@ -23,7 +23,7 @@ def lookups_text(run: Run) -> str:
 
 
 def cells_of(names: list[str], one: Lookup) -> tuple[object, ...]:
-    """The cells of a lookup. A lookup that was cut off has no hops and timeouts, and one that the end cut off no end."""
+    """The cells of a lookup. One that was cut off has no hops and timeouts, and one that the end cut off has no end."""
     is_cut = one.outcome in ("crash", "end")
     ended = ("", "") if one.end is None else (one.end, one.taken(0))
     counts = ("", "") if is_cut else (one.hops, one.timeouts)

@@ -16,8 +16,9 @@ PERCENTILES = {"p50_us": (50, 1), "p99_us": (99, 100), "p999_us": (99.9, 1000)}
 
 
 def step_rows(run: Run, width: int) -> Rows:
-    """A row for each step: what begins and ends in it, how long the lookups take that begin in it, and the members at its
-    end. A step has its first instant."""
+    """A row for each step: what begins and ends in it, how long lookups take that begin in it, and members at its end.
+
+    A step has its first instant."""
     end = run.history.scenario.duration_us if run.is_whole else run.reached + 1
     count = -(-end // width)
     if count > MOST_STEPS:
@@ -37,7 +38,8 @@ def step_rows(run: Run, width: int) -> Rows:
     members = run.history.members
     for row, times in zip(rows, step_times(run, width, count), strict=True):
         row["members"] = members.count_before(min(row["from_us"] + width, end))
-        row |= {word: times.percentile(of) if times.count() >= least else None for word, (of, least) in PERCENTILES.items()}
+        for word, (of, least) in PERCENTILES.items():
+            row[word] = times.percentile(of) if times.count() >= least else None
     return rows
 
 
@@ -66,8 +68,8 @@ def step_table(rows: Rows) -> list[str]:
         for row in rows
     ]
     head = [
-        "steps of time: members are those at the end of the step, right is strict; p50, p99 and p99.9 are of the times of",
-        "all lookups that begin in the step (of 100 and 1,000 or more for the last two)", "",
+        "steps of time: members are those at the end of the step, right is strict; p50, p99 and p99.9 are of the times",
+        "of all lookups that begin in the step (of 100 and 1,000 or more for the last two)", "",
     ]
     return head + table(["from", *words, "right share", "p50", "p99", "p99.9"], cells)
 

@@ -48,8 +48,8 @@ def bins(run: Run) -> dict[str, Any]:
     }
 
 
-def times(run: Run) -> dict[str, Any]:
-    """Percentiles of the times of the lookups that begin in each step of the run; none of too few, or if most are lost."""
+def lookup_times(run: Run) -> dict[str, Any]:
+    """Percentiles of the times of the lookups that begin in each step; none of too few or mostly lost ones."""
     end = max(run.history.scenario.duration_us if run.is_whole else run.reached + 1, 1)
     width = -(-end // STEPS)
     steps = step_times(run, width, -(-end // width))

@@ -10,7 +10,7 @@ from typing import Any
 
 from chordsim_tools.cli import Failure
 from chordsim_tools.trace.lines import ASKS, CHANGES, FOUND, KINDS, LOOKUP, LOST, Audit, Lookup
-from chordsim_tools.trace.page.bins import bins, times
+from chordsim_tools.trace.page.bins import bins, lookup_times
 from chordsim_tools.trace.page.groups import groups_by_name
 from chordsim_tools.trace.reading import Run
 from chordsim_tools.trace.tables import most_wrong, slowest
@@ -59,7 +59,7 @@ def page_data(run: Run, scenario: str, groups: list[str] | None = None) -> Facts
         "group": packed(map(group_names.index, group_of), "i"),
         "kinds": KINDS,
         "bins": bins(run),
-        "times": times(run),
+        "times": lookup_times(run),
         "audits": [list(audit_row(audit)) for audit in audits],
         "lines": line_columns(run, kinds, {one.number: at for at, one in enumerate(lookups)}),
         "lookups": lookup_columns(lookups, (spec.bits + 7) // 8, spec.bits),
