@@ -5,6 +5,7 @@ from typing import Any
 
 from chordsim_tools.quantities import time_of, time_text
 from chordsim_tools.study.bounded import seeds_to_show
+from chordsim_tools.study.interval import LEAST_SEEDS
 from chordsim_tools.study.keys import OF_GENERATE
 from chordsim_tools.study.names import is_wild
 from chordsim_tools.study.plan import Setting, Study
@@ -69,13 +70,13 @@ def round_traps(manifest: Mapping[str, Any]) -> list[str]:
 
 
 def seeds_traps(study: Study) -> list[str]:
-    """The limits that so few seeds cannot show, whatever they have."""
+    """The limits that so few seeds cannot show, whatever they have. Below five seeds there is no answer at all."""
     limits = [] if study.goal is None else [one for one in study.goal.limits if one.is_least and 0 < one.value < 1]
     needs = {one: seeds_to_show(one.value) for one in limits if is_wild(one.number)}
     most = len(study.seeds) if study.precision is None else study.precision.most_seeds
     return [
         f"[goal] {one.number}_min = {one.value:g} cannot be shown by {most} seeds: it takes {seeds} or more, as a "
-        "world that serves nothing may be missing among fewer" for one, seeds in needs.items() if most < seeds
+        "world that serves nothing may be missing among fewer" for one, seeds in needs.items() if LEAST_SEEDS <= most < seeds
     ]
 
 
