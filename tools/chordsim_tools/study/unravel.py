@@ -2,7 +2,6 @@
 
 from statistics import fmean
 
-from chordsim_tools.quantities import time_text
 from chordsim_tools.study.interval import significant
 from chordsim_tools.study.numbers import Cells, Summary, is_kept
 from chordsim_tools.study.wrap import paragraph
@@ -43,8 +42,10 @@ def setting_told(one: Summary) -> str:
         return ""
     times = sorted(int(cells["stranded-at-us"]) for cells in rows)
     when = time_words(times[0]) + (f" to {time_words(times[-1])}" if times[-1] > times[0] else "")
-    count = significant(fmean(int(cells["cost-stranded"]) for cells in rows), 3)
-    return f"{one.label}: {len(rows)} of {one.seeds} rings, from {when} on, {count} times a run"
+    told = f"{one.label}: {len(rows)} of {one.seeds} rings, from {when} on"
+    # The count begins behind the warm-up, by which a ring may be lost.
+    count = fmean(int(cells["cost-stranded"]) for cells in rows)
+    return f"{told}, {significant(count, 3)} times a run" if count else told
 
 
 def is_before_the_loss(cells: Cells) -> bool:
@@ -53,5 +54,5 @@ def is_before_the_loss(cells: Cells) -> bool:
 
 
 def time_words(micros: int) -> str:
-    """A time to a tenth of a second, or in its own unit if it is below a second."""
-    return f"{micros / 1e6:.1f} s" if micros >= 1_000_000 else time_text(micros)
+    """A time to a tenth of a second, or to a millisecond if it is below a second."""
+    return f"{micros / 1e6:.1f} s" if micros >= 1_000_000 else f"{micros / 1e3:.0f} ms"
