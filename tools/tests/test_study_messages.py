@@ -140,7 +140,11 @@ class StudyMessagesTest(TestCase):
                 assert call(folder, chordsim=program())[0] == 0
                 [cells] = csv.DictReader((folder / "study" / "runs.csv").read_text().splitlines())
                 _, made = counted(next((folder / "study" / "done").glob("*.toml")).read_text())
-            assert cells["messages-counted"] == str(wanted)
+            assert cells["messages-counted"] == str(wanted) and bool(cells["pieces-messages"]) == (profile == 4)
+            for word in ("cost-member-us", "ended-us", "ended-hops", "judged-found", "right-defensible", "sent-step",
+                         "messages", "messages-lookups"):
+                pieces = cells[f"pieces-{word}"].split()
+                assert len(pieces) == 6 and sum(map(int, pieces)) == int(cells[word]) or not pieces, (word, cells)
             assert wanted == 0 or int(cells["messages"]) == sum(made.values()), (cells, made)
 
     def test_names_that_are_words_of_detail(self) -> None:
@@ -153,6 +157,16 @@ class StudyMessagesTest(TestCase):
         left = b"9 ask lookup 5\n10 send timeout ask\n11 ask found 5 send hops=1 timeouts=0 us=2\nevents 4\n"
         assert traffic.sift(part) == left and traffic.sift(left) == left
         assert +traffic.lines == {"ask step": 1, "send notify": 1}
+
+    def test_pieces(self) -> None:
+        """Six pieces of 15 us from 10 on. Read line by line or all at once, they have the same."""
+        kinds = ["step", "ping"]
+        lines = [f"{time} a ask {kinds[time % 2]} b call={time}\n".encode() for time in range(100)]
+        traffics = [Traffic(scope_of({"duration_us": 100, "node": []}, 50, 10, 0)) for _ in range(2)]
+        assert [traffics[0].sift(line) for line in lines] == [b""] * 100 and traffics[1].sift(b"".join(lines)) == b""
+        assert traffics[0].pieces == traffics[1].pieces and traffics[0].lines == traffics[1].lines
+        assert [piece["ask step"] for piece in traffics[1].pieces] == [8, 7, 8, 7, 8, 7]
+        assert traffics[1].lines["ask step"] == 45 and traffics[1].lines["ask ping"] == 45
 
     def test_detail_after_a_warmup(self) -> None:
         """The lines from 10 on. A lost request has two lines, and another lost message has one."""

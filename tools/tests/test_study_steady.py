@@ -5,9 +5,11 @@ from random import Random
 from typing import Any
 from unittest import TestCase
 
+from chordsim_tools.members import Members
+from chordsim_tools.messages import MESSAGES
 from chordsim_tools.study.numbers import summaries
-from chordsim_tools.study.pieces import PieceTimes
 from chordsim_tools.study.page import page
+from chordsim_tools.study.pieces import Pieces
 from chordsim_tools.study.plan import read_study
 from chordsim_tools.study.served import Scope
 from chordsim_tools.study.starts import churn_trap, longest_round, round_traps, seeds_traps
@@ -73,7 +75,7 @@ class SteadyTest(TestCase):
         text = sentence(study_of(lambda *_: 0.9 + draws.gauss(0, 0.01), goal=goal))
         assert text.startswith("No drift and no waves seen in the judged span."), text
         assert "From its begin to its end: served 0 points, right of begun 0 points, members " in text
-        assert text.endswith("Not looked at: messages, p99.")
+        assert text.endswith("Not looked at: messages (known for the whole run alone); p99 (too few lookups in each piece).")
 
     def test_false_alarms(self) -> None:
         """Of steady studies of four settings about one in twenty, or fewer, is said not to be steady."""
@@ -108,7 +110,6 @@ class SteadyTest(TestCase):
         assert sentence(tables).startswith("No drift and no waves seen") and "right of begun" in sentence(tables)
         assert "served" not in sentence(tables)
 
-
     def test_times_of_the_goal(self) -> None:
         """If the goal names p99 it is looked at: 2,000 ms in the first piece, and 50 ms more in each of the next."""
         limits = [{"number": "p99_ms", "is_least": False, "value": 3000.0}]
@@ -118,7 +119,25 @@ class SteadyTest(TestCase):
             cells["pieces-us-p99"] = " ".join(map(str, times))
         text = sentence(tables)
         # Seeds add s ms to every second piece: s * 5 / 17.5 * (-1.5 + 0.5 + 2.5), on average 1.5 ms.
-        assert "**Not steady** in the judged span: p99 +251.5" in text and "Not looked at: messages." in text, text
+        assert "**Not steady** in the judged span: p99 +251.5" in text and "Not looked at: messages (known" in text, text
+
+    def test_messages_of_the_goal(self) -> None:
+        """Two members for 10 s a piece: 40 messages, 10 of them of lookups, and two pings more in each piece."""
+        goal = {"limits": [{"number": "hops", "is_least": False, "value": 9.0}], "lost_max": None}
+        for least, told in (("messages", "+0.518"), ("upkeep", "+0.518"), ("bytes", "+5.18")):
+            tables = study_of(lambda *_: 0.9, goal={**goal, "least": least})
+            tables.manifest["sizes"] = dict.fromkeys(MESSAGES, 10)
+            for cells in tables.runs:
+                pings = [2 * place + int(cells["seed"]) % 2 * (place == 5) for place in range(6)]
+                columns = {"sent-step": [40] * 6, "sent-ping": pings, "messages": [40 + ping for ping in pings],
+                           "messages-lookups": [10] * 6, "cost-member-us": [20_000_000] * 6,
+                           "ended-hops": [20, 20, 20, 20, 20, 26], "judged-found": [9] * 6, "judged-lost": [1] * 6}
+                columns |= {f"sent-{kind}": [0] * 6 for kind in MESSAGES if f"sent-{kind}" not in columns}
+                cells.update({f"pieces-{word}": " ".join(map(str, values)) for word, values in columns.items()})
+            text = sentence(tables)
+            # Ten pings more in 20 s are 0.5 a second. Half of the seeds add one to the last piece: 2.5 * 5 / 17.5 / 40.
+            assert f"{least} {told}" in text and "/member/s from its begin to its end" in text, text
+            assert "hops a lookup +0.4286 from" in text and "Not looked at" not in text, text
 
 
 class PiecesTest(TestCase):
@@ -126,14 +145,14 @@ class PiecesTest(TestCase):
 
     def test_percentiles(self) -> None:
         """Ten lookups in each piece of 100 us from 100 on; in the second one five have no answer, in the third six."""
-        pieces = PieceTimes(Scope(800, 100, 100, 100))
+        pieces = Pieces(Scope(800, 100, 100, 100), Members({"n0": 3}, ["n0"]))
         for place in range(-1, 7):
             for number in range(10):
                 begin, taken = 100 + 100 * place + number, 20 + 10 * place + number
                 end = "lost 5" if number >= 10 - {1: 5, 2: 6}.get(place, 0) else "found 5 n1"
                 pieces.read(f"{begin + taken} n0 {end} hops=1 timeouts=0 us={taken}")
         # By nearest rank the fifth of ten, which the third piece does not have.
-        assert pieces.numbers() == {"pieces-us-p50": None, "pieces-us-p90": None, "pieces-us-p99": None}
+        assert set(pieces.percentiles().values()) == {None} and len(pieces.percentiles()) == 4
         pieces.lost[2], pieces.times[2] = 5, [40, 41, 42, 43, 44]
         assert pieces.numbers()["pieces-us-p50"] == "24 34 44 54 64 74"
 

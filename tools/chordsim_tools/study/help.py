@@ -95,7 +95,7 @@ Runs `chordsim run --serial` for each setting and seed and writes into FOLDER:
                  wanted           lookups begun or refused, and those that nodes missed which were up but no members;
                                   wanted-1, right-1, wanted-2, right-2: in the two halves of the judged span
                  up-us, member-us time that nodes were up, and members, in the judged span
-                 pieces-us-p50 .. percentiles of the judged lookups in six pieces of the judged span
+                 pieces-WORD      the column WORD in each of six pieces of the judged span; messages if they are counted
                  cost-...         from warmup_us to the end: time as members, and events; timeouts, those that take a
                                   member for dead, and of these such that remove it from a successor list; requests sent
                                   again; members stranded, joins failed

@@ -2,8 +2,9 @@
 
 from collections.abc import Iterable
 
+from chordsim_tools.known import known
 from chordsim_tools.members import Members
-from chordsim_tools.study.served import Population, Scope
+from chordsim_tools.study.served import PIECES, Population, Scope
 from chordsim_tools.study.survival import Times
 
 
@@ -18,6 +19,7 @@ class Judged:
         self.begun, self.refused, self.right = [0, 0], [0, 0], [0, 0]
         self.found = self.lost = self.defensible = self.names_down = self.misses_newcomer = 0
         self.cut_by_crash = self.cut_by_end = 0
+        self.defensible_in_pieces = [0] * PIECES
         self.ended_us = self.ended_hops = self.ended_timeouts = 0
         self.found_times: list[int] = []
         self.hops: list[int] = []
@@ -51,18 +53,21 @@ class Judged:
             return
         self.found += 1
         self.right[half] += right
-        if not right:
-            self.wrong(fields[4], int(fields[3]), time - taken, time)
+        is_defensible = right or self.wrong(fields[4], int(fields[3]), time - taken, time)
+        self.defensible_in_pieces[known(self.scope.piece(time - taken))] += is_defensible
         self.found_times.append(taken)
         self.times.ended.append(taken)
         self.hops.append(self.add_ended(fields))
 
-    def wrong(self, owner: str, key: int, begin: int, time: int) -> None:
-        """An answer is wrong at its time: it was right before, or names a node that is no member, or misses one."""
-        self.defensible += self.members.was_owner(owner, key, begin, time)
+    def wrong(self, owner: str, key: int, begin: int, time: int) -> bool:
+        """An answer is wrong at its time: it names a node that is no member, or misses one. Gives whether it was right
+        before."""
+        was_right = self.members.was_owner(owner, key, begin, time)
+        self.defensible += was_right
         is_member = self.members.is_member(owner)
         self.misses_newcomer += is_member
         self.names_down += not is_member
+        return was_right
 
     def give_up(self, time: int, fields: list[str]) -> None:
         """A lookup has no answer: TIME NODE lost KEY hops=H timeouts=O us=U."""

@@ -5,11 +5,13 @@ import re
 import sys
 from bisect import bisect_left
 from collections import Counter
+from collections.abc import Iterator
 from dataclasses import dataclass
 from typing import Any
 
 from chordsim_tools.messages import MESSAGES, REPLIES, REQUESTS, messages_made
-from chordsim_tools.study.served import Population, Scope
+from chordsim_tools.study.pieces import COLUMN, cell_of
+from chordsim_tools.study.served import PIECES, Population, Scope
 
 
 MOST_ERROR = 0.06
@@ -35,8 +37,11 @@ class Traffic:
     def __init__(self, scope: Scope) -> None:
         """No lines yet."""
         self.scope = scope
+        self.edges = scope.edges()
         self.lines: Counter[str] = Counter()
         self.hops = self.timeouts = 0
+        self.pieces: list[Counter[str]] = [Counter() for _ in range(PIECES)]
+        """What lines say was made in each piece of the judged span, and the hops and timeouts of lookups that ended."""
 
     def read(self, time: int, fields: list[str]) -> None:
         """Takes a line that is not of an audit."""
@@ -44,22 +49,47 @@ class Traffic:
         if time < self.scope.warmup_us:
             return
         if word in ("found", "lost"):
-            self.hops += int(fields[-3].removeprefix("hops="))
-            self.timeouts += int(fields[-2].removeprefix("timeouts="))
-        self.lines[f"{word} {fields[3]}" if word in ("drop", "lose", "late", "ask", "send") else word] += 1
+            hops, timeouts = (int(field.partition("=")[2]) for field in fields[-3:-1])
+            self.hops += hops
+            self.timeouts += timeouts
+            self.add_to_piece(time, "hops", hops)
+            self.add_to_piece(time, "timeouts", timeouts)
+        if word in ("drop", "lose", "late", "ask", "send"):
+            word = f"{word} {fields[3]}"
+            self.add_to_piece(time, word, 1)
+        self.lines[word] += 1
+
+    def add_to_piece(self, time: int, word: str, count: int) -> None:
+        """Counts so many more in the piece of a time, if it is judged."""
+        piece = self.scope.piece(time)
+        if piece is not None:
+            self.pieces[piece][word] += count
 
     def sift(self, part: bytes) -> bytes:
         """Counts the lines of detail in whole lines of a trace, and leaves the others. A run has millions of them."""
         if DETAIL.search(part) is None:
             return part
-        if time_of(part[part.rfind(b"\n", 0, -1) + 1 :]) >= self.scope.warmup_us:
-            counted = part
-            if time_of(part) < self.scope.warmup_us:
-                lines = part.splitlines(keepends=True)
-                counted = b"".join(lines[bisect_left(lines, self.scope.warmup_us, key=time_of) :])
-            for made in MADE:
-                self.lines[made] += counted.count(f" {made} ".encode())
+        for time, counted in self.parted(part):
+            for made in MADE if time >= self.scope.warmup_us else ():
+                count = counted.count(f" {made} ".encode())
+                self.lines[made] += count
+                self.add_to_piece(time, made, count)
         return DETAIL.sub(b"", part)
+
+    def parted(self, part: bytes) -> Iterator[tuple[int, bytes]]:
+        """These lines, parted if a piece of the judged span begins or ends among them, each part with its first time.
+
+        What is after the last time of a trace is its report."""
+        first, last = time_of(part), time_of(part[part.rfind(b"\n", 0, -1) + 1 :])
+        edges = [edge for edge in self.edges if first < edge <= last]
+        if not edges:
+            yield first, part
+            return
+        lines = part.splitlines(keepends=True)
+        places = [0, *(bisect_left(lines, edge, key=time_of) for edge in edges), len(lines)]
+        for begin, end in zip(places, places[1:]):
+            if begin < end:
+                yield time_of(lines[begin]), b"".join(lines[begin:end])
 
     def sum_of(self, word: str, kinds: tuple[str, ...]) -> int:
         """How many lines of a word are of these kinds."""
@@ -158,14 +188,26 @@ def exact(traffic: Traffic) -> dict[str, int]:
     return {kind: messages_made(kind, traffic.lines) for kind in MESSAGES}
 
 
+def in_pieces(traffic: Traffic, retries: int) -> dict[str, list[int]]:
+    """The messages of a run with detail in each piece of the judged span, by the columns of runs.csv."""
+    found = {f"sent-{kind}": [messages_made(kind, piece) for piece in traffic.pieces] for kind in MESSAGES}
+    totals = [sum(counts) for counts in zip(*found.values(), strict=True)]
+    lookups = [2 * piece["hops"] + (1 + retries) * piece["timeouts"] for piece in traffic.pieces]
+    return {"messages": totals, "messages-lookups": list(map(min, lookups, totals)), **found}
+
+
 def message_numbers(traffic: Traffic, span: Span) -> dict[str, int | str | None]:
     """What a row of runs.csv has of cost, from `warmup_us` to the end."""
     is_counted = bool(span.top.get("detail"))
     kinds = exact(traffic) if is_counted else estimate(traffic, span)
+    retries = span.top.get("retries", 0)
+    # An estimate is of the whole span: how many events there were in a piece is not known.
+    pieces = {word: cell_of(counts) if is_counted else None for word, counts in in_pieces(traffic, retries).items()}
     return {
         "cost-events": span.events,
         "messages": sum(kinds.values()),
         "messages-counted": int(is_counted),
-        "messages-lookups": min(traffic.lookups(span.top.get("retries", 0)), sum(kinds.values())),
+        "messages-lookups": min(traffic.lookups(retries), sum(kinds.values())),
         **{f"sent-{kind}": count for kind, count in kinds.items()},
+        **{f"{COLUMN}{word}": cell for word, cell in pieces.items()},
     }

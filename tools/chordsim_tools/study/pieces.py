@@ -1,53 +1,76 @@
-"""Times of lookups in pieces of the judged span, by which a page sees whether they are steady."""
+"""Numbers in pieces of the judged span, by which a page sees whether they are steady."""
 
-from chordsim_tools.study.served import Scope
+from collections.abc import Iterable
 
-PIECES = 6
-SHARES = (50, 90, 99)
-LEAST_LOOKUPS = {50: 10, 90: 20, 99: 100}
-"""How many lookups each piece needs to have a percentile."""
-COLUMN = "pieces-us-"
-"""How the columns of runs.csv begin that have a number for each piece, with blanks between them."""
+from chordsim_tools.members import Members
+from chordsim_tools.study.served import PIECES, Integral, Scope
+
+LEAST_LOOKUPS = {"50": 10, "90": 20, "99": 100, "99.9": 1000}
+"""The percentiles, and how many lookups each piece needs to have one."""
+COLUMN = "pieces-"
+"""How the columns of runs.csv begin that have a number for each piece, with blanks between them. Except for the
+percentiles, what follows is the name of the column that has the number of the whole span."""
 
 
-def ranked(times: list[int], lost: int, share: int) -> str:
+def ranked(times: list[int], lost: int, share: str) -> str:
     """A percentile of the times by nearest rank, or nothing. A lookup without an answer never ends."""
     count = len(times) + lost
-    place = (count * share + 99) // 100
+    place = (count * round(10 * float(share)) + 999) // 1000
     return str(times[place - 1]) if LEAST_LOOKUPS[share] <= count and place <= len(times) else ""
 
 
-class PieceTimes:
-    """Reads the lines of a trace. Lookups that a crash or the end cuts off are left out."""
+def cell_of(values: Iterable[int]) -> str:
+    """A number of each piece, as a cell of runs.csv."""
+    return " ".join(map(str, values))
 
-    def __init__(self, scope: Scope) -> None:
-        """No lookups yet."""
+
+class Pieces:
+    """Reads the lines of a trace. Lookups count by their begin; those that a crash or the end cuts off are left out."""
+
+    def __init__(self, scope: Scope, members: Members) -> None:
+        """No lookups yet. The members are those of the reader of the trace, which reads each line before."""
         self.scope = scope
+        self.members = members
+        self.member_time = Integral(scope.edges(), len(members.places))
         self.times: list[list[int]] = [[] for _ in range(PIECES)]
         self.lost = [0] * PIECES
+        self.sums = {word: [0] * PIECES for word in ("hops", "timeouts", "us")}
 
     def read(self, line: str) -> None:
         """Takes one line."""
-        fields = line.split(" ", 8)
-        if fields[2] not in ("found", "lost"):
+        fields = line.split(" ")
+        if fields[2] in ("member", "crash", "stranded"):
+            self.member_time.change(int(fields[0]), len(self.members.places) - self.member_time.count)
+        elif fields[2] in ("found", "lost"):
+            self.end(int(fields[0]), fields)
+
+    def end(self, time: int, fields: list[str]) -> None:
+        """A lookup ends."""
+        ended = {word: int(number) for word, _, number in (field.partition("=") for field in fields[-3:])}
+        place = self.scope.piece(time - ended["us"])
+        if place is None:
             return
-        taken = int(fields[-1].removeprefix("us="))
-        place = self.piece(int(fields[0]) - taken)
-        if place is not None and fields[2] == "found":
-            self.times[place].append(taken)
-        elif place is not None:
+        for word, number in ended.items():
+            self.sums[word][place] += number
+        if fields[2] == "found":
+            self.times[place].append(ended["us"])
+        else:
             self.lost[place] += 1
 
-    def piece(self, begin: int) -> int | None:
-        """The piece in which a lookup begins, if it is judged."""
-        first, end = self.scope.warmup_us, self.scope.end()
-        return (begin - first) * PIECES // (end - first) if first <= begin < end else None
-
     def numbers(self) -> dict[str, int | str | None]:
-        """What a row of runs.csv has of it. A number that one of the pieces does not have is left out in all."""
+        """What a row of runs.csv has of it, at the end of the run."""
+        self.member_time.change(self.scope.duration_us, 0)
+        columns = {
+            "judged-found": list(map(len, self.times)), "judged-lost": self.lost,
+            **{f"ended-{word}": sums for word, sums in self.sums.items()}, "cost-member-us": self.member_time.sums,
+        }
+        return {f"{COLUMN}{word}": cell_of(values) for word, values in columns.items()} | self.percentiles()
+
+    def percentiles(self) -> dict[str, int | str | None]:
+        """The times. One that a piece does not have is left out in all."""
         found: dict[str, int | str | None] = {}
         ordered = [sorted(times) for times in self.times]
-        for share in SHARES:
+        for share in LEAST_LOOKUPS:
             cells = [ranked(times, lost, share) for times, lost in zip(ordered, self.lost, strict=True)]
-            found[f"{COLUMN}p{share}"] = " ".join(cells) if all(cells) else None
+            found[f"{COLUMN}us-p{share}"] = " ".join(cells) if all(cells) else None
         return found

@@ -7,6 +7,9 @@ from collections.abc import Iterable
 from dataclasses import dataclass, replace
 from typing import Any
 
+PIECES = 6
+"""A page looks at so many pieces of the judged span to see whether it is steady."""
+
 
 @dataclass(frozen=True)
 class Scope:
@@ -27,6 +30,16 @@ class Scope:
         """Where the two halves of this span begin, its end, and the end of the run."""
         return [self.warmup_us, (self.warmup_us + self.end()) // 2, self.end(), self.duration_us]
 
+    def edges(self) -> list[int]:
+        """The first time of each piece of this span, and its end."""
+        first, span = self.warmup_us, self.end() - self.warmup_us
+        return [first + -(-span * place // PIECES) for place in range(PIECES + 1)]
+
+    def piece(self, time: int) -> int | None:
+        """The piece of this span in which a time is."""
+        first, end = self.warmup_us, self.end()
+        return (time - first) * PIECES // (end - first) if first <= time < end else None
+
     def within(self, begin: int, end: int) -> "Scope":
         """The scope of another span of the same run."""
         return replace(self, warmup_us=begin, cooldown_us=self.duration_us - end)
@@ -46,18 +59,18 @@ def scope_of(top: dict[str, Any], window_us: int, warmup_us: int, cooldown_us: i
 
 
 class Integral:
-    """A count over time: its sum over the two halves of the judged span, and from there to the end of the run."""
+    """A count over time: its sum from each of these times to the next one."""
 
     def __init__(self, bounds: list[int], count: int) -> None:
         """The count at the start."""
         self.bounds = bounds
         self.count = count
         self.since = 0
-        self.sums = [0, 0, 0]
+        self.sums = [0] * (len(bounds) - 1)
 
     def change(self, time: int, by: int) -> None:
         """The count goes up or down."""
-        for place in range(3):
+        for place in range(len(self.sums)):
             inside = min(time, self.bounds[place + 1]) - max(self.since, self.bounds[place])
             self.sums[place] += self.count * max(0, inside)
         self.count += by

@@ -1,4 +1,5 @@
-"""Whether the judged span is steady: served, right answers and members in six pieces of it, seed by seed.
+"""Whether the judged span is steady: served, right answers, members and the numbers of the goal in six pieces of it,
+seed by seed.
 
 Two questions are asked of each number, by contrasts of the pieces (multiple contrast tests: Bretz, Genz and Hothorn,
 Biometrical Journal 43, 2001): does it rise or fall over the span, and is a piece other than the rest, as in a wave?
@@ -11,18 +12,26 @@ from statistics import fmean
 from typing import Any
 
 from chordsim_tools.quantities import time_text
+from chordsim_tools.study.compare import scale_of
 from chordsim_tools.study.interval import LEAST_SEEDS, Interval, interval
-from chordsim_tools.study.names import name_of
-from chordsim_tools.study.numbers import Cells, Summary, groups, is_kept
-from chordsim_tools.study.pieces import COLUMN, PIECES
+from chordsim_tools.study.names import name_of, span_of
+from chordsim_tools.study.numbers import OF_MESSAGES, TAKES, Cells, Summary, groups, is_kept
+from chordsim_tools.study.pieces import COLUMN
+from chordsim_tools.study.served import PIECES
+from chordsim_tools.study.sizes import bytes_of
 from chordsim_tools.study.tables import Tables
 
 PARTS = {"served": ("right-of-ended", "wanted"), "right_of_begun": ("right-of-ended", "ended")}
 """The columns of series.csv whose sums' quotient a number is in a piece."""
 SHARES = ("served", "right_of_begun", "members")
 """The numbers that are always looked at."""
-TIMES = {"p50_ms": f"{COLUMN}p50", "p90_ms": f"{COLUMN}p90", "p99_ms": f"{COLUMN}p99"}
-"""Those that are looked at if a goal names them, and the columns of runs.csv that have them for each piece."""
+TIMES = {"p50_ms": "us-p50", "p90_ms": "us-p90", "p99_ms": "us-p99", "p999_ms": "us-p99.9"}
+"""The percentiles, and the columns of runs.csv that have them for each piece."""
+NAMED = {
+    **TIMES, "given_up": "judged-lost", "defensible": "right-defensible", "mean_ms": "ended-us", "hops": "ended-hops",
+    "timeouts": "ended-timeouts", "messages": "messages", "upkeep": "messages-lookups", "bytes": "messages",
+}
+"""The numbers that are looked at if a goal names them, and a column of each that runs.csv has to have for the pieces."""
 OLDER = {"right_of_begun": ("right", "found")}
 """The same for tables of an older tools/study."""
 MOST_TOLD = 5
@@ -44,18 +53,13 @@ class Change:
     def told(self) -> str:
         """As `served -4.7 ± 1.9 points from its begin to its end (list=4)`."""
         mean = self.found.mean or 0.0
-        unit, scale = unit_of(self.number)
+        unit, scale = scale_of(self.number)
         size = Interval(abs(mean), self.found.half, self.found.count, self.found.count).told(scale)
-        head = f"{name_of(self.number)} {'+' if mean > 0 else '-'}{size} {unit}"
+        head = f"{name_of(self.number)} {'+' if mean > 0 else '-'}{size} {unit}".rstrip()
         if self.piece is None:
             return f"{head} from its begin to its end ({self.where})"
         begin, end = map(time_text, self.piece)
         return f"{head} from {begin} to {end}, against the rest ({self.where})"
-
-
-def unit_of(number: str) -> tuple[str, float]:
-    """The unit of changes of a number, and what they are multiplied with."""
-    return ("ms", 0.001) if number in TIMES else ("points", 100.0)
 
 
 def steps_of(tables: Tables, cells: Cells, lines: list[Cells]) -> list[list[Cells]]:
@@ -78,6 +82,30 @@ def number_in(number: str, piece: list[Cells], nodes: int) -> float | None:
     return sum(float(step[above]) for step in piece) / wanted if wanted else None
 
 
+def cells_in(cells: Cells, sizes: dict[str, Any]) -> list[Cells]:
+    """The cells of each piece of a run, under the names that those of the whole span have."""
+    parts = {word.removeprefix(COLUMN): cell.split() for word, cell in cells.items() if word.startswith(COLUMN)}
+    whole = {word: cell for word, cell in cells.items() if word.startswith("scenario-")}
+    found: list[Cells] = []
+    for place in range(PIECES):
+        piece = whole | {word: part[place] for word, part in parts.items() if len(part) == PIECES}
+        if sizes and "messages" in piece:
+            piece["bytes"] = str(bytes_of(sizes, piece))
+        found.append(piece)
+    return found
+
+
+def named_in(number: str, cells: Cells, sizes: dict[str, Any]) -> list[float]:
+    """A number of the goal in the pieces of a run; none if one of them does not have it."""
+    if not cells.get(COLUMN + NAMED[number]):
+        return []
+    if number in TIMES:
+        return [float(word) / 1000 for word in cells[COLUMN + NAMED[number]].split()]
+    values = [TAKES[number](piece) for piece in cells_in(cells, sizes)]
+    there = [value for value in values if value is not None]
+    return there if len(there) == len(values) else []
+
+
 class Pieces:
     """The pieces of all runs of a study whose rings were kept."""
 
@@ -87,6 +115,7 @@ class Pieces:
         lines = groups(tables.series, keys)
         self.rows = rows = {tuple(cells[key] for key in keys): cells for cells in tables.runs}
         self.nodes = int(tables.manifest["nodes"])
+        self.sizes = tables.manifest.get("sizes") or {}
         self.runs = {run: steps_of(tables, cells, lines.get(run, [])) for run, cells in rows.items() if is_kept(cells)}
 
     def values(self, one: Summary, number: str) -> dict[str, list[float]]:
@@ -96,9 +125,8 @@ class Pieces:
 
     def in_run(self, run: tuple[str, ...], number: str) -> list[float]:
         """A number in the pieces of a run; none if one of them does not have it."""
-        if number in TIMES:
-            cell = self.rows[run].get(TIMES[number], "") if run in self.runs else ""
-            return [float(word) for word in cell.split()]
+        if number in NAMED:
+            return named_in(number, self.rows[run], self.sizes) if run in self.runs else []
         values = [number_in(number, piece, self.nodes) for piece in self.runs.get(run, [])]
         there = [value for value in values if value is not None]
         return there if len(there) == len(values) else []
@@ -152,9 +180,9 @@ class Looked:
 
 
 def looked_at(named: Set[str], found: list[Summary]) -> list[str]:
-    """The three shares, and those of the named numbers that runs.csv has for each piece."""
-    columns = set(found[0].rows[0])
-    return [*SHARES, *(number for number, column in TIMES.items() if number in named and column in columns)]
+    """The three shares, and those of the named numbers that a run has for each piece."""
+    there = {word for one in found for cells in one.rows for word, cell in cells.items() if cell}
+    return [*SHARES, *(number for number, column in NAMED.items() if number in named and COLUMN + column in there)]
 
 
 def look(tables: Tables, found: list[Summary], named: Set[str] = frozenset()) -> Looked:
@@ -194,8 +222,7 @@ def strongest(told: list[Change]) -> list[Change]:
 def steadiness(tables: Tables, found: list[Summary], named: set[str]) -> str:
     """What a page says of it; `named` are the numbers of the goal."""
     looked = look(tables, found, named)
-    rest = sorted(named - {*looked_at(named, found), "rings_lost"})
-    blind = f" Not looked at: {', '.join(map(name_of, rest))}." if rest else ""
+    blind = blind_told(named - {*looked_at(named, found), "rings_lost"})
     verb = "is" if looked.left == 1 else "are"
     count = f"{looked.left} of {len(found)} settings"
     left = f" {count} {verb} left out: too few seeds kept the ring." if looked.left else ""
@@ -206,11 +233,30 @@ def steadiness(tables: Tables, found: list[Summary], named: set[str]) -> str:
         more = f"; and {len(strong) - MOST_TOLD} more" if len(strong) > MOST_TOLD else ""
         listed = "; ".join(one.told() for one in strong[:MOST_TOLD])
         return f"**Not steady** in the judged span: {listed}{more}.{blind}{left}"
-    units = {number: unit_of(number) for number in looked.trends}
+    units = {number: scale_of(number) for number in looked.trends}
     told = ", ".join(
-        f"{name_of(number)} {one.told(units[number][1])} {units[number][0]}" for number, one in looked.trends.items()
+        f"{name_of(number)} {one.told(units[number][1])} {units[number][0]}".rstrip()
+        for number, one in looked.trends.items()
     )
     return f"No drift and no waves seen in the judged span. From its begin to its end: {told}.{blind}{left}"
+
+
+def blind_told(rest: Set[str]) -> str:
+    """The numbers that were not looked at, and why."""
+    reasons: dict[str, list[str]] = {}
+    for number in sorted(rest):
+        reasons.setdefault(why_not(number), []).append(name_of(number))
+    listed = "; ".join(f"{', '.join(names)} ({why})" for why, names in reasons.items())
+    return f" Not looked at: {listed}." if listed else ""
+
+
+def why_not(number: str) -> str:
+    """Why a number was not looked at."""
+    if span_of(number):
+        return "of a span by itself, steady or not"
+    if number in OF_MESSAGES or number == "events":
+        return "known for the whole run alone"
+    return "too few lookups in each piece" if number in TIMES else "the tables are older"
 
 
 def manifest_numbers(manifest: dict[str, Any]) -> set[str]:

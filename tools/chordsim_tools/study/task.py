@@ -11,7 +11,7 @@ from chordsim_tools.members import Members
 from chordsim_tools.study.curves import Curves
 from chordsim_tools.study.document import toml_text
 from chordsim_tools.study.messages import Span, message_numbers
-from chordsim_tools.study.pieces import PieceTimes
+from chordsim_tools.study.pieces import Pieces
 from chordsim_tools.study.program import Program
 from chordsim_tools.study.repairs import Repairs
 from chordsim_tools.study.served import scope_of
@@ -62,7 +62,7 @@ def result_of(task: Task, program: Path, scenario: Path, latency: Path | None) -
     top = tomllib.loads(task.scenario)
     idents = caller.idents([node["name"] for node in top["node"]])
     reader, curves, trouble = readers_of(task, top, idents)
-    pieces = PieceTimes(reader.scope)
+    pieces = Pieces(reader.scope, reader.members)
 
     def read(line: str) -> None:
         """Each reader takes a line."""

@@ -4,6 +4,7 @@ from collections.abc import Mapping
 
 from chordsim_tools.members import Members
 from chordsim_tools.study.messages import Traffic
+from chordsim_tools.study.pieces import COLUMN, cell_of
 from chordsim_tools.study.served import Scope
 from chordsim_tools.study.steps import Steps
 from chordsim_tools.study.view import Numbers, View
@@ -124,6 +125,7 @@ class TraceReader:
             "stranded-at-us": self.stranded_at,
             **self.view.wanted_numbers(),
             **self.view.half_numbers(),
+            f"{COLUMN}right-defensible": cell_of(self.view.judged.defensible_in_pieces),
             "duration-us": self.scope.duration_us,
             "cost-member-us": sum(self.population.members.sums),
             **self.span_numbers(),
