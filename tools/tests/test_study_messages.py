@@ -8,13 +8,15 @@ from typing import Any
 from unittest import TestCase
 
 from chordsim_tools.generate import command as generate
+from chordsim_tools.known import known
 from chordsim_tools.members import Members
 from chordsim_tools.messages import MESSAGES
 from chordsim_tools.reference.report import Report
 from chordsim_tools.reference.simulation import Simulation
-from chordsim_tools.scenario.reading import read_scenario
+from chordsim_tools.reference.state import Event
+from chordsim_tools.scenario.reading import Scenario, read_scenario
+from chordsim_tools.study.estimates import KIND_ERROR, MOST_ERROR, most_off
 from chordsim_tools.study.messages import Span, Traffic, exact, message_numbers
-from chordsim_tools.study.notes import ERROR
 from chordsim_tools.study.repairs import Repairs
 from chordsim_tools.study.served import scope_of
 from chordsim_tools.study.task import events_before
@@ -23,7 +25,8 @@ from tests.support.programs import ended, program
 from tests.support.worlds import EXAMPLES
 from tests.test_study_run import call, study_folder
 
-MOST = float(ERROR.removesuffix(" %")) / 100
+SIZES = {kind: 40 * place**2 for place, kind in enumerate(MESSAGES)}
+"""Sizes of 0 to 2,560 bytes."""
 
 
 def shortened(name: str, duration_us: int) -> str:
@@ -33,21 +36,36 @@ def shortened(name: str, duration_us: int) -> str:
     return "\n".join(found)
 
 
+class Watched(Simulation):
+    """A simulation that notes the events and the messages before a time. The report reads each line as it comes."""
+
+    def __init__(self, scenario: Scenario, report: Report, time: int) -> None:
+        """The start."""
+        super().__init__(scenario)
+        self.report, self.time = report, time
+        self.before: tuple[int, dict[str, int]] | None = None
+
+    def take(self, event: Event) -> list[str]:
+        """Takes an event; notes what there was if it is the first one of the time or later."""
+        if self.before is None and event.time >= self.time:
+            self.before = self.events, sent(self, self.report)
+        return super().take(event)
+
+
 def counted(text: str, warmup_us: int = 0, rows: bytes = b"") -> tuple[dict[str, int], dict[str, int]]:
     """The messages of each kind from a time on, as a study counts them and as the reference simulator makes them."""
     scenario, top = read_scenario(text.encode(), rows), tomllib.loads(text)
-    simulation, report = Simulation(scenario), Report(scenario.profile)
+    report = Report(scenario.profile)
+    simulation = Watched(scenario, report, warmup_us)
     idents = {node.name: node.ident for node in scenario.nodes}
     initial = [node.name for node in scenario.nodes if node.initial]
     reader = TraceReader(Members(idents, initial), scope_of(top, top["audit_us"], warmup_us, 0))
-    before: tuple[int, dict[str, int]] = 0, dict.fromkeys(MESSAGES, 0)
     for line in simulation.lines():
-        if int(line.split(" ")[0]) < warmup_us:
-            before = simulation.events, sent(simulation, report)
         if reader.traffic.sift(f"{line}\n".encode()):
             reader.read(line)
         report.read(line)
     reader.numbers()
+    before = known(simulation.before)
     made = {kind: count - before[1][kind] for kind, count in sent(simulation, report).items()}
     repairs = Repairs(top, rows).begun(reader.members, warmup_us, top["duration_us"])
     span = Span(top, simulation.events - before[0], reader.population, repairs)
@@ -60,14 +78,22 @@ def sent(simulation: Simulation, report: Report) -> dict[str, int]:
     return {kind: simulation.messages[kind] + report.lost_messages[kind] for kind in MESSAGES}
 
 
+def check_bounds(about: dict[str, int], made: dict[str, int]) -> None:
+    """Asserts that the total, each kind and the bytes are within the bounds that pages print."""
+    total = sum(made.values())
+    assert abs(sum(about.values()) - total) < MOST_ERROR * total, (about, made)
+    assert all(abs(about[kind] - made[kind]) < KIND_ERROR[kind] * total for kind in MESSAGES), (about, made)
+    off = sum(SIZES[kind] * (about[kind] - made[kind]) for kind in MESSAGES)
+    assert abs(off) < most_off(SIZES) * total, (off, about, made)
+
+
 class StudyMessagesTest(TestCase):
     """The total is near, and so are the kinds that make most of it."""
 
     def check(self, text: str, warmup_us: int = 0, kinds: tuple[str, ...] = ()) -> None:
         """The total within the error that pages print; steps, stabilizations and these kinds within a twentieth."""
         about, made = counted(text, warmup_us)
-        total, wanted = sum(about.values()), sum(made.values())
-        assert abs(total / wanted - 1) < MOST, (total, wanted)
+        check_bounds(about, made)
         for kind in ("step", "step-reply", "get-state", "state-reply", "notify", *kinds):
             assert abs(about[kind] - made[kind]) < max(0.05 * made[kind], 30), (kind, about, made)
 
@@ -87,7 +113,7 @@ class StudyMessagesTest(TestCase):
             with self.subTest(more=more):
                 text = ended(generate.main, *words.split(), *more.split())[1]
                 about, made = counted(text)
-                assert abs(sum(about.values()) / sum(made.values()) - 1) < MOST, (about, made)
+                check_bounds(about, made)
                 # Without a skipped turn there would be twelve each 250 to 275 ms, from 164 to 180 for each.
                 assert made["notify"] < 1300 and abs(about["notify"] / made["notify"] - 1) < 0.05, (about, made)
 
@@ -102,8 +128,24 @@ class StudyMessagesTest(TestCase):
             words += draws.choice(["", "--profile 2 --loss 10000 ", "--profile 2 --spread 40ms "])
             words += draws.choice(["", "--lifetime exp:40s --down exp:8s", "--churn-uniform 20s..60s 5s..15s"])
             with self.subTest(words=words):
-                about, made = counted(ended(generate.main, *words.split(), "--seed", str(seed))[1])
-                assert abs(sum(about.values()) / sum(made.values()) - 1) < MOST, (about, made)
+                check_bounds(*counted(ended(generate.main, *words.split(), "--seed", str(seed))[1]))
+
+    def test_round_trips_of_a_period(self) -> None:
+        """A reply that comes with the next turn: of the two the event of the node that is listed first comes first."""
+        words = "--nodes 12 --duration 45s --window 1ms --timeout 1s --audit 5s --finger 1s --jitter 0us"
+        for more in ("--latency 200ms --stabilize 400ms", "--latency 200ms --stabilize 200ms"):
+            with self.subTest(more=more):
+                about, made = counted(ended(generate.main, *words.split(), *more.split())[1])
+                check_bounds(about, made)
+                assert abs(about["notify"] - made["notify"]) < 0.01 * made["notify"], (about, made)
+
+    def test_calls_without_a_reply_and_long_round_trips(self) -> None:
+        """A timeout of 12 turns takes the place of two stabilizations, since each of these takes five turns."""
+        words = "--nodes 24 --duration 65s --window 1ms --audit 5s --finger 500ms --jitter 50ms --latency 300ms "
+        words += "--profile 2 --loss 20000 --timeout 1500ms --stabilize 100ms"
+        about, made = counted(ended(generate.main, *words.split())[1])
+        check_bounds(about, made)
+        assert abs(about["notify"] - made["notify"]) < 0.1 * made["notify"], (about, made)
 
     def test_latency_file(self) -> None:
         """The round trip to the next member counts: one pair of three is far apart, so that one member skips turns."""

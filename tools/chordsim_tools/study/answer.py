@@ -5,7 +5,7 @@ import math
 from chordsim_tools.study.bounds import (
     bound_of, level_of, loss_bounds, loss_slack, misses, missing_level, reaches, slack,
 )
-from chordsim_tools.study.compare import UNDECIDED, Pair, guarded_level
+from chordsim_tools.study.compare import UNDECIDED, Pair, error_told, guarded_level
 from chordsim_tools.study.goal import Goal, Limit
 from chordsim_tools.study.goal_words import goal_told, value_told
 from chordsim_tools.study.interval import LEAST_SEEDS, outward
@@ -182,7 +182,14 @@ def cost(one: Summary, goal: Goal) -> float:
 
 def cost_told(one: Summary, goal: Goal) -> str:
     """What is to be least, of a setting."""
-    return one.numbers[goal.least].told(100 if is_percent(goal.least) else 1) + unit_of(one, goal.least)
+    text = one.numbers[goal.least].told(100 if is_percent(goal.least) else 1) + unit_of(one, goal.least)
+    return text + estimate_told(one, goal.least)
+
+
+def estimate_told(one: Summary, number: str) -> str:
+    """How far a number of a setting may be off because messages are estimated."""
+    told = error_told(one.error(number)) if one.numbers[number].mean is not None else ""
+    return f" ({told})" if told else ""
 
 
 def unit_of(one: Summary, number: str) -> str:
@@ -196,7 +203,7 @@ def unit_of(one: Summary, number: str) -> str:
 def number_told(one: Summary, number: str) -> str:
     """A number of a setting with its name."""
     value = one.numbers[number].told(100 if is_percent(number) else 1, is_percent(number))
-    return f"{in_words(number)} {value}{unit_of(one, number)}"
+    return f"{in_words(number)} {value}{unit_of(one, number)}{estimate_told(one, number)}"
 
 
 def reached(one: Summary, goal: Goal) -> str:

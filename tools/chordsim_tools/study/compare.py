@@ -5,7 +5,7 @@ from dataclasses import dataclass, replace
 
 from chordsim_tools.study.bounded import bounded
 from chordsim_tools.study.exact import mcnemar
-from chordsim_tools.study.interval import LEAST_SEEDS, Interval, interval, of_there
+from chordsim_tools.study.interval import LEAST_SEEDS, Interval, interval, of_there, outward
 from chordsim_tools.study.layout import of_each_world
 from chordsim_tools.study.names import COUNTS, MILLISECONDS, RATE, RATES, base_of, is_percent, is_wild
 from chordsim_tools.study.numbers import Cells, Summary, is_kept, summaries, take_of
@@ -15,7 +15,7 @@ UNITS = {
     **dict.fromkeys(MILLISECONDS, ("ms", 1.0)), **dict.fromkeys(RATES, (RATE, 1.0)), **dict.fromkeys(COUNTS, ("", 1.0)),
 }
 """The units of the numbers that are no shares, which are told in percent."""
-OF_SETTING = ("scenario-list", "scenario-bits", "bytes")
+OF_SETTING = ("scenario-list", "scenario-bits", "bytes", "bytes-error")
 """Columns that are other in another setting though the run is the same."""
 UNDECIDED = ("not told apart", "no interval")
 """What is said of a difference that does not tell two settings apart: there was an interval, or none."""
@@ -71,14 +71,25 @@ class Pair:
         """Whether the two can be told apart: by the mean, the rings lost, or who serves more in how many seeds."""
         risk = 1 - self.level
         by_signs = is_wild(number) and mcnemar(*self.more_and_less(number)) < risk
-        margin = self.first.error(number) + self.second.error(number)
-        return by_signs or self.difference(number).excludes(0.0, margin) or mcnemar(*self.lost()) < risk
+        is_other = self.difference(number).excludes(0.0, self.error(number))
+        return by_signs or is_other or mcnemar(*self.lost()) < risk
+
+    def error(self, number: str) -> float:
+        """How far the difference may be off because messages are estimated."""
+        return self.first.error(number) + self.second.error(number)
 
     def verdict(self, number: str) -> str:
         """What is said of a difference that does not tell the two apart."""
         if self.is_apart(number):
             return ""
         return UNDECIDED[1] if self.difference(number).ends() is None else UNDECIDED[0]
+
+
+def error_told(error: float) -> str:
+    """How far a number or a difference may be off because messages are estimated, as texts have it behind a number."""
+    if not error:
+        return ""
+    return "estimated, no bound" if math.isinf(error) else f"estimated, off by {outward(error, 2, 1):g} at most"
 
 
 def difference_of(number: str, values: list[float | None], level: float) -> Interval:

@@ -4,7 +4,7 @@ from pathlib import Path
 
 from chordsim_tools.cli import Refused, write_out
 from chordsim_tools.files import write_whole
-from chordsim_tools.study.compare import Pair, scale_of, settings_of
+from chordsim_tools.study.compare import Pair, error_told, scale_of, settings_of
 from chordsim_tools.study.exact import mcnemar, share_interval
 from chordsim_tools.study.interval import outward
 from chordsim_tools.study.names import is_wild, name_of
@@ -34,14 +34,15 @@ def numbers_of(pair: Pair) -> list[str]:
 
 def table_of(pair: Pair) -> list[list[str]]:
     """A line a number: both means, the mean difference, its interval, the seeds that it is over, and equal runs."""
-    lines = [["A", "B", "number", "mean-A", "mean-B", "difference", "half", "low", "high", "seeds", "of", "equal-runs"]]
+    lines = [["A", "B", "number", "mean-A", "mean-B", "difference", "half", "low", "high", "seeds", "of", "equal-runs",
+              "estimate-off"]]
     for number in numbers_of(pair):
         found = pair.difference(number)
         means = (one.numbers[number].mean for one in (pair.first, pair.second))
         numbers = (*means, found.mean, found.half, *(found.ends() or (None, None)))
         cells = ["" if value is None else f"{value:.6g}" for value in numbers]
         counts = [str(count) for count in (found.count, found.of, pair.equal())]
-        lines.append([pair.first.label, pair.second.label, number, *cells, *counts])
+        lines.append([pair.first.label, pair.second.label, number, *cells, *counts, f"{pair.error(number):.6g}"])
     return lines
 
 
@@ -62,9 +63,8 @@ def line_of(pair: Pair, number: str, width: int) -> str:
         is_whole = found.count == found.of
         equal = "all seeds" if is_whole else f"the {found.count} seeds in which both kept their rings"
         return told + (f"  equal in {equal}" if found.count else "") + "\n"
-    verdict = pair.verdict(number)
-    signs = f"  A more in {more}, less in {less}" if is_wild(number) else ""
-    return told + signs + (verdict and f"  {verdict}") + "\n"
+    signs = f"A more in {more}, less in {less}" if is_wild(number) else ""
+    return "  ".join(filter(None, (told, signs, error_told(pair.error(number)), pair.verdict(number)))) + "\n"
 
 
 def text_of(pair: Pair) -> str:

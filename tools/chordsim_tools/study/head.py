@@ -1,13 +1,13 @@
 """The head of a study's page: what is new in each world, what is judged, whether it was steady, and warnings."""
 
+import math
 from typing import Any
 
 from chordsim_tools.quantities import time_text
 from chordsim_tools.study.goal import precision_again
-from chordsim_tools.study.interval import LEAST_SEEDS
+from chordsim_tools.study.interval import LEAST_SEEDS, outward
 from chordsim_tools.study.network import latencies_told, made_told
-from chordsim_tools.study.notes import ERROR
-from chordsim_tools.study.numbers import LEAST_FOR_P99, Summary
+from chordsim_tools.study.numbers import LEAST_FOR_P99, Summary, error_share
 from chordsim_tools.study.precise import stopped
 from chordsim_tools.study.starts import churn_trap, round_traps
 from chordsim_tools.study.steady import manifest_numbers, steadiness
@@ -57,10 +57,22 @@ def judged(manifest: dict[str, Any]) -> str:
 
 def estimated(found: list[Summary]) -> str:
     """That messages are not counted, and how far they may be off."""
-    text = f"Messages are estimated, to within {ERROR}. Goals and comparisons allow for that."
-    if any("messages-counted" not in cells for one in found for cells in one.rows):
-        return f"{text} An older `tools/study` did so: it is further off if round trips are above the repair period."
+    rows = [cells for one in found for cells in one.rows]
+    text = f"Messages are estimated, to within {100 * error_share(rows):g} %{bytes_told(found)}."
+    text += " ± says nothing of that. Goals and comparisons allow for it."
+    if any("messages-counted" not in cells for cells in rows):
+        return f"{text} An older `tools/study` did so: it is further off if round trips are as long as the period."
     return f"{text} With `profile = 4` they are counted."
+
+
+def bytes_told(found: list[Summary]) -> str:
+    """How far bytes may be off, if messages have sizes."""
+    means = {one.label: one.numbers["bytes"].mean for one in found}
+    shares = [one.error("bytes") / mean for one in found if (mean := means[one.label])]
+    if not shares:
+        return ""
+    most = 100 * max(shares)
+    return ", and bytes have no bound" if math.isinf(most) else f", and bytes to within {outward(most, 2, 1):g} %"
 
 
 def warnings(manifest: dict[str, Any], found: list[Summary]) -> list[str]:

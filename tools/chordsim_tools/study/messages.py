@@ -13,10 +13,6 @@ from chordsim_tools.messages import MESSAGES, REPLIES, REQUESTS, messages_made
 from chordsim_tools.study.pieces import COLUMN, cell_of
 from chordsim_tools.study.served import PIECES, Population, Scope
 
-
-MOST_ERROR = 0.06
-"""How far off the estimate was at most, as a share, in random scenarios of all kinds; tests/test_study_messages.py
-draws some of them. A ring has to be kept for 40 timeouts and 30 periods."""
 ENDS = ("crash", "join-failed")
 """The words of lines after which a node is down, in the profiles whose messages are estimated."""
 DETAIL = re.compile(rb"^\d+ [^ \n]+ (?:ask|send) [^\n]*\n", re.MULTILINE)
@@ -148,12 +144,14 @@ class Span:
         """About how many stabilizations are begun: those that round trips allow, but for those that are skipped because
         calls of the one before are out, which happens if these are not answered."""
         mean = float(self.top["stabilize_us"] + self.top.get("jitter_us", 0) / 2)
+        turns = sum(self.population.members.sums) / mean / self.repairs if self.repairs else 1.0
         states, lists = (traffic.unanswered(kind) for kind in ("get-state", "get-list"))
         waits = (states + lists) * int(self.top["timeout_us"]) / mean
         chains = max(states, lists)
         # A chain of calls that is as long as 3.2 delays skips 3, and mostly starts right after one.
         skipped = waits - chains / 2 if waits >= chains else 0.0
-        return max(0.0, self.repairs - self.at_start(traffic) / 2 - skipped)
+        # Each stabilization takes one turn, or more if its round trip is above the period.
+        return max(0.0, self.repairs - self.at_start(traffic) / 2 - skipped / max(1.0, turns))
 
     def timed_out(self, traffic: Traffic) -> float:
         """The share of calls whose timeouts come in the span. What is called before it balances what comes after."""

@@ -1,10 +1,10 @@
 """The notes below the tables of a page, which say what their columns are. Each stands with the table of its column."""
 
+from chordsim_tools.study.estimates import MOST_ERROR, OLDER_ERROR
 from chordsim_tools.study.interval import LEAST_SEEDS
-from chordsim_tools.study.messages import MOST_ERROR
 from chordsim_tools.study.names import NAMES, RATE, RATES, TIMES, difference_header, is_wild
 
-ERROR = f"{100 * MOST_ERROR:g} %"
+ERROR, OLDER = (f"{100 * error:g} %" for error in (MOST_ERROR, OLDER_ERROR))
 FIRST = (
     "**±** is half of a 95 % interval, for each cell by itself: Student's t over the seeds. **(low..high)** is one "
     "that holds whatever the worlds are like (by betting, Waudby-Smith and Ramdas 2024). Served and members have it, "
@@ -46,11 +46,13 @@ NOTES = {
         "a trace has no line for a message that arrives: every call makes a request, a timeout and mostly a reply, so "
         "the events that are neither timers nor commands say how many calls there were. The estimate is off by "
         f"{ERROR} at most, as far as it was tried against the reference simulator, if the ring is kept for 40 timeouts "
-        f"and 30 periods. Goals and comparisons allow for {ERROR}. Tables of older tools have estimates in profile 4 "
-        "too.",
-    "upkeep": "**upkeep**: the messages that are no steps of lookups.",
+        f"and 30 periods ({OLDER} in tables of older tools, which have estimates in profile 4 too). ± says nothing of "
+        "this error. Goals and comparisons allow for it.",
+    "upkeep": "**upkeep**: the messages that are no steps of lookups. It is off by as many as messages are.",
     "events": "**events**: all events of the run. They are counted.",
-    "bytes": "**bytes**: the messages of each kind times their size in `[sizes]`.",
+    "bytes":
+        "**bytes**: the messages of each kind times their size in `[sizes]`. If messages are estimated, each kind has "
+        "a bound of its own, so bytes may be off by more than messages. Goals and comparisons allow for that.",
 }
 """The notes of the numbers, but for the times. Their order is that of the columns."""
 UNIT = f"**{RATE}**: for each member and second."

@@ -3,16 +3,17 @@
 import math
 from collections.abc import Callable, Iterable
 from dataclasses import dataclass, field
+from typing import Any
 
 from chordsim_tools.cli import Refused
 from chordsim_tools.study.bounded import bounded, share_mean
+from chordsim_tools.study.estimates import MOST_ERROR, OLDER_ERROR
 from chordsim_tools.study.exact import count_interval, share_interval
 from chordsim_tools.study.goal import OF_SPANS
 from chordsim_tools.study.interval import Interval, interval
-from chordsim_tools.study.messages import MOST_ERROR
 from chordsim_tools.study.names import base_of, is_percent, is_wild, span_of
 from chordsim_tools.study.plan import told
-from chordsim_tools.study.sizes import bytes_of
+from chordsim_tools.study.sizes import bytes_error, bytes_of
 from chordsim_tools.study.survival import NEVER
 from chordsim_tools.study.tables import Tables
 
@@ -140,6 +141,30 @@ def is_kept(cells: Cells) -> bool:
     return cells["ringless"] == "0"
 
 
+def are_counted(rows: list[Cells]) -> bool:
+    """Whether the messages of these runs were counted. Older tables do not say so."""
+    return all(cells.get("messages-counted") == "1" for cells in rows)
+
+
+def error_share(rows: list[Cells]) -> float:
+    """How far the messages of these runs may be off, as a share of them."""
+    return 0.0 if are_counted(rows) else MOST_ERROR if all(map(is_new, rows)) else OLDER_ERROR
+
+
+def is_new(cells: Cells) -> bool:
+    """Whether a row is of a tools/study that knew all turns that a stabilization skips."""
+    return "pieces-messages" in cells
+
+
+def estimate_error(number: str, rows: list[Cells]) -> float:
+    """How far the mean of a number over these runs may be off because messages are estimated."""
+    if base_of(number) not in OF_MESSAGES or are_counted(rows):
+        return 0.0
+    word = "bytes-error" if number == "bytes" else "messages"
+    mean = interval(a_second(word)(cells) if is_kept(cells) else None for cells in rows).mean
+    return math.inf if mean is None else mean if number == "bytes" else error_share(rows) * mean
+
+
 @dataclass
 class Summary:
     """A setting over its seeds."""
@@ -167,16 +192,12 @@ class Summary:
 
     @property
     def is_counted(self) -> bool:
-        """Whether the messages of all runs were counted. Older tables do not say so."""
-        return all(cells.get("messages-counted") == "1" for cells in self.rows)
+        """Whether the messages of all runs were counted."""
+        return are_counted(self.rows)
 
     def error(self, number: str) -> float:
-        """How far the mean of a number may be off because messages are estimated."""
-        if base_of(number) not in OF_MESSAGES or self.is_counted:
-            return 0.0
-        # The estimate says less of single kinds, to which sizes belong.
-        mean = self.numbers["messages"].mean
-        return math.inf if number == "bytes" or mean is None else MOST_ERROR * mean
+        """How far the mean of a number may be off because messages are estimated. Infinite: there is no bound."""
+        return estimate_error(number, self.rows)
 
     def kept_told(self) -> str:
         """Rings kept as `9 of 10 (55..100 %)`."""
@@ -215,8 +236,14 @@ def summaries(tables: Tables) -> list[Summary]:
         raise Refused("runs.csv is of an older tools/study: run the study again")
     keys = list(tables.manifest["vary"])
     spans, sizes = list(tables.manifest.get("spans") or {}), tables.manifest.get("sizes") or {}
-    runs = [{"bytes": str(bytes_of(sizes, cells)), **cells} if sizes else cells for cells in tables.runs]
+    runs = [with_bytes(cells, sizes) if sizes else cells for cells in tables.runs]
     return [summary(keys, values, rows, spans) for values, rows in groups(runs, keys).items()]
+
+
+def with_bytes(cells: Cells, sizes: dict[str, Any]) -> Cells:
+    """A row with its bytes, and how far they may be off."""
+    errors = {"bytes-error": str(bytes_error(sizes, cells))} if is_new(cells) else {}
+    return {"bytes": str(bytes_of(sizes, cells)), **cells, **errors}
 
 
 def summary(keys: list[str], values: tuple[str, ...], rows: list[Cells], spans: Iterable[str] = ()) -> Summary:

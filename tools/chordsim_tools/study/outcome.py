@@ -37,6 +37,7 @@ def limit_told(one: Summary, limit: Limit, level: float, missing: float) -> Tabl
         "at": "least" if limit.is_least else "most",
         "limit": limit.value,
         "mean": finite(one.numbers[limit.number].mean),
+        "error": finite(one.error(limit.number)),
         "shown": finite(bound_of(one, limit.number, level, sign)),
         "verdict": verdict,
     }
@@ -68,7 +69,10 @@ def setting_told(one: Summary, goal: Goal, level: float, missing: float) -> Tabl
         "limits": [
             *(limit_told(one, limit, level, missing) for limit in goal.limits), losses_told(one, goal, level, missing),
         ],
-        "cost": {"number": goal.least, "mean": finite(cost.mean), "low": finite(low), "high": finite(high)},
+        "cost": {
+            "number": goal.least, "mean": finite(cost.mean), "error": finite(one.error(goal.least)),
+            "low": finite(low), "high": finite(high),
+        },
     }
 
 

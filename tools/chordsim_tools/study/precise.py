@@ -5,7 +5,7 @@ import io
 import math
 
 from chordsim_tools.study.goal import SHARES, Precision
-from chordsim_tools.study.numbers import Summary, summaries
+from chordsim_tools.study.numbers import OF_MESSAGES, Summary, summaries
 from chordsim_tools.study.plan import Study
 from chordsim_tools.study.tables import Row, Tables, runs_text
 
@@ -44,6 +44,12 @@ def numberless(study: Study, rows: list[Row]) -> list[str]:
 
 def stopped(wanted: Precision, found: list[Summary]) -> str:
     """What a page says of it."""
+    is_estimate = wanted.number in OF_MESSAGES and not all(one.is_counted for one in found)
+    return stop_told(wanted, found) + (" ± says nothing of the error of an estimate." if is_estimate else "")
+
+
+def stop_told(wanted: Precision, found: list[Summary]) -> str:
+    """Why a study stopped."""
     seeds = found[0].seeds
     scale, unit = (100, " points") if wanted.number in (*SHARES, "members") else (1, "")
     half = f"{wanted.number} to ± {wanted.half * scale:g}{unit}"

@@ -64,10 +64,11 @@ class Period:
         """The mean delay."""
         return self.least + self.jitter / 2
 
-    def passed(self, wait: float) -> float:
-        """How many times the timer comes during a wait that begins as it comes."""
+    def passed(self, wait: float, is_first: bool) -> float:
+        """How many times the timer comes during a wait that begins as it comes; at its end too, if it comes first."""
         turns = range(1, int(wait // self.least) + 1)
-        return math.fsum(below(wait - turn * self.least, turn, self.jitter) for turn in turns)
+        at_the_end = is_first and self.jitter == 0 and wait >= self.least and wait % self.least == 0
+        return at_the_end + math.fsum(below(wait - turn * self.least, turn, self.jitter) for turn in turns)
 
 
 class Repairs:
@@ -78,16 +79,19 @@ class Repairs:
         self.period = Period(int(top["stabilize_us"]), int(top.get("jitter_us", 0)))
         self.latency = latencies_of(top, rows)
         self.spreads = spreads(int(top.get("spread_us", 0)))
-        self.known: dict[int, float] = {}
+        self.places = {node["name"]: place for place, node in enumerate(top["node"])}
+        self.known: dict[tuple[int, bool], float] = {}
 
     def rate(self, first: str, second: str) -> float:
-        """How many a member begins in a microsecond that has this successor."""
-        trip = 2 * self.latency(first, second)
-        if trip not in self.known:
-            waits = [trip + more for more in self.spreads]
-            turns = math.fsum(1 + self.period.passed(wait) for wait in waits) / len(waits)
-            self.known[trip] = 1 / (self.period.mean() * turns)
-        return self.known[trip]
+        """How many a member begins in a microsecond that has this successor.
+
+        Of two events of one time the one comes first that was made by the node that is listed first."""
+        kind = 2 * self.latency(first, second), self.places[first] < self.places[second]
+        if kind not in self.known:
+            waits = [kind[0] + more for more in self.spreads]
+            turns = math.fsum(1 + self.period.passed(wait, kind[1]) for wait in waits) / len(waits)
+            self.known[kind] = 1 / (self.period.mean() * turns)
+        return self.known[kind]
 
     def around(self, members: Members, ring: list[int], place: int) -> float:
         """The rates of the member at a place and of the one before it; if there is none at the place, of this alone."""

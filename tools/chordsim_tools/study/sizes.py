@@ -1,11 +1,13 @@
 """The table [sizes]: the bytes of a message of each kind, as numbers or as formulas of the scenario's keys."""
 
+import math
 from collections.abc import Mapping
 from pathlib import Path
 from typing import Any
 
 from chordsim_tools.cli import Refused
 from chordsim_tools.messages import MESSAGES
+from chordsim_tools.study.estimates import most_off
 from chordsim_tools.study.formula import ALLOWED, BadFormula, value_of
 
 Sizes = dict[str, int | str]
@@ -48,8 +50,18 @@ def check_not_negative(path: Path, sizes: Sizes, top: Mapping[str, Any]) -> None
             raise Refused(f"{path}: [sizes] {kind} = {size!r} is below 0 with {where}")
 
 
-def bytes_of(sizes: Sizes, numbers: Mapping[str, Any]) -> int:
-    """The bytes of a run with these numbers."""
+def sizes_in(sizes: Sizes, numbers: Mapping[str, Any]) -> dict[str, int]:
+    """The sizes in a run with these numbers."""
     # Older tables do not have these two, and their sizes are numbers.
     values = {key: int(numbers.get(f"scenario-{key}", 0)) for key in LEAST_KEYS}
-    return sum(size_of(size, values) * int(numbers[f"sent-{kind}"]) for kind, size in sizes.items())
+    return {kind: size_of(size, values) for kind, size in sizes.items()}
+
+
+def bytes_of(sizes: Sizes, numbers: Mapping[str, Any]) -> int:
+    """The bytes of a run with these numbers."""
+    return sum(size * int(numbers[f"sent-{kind}"]) for kind, size in sizes_in(sizes, numbers).items())
+
+
+def bytes_error(sizes: Sizes, numbers: Mapping[str, Any]) -> int:
+    """How far the bytes of a run are off at most whose messages are estimated."""
+    return math.ceil(int(numbers["messages"]) * most_off(sizes_in(sizes, numbers)))

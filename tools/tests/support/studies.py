@@ -11,10 +11,12 @@ ROW = {
     "all-us-p99": 2_000_000, "wanted": 1000, "wanted-1": 500, "wanted-2": 500, "right-1": 450, "right-2": 450,
     "duration-us": 100_000_000, "up-us": 1_000_000_000, "member-us": 980_000_000, "cost-member-us": 1_000_000_000,
     "cost-events": 10_000, "messages": 6_000, "messages-counted": 1, "messages-lookups": 2_000, "lost-at-us": "",
+    "pieces-messages": "",
 }
 MANIFEST: dict[str, Any] = {
     "question": "How?", "study": "study.toml", "base": "base.toml", "generate": None, "latency": None,
-    "latency_arguments": None, "seeds": [1, 2], "vary": {}, "nodes": 4, "warmup_us": 0, "cooldown_us": 0, "window_us": 10_000_000, "goal": None,
+    "latency_arguments": None, "seeds": [1, 2], "vary": {}, "nodes": 4, "warmup_us": 0, "cooldown_us": 0,
+    "window_us": 10_000_000, "goal": None,
     "precision": None, "sizes": {}, "commands": {}, "own_churn": False, "program": {"sha256": "f00", "commit": None},
     "tool": {"version": 2, "commit": "abc"}, "sha256": {"study.toml": "bad"},
 }

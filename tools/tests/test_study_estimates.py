@@ -1,0 +1,106 @@
+"""Where messages are estimated, each number that rests on them has its bound. All by hand.
+
+A setting has about 5,000 messages in 1,000 s of members, so 5 a member and second, of which 4 % are 0.2."""
+
+import csv
+import json
+from pathlib import Path
+from tempfile import TemporaryDirectory
+from typing import Any
+from unittest import TestCase
+from unittest.mock import patch
+
+from chordsim_tools.messages import MESSAGES
+from chordsim_tools.study import comparison
+from chordsim_tools.study.bounds import bound_of
+from chordsim_tools.study.compare import Pair
+from chordsim_tools.study.estimates import KIND_ERROR, MOST_ERROR, most_off
+from chordsim_tools.study.numbers import summaries
+from chordsim_tools.study.outcome import outcome
+from chordsim_tools.study.page import page
+from chordsim_tools.study.tables import Tables
+from tests.support.studies import row, tables_of, unwrapped
+
+GOAL = {"limits": [{"number": "messages", "is_least": False, "value": 5.5}], "lost_max": None, "least": "messages"}
+ONE_SIZE = dict.fromkeys(MESSAGES, 100)
+
+
+def study(*messages: int, counted: int = 0, **changes: Any) -> Tables:
+    """Settings list=1, list=2 and so on. Each of six seeds has about so many messages, ten of each kind but steps."""
+    rows = [
+        row(**{"list": size, "seed": seed, "messages": count + seed, "messages-counted": counted})
+        | {"sent-step": str(count + seed - 80)}
+        for size, count in enumerate(messages, start=1) for seed in range(6)
+    ]
+    return tables_of(rows, vary={"list": list(range(1, len(messages) + 1))}, **changes)
+
+
+class EstimatesTest(TestCase):
+    """Bounds of numbers, and where they are printed."""
+
+    def test_bytes(self) -> None:
+        """With one size they are off by as much as messages. A kind with a size alone is off by its own bound."""
+        assert most_off(ONE_SIZE) == 100 * MOST_ERROR
+        for kind in MESSAGES:
+            assert most_off({**dict.fromkeys(MESSAGES, 0), kind: 100}) == 100 * KIND_ERROR[kind]
+        # Two kinds, one of which may have too many, and the other one too few.
+        sizes = {**dict.fromkeys(MESSAGES, 50), "notify": 100, "ping": 0}
+        assert abs(most_off(sizes) - (50 * MOST_ERROR + 50 * KIND_ERROR["notify"] + 50 * KIND_ERROR["ping"])) < 1e-9
+
+    def test_bounds(self) -> None:
+        """Those of a goal are moved by 0.2, of upkeep by as many, and of bytes of one size by 4 % of all bytes."""
+        [one] = summaries(study(5000, sizes=ONE_SIZE))
+        assert abs(one.error("messages") - 0.2001) < 1e-9 and one.error("upkeep") == one.error("messages")
+        assert abs(one.error("bytes") - 20.0106) < 0.001 and one.error("events") == 0
+        bare = one.numbers["messages"].bound(0.95, 1)
+        assert abs(bound_of(one, "messages", 0.95, 1) - bare - 0.2001) < 1e-9
+        [counted] = summaries(study(5000, counted=1, sizes=ONE_SIZE))
+        assert not any(counted.error(number) for number in ("messages", "upkeep", "bytes"))
+
+    def test_tables_of_an_older_tool(self) -> None:
+        """Their estimates may be further off, and say nothing of bytes."""
+        tables = study(5000, sizes=ONE_SIZE)
+        for cells in tables.runs:
+            del cells["pieces-messages"]
+        [one] = summaries(tables)
+        assert abs(one.error("messages") - 0.30015) < 1e-9 and one.error("bytes") == float("inf")
+        assert "Messages are estimated, to within 6 %, and bytes have no bound." in unwrapped(page(tables))
+
+    def test_page(self) -> None:
+        """The warning, the answer, its limit, and what is not decided have the bound."""
+        text = unwrapped(page(study(5000, 5290, goal=GOAL, sizes=ONE_SIZE)))
+        assert "Warning: Messages are estimated, to within 4 %, and bytes to within 4 %." in text
+        off = "5.0025 ± 0.0020 (estimated, off by 0.21 at most)"
+        assert f"with the least messages per member and second, {off}, of those that reach" in text, text
+        assert f"messages per member and second {off}, rings kept" in text
+        assert "estimated" not in page(study(5000, 5290, counted=1, goal=GOAL)).split("## Settings", maxsplit=1)[0]
+
+    def test_comparison(self) -> None:
+        """A difference of 0.35 is not more than 0.2 and 0.214, one of 0.45 is. Text and table say how far it is off."""
+        for more, is_apart in ((350, False), (450, True)):
+            tables = study(5000, 5000 + more)
+            first, second = summaries(tables)
+            pair = Pair(first, second)
+            assert pair.is_apart("messages") == is_apart
+            told = "/member/s  estimated, off by 0.42 at most" + ("\n" if is_apart else "  not told apart\n")
+            assert told in comparison.text_of(pair)
+        with TemporaryDirectory() as name, patch.object(comparison, "whole_tables", lambda *_: tables):
+            with patch.object(comparison, "write_out"):
+                comparison.write_comparison(Path(name), "1", "2")
+            table = (Path(name) / "compare.csv").read_text()
+        lines = {line["number"]: line for line in csv.DictReader(table.splitlines())}
+        assert lines["messages"]["estimate-off"] == "0.4182" and lines["served"]["estimate-off"] == "0"
+
+    def test_answer_for_programs(self) -> None:
+        """The error is told by itself, and is in the bounds."""
+        [setting] = json.loads(outcome(study(5000, goal=GOAL)))["worlds"][0]["settings"]
+        cost, limit = setting["cost"], setting["limits"][0]
+        assert abs(cost["error"] - 0.2001) < 1e-9 and abs(limit["error"] - 0.2001) < 1e-9
+        assert cost["low"] < cost["mean"] - 0.2 and cost["high"] > cost["mean"] + 0.2 and limit["shown"] > 5.2
+
+    def test_precision(self) -> None:
+        """Narrow intervals say nothing of an estimate."""
+        wanted = {"number": "upkeep", "half": 0.01, "least_seeds": 5, "most_seeds": 9}
+        estimate = "± says nothing of the error of an estimate."
+        for counted in (0, 1):
+            assert (estimate in unwrapped(page(study(5000, counted=counted, precision=wanted)))) == (not counted)
