@@ -9,12 +9,14 @@ from unittest import TestCase
 from unittest.mock import Mock, patch
 
 from chordsim_tools.study.plot import write_plots
-from chordsim_tools.study.plot_files import FORMS, NAME, NEEDS, PLOTS, origin_of, write_origins
+from chordsim_tools.study.plot_files import FORMS, NAME, PLOTS, is_of, origin_of, write_origins
 from chordsim_tools.study.so_far import tables_of
 from tests.test_study_plot import plot, python_with_packages
 from tests.test_study_run import STUDY, TOP, call, said, study_folder
 
 NONE = "No plots: `tools/study plot FOLDER` draws them."
+WHOLE = [name for name in PLOTS if name != "spans"]
+"""The plots of a study whose goal has no limits of spans."""
 OTHER = f"No plots of these tables: those in the folder are of other ones, or older. {NONE.removeprefix('No plots: ')}"
 
 
@@ -60,7 +62,7 @@ class PlotFilesTest(TestCase):
         with study_folder() as folder:
             call(folder)
             draw(folder, *PLOTS)
-            assert linked(page_of(folder)) == list(PLOTS)
+            assert linked(page_of(folder)) == WHOLE
             (folder / "study.toml").write_text(STUDY.replace("list = [1, 2]", "list = [1, 3]"))
             call(folder)
             text = page_of(folder)
@@ -68,7 +70,8 @@ class PlotFilesTest(TestCase):
             draw(folder, "times", "cost")
             text = page_of(folder)
             assert linked(text) == ["times", "cost"]
-            assert "Plots that are not there or are of other tables: right, network, cdf, tail. `tools/study plot" in text
+            left = "Plots that are not there or are of other tables: right, network, cdf, tail."
+            assert f"{left} `tools/study plot" in text
             (folder / "study.toml").write_text(STUDY)
             call(folder)
             assert linked(page_of(folder)) == ["right", "network", "cdf", "tail"]
@@ -90,12 +93,12 @@ class PlotFilesTest(TestCase):
         with study_folder() as folder:
             call(folder)
             put_plots(folder, *PLOTS)
-            assert linked(page_of(folder)) == list(PLOTS)
+            assert linked(page_of(folder)) == WHOLE
             time = (folder / "study" / "runs.csv").stat().st_mtime - 60
             os.utime(folder / "study" / "times.png", (time, time))
-            assert linked(page_of(folder)) == list(PLOTS)[1:]
+            assert linked(page_of(folder)) == WHOLE[1:]
             (folder / "study" / NAME).write_text("[]")
-            assert linked(page_of(folder)) == list(PLOTS)[1:]
+            assert linked(page_of(folder)) == WHOLE[1:]
 
     def test_study_that_is_not_done(self) -> None:
         """Plots of fewer runs of the same study are linked, and the page says of how many; not once it is done."""
@@ -109,7 +112,7 @@ class PlotFilesTest(TestCase):
             call(folder)
             text = page_of(folder)
             assert "**1 of 4 runs: the study is not done.**" in text and "The plots were drawn of 2 of 4 runs." in text
-            assert linked(text) == list(PLOTS)
+            assert linked(text) == WHOLE
             (folder / "fail").write_text("nothing")
             call(folder)
             assert linked(page_of(folder)) == [] and OTHER in page_of(folder)
@@ -123,7 +126,7 @@ class PlotFilesTest(TestCase):
             (folder / "study" / "done" / "list=1,seed=2.json").unlink()
             text = page_of(folder)
             assert "**3 of 4 runs: the study is not done.**" in text and "The plots were drawn of all runs." in text
-            assert linked(text) == list(PLOTS)
+            assert linked(text) == WHOLE
 
     def test_plots_that_were_interrupted(self) -> None:
         """The first plot is of the tables that are there; the second one, which was not reached, of those of before."""
@@ -146,7 +149,8 @@ class PlotFilesTest(TestCase):
     def test_plot_command(self) -> None:
         """It notes the plots that it draws, and leaves those of a column out of the page."""
         python = python_with_packages()
-        with study_folder() as folder:
+        span = '[span.late]\nfrom = "3s"\nto = "6s"\n[span.late.goal]\np50_ms_max = 900\nserved_min = 0.5\n'
+        with study_folder(STUDY + span) as folder:
             call(folder)
             assert plot(python, folder) == (0, "")
             assert linked(page_of(folder)) == list(PLOTS)
@@ -164,6 +168,6 @@ class PlotFilesTest(TestCase):
             drawn = tables_of(folder)
             origins = json.loads((folder / NAME).read_text())
             wanted = origin_of(drawn.tables.manifest, "")
-            names = [plot for plot in PLOTS if NEEDS.get(plot, "runs.csv") in drawn.tables.manifest["sha256"]]
+            names = [plot for plot in PLOTS if is_of(plot, drawn.tables.manifest)]
             assert len(names) >= 5 and [origins[plot]["tables"] for plot in names] == [wanted.tables] * len(names)
             assert linked((folder / "report.md").read_text()) == names

@@ -5,10 +5,13 @@ from pathlib import Path
 from typing import Any
 from unittest import TestCase
 
-from chordsim_tools.study.columns import Column
+from chordsim_tools.known import known
+from chordsim_tools.study.columns import Column, SpanColumn
 from chordsim_tools.study.distribution import tail_points
-from chordsim_tools.study.limits import limits_of, time_limits
+from chordsim_tools.study.front import BELOW, ON, UNSURE, Plane, spots_of
+from chordsim_tools.study.limits import limits_of, span_limits, span_numbers, time_limits
 from chordsim_tools.study.lines import point_of
+from chordsim_tools.study.numbers import groups, summaries
 from chordsim_tools.study.overtime import MEMBERS, RIGHT, Lines, quantity_points, right_of
 from chordsim_tools.study.survival import Times
 from tests.support.studies import row, tables_of
@@ -60,6 +63,62 @@ class PlotNumbersTest(TestCase):
         assert not limits_of(manifest, "all-us-p50") and not limits_of({"goal": None}, "all-us-p99")
         assert time_limits(manifest) == [(0.99, 800_000.0)] and not limits_of(manifest, "")
 
+    def test_limits_of_spans(self) -> None:
+        """In the plots of the span's numbers and, of what is drawn over time, over the time of the span."""
+        goal = {"limits": [limit("right_of_begun", 0.9), limit("outage.right_of_begun", 0.8),
+                           limit("outage.p99_ms", 3000.0), limit("outage.p99_ms", 2000.0)],
+                "lost_max": None, "least": "messages"}
+        manifest = {"goal": goal, "spans": {"outage": [5_000_000, 7_000_000]}}
+        assert span_numbers(manifest) == ["outage.right_of_begun", "outage.p99_ms"]
+        assert limits_of(manifest, "outage.p99_ms") == [3000.0, 2000.0]
+        assert span_limits(manifest, "right-of-begun") == [(5_000_000, 7_000_000, 0.8)]
+        assert not span_limits(manifest, "served") and not span_limits({"goal": None}, "served")
+
+    def test_numbers_of_spans(self) -> None:
+        """The page's own, with its intervals: p99 in ms, and served of all seeds by betting."""
+        cells = {
+            "outage.judged-lookups": 1000, "outage.wanted": 100, "outage.judged-found": 90, "outage.judged-lost": 0,
+            "outage.right-defensible": 88, "outage.member-us": 9, "outage.up-us": 10,
+        }
+        rows = [
+            row(list=1, seed=seed, ringless=int(seed == 6), **cells,
+                **{"outage.right": 80 + seed, "outage.all-us-p99": 1_000_000 * seed}) for seed in range(1, 7)
+        ]
+        tables = tables_of(rows, vary={"list": [1]}, spans={"outage": [0, 1]})
+        [one] = summaries(tables)
+        for number, scale, words in (("p99_ms", 1.0, "p99 in outage, ms"), ("served", 100.0, "served in outage, %"),
+                                     ("right_of_begun", 100.0, "right of begun in outage, %")):
+            column = SpanColumn(f"outage.{number}", tables)
+            found, ends = point_of(column, rows, scale), known(one.numbers[f"outage.{number}"].ends())
+            assert found is not None and column.scale(3000.0) == (scale, words), column.scale(3000.0)
+            drawn = (found.mean - found.below, found.mean + found.above)
+            assert all(abs(a - scale * b) < 1e-9 for a, b in zip(drawn, ends, strict=True)), (number, drawn, ends)
+
+    def test_bars_are_those_of_the_page(self) -> None:
+        """Served has bars by betting, also if a ring was lost; a share of 100 % in all seeds has one too."""
+        for ringless, right in ((0, 940), (0, 900), (1, 900)):
+            rows = [row(list=1, seed=seed, right=right - seed * (right < 940), ringless=ringless * (seed == 1),
+                        **{"judged-found": 940, "judged-lost": 0}) for seed in range(1, 9)]
+            tables = tables_of(rows, vary={"list": [1]})
+            [one] = summaries(tables)
+            for name, number in (("served", "served"), ("right-of-begun", "right_of_begun")):
+                found, ends = point_of(Column(name, tables), rows, 100), known(one.numbers[number].ends())
+                assert found is not None and found.below + found.above > 0, (name, right)
+                drawn = (found.mean - found.below, found.mean + found.above)
+                assert all(abs(a - 100 * b) < 1e-9 for a, b in zip(drawn, ends, strict=True)), (name, drawn, ends)
+
+    def test_estimated_cost(self) -> None:
+        """The label has the bound of the estimate, and a setting is dominated only by more than that."""
+        for counted, label in ((1, ""), (0, "\n(estimated, to within 4 %)")):
+            rows = [row(list=size, seed=seed, messages=6000 - 300 * size + seed, right=800 + 20 * size + seed,
+                        **{"messages-counted": counted}) for size in (0, 1) for seed in range(6)]
+            tables = tables_of(rows, vary={"list": [0, 1]})
+            plane = Plane(Column("cost", tables), Column("right-of-begun", tables))
+            assert plane.cost.scale(0) == (1, f"messages per member and second{label}")
+            states = [spot.state for spot in spots_of(plane, [("0",), ("1",)], groups(rows, ["list"]))]
+            # 300 of 6,000 messages are 5 %, and both estimates may be off by 4 %.
+            assert states == [BELOW if counted else UNSURE, ON], states
+
     def test_members_at_the_end_of_a_step(self) -> None:
         """What is counted when a step ends is drawn there, and what begins in it where it begins."""
         counts = {"right_of_ended": 8, "ended": 9, "wanted": 16}
@@ -72,12 +131,15 @@ class PlotNumbersTest(TestCase):
         assert [round(point[1], 6) for point in right] == [88.888889] * 3
 
     def test_rings_lost_over_time(self) -> None:
-        """Right of begun is of the rings kept. Served is of all seeds, without a band over both kinds of rings."""
+        """Right of begun is of the rings kept. Served is of all seeds, without a band over both kinds of rings. If all
+        rings were kept its band is from the least to the greatest seed."""
         lines = [step(0, seed, right_of_ended=seed, ended=10, wanted=20) for seed in range(1, 8)]
         lines.append(step(1, 1, right_of_ended=0, ended=10, wanted=20))
         mixed = Lines(lines, lines[:5])
         (_, mean, low, high, count), *_ = quantity_points(mixed, RIGHT[0], MANIFEST | {"cooldown_us": 0})
         assert (mean, low, high, count) == (20, 20, 20, 7)
+        (_, mean, low, high, count), *_ = quantity_points(Lines(lines, lines), RIGHT[0], MANIFEST | {"cooldown_us": 0})
+        assert (mean, low, high, count) == (20, 5, 35, 7)
         [(_, mean, low, high, count)] = quantity_points(mixed, RIGHT[1], MANIFEST | {"cooldown_us": 0})
         assert (mean, count) == (30, 5) and low < 30 < high
 

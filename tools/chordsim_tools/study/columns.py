@@ -3,7 +3,9 @@
 from math import isfinite
 
 from chordsim_tools.cli import Refused
-from chordsim_tools.study.numbers import TAKES, Cells
+from chordsim_tools.study.interval import Interval, interval
+from chordsim_tools.study.names import base_of, header, is_percent, name_of
+from chordsim_tools.study.numbers import TAKES, Cells, error_share, estimate_error, mean_of, take_of
 from chordsim_tools.study.tables import Tables
 
 NAMED = {
@@ -34,6 +36,7 @@ class Column:
         self.nodes = int(tables.manifest["nodes"])
         self.duration = tables.manifest.get("duration_us")
         self.there = set(tables.runs[0]) if tables.runs else set()
+        self.error_share = error_share(tables.runs) if "messages" in self.there else 0.0
         self.parts = self.parts_of()
         if name != COST and self.parts is None and name not in self.there:
             listed = ", ".join([*sorted(NAMED), COST, *sorted(self.there)])
@@ -65,7 +68,12 @@ class Column:
 
     def averaged(self, rows: list[Cells]) -> list[float | None]:
         """The numbers that a mean is of: those of the rings kept. A lost ring serves none, so `served` has all."""
-        return [self.of(cells) for cells in rows if self.name == "served" or not ring_lost([cells])]
+        return [self.of(cells) for cells in rows if base_of(self.name) == "served" or not ring_lost([cells])]
+
+    def mean(self, rows: list[Cells]) -> Interval:
+        """The mean of these runs with its interval, which is that of the page if the page has the number."""
+        number = "served" if self.name == "served" else AS_ON_PAGES.get(self.name, ("", 0.0))[0]
+        return mean_of(number, self.averaged(rows)) if number else interval(self.averaged(rows))
 
     def values(self, rows: list[Cells]) -> list[float]:
         """The numbers of the runs that have it. A time that is never reached is none."""
@@ -97,17 +105,61 @@ class Column:
         events, duration = plain(cells["events"]), plain(cells.get("duration_us") or str(self.duration or ""))
         return None if events is None or not duration else events / self.nodes / duration * 1e6
 
+    def error(self, rows: list[Cells]) -> float:
+        """How far the mean of these runs may be off because messages are estimated."""
+        return estimate_error("messages", rows) if self.name == COST and self.error_share else 0.0
+
     def scale(self, greatest: float) -> tuple[float, str]:
         """What values up to this one are multiplied by, and the label with the unit."""
         if self.name == COST:
-            per_member = {"messages", "cost-member-us"} <= self.there
-            return 1, "messages per member and second" if per_member else "events per node of the file and second"
+            return 1, self.cost_label()
         label = NAMED[self.name][2] if self.name in NAMED else WORDS.get(self.name, self.name)
         if self.is_share:
             return 100, f"{label}, %"
         if self.is_time:
             return (1e-6, f"{label}, s") if greatest >= 1e7 else (1e-3, f"{label}, ms")
         return 1, label
+
+
+    def cost_label(self) -> str:
+        """The label of the cost, which says if it is estimated."""
+        if not {"messages", "cost-member-us"} <= self.there:
+            return "events per node of the file and second"
+        estimated = f"\n(estimated, to within {100 * self.error_share:g} %)" if self.error_share else ""
+        return f"messages per member and second{estimated}"
+
+
+class SpanColumn(Column):
+    """A number of a span, as the page has it: `outage.p99_ms`. Times are in milliseconds."""
+
+    def parts_of(self) -> tuple[str, str]:
+        """It is no column of the table by itself."""
+        return "", ""
+
+    @property
+    def is_time(self) -> bool:
+        """Whether it is a time."""
+        return self.name.endswith("_ms")
+
+    @property
+    def is_share(self) -> bool:
+        """Whether it is a share of 0 to 1, which is drawn in percent."""
+        return is_percent(self.name)
+
+    def of(self, cells: Cells) -> float | None:
+        """The number of a run, if it has it; infinite if it is never reached."""
+        return take_of(self.name)(cells)
+
+    def mean(self, rows: list[Cells]) -> Interval:
+        """The mean of these runs with the interval of the page."""
+        return mean_of(self.name, self.averaged(rows))
+
+    def scale(self, greatest: float) -> tuple[float, str]:
+        """What values up to this one are multiplied by, and the label with the unit."""
+        if self.is_time and greatest >= 1e4:
+            return 1e-3, f"{name_of(self.name)}, s"
+        unit = header(self.name).removeprefix(name_of(base_of(self.name)))
+        return 100 if self.is_share else 1, f"{name_of(self.name)}{unit}"
 
 
 def plain(cell: str) -> float | None:

@@ -8,9 +8,9 @@ from chordsim_tools.known import known
 from chordsim_tools.study.columns import Column, ring_lost
 from chordsim_tools.study.exact import student
 from chordsim_tools.study.figures import finish, legend_head, line_handles
-from chordsim_tools.study.interval import Interval, interval
+from chordsim_tools.study.interval import Interval
 from chordsim_tools.study.limits import draw_across, handle, limits_of
-from chordsim_tools.study.lines import Rows, blocks_of, cut_bars
+from chordsim_tools.study.lines import Rows, bar_of, blocks_of
 from chordsim_tools.study.looks import Layout, Values, setting_words
 from chordsim_tools.study.numbers import Cells
 from chordsim_tools.study.so_far import Drawn
@@ -62,7 +62,7 @@ def spots_of(plane: Plane, settings: list[Values], rows: Rows, most_lost: float 
     """The settings of a world that have both numbers, and which of them are on the front."""
     spots = []
     for setting in settings:
-        x, y = (interval(column.averaged(rows[setting])) for column in (plane.cost, plane.gain))
+        x, y = (column.mean(rows[setting]) for column in (plane.cost, plane.gain))
         if x.mean is not None and y.mean is not None and isfinite(x.mean) and isfinite(y.mean):
             lost = sum(ring_lost([cells]) for cells in rows[setting]) / len(rows[setting])
             spots.append(Spot(setting, x, y, rows[setting], LOST if lost > most_lost else BELOW))
@@ -90,19 +90,19 @@ def surely_beats(plane: Plane, one: Spot, other: Spot, tests: int) -> bool:
     for column, sign in ((plane.cost, 1), (plane.gain, plane.sign)):
         both = [(column.of(mine), column.of(other_cells)) for mine, other_cells in pairs]
         differences = [sign * (a - b) for a, b in both if a is not None and b is not None and isfinite(a + b)]
-        if not is_below_zero(differences, LEVEL / tests):
+        if not is_below_zero(differences, LEVEL / tests, column.error(one.rows) + column.error(other.rows)):
             return False
     return True
 
 
-def is_below_zero(values: list[float], level: float) -> bool:
-    """Whether the mean of these is below 0, by Student's t at this level, two-sided."""
+def is_below_zero(values: list[float], level: float, error: float = 0.0) -> bool:
+    """Whether the mean of these is below 0 by more than the error, by Student's t at this level, two-sided."""
     if len(values) < 2:
         return False
     count = len(values)
     mean = sum(values) / count
     deviation = (sum((value - mean) ** 2 for value in values) / (count - 1)) ** 0.5
-    return bool(mean + student(count - 1, 1 - level) * deviation / count**0.5 < 0)
+    return bool(mean + student(count - 1, 1 - level) * deviation / count**0.5 < -error)
 
 
 def front_figure(pyplot: Any, drawn: Drawn, layout: Layout, planes: list[Plane], rows: Rows, most_lost: float) -> Any:
@@ -208,8 +208,8 @@ def draw_spot(axes: Any, layout: Layout, plane: Plane, spot: Spot, scale: float)
     x, y = known(spot.x.mean), scale * known(spot.y.mean)
     faces = {ON: look.colour, UNSURE: paler(look.colour), BELOW: "white", LOST: "white"}
     faded = 1.0 if spot.state in (ON, UNSURE) else 0.55
-    halves = (cut_bars([x], [spot.x.half or 0], plane.cost), cut_bars([y], [scale * (spot.y.half or 0)], plane.gain))
-    axes.errorbar([x], [y], xerr=halves[0], yerr=halves[1], fmt="none", ecolor=look.colour, elinewidth=0.7,
+    bars = [[[part] for part in bar_of(*one)] for one in ((spot.x, plane.cost, 1), (spot.y, plane.gain, scale))]
+    axes.errorbar([x], [y], xerr=bars[0], yerr=bars[1], fmt="none", ecolor=look.colour, elinewidth=0.7,
                   alpha=0.5 * faded, zorder=1)
     axes.plot([x], [y], marker=look.marker, color=look.colour, markerfacecolor=faces[spot.state], alpha=faded,
               markersize=7 if spot.state == ON else 6, linestyle="none", zorder=4 if spot.state == ON else 3)

@@ -162,9 +162,11 @@ or one of right-of-begun, right-of-found, found-of-begun, served, whole-of-audit
 lookups, duration) make panels, of the others the key with the most values goes along the axis, and the rest makes
 lines.
 
-Means over seeds with 95% intervals (cut at 0 and 100%); a seed counts if it has the number. Percentiles are of all
-lookups, as on the page. The goal's limits are dashed lines. Over time a step in which fewer than three seeds have the
-number has a dashed line and no band, and so has a setting that lost some of its rings no band. Settings in which a
+Means over seeds with 95% intervals, those of the page (cut at 0 and 100%); a seed counts if it has the number.
+Percentiles are of all lookups, as on the page. The goal's limits are dashed lines. Those of spans are in a plot of the
+numbers that they limit, and over the time of the span. Over time a step in which fewer than three seeds have the number
+has a dashed line and no band, and so has a setting that lost some of its rings no band. Bands of served and members go
+from the least to the greatest seed. Settings in which a
 seed's ring was lost (an audit with ring=0) are hollow, with the number of seeds that the mean is of, and not on the
 front: a dead ring is cheap. With many seeds nearly every setting has such a seed:
 --most-lost 0.05 lets settings on the front that lost their ring with at most 5 of 100 seeds. A setting off the front is

@@ -7,7 +7,7 @@ from typing import Any
 from chordsim_tools.known import known
 from chordsim_tools.study.columns import Column, ring_lost
 from chordsim_tools.study.figures import finish, grid, legend_head, line_handles
-from chordsim_tools.study.interval import LEAST_SEEDS, interval
+from chordsim_tools.study.interval import LEAST_SEEDS, Interval
 from chordsim_tools.study.limits import draw_across, handle, limits_of
 from chordsim_tools.study.looks import Axis, Layout, setting_words
 from chordsim_tools.study.numbers import Cells
@@ -56,7 +56,7 @@ def note_of(rows: Rows) -> str:
     seeds = " to ".join(map(str, dict.fromkeys((counts[0], counts[-1]))))
     if counts[-1] < LEAST_SEEDS:
         return f"means over {seeds} seeds; below {LEAST_SEEDS} there are no intervals"
-    return f"means over {seeds} seeds, bars are 95% intervals (Student's t), from {LEAST_SEEDS} seeds on"
+    return f"means over {seeds} seeds, bars are 95% intervals as on the page, from {LEAST_SEEDS} seeds on"
 
 
 def draw_panel(
@@ -90,7 +90,7 @@ def draw_line(
     look = layout.look(line[0])
     places, means = [place for place, _ in drawn], [point.mean for _, point in drawn]
     axes.plot(places, means, color=look.colour, linestyle=look.line, linewidth=1.4, zorder=2)
-    bars = cut_bars(means, [point.half for _, point in drawn], column)
+    bars = [[point.below for _, point in drawn], [point.above for _, point in drawn]]
     axes.errorbar(places, means, yerr=bars, fmt="none", ecolor=look.colour, elinewidth=1, capsize=2, zorder=1)
     for place, point in drawn:
         face = "white" if point.is_hollow else look.colour
@@ -104,30 +104,32 @@ def draw_line(
 
 @dataclass(frozen=True)
 class Point:
-    """A mean as it is drawn, half its interval, whether a seed lost its ring, and how many seeds the mean is of."""
+    """A mean as it is drawn, how far its bar goes below and above it, whether a seed lost its ring, and how many seeds
+    the mean is of."""
 
     mean: float
-    half: float
+    below: float
+    above: float
     is_hollow: bool
     told: str
 
 
 def point_of(column: Column, runs: list[Cells], scale: float) -> Point | None:
     """The point of a setting with these runs, if they have a mean."""
-    found, is_hollow = interval(column.averaged(runs)), ring_lost(runs)
+    found = column.mean(runs)
     if found.mean is None or not isfinite(found.mean):
         return None
-    # Over rings that were kept and rings that were lost no interval holds.
-    is_mixed = column.name == "served" and is_hollow
-    half = 0.0 if is_mixed else scale * (found.half or 0)
-    return Point(scale * found.mean, half, is_hollow, f"{found.count} of {len(runs)}")
+    below, above = bar_of(found, column, scale)
+    return Point(scale * found.mean, below, above, ring_lost(runs), f"{found.count} of {len(runs)}")
 
 
-def cut_bars(means: list[float], halves: list[float], column: Column) -> list[list[float]]:
-    """Bars below and above, cut at 0 and, of shares, at 100%."""
-    most = 100.0 if column.is_share else float("inf")
-    below = [min(half, max(0.0, mean)) for mean, half in zip(means, halves, strict=True)]
-    return [below, [min(half, max(0.0, most - mean)) for mean, half in zip(means, halves, strict=True)]]
+def bar_of(found: Interval, column: Column, scale: float) -> tuple[float, float]:
+    """How far the bar of an interval goes below and above the mean, cut at 0 and, of shares, at 100%."""
+    mean, ends = known(found.mean), found.ends()
+    if ends is None:
+        return 0.0, 0.0
+    most = 1.0 if column.is_share else float("inf")
+    return scale * max(0.0, mean - max(0.0, ends[0])), scale * max(0.0, min(most, ends[1]) - mean)
 
 
 def place_of(layout: Layout, one: tuple[str, ...]) -> str:

@@ -7,7 +7,7 @@ from typing import Any
 from chordsim_tools.study.columns import ring_lost
 from chordsim_tools.study.figures import finish, grid, legend_head, line_handles
 from chordsim_tools.study.interval import LEAST_SEEDS, interval
-from chordsim_tools.study.limits import draw_across, handle, limits_of
+from chordsim_tools.study.limits import draw_across, draw_in_spans, handle, limits_of, span_limits
 from chordsim_tools.study.looks import FEW, Layout, Look, Values, setting_words
 from chordsim_tools.study.numbers import Cells, groups
 from chordsim_tools.study.so_far import Drawn
@@ -26,7 +26,8 @@ SERVED = "wanted"
 class Quantity:
     """A label, the number of a line, and the greatest value that it may have. `column` names its limits.
 
-    Some are of the rings kept alone, some are at the end of a step, and some are of the lookups that begin in it."""
+    Some are of the rings kept alone, some are at the end of a step, and some are of the lookups that begin in it. Some
+    have no interval that says much of so few seeds: their bands are from the least to the greatest seed."""
 
     label: str
     take: Take
@@ -35,10 +36,11 @@ class Quantity:
     is_of_kept: bool = False
     is_at_end: bool = False
     is_by_begin: bool = False
+    is_range: bool = False
 
 
 Point = tuple[float, float, float, float, int]
-"""A place, the mean, the ends of its interval, and how many seeds have the number."""
+"""A place, the mean, the ends of its band, and how many seeds have the number."""
 
 
 def percent(above: str, below: str) -> Take:
@@ -56,9 +58,9 @@ def count_of(name: str) -> Take:
     return lambda cells: float(cells[name])
 
 
-MEMBERS = Quantity("members", count_of("members"), NODES, is_at_end=True)
+MEMBERS = Quantity("members", count_of("members"), NODES, is_at_end=True, is_range=True)
 RIGHT = (
-    Quantity("served, %", percent("right-of-ended", SERVED), 100.0, "served", is_by_begin=True),
+    Quantity("served, %", percent("right-of-ended", SERVED), 100.0, "served", is_by_begin=True, is_range=True),
     Quantity(
         "right of begun, %", percent("right-of-ended", "ended"), 100.0, "right-of-begun", is_of_kept=True,
         is_by_begin=True,
@@ -91,17 +93,19 @@ def network_of(lines: list[Cells]) -> tuple[str, list[Quantity]]:
     return title, [Quantity(label, count_of(name)) for name, _, label in drawn]
 
 
-def points_of(lines: list[Cells], take: Take, most: float, later: int = 0, has_bands: bool = True) -> list[Point]:
-    """The points of a line over time, each so much later than its step begins. Intervals are cut at 0 and the most."""
+def points_of(
+    lines: list[Cells], take: Take, most: float, later: int = 0, has_bands: bool = True, is_range: bool = False
+) -> list[Point]:
+    """The points of a line over time, each so much later than its step begins. Bands are cut at 0 and the most."""
     points = []
     for (place,), cells in groups(lines, ["from_us"]).items():
         values = [take(one) for one in cells]
         found = interval(values)
         if found.mean is not None:
-            half = found.half or 0.0 if has_bands else 0.0
-            count = sum(value is not None for value in values)
-            low, high = max(0.0, found.mean - half), min(most, found.mean + half)
-            points.append(((int(place) + later) / 1e6, found.mean, low, high, count))
+            ends = (found.low, found.high) if is_range else found.ends()
+            low, high = ends if has_bands and ends is not None else (found.mean, found.mean)
+            band = max(0.0, low), min(most, high)
+            points.append(((int(place) + later) / 1e6, found.mean, *band, found.count))
     return sorted(points)
 
 
@@ -151,9 +155,14 @@ def time_figure(pyplot: Any, drawn: Drawn, layout: Layout, quantities: Any, line
         row_limits([axes[place][0] for place in range(row, len(axes), high)], quantity.most)
     hide_spare(axes, len(layout.cells()), across, high)
     handles = line_handles(pyplot, layout, "-")
-    if any(limits_of(drawn.tables.manifest, quantity.column) for quantity in quantities):
+    if any(has_limits(drawn.tables.manifest, quantity.column) for quantity in quantities):
         handles.append(handle(pyplot))
     return finish(figure, title, note_of(drawn, quantities), drawn.mark, handles, legend_head(layout.by))
+
+
+def has_limits(manifest: dict[str, Any], column: str) -> bool:
+    """Whether the goal has limits of a column, or of a span's."""
+    return bool(limits_of(manifest, column) or span_limits(manifest, column))
 
 
 def note_of(drawn: Drawn, quantities: Any) -> str:
@@ -161,6 +170,8 @@ def note_of(drawn: Drawn, quantities: Any) -> str:
     seeds = len({cells["seed"] for cells in drawn.tables.runs})
     note = f"means over those of {seeds} seeds that have the number; bands: pointwise 95% intervals, from "
     note += f"{LEAST_SEEDS} seeds on; dashed: fewer than three seeds"
+    ranges = " and ".join(quantity.label.partition(",")[0] for quantity in quantities if quantity.is_range)
+    note += f"; bands of {ranges}: from the least to the greatest seed" if ranges else ""
     if any(ring_lost([cells]) for cells in drawn.tables.runs):
         kept = [quantity.label.partition(",")[0] for quantity in quantities if quantity.is_of_kept]
         note += "; no band: rings were lost in some seeds" + (f"; {kept[0]}: of rings kept" if kept else "")
@@ -200,6 +211,7 @@ def draw_cell(
             found = quantity_points(by_setting.get(one, Lines([], [])), quantity, manifest)
             draw_points(place, found, layout.look(one), turn)
         draw_across(place, limits_of(manifest, quantity.column), 100.0)
+        draw_in_spans(place, span_limits(manifest, quantity.column), 100.0)
         if manifest["warmup_us"]:
             place.axvline(manifest["warmup_us"] / 1e6, color="0.5", linestyle=":", linewidth=1)
     places[0].set_title(cell_words(layout, cell[0]))
@@ -216,7 +228,8 @@ def quantity_points(lines: Lines, quantity: Quantity, manifest: dict[str, Any]) 
         last = end - int(manifest["cooldown_us"])
         shown = [line for line in shown if int(line["from_us"]) + int(manifest["window_us"]) <= last]
     later = int(manifest["window_us"]) if quantity.is_at_end else 0
-    return points_of(shown, quantity.take, greatest, later, quantity.is_of_kept or not lines.is_mixed)
+    has_bands = quantity.is_of_kept or not lines.is_mixed
+    return points_of(shown, quantity.take, greatest, later, has_bands, quantity.is_range)
 
 
 def small_plots(pyplot: Any, layout: Layout, high: int, sharex: str = "all") -> tuple[Any, Any, int]:

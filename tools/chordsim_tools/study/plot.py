@@ -8,10 +8,11 @@ from typing import Any
 from chordsim_tools.cli import Progress
 from chordsim_tools.explain.traps import warn
 from chordsim_tools.files import write_whole
-from chordsim_tools.study.columns import COST, Column
+from chordsim_tools.study.columns import COST, Column, SpanColumn
 from chordsim_tools.study.figures import drawing, rendered
 from chordsim_tools.study.front import Plane, front_figure
 from chordsim_tools.study.layout import layout_of
+from chordsim_tools.study.limits import span_numbers
 from chordsim_tools.study.lines import Rows, lines_figure
 from chordsim_tools.study.looks import Layout
 from chordsim_tools.study.numbers import groups
@@ -89,6 +90,9 @@ def all_figures(pyplot: Any, drawn: Drawn, layout: Layout, most_lost: float) -> 
     times = [Column(name, drawn.tables) for name in TIMES]
     cost, gain = Column(COST, drawn.tables), Column(GAIN, drawn.tables)
     yield "times", lines_figure(pyplot, drawn, layout, [gain, *times], rows, "Right answers, and lookup time")
+    spans: list[Column] = [SpanColumn(number, drawn.tables) for number in span_numbers(drawn.tables.manifest)]
+    if spans:
+        yield "spans", lines_figure(pyplot, drawn, layout, spans, rows, "The goal's numbers of spans")
     title, quantities = right_of(drawn.tables.series)
     yield "right", time_figure(pyplot, drawn, layout, quantities, drawn.tables.series, title)
     yield "cost", front_figure(pyplot, drawn, layout, [Plane(cost, gain), Plane(cost, times[1])], rows, most_lost)

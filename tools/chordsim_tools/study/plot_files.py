@@ -7,12 +7,14 @@ from pathlib import Path
 from typing import Any
 
 from chordsim_tools.files import sum_of, write_whole
+from chordsim_tools.study.limits import span_numbers
 from chordsim_tools.study.wrap import paragraph
 
 NAME = "plots.json"
 FORMS = ("png", "svg")
 PLOTS = {
     "times": "Right answers and lookup time, by setting",
+    "spans": "The numbers of spans that the goal limits, by setting",
     "right": "Served, right answers and members over time",
     "cost": "Cost against right answers and against lookup time",
     "network": "Timeouts and lost messages over time",
@@ -86,10 +88,17 @@ def missing_told(names: list[str], are_all: bool, is_any_there: bool) -> str:
     return NO_PLOTS.strip()
 
 
+def is_of(name: str, manifest: dict[str, Any]) -> bool:
+    """Whether a study has a plot of this name."""
+    if name == "spans":
+        return bool(span_numbers(manifest))
+    return name not in NEEDS or NEEDS[name] in manifest["sha256"]
+
+
 def plots_text(folder: Path, manifest: dict[str, Any], mark: str) -> str:
     """Links to the plots that are there and of these tables, and what is to be said of the others."""
     wanted, origins = origin_of(manifest, mark), read_origins(folder)
-    names = [name for name in PLOTS if name not in NEEDS or NEEDS[name] in manifest["sha256"]]
+    names = [name for name in PLOTS if is_of(name, manifest)]
     drawn = [name for name in names if is_drawn(folder, name, wanted, origins.get(name))]
     left = [name for name in names if name not in drawn]
     marks = {origins[name].mark for name in drawn if name in origins} - {mark}
