@@ -108,7 +108,7 @@ class StudySearchTest(TestCase):
         return out, text
 
     def test_search_by_the_program(self) -> None:
-        """Slower repair costs less, but 2 messages of upkeep are wanted: a request, a reply and a notify each period make
+        """Slower repair costs less, but 2 messages of upkeep are wanted: a request, a reply and a notify a period make
         3.6 of 841 ms, and 0.75 of 4 s."""
         with tempfile.TemporaryDirectory() as name:
             goal = "[goal]\nupkeep_min = 2.0\n"
@@ -121,6 +121,11 @@ class StudySearchTest(TestCase):
             assert periods == ["500000", "841000", "1410000", "4000000"]
             assert "**stabilize_us=841ms** is the setting with the least messages" in (out / "report.md").read_text()
             assert self.search(name, goal)[1] == text
+            text = self.search(name, "[goal]\nupkeep_min = 1000.0\n")[1]
+            assert text.endswith(
+                "no setting is shown to reach the goal by 5 seeds, and a search adds none: set more `seeds` and search "
+                "again, the runs that are done are kept\n"
+            )
 
     def test_search_that_is_decided(self) -> None:
         """All answers are right without churn, so the longest period is the best one after the first round."""

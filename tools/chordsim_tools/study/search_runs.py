@@ -51,7 +51,8 @@ def run_search(study: Study, folder: Path, jobs: int) -> None:
         new = search.next(best.setting())
         why = why or ("" if new else "the step is small") or ("most_rounds" if count == search.most_rounds else "")
     rounds = f"{count} round{'' if count == 1 else 's'}"
-    write_out(f"done after {rounds}: {why}; page: {folder / 'report.md'}\n{''.join(at_an_end(search, best))}")
+    last = [*at_an_end(search, best), *no_answer(study, best)]
+    write_out(f"done after {rounds}: {why}; page: {folder / 'report.md'}\n{''.join(last)}")
 
 
 def is_decided(search: Search, best: "Best") -> bool:
@@ -67,6 +68,16 @@ def at_an_end(search: Search, best: "Best") -> list[str]:
     places = zip(search.axes, search.tried[best.setting()], strict=True)
     keys = [axis.key for axis, place in places if place in (0, axis.steps)]
     return [f"{key} is best at the end of its range: beyond it there may be a better one\n" for key in keys]
+
+
+def no_answer(study: Study, best: "Best") -> list[str]:
+    """That a search adds no seeds, if no setting reaches the goal by those that it has."""
+    if best.reaching:
+        return []
+    return [
+        f"no setting is shown to reach the goal by {len(study.seeds)} seeds, and a search adds none: set more `seeds` "
+        "and search again, the runs that are done are kept\n"
+    ]
 
 
 class Best:
