@@ -14,7 +14,8 @@ NODES = ("n0", "n1", "n3")
 
 def placed(*keys: str, of_profile: int = 4, window: int = 1) -> str:
     """The ring, with these lines for each of its three nodes."""
-    text = extended().replace("profile = 4", f"profile = {of_profile}").replace("window_us = 10", f"window_us = {window}")
+    text = extended().replace("profile = 4", f"profile = {of_profile}")
+    text = text.replace("window_us = 10", f"window_us = {window}")
     for name, lines in zip(NODES, keys, strict=True):
         text = text.replace(f'name = "{name}"', f'name = "{name}"\n{lines}', 1)
     return text

@@ -1,7 +1,7 @@
 """Lines that tell of messages, by hand: n0, n1 and n3 of examples/ring.toml with `detail = true` (rules, section 8.2).
 
-The chances of losses are those that tests.test_extended_profile works out: of a million, message 3 of n3 has x = 20386 and
-message 2 of n0 has x = 400.
+The chances of losses are those that tests.test_extended_profile works out: of a million, message 3 of n3 has x = 20386
+and message 2 of n0 has x = 400.
 """
 
 from contextlib import suppress

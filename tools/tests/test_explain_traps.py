@@ -69,7 +69,8 @@ class EventsTrapTest(TestCase):
 
     def test_estimate(self) -> None:
         """Within a quarter of the whole run, though churn begins later; a limit above is no trap, one below is."""
-        text = generated("--ids names --nodes 24 --duration 40s --stabilize 200ms --finger 100ms --churn-uniform 5s..9s 1s..2s")
+        words = "--ids names --nodes 24 --duration 40s --stabilize 200ms --finger 100ms"
+        text = generated(f"{words} --churn-uniform 5s..9s 1s..2s")
         top = parse_toml(text.encode())
         whole = events_until(program(), top, b"", 40_000_000)
         assert whole is not None

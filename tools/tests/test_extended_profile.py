@@ -390,8 +390,8 @@ class OwnDrawsTest(TestCase):
     def test_same_draws_in_another_scenario(self) -> None:
         """More nodes, other latencies and commands: what a node draws at a time is the same."""
         small, node = world_of("loss_ppm = 5", changes=SPANS)
-        more = f'{extended(changes=(*SPANS, ("latency_us = 10", "latency_us = 11")))}[[node]]\nname = "x"\nid = 6\n{CRASH}'
-        large = World(read_scenario(more.encode(), b""))
+        more = extended(changes=(*SPANS, ("latency_us = 10", "latency_us = 11")))
+        large = World(read_scenario(f'{more}[[node]]\nname = "x"\nid = 6\n{CRASH}'.encode(), b""))
         other = initial_states(large)[0]
         happen(large, other, StabilizeTick(1), 2)
         bodies: list[Body] = [FingerTick(1), TrafficTick(1), StabilizeTick(1)]
@@ -426,7 +426,8 @@ class LimitsTest(TestCase):
         times = dict.fromkeys(("spread_us", "join_pause_us", "check_us"), 1_000_000_000)
         for key, most in {"loss_ppm": 1_000_000, "retries": 3, **times}.items():
             assert fault(extended(f"{key} = {most}")) == "accepted"
-            assert fault(extended(f"{key} = {most + 1}")) == fault(extended(f"{key} = -1")) == f"S5 OutOfRange top {key}"
+            for value in (most + 1, -1):
+                assert fault(extended(f"{key} = {value}")) == f"S5 OutOfRange top {key}"
             assert fault(extended(f'{key} = "0"')) == f"S4 WrongType top {key}"
             assert fault(extended().replace("[[node]]", f"[[node]]\n{key} = 0", 1)) == "S2 UnknownKey node 1"
 

@@ -128,7 +128,8 @@ class JoinPausesTest(TestCase):
         40 + 7 times 140 = 1020. The ninth begins 800 later, at 1820, and the sixteenth fails at 1860 + 980 = 2840. The
         pause after it, of 800 again, is not over when the run ends.
         """
-        text = extended("join_pause_us = 100", "join_forever = true", changes=QUIET).partition("[[command]]")[0] + COMMANDS
+        text = extended("join_pause_us = 100", "join_forever = true", changes=QUIET)
+        text = text.partition("[[command]]")[0] + COMMANDS
         lines, numbers = ran(text)
         begins = [140 * k for k in range(8)] + [1820 + 140 * k for k in range(8)]
         assert [line for line in lines if "timeout" in line] == [f"{time + 40} n0 timeout n1" for time in begins]

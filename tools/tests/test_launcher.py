@@ -164,7 +164,7 @@ class Launcher(unittest.TestCase):
         self.assertEqual(self.builds(), 1)
 
     def test_damaged_release_is_not_built_unasked(self) -> None:
-        """If there is rt, a start of a damaged release names the remedies, --build builds, and renew_release mends it."""
+        """If there is rt, a start of a damaged release names the remedies. --build builds, renew_release mends it."""
         self.start("tools/renew_release")
         shutil.rmtree(self.top / "out")
         program = self.top / "release" / "x86_64-linux" / "chordsim"

@@ -1,6 +1,7 @@
 """Requests that are sent again in the extended profile, and draws of their own, by the program.
 
-Traces and reports were computed by hand, those with draws from words of the streams, which test_extended_profile.py lists.
+Traces and reports were computed by hand, those with draws from words of the streams, which test_extended_profile.py
+lists.
 """
 
 from tests.support.rings import ONE_HOP, SETTINGS, THREE, Example, ProgramTest

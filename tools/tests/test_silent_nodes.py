@@ -1,4 +1,4 @@
-"""Silent nodes in the extended profile, by the program: predecessors that are forgotten, and joins that are tried again.
+"""Silent nodes in the extended profile, by the program: predecessors that are forgotten, joins that are tried again.
 
 Traces and reports were computed by hand.
 """

@@ -75,7 +75,8 @@ class SteadyTest(TestCase):
         text = sentence(study_of(lambda *_: 0.9 + draws.gauss(0, 0.01), goal=goal))
         assert text.startswith("No drift and no waves seen in the judged span."), text
         assert "From its begin to its end: served 0 points, right of begun 0 points, members " in text
-        assert text.endswith("Not looked at: messages (known for the whole run alone); p99 (too few lookups in each piece).")
+        told = "messages (known for the whole run alone); p99 (too few lookups in each piece)"
+        assert text.endswith(f"Not looked at: {told}.")
 
     def test_false_alarms(self) -> None:
         """Of steady studies of four settings about one in twenty, or fewer, is said not to be steady."""
@@ -119,7 +120,8 @@ class SteadyTest(TestCase):
             cells["pieces-us-p99"] = " ".join(map(str, times))
         text = sentence(tables)
         # Seeds add s ms to every second piece: s * 5 / 17.5 * (-1.5 + 0.5 + 2.5), on average 1.5 ms.
-        assert "**Not steady** in the judged span: p99 +251.5" in text and "Not looked at: messages (known" in text, text
+        assert "**Not steady** in the judged span: p99 +251.5" in text, text
+        assert "Not looked at: messages (known" in text, text
 
     def test_messages_of_the_goal(self) -> None:
         """Two members for 10 s a piece: 40 messages, 10 of them of lookups, and two pings more in each piece."""

@@ -70,9 +70,8 @@ class Integral:
 
     def change(self, time: int, by: int) -> None:
         """The count goes up or down."""
-        for place in range(len(self.sums)):
-            inside = min(time, self.bounds[place + 1]) - max(self.since, self.bounds[place])
-            self.sums[place] += self.count * max(0, inside)
+        for place, (begin, end) in enumerate(zip(self.bounds, self.bounds[1:])):
+            self.sums[place] += self.count * max(0, min(time, end) - max(self.since, begin))
         self.count += by
         self.since = time
 

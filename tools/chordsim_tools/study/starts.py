@@ -74,9 +74,10 @@ def seeds_traps(study: Study) -> list[str]:
     limits = [] if study.goal is None else [one for one in study.goal.limits if one.is_least and 0 < one.value < 1]
     needs = {one: seeds_to_show(one.value) for one in limits if is_wild(one.number)}
     most = len(study.seeds) if study.precision is None else study.precision.most_seeds
+    why = "as a world that serves nothing may be missing among fewer"
     return [
-        f"[goal] {one.number}_min = {one.value:g} cannot be shown by {most} seeds: it takes {seeds} or more, as a "
-        "world that serves nothing may be missing among fewer" for one, seeds in needs.items() if LEAST_SEEDS <= most < seeds
+        f"[goal] {one.number}_min = {one.value:g} cannot be shown by {most} seeds: it takes {seeds} or more, {why}"
+        for one, seeds in needs.items() if LEAST_SEEDS <= most < seeds
     ]
 
 

@@ -31,7 +31,7 @@ NAMED = {
     **TIMES, "given_up": "judged-lost", "defensible": "right-defensible", "mean_ms": "ended-us", "hops": "ended-hops",
     "timeouts": "ended-timeouts", "messages": "messages", "upkeep": "messages-lookups", "bytes": "messages",
 }
-"""The numbers that are looked at if a goal names them, and a column of each that runs.csv has to have for the pieces."""
+"""The numbers that are looked at if a goal names them, and a column of each that runs.csv has to have for pieces."""
 OLDER = {"right_of_begun": ("right", "found")}
 """The same for tables of an older tools/study."""
 MOST_TOLD = 5
