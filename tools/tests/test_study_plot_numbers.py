@@ -10,9 +10,9 @@ from chordsim_tools.study.columns import Column, SpanColumn
 from chordsim_tools.study.distribution import tail_points
 from chordsim_tools.study.front import BELOW, ON, UNSURE, Plane, spots_of
 from chordsim_tools.study.limits import limits_of, span_limits, span_numbers, time_limits
-from chordsim_tools.study.lines import point_of
+from chordsim_tools.study.lines import point_of, same_limits
 from chordsim_tools.study.numbers import groups, summaries
-from chordsim_tools.study.overtime import MEMBERS, RIGHT, Lines, quantity_points, right_of
+from chordsim_tools.study.overtime import MEMBERS, RIGHT, Lines, quantity_points, right_of, row_limits
 from chordsim_tools.study.survival import Times
 from tests.support.studies import row, tables_of
 
@@ -25,6 +25,26 @@ MANIFEST = {"nodes": 9, "window_us": 1_000_000, "cooldown_us": 1_000_000, "warmu
 def limit(number: str, value: float) -> dict[str, Any]:
     """A limit as a manifest has it."""
     return {"number": number, "is_least": False, "value": value}
+
+
+class Axes:
+    """The scale of a plot."""
+
+    def __init__(self, limits: tuple[float, float]) -> None:
+        """A plot with these ends of its axis."""
+        self.limits = limits
+
+    def get_ylim(self) -> tuple[float, float]:
+        """The ends."""
+        return self.limits
+
+    def set_ylim(self, low: float, high: float) -> None:
+        """Other ends."""
+        self.limits = low, high
+
+    def get_yscale(self) -> str:
+        """It is no logarithmic one."""
+        return "linear"
 
 
 def step(at: int, seed: int, **counts: int) -> dict[str, str]:
@@ -118,6 +138,18 @@ class PlotNumbersTest(TestCase):
             states = [spot.state for spot in spots_of(plane, [("0",), ("1",)], groups(rows, ["list"]))]
             # 300 of 6,000 messages are 5 %, and both estimates may be off by 4 %.
             assert states == [BELOW if counted else UNSURE, ON], states
+
+    def test_axes_end_at_100_percent(self) -> None:
+        """Those of shares, and over time those of shares too; members and times go on."""
+        share, time = (Column(name, tables_of([row(list=1, seed=1)])) for name in ("right-of-begun", "all-us-p99"))
+        for column, wanted in ((share, (97.0, 100)), (time, (0, 104.0 * 1.04))):
+            axes = Axes((97.0, 104.0))
+            same_limits([axes], column, [])
+            assert axes.get_ylim() == wanted, axes.get_ylim()
+        for most, high in ((100.0, 100.0), (9.0, 104.0)):
+            axes = Axes((97.0, 104.0))
+            row_limits([axes], most)
+            assert axes.get_ylim()[1] == high
 
     def test_members_at_the_end_of_a_step(self) -> None:
         """What is counted when a step ends is drawn there, and what begins in it where it begins."""

@@ -123,6 +123,16 @@ class Data(TestCase):
         status, _, err = ended(main, "none.trace", "none.toml", "--groups", "none.csv")
         self.assertEqual((status, err), (2, "tools/trace: --groups: only with --html (see tools/trace --help)\n"))
 
+    def test_amber_is_for_trouble(self) -> None:
+        """Audits that are torn and nodes that are stranded have it, and nothing else has."""
+        scripts = {path.name: path.read_text(encoding="utf-8") for path in writing.HERE.glob("*.js")}
+        found = {name: re.findall(r".*#e09a1a.*", text) for name, text in scripts.items()}
+        [audits], [states] = found.pop("timeline.js"), found.pop("ring.js")
+        self.assertRegex(audits, 'torn: "#e09a1a"')
+        self.assertTrue(states.endswith('"#e09a1a"];') and states.startswith("const COLOURS"))
+        self.assertFalse(any(found.values()))
+        self.assertEqual(re.findall(r"(--\w+): #e09a1a", (writing.HERE / "page.css").read_text()), ["--stranded"])
+
     def test_times(self) -> None:
         """250 steps of 4 us: in step 5, from 20 us on, a lookup of 30 us begins, too few for p99. Lost ones: none."""
         found = data.page_data(run_of(*LINES), "ring.toml")["times"]
@@ -243,6 +253,12 @@ class Browser(TestCase):
         self.assertTrue(self.browser.execute_script("return document.body.dataset.ready"))
         self.assertEqual([entry for entry in self.browser.get_log("browser") if entry["level"] == "SEVERE"], [])
         self.assertEqual(self.text_of("left-out"), "")
+
+    def test_legend(self) -> None:
+        """It is beside the ring, and covers none of it."""
+        script = "return ['legend', 'ring'].map((id) => document.getElementById(id).getBoundingClientRect())"
+        legend, ring = self.browser.execute_script(script)
+        self.assertTrue(0 < legend["width"] and legend["right"] <= ring["left"] and ring["width"] > 300, (legend, ring))
 
     def test_lines(self) -> None:
         """The page has all lines of the trace but the audits, letter by letter."""
