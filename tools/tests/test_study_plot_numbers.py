@@ -10,7 +10,7 @@ from chordsim_tools.study.columns import Column, SpanColumn
 from chordsim_tools.study.distribution import tail_points
 from chordsim_tools.study.front import BELOW, ON, UNSURE, Plane, spots_of
 from chordsim_tools.study.limits import limits_of, span_limits, span_numbers, time_limits
-from chordsim_tools.study.lines import point_of, same_limits
+from chordsim_tools.study.lines import never_told, point_of, same_limits
 from chordsim_tools.study.numbers import groups, summaries
 from chordsim_tools.study.overtime import MEMBERS, RIGHT, Lines, quantity_points, right_of, row_limits
 from chordsim_tools.study.survival import Times
@@ -64,6 +64,8 @@ class PlotNumbersTest(TestCase):
         column = Column("all-us-p99", tables_of(rows, vary={"list": [1]}))
         assert [column.of(cells) for cells in rows] == [2e6, 4e6, inf, None] and column.values(rows) == [2e6, 4e6]
         assert point_of(column, rows, 1e-3) is None
+        assert never_told([column], {("1",): rows}) == "; no point: some seed never gets there"
+        assert not never_told([column], {("1",): rows[:2]})
         found = point_of(column, rows[:2], 1e-3)
         assert found is not None and (found.mean, found.told) == (3000.0, "2 of 2")
         assert column.scale(4e6) == (1e-3, "lookup time, p99, ms")

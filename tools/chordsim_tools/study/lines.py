@@ -1,7 +1,7 @@
 """A column of the table against a varied key: a line for each value of others, a panel for each world."""
 
 from dataclasses import dataclass
-from math import isfinite
+from math import isfinite, isinf
 from typing import Any
 
 from chordsim_tools.known import known
@@ -14,11 +14,13 @@ from chordsim_tools.study.numbers import Cells
 from chordsim_tools.study.so_far import Drawn
 
 MOST_ACROSS = 4
+MOST_COLUMNS = 3
+"""So many columns of a single panel are side by side."""
 Rows = dict[tuple[str, ...], list[Cells]]
 
 
 def lines_figure(pyplot: Any, drawn: Drawn, layout: Layout, columns: list[Column], rows: Rows, title: str) -> Any:
-    """A row of panels for each column; the columns of a single panel are side by side."""
+    """A row of panels for each column; the columns of a single panel are side by side, up to three."""
     panels = layout.parts(layout.panels)
     across = min(len(panels), MOST_ACROSS)
     figure, blocks = blocks_of(pyplot, len(columns), len(panels), across, 6.5 if layout.x else 3.5)
@@ -36,14 +38,25 @@ def lines_figure(pyplot: Any, drawn: Drawn, layout: Layout, columns: list[Column
         handles.append(pyplot.Line2D([], [], label="rings were lost\n(mean of so many seeds)", **style))
     if any(limits_of(layout.manifest, column.name) for column in columns):
         handles.append(handle(pyplot))
-    return finish(figure, title, note_of(rows), drawn.mark, handles, legend_head(layout.by))
+    note = note_of(rows) + never_told(columns, rows)
+    return finish(figure, title, note, drawn.mark, handles, legend_head(layout.by))
+
+
+def never_told(columns: list[Column], rows: Rows) -> str:
+    """That settings have no point, if that is because a run never gets there."""
+    means = (column.mean(group).mean for column in columns for group in rows.values())
+    return "; no point: some seed never gets there" if any(mean is not None and isinf(mean) for mean in means) else ""
 
 
 def blocks_of(pyplot: Any, columns: int, panels: int, across: int, widest: float) -> tuple[Any, list[Any]]:
     """The figure, and the axes of each column's panels."""
     if panels == 1:
-        figure, axes = grid(pyplot, 1, columns, (min(widest, 4.2) if columns > 1 else widest, 3.4))
-        return figure, [axes[0][number : number + 1] for number in range(columns)]
+        size = (min(widest, 4.2) if columns > 1 else widest, 3.4)
+        figure, axes = grid(pyplot, -(-columns // MOST_COLUMNS), min(columns, MOST_COLUMNS), size)
+        places = axes.flatten()
+        for spare in places[columns:]:
+            spare.set_axis_off()
+        return figure, [places[number : number + 1] for number in range(columns)]
     down = -(-panels // across)
     size = (min(widest, max(3.2, 9 / across)), 2.9 if columns > 1 else 3.4)
     figure, axes = grid(pyplot, down * columns, across, size)

@@ -71,8 +71,10 @@ def times_note(numbers: list[str], above: list[str]) -> str:
         return f"{text}, computed as {NAMES[above[0]]}."
     return (
         f"{text}, by the curve of Kaplan and Meier in each run. A lookup that was given up never ends. One that was "
-        "cut off is censored. `never`: fewer lookups ever end. A run with fewer than 1,000 judged lookups has no p99, "
-        "one with fewer than 10,000 no p99.9, and one with fewer than 100 no p90."
+        "cut off is censored. `never`: fewer lookups ever end, at least in one seed. Such a world may also be missing "
+        "among the seeds: if none of n has it, up to 1 - 0.05 ^ (1 / n) of worlds may have it, 26 % with ten (95 %). A "
+        "run with fewer than 1,000 judged lookups has no p99, one with fewer than 10,000 no p99.9, and one with fewer "
+        "than 100 no p90."
     )
 
 
