@@ -163,11 +163,12 @@ class PlotFilesTest(TestCase):
 
     def test_examples(self) -> None:
         """Their plots are of their tables, and all are there that the tables have the numbers for."""
-        for name in ("study", "loss", "retries"):
+        for name in ("study", "loss", "retries", "outage"):
             folder = TOP / "examples" / name
             drawn = tables_of(folder)
             origins = json.loads((folder / NAME).read_text())
             wanted = origin_of(drawn.tables.manifest, "")
             names = [plot for plot in PLOTS if is_of(plot, drawn.tables.manifest)]
             assert len(names) >= 5 and [origins[plot]["tables"] for plot in names] == [wanted.tables] * len(names)
-            assert linked((folder / "report.md").read_text()) == names
+            text = (folder / "report.md").read_text()
+            assert [name for name in PLOTS if f"]({name}.png)" in text] == names
