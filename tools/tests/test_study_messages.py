@@ -118,7 +118,8 @@ class StudyMessagesTest(TestCase):
                 assert made["notify"] < 1300 and abs(about["notify"] / made["notify"] - 1) < 0.05, (about, made)
 
     def test_hidden_kinds(self) -> None:
-        """Random scenarios of profiles 1 and 2, of 40 timeouts or more: churn, loss, spread, long round trips."""
+        """Random scenarios of profiles 1 and 2, of 40 timeouts or more: churn, loss, spread, long round trips, also in
+        a latency file."""
         for seed in range(8):
             draws = Random(seed)
             latency, timeout = draws.choice([20, 130, 300]), draws.choice([650, 1000])
@@ -128,7 +129,11 @@ class StudyMessagesTest(TestCase):
             words += draws.choice(["", "--profile 2 --loss 10000 ", "--profile 2 --spread 40ms "])
             words += draws.choice(["", "--lifetime exp:40s --down exp:8s", "--churn-uniform 20s..60s 5s..15s"])
             with self.subTest(words=words):
-                check_bounds(*counted(ended(generate.main, *words.split(), "--seed", str(seed))[1]))
+                text = ended(generate.main, *words.split(), "--seed", str(seed))[1]
+                names = [node["name"] for node in tomllib.loads(text)["node"]] if seed % 2 else []
+                pairs = ((a, b) for place, a in enumerate(names) for b in names[:place])
+                rows = "".join(f"{a},{b},{draws.randint(2000, 300_000)}\n" for a, b in pairs)
+                check_bounds(*counted(text, 0, rows.encode()))
 
     def test_round_trips_of_a_period(self) -> None:
         """A reply that comes with the next turn: of the two the event of the node that is listed first comes first."""

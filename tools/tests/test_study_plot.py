@@ -178,7 +178,7 @@ class FrontTest(TestCase):
         assert plane_states((same, False), (same, False)) == [ON, ON]
 
     def test_dominated_or_not_told_apart(self) -> None:
-        """Surely worse in both: dominated. Worse by chance, or in one number alone: not told apart. Lost: not in it."""
+        """Surely worse in both: dominated. Worse by chance, or in one number alone: not surely. Lost: not in it."""
         best = [(1.0 + seed / 100, 5.0 + seed / 50) for seed in range(5)]
         worse = [(x + 1 + seed / 1000, y + 1 - seed / 1000) for seed, (x, y) in enumerate(best)]
         noise = (3.0, -2.0, 2.0, -2.5, 1.0)

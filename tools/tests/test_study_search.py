@@ -119,7 +119,9 @@ class StudySearchTest(TestCase):
             assert text.endswith(f"done after 2 rounds: most_rounds; page: {out}/report.md\n")
             periods = list(dict.fromkeys(row["stabilize_us"] for row in read_tables(out).runs))
             assert periods == ["500000", "841000", "1410000", "4000000"]
-            assert "**stabilize_us=841ms** is the setting with the least messages" in (out / "report.md").read_text()
+            page = (out / "report.md").read_text()
+            assert "**stabilize_us=841ms** is the setting with the least messages" in page
+            assert "5 worlds a setting, the same seeds for all (a search adds none)." in page
             assert self.search(name, goal)[1] == text
             text = self.search(name, "[goal]\nupkeep_min = 1000.0\n")[1]
             assert text.endswith(

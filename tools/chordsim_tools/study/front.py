@@ -8,7 +8,7 @@ from chordsim_tools.known import known
 from chordsim_tools.study.columns import Column, ring_lost
 from chordsim_tools.study.exact import student
 from chordsim_tools.study.figures import finish, legend_head, line_handles
-from chordsim_tools.study.interval import Interval
+from chordsim_tools.study.interval import LEAST_SEEDS, Interval
 from chordsim_tools.study.limits import draw_across, handle, limits_of
 from chordsim_tools.study.lines import Rows, bar_of, blocks_of
 from chordsim_tools.study.looks import Layout, Values, setting_words
@@ -16,7 +16,7 @@ from chordsim_tools.study.numbers import Cells
 from chordsim_tools.study.so_far import Drawn
 
 MOST_LABELS = 10
-ON, UNSURE, BELOW, LOST = "on the front", "not told apart", "dominated", "rings were lost"
+ON, UNSURE, BELOW, LOST = "on the front", "not surely dominated", "dominated", "rings were lost"
 EDGE = "at an edge: beyond it"
 LEVEL = 0.05
 TITLE = "Cost, and what it gives"
@@ -97,7 +97,7 @@ def surely_beats(plane: Plane, one: Spot, other: Spot, tests: int) -> bool:
 
 def is_below_zero(values: list[float], level: float, error: float = 0.0) -> bool:
     """Whether the mean of these is below 0 by more than the error, by Student's t at this level, two-sided."""
-    if len(values) < 2:
+    if len(values) < LEAST_SEEDS:
         return False
     count = len(values)
     mean = sum(values) / count
@@ -203,7 +203,7 @@ def overlap(one: tuple[float, float, float, float], other: tuple[float, float, f
 
 
 def draw_spot(axes: Any, layout: Layout, plane: Plane, spot: Spot, scale: float) -> None:
-    """A setting: full on the front, pale if it is not told apart from it, hollow if dominated, crossed if lost."""
+    """A setting: full on the front, pale if not surely dominated, hollow if dominated, crossed if lost."""
     look = layout.look(spot.setting)
     x, y = known(spot.x.mean), scale * known(spot.y.mean)
     faces = {ON: look.colour, UNSURE: paler(look.colour), BELOW: "white", LOST: "white"}

@@ -38,7 +38,8 @@ def worlds(manifest: dict[str, Any]) -> str:
     new, same = new + new_latencies, same + same_latencies
     seeds = len(manifest["seeds"])
     noun = "world" if seeds == 1 else "worlds"
-    text = f"{seeds} {noun} a setting, the same seeds for all. New in each: {listed(new)}."
+    more = " (a search adds none)" if manifest.get("search") else ""
+    text = f"{seeds} {noun} a setting, the same seeds for all{more}. New in each: {listed(new)}."
     if not same:
         return text
     return f"{text} **The same in all: {listed(same)}.** Intervals say nothing of other ones."

@@ -171,7 +171,7 @@ seed's ring was lost (an audit with ring=0) are hollow, with the number of seeds
 front: a dead ring is cheap. With many seeds nearly every setting has such a seed:
 --most-lost 0.05 lets settings on the front that lost their ring with at most 5 of 100 seeds. A setting off the front is
 "dominated" if one on it costs less and gives more by paired differences of the same seeds, at 5% for all settings
-together, else "not told apart". cost is messages per member and second if the table has them, else all events of the
+together, else "not surely dominated". cost is messages per member and second if the table has them, else all events of the
 run per node of the file and second. The same tables give the same bytes. A study that is not done yet is drawn as far
 as it is, with a mark.
 

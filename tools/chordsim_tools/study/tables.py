@@ -120,6 +120,7 @@ def manifest_of(study: Study, program: Path, program_sum: str) -> dict[str, Any]
         "goal": None if study.goal is None else asdict(study.goal),
         "sizes": study.sizes,
         "spans": study.spans,
+        "search": study.search is not None,
         "world": study.world,
         "note": study.note,
         "confirm": study.confirm,
