@@ -67,8 +67,9 @@ def counted(text: str, warmup_us: int = 0, rows: bytes = b"") -> tuple[dict[str,
     reader.numbers()
     before = known(simulation.before)
     made = {kind: count - before[1][kind] for kind, count in sent(simulation, report).items()}
-    repairs = Repairs(top, rows).begun(reader.members, warmup_us, top["duration_us"])
-    span = Span(top, simulation.events - before[0], reader.population, repairs)
+    repairs = Repairs(top, rows)
+    begun = repairs.begun(reader.members, warmup_us, top["duration_us"])
+    span = Span(top, simulation.events - before[0], reader.population, begun, repairs.skipped())
     numbers = message_numbers(reader.traffic, span)
     return {kind: int(numbers[f"sent-{kind}"] or 0) for kind in MESSAGES}, made
 
@@ -82,7 +83,7 @@ def check_bounds(about: dict[str, int], made: dict[str, int]) -> None:
     """Asserts that the total, each kind and the bytes are within the bounds that pages print."""
     total = sum(made.values())
     assert abs(sum(about.values()) - total) < MOST_ERROR * total, (about, made)
-    assert all(abs(about[kind] - made[kind]) < KIND_ERROR[kind] * total for kind in MESSAGES), (about, made)
+    assert all(abs(about[kind] - made[kind]) < KIND_ERROR * total for kind in MESSAGES), (about, made)
     off = sum(SIZES[kind] * (about[kind] - made[kind]) for kind in MESSAGES)
     assert abs(off) < most_off(SIZES) * total, (off, about, made)
 
@@ -145,12 +146,14 @@ class StudyMessagesTest(TestCase):
                 assert abs(about["notify"] - made["notify"]) < 0.01 * made["notify"], (about, made)
 
     def test_calls_without_a_reply_and_long_round_trips(self) -> None:
-        """A timeout of 12 turns takes the place of two stabilizations, since each of these takes five turns."""
+        """A timeout of 12 turns takes the place of two stabilizations, since each of these takes five turns. What is
+        removed is found again by a list."""
         words = "--nodes 24 --duration 65s --window 1ms --audit 5s --finger 500ms --jitter 50ms --latency 300ms "
         words += "--profile 2 --loss 20000 --timeout 1500ms --stabilize 100ms"
         about, made = counted(ended(generate.main, *words.split())[1])
         check_bounds(about, made)
-        assert abs(about["notify"] - made["notify"]) < 0.1 * made["notify"], (about, made)
+        for kind, most in (("notify", 0.02), ("get-state", 0.02), ("get-list", 0.15)):
+            assert abs(about[kind] - made[kind]) < most * made[kind], (kind, about, made)
 
     def test_latency_file(self) -> None:
         """The round trip to the next member counts: one pair of three is far apart, so that one member skips turns."""

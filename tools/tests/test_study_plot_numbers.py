@@ -131,14 +131,14 @@ class PlotNumbersTest(TestCase):
 
     def test_estimated_cost(self) -> None:
         """The label has the bound of the estimate, and a setting is dominated only by more than that."""
-        for counted, label in ((1, ""), (0, "\n(estimated, to within 4 %)")):
+        for counted, label in ((1, ""), (0, "\n(estimated, to within 3 %)")):
             rows = [row(list=size, seed=seed, messages=6000 - 300 * size + seed, right=800 + 20 * size + seed,
                         **{"messages-counted": counted}) for size in (0, 1) for seed in range(6)]
             tables = tables_of(rows, vary={"list": [0, 1]})
             plane = Plane(Column("cost", tables), Column("right-of-begun", tables))
             assert plane.cost.scale(0) == (1, f"messages per member and second{label}")
             states = [spot.state for spot in spots_of(plane, [("0",), ("1",)], groups(rows, ["list"]))]
-            # 300 of 6,000 messages are 5 %, and both estimates may be off by 4 %.
+            # 300 of 6,000 messages are 5 %, and both estimates may be off by 3 %.
             assert states == [BELOW if counted else UNSURE, ON], states
 
     def test_axes_end_at_100_percent(self) -> None:

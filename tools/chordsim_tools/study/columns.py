@@ -67,7 +67,7 @@ class Column:
         return self.name in GREATER_IS_BETTER
 
     def averaged(self, rows: list[Cells]) -> list[float | None]:
-        """The numbers that a mean is of: those of the rings kept. A lost ring serves none, so `served` has all."""
+        """The numbers that a mean is of: those of the rings kept. `served` has those of all rings."""
         return [self.of(cells) for cells in rows if base_of(self.name) == "served" or not ring_lost([cells])]
 
     def mean(self, rows: list[Cells]) -> Interval:

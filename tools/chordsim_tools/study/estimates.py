@@ -2,17 +2,12 @@
 
 from collections.abc import Mapping
 
-from chordsim_tools.messages import MESSAGES
-
-MOST_ERROR = 0.04
+MOST_ERROR = 0.03
 """How far off all messages together are at most, as a share, if the ring is kept for 40 timeouts and 30 periods.
 docs/studies.md says how it was tried, and tests/test_study_messages.py repeats some of it."""
 OLDER_ERROR = 0.06
 """The same for tables of an older tools/study, which counted fewer of the turns that a stabilization skips."""
-KIND_ERROR = {
-    **dict.fromkeys(MESSAGES, 0.05), **dict.fromkeys(("get-state", "state-reply", "notify"), 0.08),
-    **dict.fromkeys(("ping", "pong"), 0.03),
-}
+KIND_ERROR = 0.05
 """How far off each kind is at most, as a share of all messages. What one has too many, others have too few."""
 
 
@@ -24,7 +19,6 @@ def most_off(sizes: Mapping[str, int]) -> float:
 
     def with_common(common: int) -> float:
         """What the sum bounds of sizes up to this one, and the kinds bound of the rest."""
-        rest = sum(KIND_ERROR[kind] * abs(size - common) for kind, size in sizes.items())
-        return MOST_ERROR * common + rest
+        return MOST_ERROR * common + KIND_ERROR * sum(abs(size - common) for size in sizes.values())
 
     return min(map(with_common, {0, *sizes.values()}))

@@ -95,6 +95,10 @@ class Traffic:
         """How many requests of a kind had no reply: they were dropped, or lost, or their replies were."""
         return self.lines[f"drop {kind}"] + self.sum_of("lose", (kind, REPLIES[kind]))
 
+    def found_again(self) -> int:
+        """How often a living successor is removed. A later stabilization finds it again, and asks for its list."""
+        return self.sum_of("lose", ("get-state", "state-reply", "get-list", "list-reply"))
+
     def lookups(self, retries: int) -> int:
         """Messages of the lookups that ended: a request and a reply for each hop, and all requests of each timeout.
 
@@ -104,13 +108,15 @@ class Traffic:
 
 @dataclass(frozen=True)
 class Span:
-    """What is known of a run from `warmup_us` to the end: its scenario, the events, nodes over time, and how many
-    stabilizations its members would begin if no message was lost or dropped."""
+    """What is known of a run from `warmup_us` to the end: its scenario, the events, nodes over time, how many
+    stabilizations its members would begin if no message was lost or dropped, and how many turns one skips more for a
+    call without a reply and for a list."""
 
     top: dict[str, Any]
     events: int
     population: Population
     repairs: float = 0.0
+    skipped: tuple[float, float] = 0.0, 0.0
 
     def ticks(self, table: dict[str, Any], least: str, greatest: int, traffic: Traffic) -> float:
         """About how many events a timer has: one for each mean delay that a node is up, less half a one for each time
@@ -144,13 +150,11 @@ class Span:
         """About how many stabilizations are begun: those that round trips allow, but for those that are skipped because
         calls of the one before are out, which happens if these are not answered."""
         mean = float(self.top["stabilize_us"] + self.top.get("jitter_us", 0) / 2)
-        turns = sum(self.population.members.sums) / mean / self.repairs if self.repairs else 1.0
-        states, lists = (traffic.unanswered(kind) for kind in ("get-state", "get-list"))
-        waits = (states + lists) * int(self.top["timeout_us"]) / mean
-        chains = max(states, lists)
-        # A chain of calls that is as long as 3.2 delays skips 3, and mostly starts right after one.
-        skipped = waits - chains / 2 if waits >= chains else 0.0
         # Each stabilization takes one turn, or more if its round trip is above the period.
+        turns = sum(self.population.members.sums) / mean / self.repairs if self.repairs else 1.0
+        calls = traffic.unanswered("get-state") + traffic.unanswered("get-list")
+        lists = traffic.lines["member"] + traffic.found_again()
+        skipped = calls * self.skipped[0] + lists * self.skipped[1]
         return max(0.0, self.repairs - self.at_start(traffic) / 2 - skipped / max(1.0, turns))
 
     def timed_out(self, traffic: Traffic) -> float:
@@ -171,7 +175,9 @@ def estimate(traffic: Traffic, span: Span) -> dict[str, int]:
     lost_replies = traffic.sum_of("lose", tuple(REPLIES.values()))
     calls = (rest + 2 * lost + dropped + lost_replies) / (2 + span.timed_out(traffic))
     requests = {"notify": notifies, "ping": float(traffic.unanswered("ping"))}
-    for kind, answered in (("get-state", notifies), ("get-list", 2.0 * traffic.lines["member"])):
+    # A new member asks for a list, and the one before it does.
+    lists = 2.0 * traffic.lines["member"] + traffic.found_again()
+    for kind, answered in (("get-state", notifies), ("get-list", lists)):
         requests[kind] = answered + traffic.unanswered(kind)
     requests["step"] = calls - sum(requests[kind] for kind in REQUESTS[1:])
     replies = {

@@ -5,6 +5,7 @@ two and a half periods costs two turns."""
 
 import math
 from bisect import bisect_left, insort
+from collections import Counter
 from collections.abc import Callable
 from dataclasses import dataclass
 from statistics import NormalDist
@@ -79,19 +80,35 @@ class Repairs:
         self.period = Period(int(top["stabilize_us"]), int(top.get("jitter_us", 0)))
         self.latency = latencies_of(top, rows)
         self.spreads = spreads(int(top.get("spread_us", 0)))
+        self.timeout = int(top["timeout_us"])
         self.places = {node["name"]: place for place, node in enumerate(top["node"])}
         self.known: dict[tuple[int, bool], float] = {}
+        self.seen: Counter[tuple[int, bool]] = Counter()
 
     def rate(self, first: str, second: str) -> float:
         """How many a member begins in a microsecond that has this successor.
 
         Of two events of one time the one comes first that was made by the node that is listed first."""
         kind = 2 * self.latency(first, second), self.places[first] < self.places[second]
+        self.seen[kind] += 1
         if kind not in self.known:
-            waits = [kind[0] + more for more in self.spreads]
-            turns = math.fsum(1 + self.period.passed(wait, kind[1]) for wait in waits) / len(waits)
-            self.known[kind] = 1 / (self.period.mean() * turns)
+            self.known[kind] = 1 / (self.period.mean() * (1 + self.passed(*kind)))
         return self.known[kind]
+
+    def passed(self, trip: int, is_first: bool) -> float:
+        """How many turns pass while a call is out, on average over the spreads."""
+        return math.fsum(self.period.passed(trip + more, is_first) for more in self.spreads) / len(self.spreads)
+
+    def skipped(self) -> tuple[float, float]:
+        """How many turns a stabilization skips more if a call of it has no reply and the next one has, and if it asks
+        for a list too: on average over the round trips that were seen."""
+        without, with_list = 0.0, 0.0
+        for (trip, is_first), count in self.seen.items():
+            usual = self.passed(trip, is_first)
+            without += count * (self.passed(self.timeout + trip, is_first) - usual)
+            with_list += count * (self.passed(2 * trip, is_first) - usual)
+        seen = max(1, self.seen.total())
+        return without / seen, with_list / seen
 
     def around(self, members: Members, ring: list[int], place: int) -> float:
         """The rates of the member at a place and of the one before it; if there is none at the place, of this alone."""

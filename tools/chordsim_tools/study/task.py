@@ -76,8 +76,9 @@ def result_of(task: Task, program: Path, scenario: Path, latency: Path | None) -
         raise Failure(3, "the report does not count the lines of the trace")
     numbers = reader.numbers()
     events = report["events"] - events_before(top, task.warmup_us, program, latency)
-    repairs = Repairs(top, task.latency or b"").begun(reader.members, task.warmup_us, top["duration_us"])
-    span = Span(top, events, reader.population, repairs)
+    repairs = Repairs(top, task.latency or b"")
+    begun = repairs.begun(reader.members, task.warmup_us, top["duration_us"])
+    span = Span(top, events, reader.population, begun, repairs.skipped())
     return {
         "made_of": task.made_of,
         "report": report,
