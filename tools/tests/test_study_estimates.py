@@ -76,7 +76,7 @@ class EstimatesTest(TestCase):
         assert "estimated" not in page(study(5000, 5290, counted=1, goal=GOAL)).split("## Settings", maxsplit=1)[0]
 
     def test_comparison(self) -> None:
-        """A difference of 0.25 is not more than 0.15 and 0.158, one of 0.35 is. Text and table say how far it is off."""
+        """A difference of 0.25 is not more than 0.15 and 0.158, one of 0.35 is. Text and table have the bound."""
         for more, off, is_apart in ((250, 0.31, False), (350, 0.32, True)):
             tables = study(5000, 5000 + more)
             first, second = summaries(tables)

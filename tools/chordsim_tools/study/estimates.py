@@ -7,7 +7,7 @@ MOST_ERROR = 0.03
 docs/studies.md says how it was tried, and tests/test_study_messages.py repeats some of it."""
 OLDER_ERROR = 0.06
 """The same for tables of an older tools/study, which counted fewer of the turns that a stabilization skips."""
-KIND_ERROR = 0.05
+KIND_ERROR = 0.06
 """How far off each kind is at most, as a share of all messages. What one has too many, others have too few."""
 
 
