@@ -14,7 +14,7 @@ from chordsim_tools.messages import MESSAGES
 from chordsim_tools.study import comparison
 from chordsim_tools.study.bounds import bound_of
 from chordsim_tools.study.compare import Pair
-from chordsim_tools.study.estimates import KIND_ERROR, MOST_ERROR, most_off
+from chordsim_tools.study.estimates import GROUPS, MOST_ERROR, WITHIN, most_off
 from chordsim_tools.study.numbers import summaries
 from chordsim_tools.study.outcome import outcome
 from chordsim_tools.study.page import page
@@ -39,13 +39,18 @@ class EstimatesTest(TestCase):
     """Bounds of numbers, and where they are printed."""
 
     def test_bytes(self) -> None:
-        """With one size they are off by as much as messages. A kind with a size alone is off by its own bound."""
-        assert most_off(ONE_SIZE) == 100 * MOST_ERROR
-        for kind in MESSAGES:
-            assert most_off({**dict.fromkeys(MESSAGES, 0), kind: 100}) == 100 * KIND_ERROR
-        # Two kinds, one of which may have too many, and the other one too few.
-        sizes = {**dict.fromkeys(MESSAGES, 50), "notify": 100, "ping": 0}
-        assert abs(most_off(sizes) - (50 * MOST_ERROR + 100 * KIND_ERROR)) < 1e-9
+        """With one size they are off by as much as messages. If a group alone has a size, it is off by its own bound."""
+        assert sorted(kind for kinds in GROUPS for kind in kinds) == sorted(MESSAGES)
+        assert abs(most_off(ONE_SIZE) - 100 * MOST_ERROR) < 1e-9
+        nothing = dict.fromkeys(MESSAGES, 0)
+        for kinds, error in GROUPS.items():
+            assert abs(most_off({**nothing, **dict.fromkeys(kinds, 100)}) - 100 * len(kinds) * error) < 1e-9
+        # Two kinds of a group are 50 more and 50 less than its mean.
+        assert abs(most_off({**nothing, "ping": 100}) - 50 * 2 * GROUPS["ping", "pong"] - 100 * WITHIN) < 1e-9
+        # One group may have too many, and another one too few.
+        sizes = {**dict.fromkeys(MESSAGES, 50), "step": 100, "step-reply": 100, "ping": 0, "pong": 0}
+        wanted = 50 * MOST_ERROR + 100 * GROUPS["step", "step-reply"] + 100 * GROUPS["ping", "pong"]
+        assert abs(most_off(sizes) - wanted) < 1e-9
 
     def test_bounds(self) -> None:
         """Those of a goal are moved by 0.15, of upkeep by as many, and of bytes of one size by 3 % of all bytes."""

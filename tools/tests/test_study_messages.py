@@ -15,7 +15,7 @@ from chordsim_tools.reference.report import Report
 from chordsim_tools.reference.simulation import Simulation
 from chordsim_tools.reference.state import Event
 from chordsim_tools.scenario.reading import Scenario, read_scenario
-from chordsim_tools.study.estimates import KIND_ERROR, MOST_ERROR, most_off
+from chordsim_tools.study.estimates import GROUPS, MOST_ERROR, WITHIN, most_off
 from chordsim_tools.study.messages import Span, Traffic, exact, message_numbers
 from chordsim_tools.study.repairs import Repairs
 from chordsim_tools.study.served import scope_of
@@ -82,10 +82,12 @@ def sent(simulation: Simulation, report: Report) -> dict[str, int]:
 def check_bounds(about: dict[str, int], made: dict[str, int]) -> None:
     """Asserts that the total, each kind and the bytes are within the bounds that pages print."""
     total = sum(made.values())
-    assert abs(sum(about.values()) - total) < MOST_ERROR * total, (about, made)
-    assert all(abs(about[kind] - made[kind]) < KIND_ERROR * total for kind in MESSAGES), (about, made)
-    off = sum(SIZES[kind] * (about[kind] - made[kind]) for kind in MESSAGES)
-    assert abs(off) < most_off(SIZES) * total, (off, about, made)
+    off = {kind: (about[kind] - made[kind]) / total for kind in MESSAGES}
+    assert abs(sum(off.values())) < MOST_ERROR, (about, made)
+    for kinds, error in GROUPS.items():
+        mean = sum(off[kind] for kind in kinds) / len(kinds)
+        assert abs(mean) < error and all(abs(off[kind] - mean) < WITHIN for kind in kinds), (kinds, about, made)
+    assert abs(sum(SIZES[kind] * off[kind] for kind in MESSAGES)) < most_off(SIZES), (about, made)
 
 
 class StudyMessagesTest(TestCase):
