@@ -39,7 +39,7 @@ class EstimatesTest(TestCase):
     """Bounds of numbers, and where they are printed."""
 
     def test_bytes(self) -> None:
-        """With one size they are off by as much as messages. If a group alone has a size, it is off by its own bound."""
+        """With one size they are off by as much as messages. If a group alone has a size they are off by its bound."""
         assert sorted(kind for kinds in GROUPS for kind in kinds) == sorted(MESSAGES)
         assert abs(most_off(ONE_SIZE) - 100 * MOST_ERROR) < 1e-9
         nothing = dict.fromkeys(MESSAGES, 0)

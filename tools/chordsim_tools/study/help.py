@@ -166,14 +166,13 @@ Means over seeds with 95% intervals, those of the page (cut at 0 and 100%); a se
 Percentiles are of all lookups, as on the page. The goal's limits are dashed lines. Those of spans are in a plot of the
 numbers that they limit, and over the time of the span. Over time a step in which fewer than three seeds have the number
 has a dashed line and no band, and so has a setting that lost some of its rings no band. Bands of served and members go
-from the least to the greatest seed. Settings in which a
-seed's ring was lost (an audit with ring=0) are hollow, with the number of seeds that the mean is of, and not on the
-front: a dead ring is cheap. With many seeds nearly every setting has such a seed:
---most-lost 0.05 lets settings on the front that lost their ring with at most 5 of 100 seeds. A setting off the front is
-"dominated" if one on it costs less and gives more by paired differences of the same seeds, at 5% for all settings
-together, else "not surely dominated". cost is messages per member and second if the table has them, else all events of the
-run per node of the file and second. The same tables give the same bytes. A study that is not done yet is drawn as far
-as it is, with a mark.
+from the least to the greatest seed. Settings in which a seed's ring was lost (an audit with ring=0) are hollow, with
+the number of seeds that the mean is of, and not on the front: a dead ring is cheap. With many seeds nearly every
+setting has such a seed: --most-lost 0.05 lets settings on the front that lost their ring with at most 5 of 100 seeds. A
+setting off the front is "dominated" if one on it costs less and gives more by paired differences of the same seeds, at
+5% for all settings together, else "not surely dominated". cost is messages per member and second if the table has them,
+else all events of the run per node of the file and second. The same tables give the same bytes. A study that is not
+done yet is drawn as far as it is, with a mark.
 
 plots.json has the digests of the tables that each plot was drawn of, by which `tools/study report` knows it.
 
