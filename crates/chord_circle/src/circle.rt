@@ -1,6 +1,6 @@
 //! The circle of identifiers: distances, intervals and finger starts.
 ghost use Rattle.std.specs.Prelude.{◌≡◌, ℕ, ◌+◌, ◌-◌, ◌%◌, ◌^◌, ◌<◌, ◌≤◌, ◌↔◌, IsTrue, IsSome, IfSome};
-ghost use Rattle.chord_circle.specs.Circle.{distance, between, in_half_open, finger_start};
+ghost use Rattle.chord_circle.specs.Circle.{distance, between, digit_count, in_half_open, finger_beyond, finger_start};
 ghost use Rattle.chord_circle.specs.Names.{ident_of_name};
 
 use crate::ident::{Ident, Raw};
@@ -28,6 +28,13 @@ impl Model for Circle {
     ghost invariant = { λ c. (3 ≤ c.bits) × (c.bits ≤ 128) × (c.last + 1 ≡ 2 ^ c.bits) };
 
     ghost inverse = { λ n. record { bits = n; last = 2 ^ n - 1 } };
+}
+
+/// The number of binary digits of a distance, and 0 for 0.
+fn digit_count(distance: Raw) -> u32
+    ensures { result ≡ digit_count distance }
+{
+    Raw::BITS - distance.leading_zeros()
 }
 
 impl Circle {
@@ -109,6 +116,22 @@ impl Circle {
         } else {
             Ident::of(way - (last - a.raw()) - 1)
         }
+    }
+
+    /// The first finger of `a`, from the second on, that starts beyond `b`, clockwise from `a`. It
+    /// is one more than the last finger if none does.
+    pub fn finger_beyond(&self, a: Ident, b: Ident) -> u32
+        requires a { a < 2 ^ self.now }
+        requires b { b < 2 ^ self.now }
+        ensures value { result ≡ finger_beyond self.now a b }
+        ensures least { 2 ≤ result }
+        ensures greatest { result ≤ self.now + 1 }
+    {
+        if a == b {
+            return self.bits + 1;
+        }
+        let digits = digit_count(self.distance(a, b));
+        (digits + 1).max(2)
     }
 
     /// Whether `x` lies between `a` and `b`, clockwise from `a`, and is neither of them.

@@ -62,6 +62,10 @@ pub enum Line {
     Forget {
         predecessor: u32,
     },
+    /// A finger that this node takes as its successor, since its list has no other node left.
+    Rescue {
+        finger: u32,
+    },
     /// With detail: a request that this node sends for another purpose than a lookup, under the
     /// number of its call.
     Ask {
@@ -71,6 +75,7 @@ pub enum Line {
     },
     /// With detail: a request of a lookup, with the lookup's key and the time at which it started.
     Seek {
+        kind: MessageKind,
         receiver: u32,
         call: u64,
         key: Ident,

@@ -55,9 +55,9 @@ use Rattle.chord_scenario.specs.declared.setting.Node.{Node}
 use Rattle.chord_scenario.specs.FileKeys.{required, optional}
 use Rattle.chord_scenario.specs.Values.{data_at, number_at, truth_at, has_type, is_within, item_count, is_profile, is_in_range}
 use Rattle.chord_scenario.specs.Sections.{Section, place_in, table_at, tables_among, tables_of, sections}
-use Rattle.chord_scenario.specs.Settings.{number_or, is_node, is_command, node_of, nodes_of, command_of, commands_of, churn_of, lookups_of}
+use Rattle.chord_scenario.specs.Settings.{number_or, is_node, is_command, node_of, nodes_of, command_of, commands_of, churn_of, lookups_of, rules_of}
 use Rattle.chord_scenario.specs.Accepted.{setup_with}
-use Rattle.chord_scenario.specs.Range.{IsSpan, IsChurn, IsInterval, NumbersInRange, most_events}
+use Rattle.chord_scenario.specs.Range.{IsSpan, IsChurn, IsInterval, NumbersInRange, first_rules, most_events}
 use Rattle.chord_scenario.proofs.SoundSections.{IsSound, Fits, HoldsInFile}
 use Rattle.chord_scenario.proofs.Entries.{Lists, in_each, profile_cases, required_fits, required_profile, required_agrees, optional_fits, unlisted_default, unlisted_false, has_typed, not_out}
 
@@ -184,6 +184,40 @@ module _ (profile bits : ℕ) (needs : Needs) (top : Members) (s : IsSound profi
         | inr (inr is) ↦ unlisted_false s key.Detail (rw (is.not_extended, is.not_second) refl)
       ]
 
+  -- a lookup avoids at most 64 nodes
+  rules_fit : (extended : Bool) → profile == 4 ≡ extended → (rules_of extended top).lookup_timeouts ≤ 64
+  unfolding rules_of
+  rules_fit true is = (optional_fits s key.LookupTimeouts 0 64 32 (rw is refl) (record { low = omega arith; high = omega arith })).high
+  rules_fit false is =
+      elim (cases_Bool (profile == 2)) [
+        | inl second ↦ omega (arith, unlisted_default s key.LookupTimeouts 8 (rw (is, second) refl))
+        | inr other ↦ omega (arith, unlisted_default s key.LookupTimeouts 8 (rw (is, other) refl))
+      ]
+
+  -- the rules of published Chord are not those of the other profiles
+  rules_absent : (extended : Bool) → profile == 4 ≡ extended → profile ≤ 2 → rules_of extended top ≡ first_rules
+  unfolding rules_of
+  rules_absent true is early = let four : profile ≡ 4 = eqb-true profile 4 is in absurd (omega (arith, early, four))
+  rules_absent false is early =
+      elim (cases_Bool (profile == 2)) [
+        | inl second ↦ rw (
+          unlisted_false s key.ListRoutes (rw (is, second) refl),
+          unlisted_false s key.GoesOn (rw (is, second) refl),
+          unlisted_false s key.AskOwner (rw (is, second) refl),
+          unlisted_default s key.LookupTimeouts 8 (rw (is, second) refl),
+          unlisted_false s key.DropSilent (rw (is, second) refl),
+          unlisted_false s key.SkipNear (rw (is, second) refl),
+        ) refl
+        | inr other ↦ rw (
+          unlisted_false s key.ListRoutes (rw (is, other) refl),
+          unlisted_false s key.GoesOn (rw (is, other) refl),
+          unlisted_false s key.AskOwner (rw (is, other) refl),
+          unlisted_default s key.LookupTimeouts 8 (rw (is, other) refl),
+          unlisted_false s key.DropSilent (rw (is, other) refl),
+          unlisted_false s key.SkipNear (rw (is, other) refl),
+        ) refl
+      ]
+
   no_loss : profile ≡ 1 → (number_or 0 key.LossPpm top ≡ 0) × (number_or 0 key.SpreadUs top ≡ 0)
   no_loss is_first = (unlisted_default s key.LossPpm 0 (rw is_first refl), unlisted_default s key.SpreadUs 0 (rw is_first refl))
 
@@ -217,6 +251,8 @@ module _ (profile bits : ℕ) (needs : Needs) (top : Members) (s : IsSound profi
     joined_at_once = λ early. (pause_fits.absent (omega (arith, named, early)), gives_up (omega (arith, named, early)));
     unchecked = λ early. check_fits.absent (omega (arith, named, early));
     undetailed = λ early. tells_nothing (omega (arith, named, early));
+    lookup_timeouts = rules_fit (number_at key.Profile top == 4) (ap (λ n. n == 4) named);
+    unpublished = λ early. rules_absent (number_at key.Profile top == 4) (ap (λ n. n == 4) named) (omega (arith, named, early));
   }
 
   -- the file has a churn table if a node churns

@@ -31,6 +31,12 @@ key_name key.JoinPauseUs = codes "join_pause_us"
 key_name key.JoinForever = codes "join_forever"
 key_name key.CheckUs = codes "check_us"
 key_name key.Detail = codes "detail"
+key_name key.ListRoutes = codes "list_routes"
+key_name key.GoesOn = codes "goes_on"
+key_name key.AskOwner = codes "ask_owner"
+key_name key.LookupTimeouts = codes "lookup_timeouts"
+key_name key.DropSilent = codes "drop_silent"
+key_name key.SkipNear = codes "skip_near"
 key_name key.Churn = codes "churn"
 key_name key.Lookups = codes "lookups"
 key_name key.Node = codes "node"
@@ -98,6 +104,12 @@ extended_keys =
     ∷ optional key.JoinForever Boolean
     ∷ optional key.CheckUs (Whole 0 1000000000)
     ∷ optional key.Detail Boolean
+    ∷ optional key.ListRoutes Boolean
+    ∷ optional key.GoesOn Boolean
+    ∷ optional key.AskOwner Boolean
+    ∷ optional key.LookupTimeouts (Whole 0 64)
+    ∷ optional key.DropSilent Boolean
+    ∷ optional key.SkipNear Boolean
     ∷ []
 
 abbrev pub top_keys : (profile : ℕ) → List Entry

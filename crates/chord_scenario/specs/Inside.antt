@@ -26,6 +26,7 @@ setup_of s = record {
   join_forever = s.join_forever;
   check = s.check;
   detail = s.detail;
+  rules = s.rules;
   churn = s.churn;
   lookups = s.lookups;
   nodes = s.nodes.items;

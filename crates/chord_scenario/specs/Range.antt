@@ -6,6 +6,7 @@ use Rattle.chord_scenario.specs.declared.setting.Action.{Action}
 use Rattle.chord_scenario.specs.declared.setting.Action.TheVariants as action
 use Rattle.chord_scenario.specs.declared.setting.Churn.{Churn}
 use Rattle.chord_scenario.specs.declared.setting.Command.{Command}
+use Rattle.chord_scenario.specs.declared.setting.Rules.{Rules}
 use Rattle.chord_scenario.specs.declared.setting.Span.{Span}
 use Rattle.chord_scenario.specs.Distances.{IsPlace}
 use Rattle.chord_scenario.specs.Setup.{Setup}
@@ -47,9 +48,20 @@ pub record IsCommandOf (sc : Setup) (command : Command) : Type 0 where
 abbrev pub most_events : ℕ
 most_events = 100000000000
 
+-- the rules of the first two profiles: none of published Chord, and a lookup avoids at most eight nodes
+abbrev pub first_rules : Rules
+first_rules = record {
+  list_routes = false;
+  goes_on = false;
+  ask_owner = false;
+  lookup_timeouts = 8;
+  drop_silent = false;
+  skip_near = false;
+}
+
 -- the numbers of a scenario are in the ranges of the file format; in the first profile messages are neither lost nor
--- delayed at random, and in the extended profile alone are requests sent again, joins paused, predecessors checked
--- and messages told of
+-- delayed at random, and in the extended profile alone are requests sent again, joins paused, predecessors checked,
+-- messages told of and rules of published Chord followed
 pub record NumbersInRange (sc : Setup) : Type 0 where
   pub bits_least : 3 ≤ sc.bits
   pub bits_greatest : sc.bits ≤ 128
@@ -78,6 +90,8 @@ pub record NumbersInRange (sc : Setup) : Type 0 where
   pub joined_at_once : sc.profile ≤ 2 → (sc.join_pause ≡ 0) × (sc.join_forever ≡ false)
   pub unchecked : sc.profile ≤ 2 → sc.check ≡ 0
   pub undetailed : sc.profile ≤ 2 → sc.detail ≡ false
+  pub lookup_timeouts : sc.rules.lookup_timeouts ≤ 64
+  pub unpublished : sc.profile ≤ 2 → sc.rules ≡ first_rules
 
 -- no two nodes are at one place of the circle
 pub record NodesInRange (sc : Setup) : Type 0 where

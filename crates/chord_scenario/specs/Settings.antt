@@ -33,6 +33,7 @@ use Rattle.chord_scenario.specs.declared.key.FileKey.{FileKey}
 use Rattle.chord_scenario.specs.declared.key.FileKey.TheVariants as key
 use Rattle.chord_scenario.specs.declared.setting.Coordinates.{Coordinates}
 use Rattle.chord_scenario.specs.declared.setting.Node.{Node}
+use Rattle.chord_scenario.specs.declared.setting.Rules.{Rules}
 use Rattle.chord_scenario.specs.declared.setting.Span.{Span}
 use Rattle.chord_scenario.specs.declared.setting.Churn.{Churn}
 use Rattle.chord_scenario.specs.declared.setting.Command.{Command}
@@ -41,11 +42,22 @@ use Rattle.chord_scenario.specs.declared.setting.Action.TheVariants.{Join, Crash
 use Rattle.chord_scenario.specs.declared.operation.Operation.{Operation}
 use Rattle.chord_scenario.specs.declared.operation.Operation.TheVariants as operation
 use Rattle.chord_scenario.specs.Operations.{operation_named}
-use Rattle.chord_scenario.specs.Values.{data_at, number_at, truth_at, text_at, as_whole, identifier_of}
+use Rattle.chord_scenario.specs.Values.{data_at, number_at, truth_at, truth_or, text_at, as_whole, identifier_of}
 use Rattle.chord_scenario.specs.Sections.{Section}
 
 abbrev pub number_or : ℕ → FileKey → Members → ℕ
 number_or default k ms = unwrap_or (option_and_then as_whole (data_at k ms)) default
+
+-- which rules of published Chord the nodes follow: in the extended profile those that the file does not switch off
+unfoldable pub rules_of : (extended : Bool) → Members → Rules
+rules_of extended top = record {
+  list_routes = truth_or extended key.ListRoutes top;
+  goes_on = truth_or extended key.GoesOn top;
+  ask_owner = truth_or extended key.AskOwner top;
+  lookup_timeouts = number_or (if extended then 32 else 8) key.LookupTimeouts top;
+  drop_silent = truth_or extended key.DropSilent top;
+  skip_near = truth_or extended key.SkipNear top;
+}
 
 -- a number that is a place on a circle of this many bits
 abbrev pub on_circle : (bits : ℕ) → ℕ → Option ℕ

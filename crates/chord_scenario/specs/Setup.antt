@@ -4,6 +4,7 @@ use Rattle.chord_scenario.specs.declared.setting.Churn.{Churn}
 use Rattle.chord_scenario.specs.declared.setting.Command.{Command}
 use Rattle.chord_scenario.specs.declared.setting.Coordinates.{Coordinates}
 use Rattle.chord_scenario.specs.declared.setting.Node.{Node}
+use Rattle.chord_scenario.specs.declared.setting.Rules.{Rules}
 use Rattle.chord_scenario.specs.declared.setting.Span.{Span}
 
 pub record Setup : Type 0 where
@@ -36,6 +37,8 @@ pub record Setup : Type 0 where
   pub check : ℕ
   -- in the extended profile: whether the messages that are made leave lines
   pub detail : Bool
+  -- the rules of published Chord that the nodes follow: the first two profiles have none of them
+  pub rules : Rules
   pub churn : Option Churn
   pub lookups : Option Span
   pub nodes : List Node

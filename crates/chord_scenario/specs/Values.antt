@@ -47,9 +47,13 @@ as_whole _ = None
 abbrev pub number_at : FileKey → Members → ℕ
 number_at k ms = unwrap_or (option_and_then as_whole (data_at k ms)) 0
 
+-- the boolean at a key, and the default if the key holds none
+abbrev pub truth_or : (default : Bool) → FileKey → Members → Bool
+truth_or default k ms = unwrap_or (option_and_then as_bool (data_at k ms)) default
+
 -- the boolean at a key, and `false` if the key holds none
 abbrev pub truth_at : FileKey → Members → Bool
-truth_at k ms = unwrap_or (option_and_then as_bool (data_at k ms)) false
+truth_at k ms = truth_or false k ms
 
 -- the text at a key
 abbrev pub text_at : FileKey → Members → Option (List ℕ)

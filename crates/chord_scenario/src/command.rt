@@ -1,20 +1,21 @@
 //! The commands and the periods of a scenario file.
 
-ghost use Rattle.std.specs.Prelude.{◌≡◌, ◌<◌, ◌^◌, IfOk, map, option_map, option_and_then, unwrap_or};
+ghost use Rattle.std.specs.Prelude.{◌≡◌, ◌==◌, ◌<◌, ◌^◌, IfOk, map, option_map, option_and_then, unwrap_or};
 ghost use Rattle.toml.specs.Data.{as_table};
 ghost use Rattle.chord_scenario.specs.declared.key.FileKey.TheVariants as key;
-ghost use Rattle.chord_scenario.specs.Values.{data_at, number_at};
+ghost use Rattle.chord_scenario.specs.Values.{data_at, number_at, truth_or};
 ghost use Rattle.toml.specs.View.{table_view};
 ghost use Rattle.chord_scenario.specs.Sections.{section_of};
-ghost use Rattle.chord_scenario.specs.Settings.{identifier_at, node_at, action_of, commands_of, number_or, span_of, churn_of, lookups_of};
+ghost use Rattle.chord_scenario.specs.Settings.{identifier_at, node_at, action_of, commands_of, number_or, span_of, churn_of, lookups_of, rules_of};
 
 use crate::key::{FileKey, Place};
 use crate::names::Names;
 use crate::node::{identifier_at, name_at};
 use crate::operation::{Operation, operation_at};
+use crate::scenario::EXTENDED_PROFILE;
 use crate::section::PlacedTable;
-use crate::setting::{Action, Churn, Command, Span};
-use crate::value::{number_at, value_at, whole};
+use crate::setting::{Action, Churn, Command, Rules, Span};
+use crate::value::{number_at, truth_or, value_at, whole};
 use chord_circle::{Circle, Ident};
 use std::alloc::{AllocError, Global};
 use toml::Table;
@@ -97,6 +98,30 @@ pub(crate) fn number_or(table: &Table, key: FileKey, default: u64) -> u64
     match value_at(table, key) {
         Some(value) => whole(value).unwrap_or(default),
         None => default,
+    }
+}
+
+/// Whether a file is of the extended profile.
+pub(crate) fn is_extended(table: &Table) -> bool
+    ensures { result ≡ (number_at key.Profile (table_view table.now) == 4) }
+{
+    number_at(table, FileKey::Profile) == u64::from(EXTENDED_PROFILE)
+}
+
+/// Which rules of published Chord the nodes follow. A file of the extended profile has those that
+/// it does not switch off.
+#[tactic(auto, unfolding(crate::specs::Settings::rules_of))]
+pub(crate) fn rules_of(table: &Table, extended: bool) -> Rules
+    ensures { result ≡ rules_of extended (table_view table.now) }
+{
+    let lookup_timeouts = if extended { 32 } else { 8 };
+    Rules {
+        list_routes: truth_or(table, FileKey::ListRoutes, extended),
+        goes_on: truth_or(table, FileKey::GoesOn, extended),
+        ask_owner: truth_or(table, FileKey::AskOwner, extended),
+        lookup_timeouts: number_or(table, FileKey::LookupTimeouts, lookup_timeouts),
+        drop_silent: truth_or(table, FileKey::DropSilent, extended),
+        skip_near: truth_or(table, FileKey::SkipNear, extended),
     }
 }
 

@@ -54,6 +54,12 @@ pub enum FileKey {
     JoinForever,
     CheckUs,
     Detail,
+    ListRoutes,
+    GoesOn,
+    AskOwner,
+    LookupTimeouts,
+    DropSilent,
+    SkipNear,
     Churn,
     Lookups,
     Node,
@@ -77,7 +83,7 @@ pub enum FileKey {
 }
 
 /// The keys as the file writes them, in the order of `FileKey`.
-static KEY_NAMES: [&str; 40] = [
+static KEY_NAMES: [&str; 46] = [
     "profile",
     "bits",
     "list",
@@ -98,6 +104,12 @@ static KEY_NAMES: [&str; 40] = [
     "join_forever",
     "check_us",
     "detail",
+    "list_routes",
+    "goes_on",
+    "ask_owner",
+    "lookup_timeouts",
+    "drop_silent",
+    "skip_near",
     "churn",
     "lookups",
     "node",
@@ -279,6 +291,22 @@ const CHECK: Entry = Entry(
 
 const DETAIL: Entry = Entry(FileKey::Detail, Form::Boolean, Presence::Optional);
 
+const LIST_ROUTES: Entry = Entry(FileKey::ListRoutes, Form::Boolean, Presence::Optional);
+
+const GOES_ON: Entry = Entry(FileKey::GoesOn, Form::Boolean, Presence::Optional);
+
+const ASK_OWNER: Entry = Entry(FileKey::AskOwner, Form::Boolean, Presence::Optional);
+
+const LOOKUP_TIMEOUTS: Entry = Entry(
+    FileKey::LookupTimeouts,
+    Form::Whole(0, 64),
+    Presence::Optional,
+);
+
+const DROP_SILENT: Entry = Entry(FileKey::DropSilent, Form::Boolean, Presence::Optional);
+
+const SKIP_NEAR: Entry = Entry(FileKey::SkipNear, Form::Boolean, Presence::Optional);
+
 const CHURN: Entry = Entry(FileKey::Churn, Form::Table, Presence::ForChurn);
 
 const LOOKUPS: Entry = Entry(FileKey::Lookups, Form::Table, Presence::Optional);
@@ -309,7 +337,7 @@ static NETWORK_TOP_KEYS: [Entry; 19] = [
 ];
 
 /// The keys at top in the extended profile.
-static EXTENDED_TOP_KEYS: [Entry; 24] = [
+static EXTENDED_TOP_KEYS: [Entry; 30] = [
     PROFILE,
     WIDE_BITS,
     LIST,
@@ -330,6 +358,12 @@ static EXTENDED_TOP_KEYS: [Entry; 24] = [
     JOIN_FOREVER,
     CHECK,
     DETAIL,
+    LIST_ROUTES,
+    GOES_ON,
+    ASK_OWNER,
+    LOOKUP_TIMEOUTS,
+    DROP_SILENT,
+    SKIP_NEAR,
     CHURN,
     LOOKUPS,
     MOST_NODES,

@@ -4,7 +4,7 @@ ghost use Rattle.chord_scenario.specs.Range.{IsInRange};
 ghost use Rattle.chord_scenario.specs.World.{node_count, name_of, ident_of, is_initial, is_churn_node, latency, latency_by_place};
 
 use crate::latency::cell_at;
-use crate::setting::{Churn, Command, Coordinates, Node, Span};
+use crate::setting::{Churn, Command, Coordinates, Node, Rules, Span};
 use chord_circle::{Circle, Ident};
 use std::marker::Model;
 
@@ -35,6 +35,7 @@ pub struct Scenario {
     pub(crate) join_forever: bool,
     pub(crate) check: u64,
     pub(crate) detail: bool,
+    pub(crate) rules: Rules,
     pub(crate) churn: Option<Churn>,
     pub(crate) lookups: Option<Span>,
     pub(crate) nodes: Vec<Node>,
@@ -214,6 +215,13 @@ impl Scenario {
         ensures { result ≡ self.now.detail }
     {
         self.detail
+    }
+
+    /// Which rules of published Chord the nodes follow: none in the first two profiles.
+    pub fn rules(&self) -> Rules
+        ensures { result ≡ self.now.rules }
+    {
+        self.rules
     }
 
     /// How long churn nodes live and stay down, if the scenario says so.

@@ -37,6 +37,23 @@ pub struct Churn {
     pub down: Span,
 }
 
+/// Which rules of published Chord the nodes follow. The first two profiles have none of them.
+#[derive(Clone, Copy, Drop)]
+pub struct Rules {
+    /// The whole successor list counts in the search for the closest preceding node.
+    pub list_routes: bool,
+    /// A lookup goes on from the node that answered last, and not from the node that began it.
+    pub goes_on: bool,
+    /// A user's lookup ends with a request to the owner.
+    pub ask_owner: bool,
+    /// How many nodes a lookup may have to avoid.
+    pub lookup_timeouts: u64,
+    /// A node that does not answer leaves the successor list and the fingers.
+    pub drop_silent: bool,
+    /// Fingers that the first successor covers are not looked up.
+    pub skip_near: bool,
+}
+
 /// What a command asks of its node.
 #[derive(Clone, Copy, PartialEq, Eq, Drop)]
 pub enum Action {

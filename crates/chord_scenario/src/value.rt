@@ -3,7 +3,7 @@
 ghost use Rattle.std.specs.Prelude.{◌≡◌, ◌^◌, nat_lt, option_map, option_copied};
 ghost use Rattle.std.specs.List.{list_all};
 ghost use Rattle.toml.specs.View.{table_view, view, items_view};
-ghost use Rattle.chord_scenario.specs.Values.{data_at, number_at, truth_at, text_at, as_whole, are_tables, has_type, hexadecimal, is_hexadecimal_digit, is_within, is_profile, identifier_of, has_digits, is_in_range, agrees};
+ghost use Rattle.chord_scenario.specs.Values.{data_at, number_at, truth_at, truth_or, text_at, as_whole, are_tables, has_type, hexadecimal, is_hexadecimal_digit, is_within, is_profile, identifier_of, has_digits, is_in_range, agrees};
 
 use crate::key::{FileKey, Form};
 use crate::operation::operation_named;
@@ -37,14 +37,21 @@ pub(crate) fn number_at(table: &Table, key: FileKey) -> u64
     }
 }
 
+/// The boolean at a key, and the default if the key holds none.
+pub(crate) fn truth_or(table: &Table, key: FileKey, default: bool) -> bool
+    ensures { result ≡ truth_or default key (table_view table.now) }
+{
+    match value_at(table, key) {
+        Some(value) => value.as_bool().unwrap_or(default),
+        None => default,
+    }
+}
+
 /// The boolean at a key, and `false` if the key holds none.
 pub(crate) fn truth_at(table: &Table, key: FileKey) -> bool
     ensures { result ≡ truth_at key (table_view table.now) }
 {
-    match value_at(table, key) {
-        Some(value) => value.as_bool().unwrap_or(false),
-        None => false,
-    }
+    truth_or(table, key, false)
 }
 
 /// The text at a key.

@@ -1,6 +1,8 @@
-use Rattle.std.proofs.Common.{sym, subst, length}
+use Rattle.std.proofs.Common.{Bool, ap, sym, subst, length, ◌∙◌}
 use Rattle.chord_scenario.specs.Latencies.{square_or_zeros}
 use Rattle.chord_scenario.specs.Range.{IsInRange}
+use Rattle.chord_scenario.specs.Settings.{rules_of}
+use Rattle.toml.specs.View.{table_view}
 use Rattle.chord_scenario.proofs.reader.assembled.Goals as goal
 
 pub returns : goal.returns
@@ -25,6 +27,7 @@ returns c = λ i. record {
   join_forever = c.truth_at.ensures i;
   check = c.number_or-7.ensures i;
   detail = c.truth_at-2.ensures i;
+  rules = (c.rules_of.ensures ∙ ap (λ (b : Bool). rules_of b (table_view c.args.top.now)) c.is_extended.ensures) i;
   churn = c.churn_of.ensures i;
   lookups = c.lookups_of.ensures i;
   nodes = c.args.nodes.items;
