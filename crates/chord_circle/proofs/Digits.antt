@@ -1,10 +1,12 @@
 -- The binary digits of a distance tell which fingers begin beyond it.
-use Rattle.std.proofs.Common.{◌≡◌, ℕ, ◌+◌, ◌-◌, ◌^◌, ◌<◌, ◌≤◌, zero, suc, arith, sym, subst}
+use Rattle.std.proofs.Common.{◌≡◌, ◌==◌, ℕ, ◌+◌, ◌-◌, ◌^◌, ◌<◌, ◌≤◌, Bool, true, false, zero, suc, arith, sym, subst}
+use Rattle.std.proofs.Math.Nat.{mod-lt}
 use Rattle.std.proofs.Math.Pow.{pow_mono}
 use Rattle.std.proofs.lemmas.Nat.{leading_top, pow_pos}
-use Rattle.std.specs.Int.Count.{count_leading_zeros, leading_of_zero}
+use Rattle.std.specs.Int.Count.{leading_of_zero}
+use Rattle.std.specs.Prelude.{max, if◌then◌else◌}
 use native.Mathlib.Decide.{dec_lt}
-use Rattle.chord_circle.specs.Circle.{digit_count}
+use Rattle.chord_circle.specs.Circle.{digit_count, distance, finger_beyond}
 
 -- a distance lies below the power of its digits, and not below a lower power
 pub record HasDigits (d : ℕ) : Type 0 where
@@ -30,3 +32,17 @@ digits_most bits d most less =
       | yes more ↦ let beyond = (has_digits d (omega (arith, less, power))).above bits more in absurd (omega (arith, less, beyond))
       | no not_more ↦ omega arith
     ]
+
+-- the finger that begins beyond a place is one from the second on, or comes after the last
+pub record IsBeyond (bits finger : ℕ) : Type 0 where
+  pub least : 2 ≤ finger
+  pub greatest : finger ≤ bits + 1
+
+pub beyond_within : (bits a b : ℕ) → 3 ≤ bits → bits ≤ 128 → IsBeyond bits (finger_beyond bits a b)
+beyond_within bits a b wide narrow = by (a == b)
+  where
+    by : (same : Bool) → IsBeyond bits (if same then bits + 1 else max 2 (digit_count (distance bits a b) + 1))
+    by true = record { least = omega (arith, wide); greatest = omega arith }
+    by false =
+        let digits : digit_count (distance bits a b) ≤ bits = digits_most bits (distance bits a b) narrow (mod-lt _ (pow_pos bits)) in
+        record { least = omega arith; greatest = omega (arith, digits, wide) }

@@ -1,8 +1,8 @@
 -- Each procedure of the rule table leaves lines of the scenario's nodes, and few of them.
-use Rattle.std.proofs.Common.{◌==◌, ℕ, ◌+◌, ◌<◌, List, [], ◌∷◌, ◌++◌, Option, length, nat_lt, arith, length-append, ◌*◌}
+use Rattle.std.proofs.Common.{◌==◌, ℕ, ◌+◌, ◌<◌, List, [], ◌∷◌, ◌++◌, Option, Some, None, ◌≡◌, ◌&&◌, refl, length, nat_lt, arith, length-append, ◌*◌}
 use Rattle.std.proofs.lemmas.List.Elements.{All-append, All-cons}
-use Rattle.std.specs.List.{count_by, filter_map}
-use Rattle.std.specs.Prelude.{position, slice_get}
+use Rattle.std.specs.List.{All, count_by, filter_map}
+use Rattle.std.specs.Prelude.{IfSome, position, slice_get}
 use Rattle.chord_event.specs.declared.body.Answer.{Answer}
 use Rattle.chord_event.specs.declared.body.Answer.TheVariants as answer
 use Rattle.chord_event.specs.declared.body.Body.{Body}
@@ -14,10 +14,11 @@ use Rattle.chord_node.specs.declared.state.Aim.{Aim}
 use Rattle.chord_node.specs.declared.state.Aim.TheVariants as aim
 use Rattle.chord_node.specs.declared.state.Attempt.{Attempt}
 use Rattle.chord_node.specs.declared.state.Lookup.{Lookup}
+use Rattle.chord_node.specs.declared.state.Purpose.{Purpose}
 use Rattle.chord_node.specs.declared.state.Purpose.TheVariants as purpose
 use Rattle.chord_node.specs.Invariant.{is_user}
 use Rattle.chord_scenario.specs.Blocks.{IsLineOf}
-use Rattle.chord_node.specs.Limits.{most_failures, most_steps, most_user_lookups}
+use Rattle.chord_node.specs.Limits.{most_failures, most_lookup_steps, most_user_lookups}
 use Rattle.chord_scenario.specs.World.{is_churn_node, node_count}
 use Rattle.chord_ops.specs.declared.turn.Request.TheVariants as request
 use Rattle.chord_ops.specs.declared.turn.Turn.{Turn}
@@ -26,6 +27,11 @@ use Rattle.chord_ops.specs.Procedures.{
   armed,
   lookup_asked,
   lookup_begun,
+  lookup_diverted,
+  lookup_led,
+  lookup_request,
+  lookup_resumed,
+  past,
   gone_down,
   lookup_failed,
   lookup_finished,
@@ -59,7 +65,8 @@ use Rattle.chord_ops.specs.Procedures.{
 use Rattle.chord_ops.specs.Search.{NamesNode, step_answer}
 use Rattle.chord_ops.specs.Turns.{called, noted, timer_made}
 use Rattle.chord_ops.proofs.Growing.{known}
-use Rattle.chord_ops.proofs.KeptTurns.{step_answer_names}
+use Rattle.chord_ops.proofs.Found.{at_index_known}
+use Rattle.chord_ops.proofs.KeptTurns.{last_known, step_answer_names}
 use Rattle.chord_ops.proofs.Noted.{
   HasNoted,
   KnowsNodes,
@@ -127,26 +134,34 @@ noted_lookup_finished_for : (sc : Scenario) (n : ℕ) (wanted : Aim) (lookup : L
 noted_lookup_finished_for sc n aim.User lookup owner turn at h = noted_line sc n _ turn (one_node sc owner at) h
 noted_lookup_finished_for sc n (aim.Finger index) lookup owner turn at h = one_more sc n h
 
-noted_lookup_finished : (sc : Scenario) (n : ℕ) (lookup : Lookup) (owner : ℕ) (turn : Turn) → owner < node_count sc → HasNoted sc n turn
+pub noted_lookup_finished : (sc : Scenario) (n : ℕ) (lookup : Lookup) (owner : ℕ) (turn : Turn) → owner < node_count sc → HasNoted sc n turn
     → HasNoted sc (n + 1) (lookup_finished lookup owner turn)
 unfolding lookup_finished
 noted_lookup_finished sc n lookup owner turn at h = noted_lookup_finished_for sc n lookup.aim lookup owner turn at h
 
-noted_lookup_asked : (sc : Scenario) (n place : ℕ) (lookup : Lookup) (next : ℕ) (turn : Turn) → next < node_count sc → HasNoted sc n turn
-    → HasNoted sc (n + 1 + 1) (lookup_asked sc place lookup next turn)
+pub noted_lookup_asked : (sc : Scenario) (n place : ℕ) (lookup : Lookup) (to : ℕ) (wanted : Purpose) (turn : Turn) → to < node_count sc → HasNoted sc n turn
+    → HasNoted sc (n + 1 + 1) (lookup_asked sc place lookup to wanted turn)
 unfolding lookup_asked
-noted_lookup_asked sc n place lookup next turn at h =
-    let out : Turn = called sc next (request.Step lookup.key lookup.avoid) purpose.Lookup turn in
-    noted_if sc (n + 1 + 1) (nat_lt lookup.steps most_steps) _ (lookup_failed lookup turn)
+noted_lookup_asked sc n place lookup to wanted turn at h =
+    let out : Turn = called sc to (lookup_request wanted lookup) wanted turn in
+    noted_if sc (n + 1 + 1) (nat_lt lookup.steps (most_lookup_steps sc)) _ (lookup_failed lookup turn)
     (notes_inserted sc (n + 1) out.lines out.state.lookups place _
-    (noted_called sc n next (request.Step lookup.key lookup.avoid) purpose.Lookup turn at h))
+    (noted_called sc n to (lookup_request wanted lookup) wanted turn at h))
     (one_more sc (n + 1) (noted_lookup_failed sc n lookup turn h))
+
+noted_lookup_led : (sc : Scenario) (n place : ℕ) (lookup : Lookup) (owner : ℕ) (turn : Turn) → owner < node_count sc → HasNoted sc n turn
+    → HasNoted sc (n + 1 + 1) (lookup_led sc place lookup owner turn)
+unfolding lookup_led
+noted_lookup_led sc n place lookup owner turn at h =
+    noted_if sc (n + 1 + 1) (sc.rules.ask_owner && is_user lookup) _ _
+    (noted_lookup_asked sc n place lookup owner purpose.Owner turn at h)
+    (one_more sc (n + 1) (noted_lookup_finished sc n lookup owner turn at h))
 
 pub noted_lookup_followed : (sc : Scenario) (n place : ℕ) (lookup : Lookup) (a : Answer) (turn : Turn) → NamesNode sc a → HasNoted sc n turn
     → HasNoted sc (n + 1 + 1) (lookup_followed sc place lookup a turn)
 unfolding lookup_followed
-noted_lookup_followed sc n place lookup (answer.Owner owner) turn at h = one_more sc (n + 1) (noted_lookup_finished sc n lookup owner turn at h)
-noted_lookup_followed sc n place lookup (answer.Next next) turn at h = noted_lookup_asked sc n place lookup next turn at h
+noted_lookup_followed sc n place lookup (answer.Owner owner) turn at h = noted_lookup_led sc n place lookup owner turn at h
+noted_lookup_followed sc n place lookup (answer.Next next) turn at h = noted_lookup_asked sc n place lookup next purpose.Lookup turn at h
 noted_lookup_followed sc n place lookup answer.Stuck turn at h = one_more sc (n + 1) (noted_lookup_failed sc n lookup turn h)
 
 pub noted_lookup_walked : (sc : Scenario) (n place : ℕ) (lookup : Lookup) (turn : Turn) → KnowsNodes sc turn.state → HasNoted sc n turn
@@ -155,6 +170,19 @@ unfolding lookup_walked
 noted_lookup_walked sc n place lookup turn knows h =
     noted_lookup_followed sc n place lookup (step_answer sc turn.state lookup.key lookup.avoid) turn
     (step_answer_names sc turn.state lookup.key lookup.avoid knows.own knows.succ_known knows.fingers_known) h
+
+noted_lookup_resumed : (sc : Scenario) (n place : ℕ) (lookup : Lookup) (o : Option ℕ) (turn : Turn) → IfSome o (λ x. x < node_count sc)
+    → KnowsNodes sc turn.state → HasNoted sc n turn → HasNoted sc (n + 1 + 1) (lookup_resumed sc place lookup o turn)
+noted_lookup_resumed sc n place lookup None turn known knows h = noted_lookup_walked sc n place lookup turn knows h
+noted_lookup_resumed sc n place lookup (Some last) turn known knows h = noted_lookup_asked sc n place lookup last purpose.Lookup turn known h
+
+pub noted_lookup_diverted : (sc : Scenario) (n node place : ℕ) (lookup : Lookup) (turn : Turn) → IfSome lookup.last (λ x. x < node_count sc)
+    → KnowsNodes sc turn.state → HasNoted sc n turn → HasNoted sc (n + 1 + 1) (lookup_diverted sc node place lookup turn)
+unfolding lookup_diverted
+noted_lookup_diverted sc n node place lookup turn known knows h =
+    noted_if sc (n + 1 + 1) (nat_lt (length lookup.avoid) sc.rules.lookup_timeouts) _ _
+    (noted_lookup_resumed sc n place (past node lookup) (past node lookup).last turn (last_known sc lookup.last node known) knows h)
+    (one_more sc (n + 1) (noted_lookup_failed sc n lookup turn h))
 
 pub noted_lookup_begun : (sc : Scenario) (n key : ℕ) (wanted : Aim) (turn : Turn) → KnowsNodes sc turn.state → HasNoted sc n turn
     → HasNoted sc (n + 1 + 1) (lookup_begun sc key wanted turn)
@@ -171,17 +199,25 @@ noted_user_lookup sc n key turn knows h =
     (noted_line sc n (line.Lookup key) turn (no_node sc) h))
     (two_more sc (n + 1) (noted_line sc n (line.Busy key) turn (no_node sc) h))
 
+-- what holds of each element holds of the one at a place, if there is one
+at_place_known : {A : Type 0} (P : A → Type 0) (xs : List A) (place : ℕ) → All P xs → IfSome (slice_get xs place) P
+at_place_known {A} P xs place all = by (slice_get xs place) refl
+  where
+    by : (o : Option A) → slice_get xs place ≡ o → IfSome o P
+    by None at = tt
+    by (Some x) at = at_index_known P xs place x all at
+
 -- the step with the lookup of a call, which was taken out
-pub noted_with_lookup : (sc : Scenario) (n number : ℕ) (step : ℕ → Lookup → Turn → Turn) (turn : Turn)
-    → ((place : ℕ) (lookup : Lookup) → HasNoted sc n (without_lookup place turn)
-    → HasNoted sc (n + 1 + 1) (step place lookup (without_lookup place turn))) → HasNoted sc n turn
+pub noted_with_lookup : (sc : Scenario) (P : Lookup → Type 0) (n number : ℕ) (step : ℕ → Lookup → Turn → Turn) (turn : Turn)
+    → ((place : ℕ) (lookup : Lookup) → P lookup → HasNoted sc n (without_lookup place turn)
+    → HasNoted sc (n + 1 + 1) (step place lookup (without_lookup place turn))) → All P turn.state.lookups → HasNoted sc n turn
     → HasNoted sc (n + 1 + 1) (with_lookup number step turn)
 unfolding with_lookup
-noted_with_lookup sc n number step turn noted h =
+noted_with_lookup sc P n number step turn noted all h =
     let still : HasNoted sc (n + 1 + 1) turn = two_more sc n h in
     noted_when_some sc (n + 1 + 1) (λ _. Unit {0}) (position (λ (lookup : Lookup). lookup.call == number) turn.state.lookups) _ turn (known _) still
-    (λ place _. noted_when_some sc (n + 1 + 1) (λ _. Unit {0}) (slice_get turn.state.lookups place) _ turn (known _) still
-    (λ lookup _. noted place lookup (notes_removed sc n turn.lines turn.state.lookups place h)))
+    (λ place _. noted_when_some sc (n + 1 + 1) P (slice_get turn.state.lookups place) _ turn (at_place_known P turn.state.lookups place all) still
+    (λ lookup is. noted place lookup is (notes_removed sc n turn.lines turn.state.lookups place h)))
 
 -- Joins
 

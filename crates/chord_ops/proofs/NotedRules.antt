@@ -1,9 +1,10 @@
 -- Each row of the rule table leaves lines of the scenario's nodes, and no more than a block has room for.
-use Rattle.std.proofs.Common.{◌==◌, ℕ, ◌+◌, ◌-◌, ◌<◌, ◌≤◌, ◌&&◌, ◌||◌, not, List, [], ◌∷◌, drop, length, nat_lt, Option, Some, None, refl, arith, ap, ◌≡◌}
-use Rattle.std.proofs.lemmas.List.Elements.{All-cons, All-drop, All-take}
+use Rattle.std.proofs.Common.{◌==◌, ℕ, ◌+◌, ◌-◌, ◌<◌, ◌≤◌, ◌&&◌, ◌||◌, not, List, [], ◌∷◌, ◌++◌, drop, length, map, max, nat_lt, replicate, Option, Some, None, refl, arith, ap, ◌≡◌}
+use Rattle.std.proofs.lemmas.List.Elements.{All-append, All-cons, All-drop, All-replicate, All-take}
 use Rattle.std.proofs.lemmas.List.Filters.{length-filter_both}
 use Rattle.std.proofs.lemmas.List.Sums.{length-filter}
-use Rattle.std.specs.Prelude.{IfSome, is_some, if◌then◌else◌}
+use Rattle.std.specs.List.{All}
+use Rattle.std.specs.Prelude.{IfSome, is_some, slice_get, if◌then◌else◌}
 use Rattle.chord_circle.specs.Circle.{between, finger_start}
 use Rattle.chord_event.specs.declared.body.Answer.{Answer}
 use Rattle.chord_event.specs.declared.body.Answer.TheVariants as answer
@@ -13,6 +14,7 @@ use Rattle.chord_event.specs.declared.event.Event.{Event}
 use Rattle.chord_event.specs.declared.line.CommandKind.TheVariants as command
 use Rattle.chord_event.specs.declared.line.MessageKind.{MessageKind}
 use Rattle.chord_event.specs.declared.line.MessageKind.TheVariants as kind
+use Rattle.chord_event.specs.declared.line.Line.{Line}
 use Rattle.chord_event.specs.declared.line.Line.TheVariants as line
 use Rattle.chord_scenario.specs.declared.scenario.Scenario.{Scenario}
 use Rattle.chord_node.specs.declared.state.Aim.TheVariants as aim
@@ -24,7 +26,7 @@ use Rattle.chord_node.specs.declared.state.Purpose.{Purpose}
 use Rattle.chord_node.specs.declared.state.Purpose.TheVariants as purpose
 use Rattle.chord_node.specs.Invariant.{AllNodes, AreLookups, IsCall, IsNodeState, is_user}
 use Rattle.chord_scenario.specs.Blocks.{IsBlockOf, IsLineOf, most_lines}
-use Rattle.chord_node.specs.Limits.{most_steps, most_timeouts}
+use Rattle.chord_node.specs.Limits.{most_steps}
 use Rattle.chord_scenario.specs.Range.{IsInRange}
 use Rattle.chord_scenario.specs.World.{ident_of, is_churn_node, node_count}
 use Rattle.chord_ops.proofs.Telling.{HasDetail, noted_detailed}
@@ -36,6 +38,7 @@ use Rattle.chord_ops.specs.Asked.{IsBody}
 use Rattle.chord_ops.specs.declared.turn.Request.TheVariants as request
 use Rattle.chord_ops.specs.declared.turn.Turn.{Turn}
 use Rattle.chord_ops.specs.Procedures.{
+  holds,
   call_of,
   gone_down,
   finger_armed,
@@ -45,6 +48,7 @@ use Rattle.chord_ops.specs.Procedures.{
   traffic_armed,
   came_up,
   with_attempt,
+  with_lookup,
   without_attempt,
   without_call,
   without_lookup,
@@ -74,7 +78,6 @@ use Rattle.chord_ops.specs.Rules.{
   head,
   head_asked,
   head_notified,
-  holds,
   is_down,
   is_joining,
   is_member,
@@ -99,9 +102,23 @@ use Rattle.chord_ops.specs.Rules.{
   predecessor_told,
   predecessor_weighed,
   rejoin,
+  arrived,
+  call_over,
+  dropped,
+  dropped_by,
+  finger_rotated,
+  first_in_turn,
+  is_handed_over,
+  is_stuck,
+  list_after,
+  list_left,
+  near_covered,
   once_more,
   opening,
-  past,
+  owner_answered,
+  rescue_lines,
+  rescuer,
+  state_answered_for,
   ping_timed_out,
   pinged,
   ponged,
@@ -128,12 +145,14 @@ use Rattle.chord_ops.specs.Rules.{
 }
 use Rattle.chord_ops.specs.Search.{NamesNode}
 use Rattle.chord_ops.specs.Sound.{IsSoundEvent}
-use Rattle.chord_ops.specs.Turns.{after_words, kind_of, noted, timer_made}
+use Rattle.chord_ops.specs.Turns.{after_words, kind_of, noted, timer_made, when_some}
 use Rattle.chord_ops.proofs.Answered.{IfSome-answered_call}
 use Rattle.chord_ops.proofs.Found.{IfSome-find}
 use Rattle.chord_ops.proofs.Growing.{known}
-use Rattle.chord_ops.proofs.KeptRules.{first_known, none_of}
+use Rattle.chord_ops.proofs.Dropped.{list_known, put_known, rescuer_known}
+use Rattle.chord_ops.proofs.KeptRules.{arrived_last, first_known, none_of}
 use Rattle.chord_ops.proofs.Noted.{
+  AreNotes,
   HasNoted,
   KnowsNodes,
   no_node,
@@ -143,6 +162,7 @@ use Rattle.chord_ops.proofs.Noted.{
   noted_line,
   noted_sent,
   noted_when_some,
+  notes_lines,
   one_node,
   one_more,
   two_more,
@@ -151,9 +171,11 @@ use Rattle.chord_ops.proofs.Noted.{
 use Rattle.chord_ops.proofs.NotedProcedures.{
   knows_check_armed,
   knows_traffic_armed,
+  noted_lookup_asked,
   noted_lookup_begun,
+  noted_lookup_diverted,
+  noted_lookup_finished,
   noted_gone_down,
-  noted_lookup_failed,
   noted_lookup_followed,
   noted_for_attempt,
   noted_check_armed,
@@ -164,7 +186,6 @@ use Rattle.chord_ops.proofs.NotedProcedures.{
   noted_traffic_armed,
   noted_came_up,
   noted_user_lookup,
-  noted_lookup_walked,
   noted_with_lookup,
 }
 
@@ -239,6 +260,36 @@ noted_finger_turned sc n index turn knows h =
     noted_lookup_begun sc n (finger_start sc.bits (ident_of sc turn.state.me) index) (aim.Finger index)
     (record turn { state = record turn.state { next_finger = finger_after sc.bits index } }) knows h
 
+-- covered fingers are nodes that the node knows
+knows_near_covered : (sc : Scenario) (first : ℕ) (turn : Turn) → KnowsNodes sc turn.state → KnowsNodes sc (near_covered first turn).state
+unfolding near_covered
+knows_near_covered sc first turn knows = by (head turn.state) (first_known sc turn.state.succ knows.succ_known)
+  where
+    by : (o : Option ℕ) → IfSome o (λ node. node < node_count sc)
+        → KnowsNodes sc (when_some o (λ node. λ t. record t { state = record t.state { fingers = replicate (first - 2) node ++ drop (first - 2) t.state.fingers } }) turn).state
+    by None known = knows
+    by (Some node) known = record {
+      own = knows.own;
+      via_known = knows.via_known;
+      prdc_known = knows.prdc_known;
+      succ_known = knows.succ_known;
+      fingers_known =
+          All-append (λ x. x < node_count sc) (replicate (first - 2) node) (drop (first - 2) turn.state.fingers)
+          (All-replicate (λ x. x < node_count sc) (first - 2) node known)
+          (All-drop (λ x. x < node_count sc) (first - 2) turn.state.fingers knows.fingers_known);
+    }
+
+noted_near_covered : (sc : Scenario) (n first : ℕ) (turn : Turn) → HasNoted sc n turn → HasNoted sc n (near_covered first turn)
+unfolding near_covered
+noted_near_covered sc n first turn h = noted_when_some sc n (λ _. Unit {0}) (head turn.state) _ turn (known _) h (λ node _. h)
+
+noted_finger_rotated : (sc : Scenario) (n first : ℕ) (turn : Turn) → KnowsNodes sc turn.state → HasNoted sc n turn
+    → HasNoted sc (n + 1 + 1) (finger_rotated sc first turn)
+noted_finger_rotated sc n first turn knows h =
+    let covered : HasNoted sc n (near_covered first turn) = noted_near_covered sc n first turn h in
+    noted_if sc (n + 1 + 1) (nat_lt sc.bits (max turn.state.next_finger first)) _ _ (two_more sc n covered)
+    (noted_finger_turned sc n (max turn.state.next_finger first) (near_covered first turn) (knows_near_covered sc first turn knows) covered)
+
 noted_finger_tick : (sc : Scenario) (n epoch : ℕ) (turn : Turn) → KnowsNodes sc turn.state → HasNoted sc n turn
     → HasNoted sc (n + 1 + 1) (finger_tick sc epoch turn)
 unfolding finger_tick finger_armed timer_made
@@ -246,7 +297,7 @@ noted_finger_tick sc n epoch turn knows h =
     let still : HasNoted sc (n + 1 + 1) turn = two_more sc n h in
     noted_if sc (n + 1 + 1) (is_void epoch turn.state) turn _ still
     (noted_if sc (n + 1 + 1) (is_joining turn.state || has_finger_lookup turn.state) _ _ still
-    (noted_finger_turned sc n turn.state.next_finger (finger_armed sc turn) knows h))
+    (noted_finger_rotated sc n (first_in_turn sc turn.state) (finger_armed sc turn) knows h))
 
 noted_random_lookup : (sc : Scenario) (n : ℕ) (turn : Turn) → KnowsNodes sc turn.state → HasNoted sc n turn
     → HasNoted sc (n + 1 + 1 + 1) (random_lookup sc turn)
@@ -275,13 +326,14 @@ noted_life_end sc n epoch turn h =
 
 -- Timeouts
 
-noted_lookup_timed_out : (sc : Scenario) (n silent place : ℕ) (lookup : Lookup) (turn : Turn) → KnowsNodes sc turn.state → HasNoted sc n turn
-    → HasNoted sc (n + 1 + 1) (lookup_timed_out sc silent place lookup turn)
+-- a lookup goes on from a node of the scenario, if from any but the node itself
+abbrev HasLast : Scenario → Lookup → Type 0
+HasLast sc lookup = IfSome lookup.last (λ node. node < node_count sc)
+
+noted_lookup_timed_out : (sc : Scenario) (n silent place : ℕ) (lookup : Lookup) (turn : Turn) → HasLast sc lookup → KnowsNodes sc turn.state
+    → HasNoted sc n turn → HasNoted sc (n + 1 + 1) (lookup_timed_out sc silent place lookup turn)
 unfolding lookup_timed_out
-noted_lookup_timed_out sc n silent place lookup turn knows h =
-    noted_if sc (n + 1 + 1) (nat_lt lookup.timeouts most_timeouts) _ _
-    (noted_lookup_walked sc n place (past silent (once_more lookup)) turn knows h)
-    (one_more sc (n + 1) (noted_lookup_failed sc n (once_more lookup) turn h))
+noted_lookup_timed_out sc n silent place lookup turn last knows h = noted_lookup_diverted sc n silent place (once_more lookup) turn last knows h
 
 noted_join_timed_out : (sc : Scenario) (n silent : ℕ) (turn : Turn) → KnowsNodes sc turn.state → HasNoted sc n turn
     → HasNoted sc (n + 1 + 1) (join_timed_out sc silent turn)
@@ -303,8 +355,10 @@ noted_state_timed_out : (sc : Scenario) (n : ℕ) (turn : Turn) → KnowsNodes s
     → HasNoted sc (n + 1 + 1) (state_timed_out sc turn)
 unfolding state_timed_out
 noted_state_timed_out sc n turn knows h =
-    noted_head_asked sc n (head (without_head turn).state) (without_head turn) knows.via_known
-    (first_known sc (drop 1 turn.state.succ) (All-drop (λ node. node < node_count sc) 1 turn.state.succ knows.succ_known)) h
+    noted_if sc (n + 1 + 1) sc.rules.drop_silent _ _
+    (noted_head_asked sc n (head turn.state) turn knows.via_known (first_known sc turn.state.succ knows.succ_known) h)
+    (noted_head_asked sc n (head (without_head turn).state) (without_head turn) knows.via_known
+    (first_known sc (drop 1 turn.state.succ) (All-drop (λ node. node < node_count sc) 1 turn.state.succ knows.succ_known)) h)
 
 noted_head_notified : (sc : Scenario) (n : ℕ) (turn : Turn) → KnowsNodes sc turn.state → HasNoted sc n turn → HasNoted sc (n + 1) (head_notified sc turn)
 unfolding head_notified
@@ -323,18 +377,23 @@ noted_check_timed_out sc n silent turn at h =
     noted_if sc (n + 1) (holds turn.state.prdc silent) _ turn
     (noted_line sc n (line.Forget silent) (record turn { state = record turn.state { prdc = None } }) (one_node sc silent at) h) (one_more sc n h)
 
-noted_timed_out : (sc : Scenario) (n number silent : ℕ) (wanted : Purpose) (turn : Turn) → silent < node_count sc → KnowsNodes sc turn.state
-    → HasNoted sc n turn → HasNoted sc (n + 1 + 1) (timed_out sc number silent wanted turn)
-noted_timed_out sc n number silent purpose.Lookup turn at knows h =
-    noted_with_lookup sc n number (lookup_timed_out sc silent) turn
-    (λ place lookup g. noted_lookup_timed_out sc n silent place lookup (without_lookup place turn) knows g) h
-noted_timed_out sc n number silent purpose.JoinStep turn at knows h = noted_join_timed_out sc n silent turn knows h
-noted_timed_out sc n number silent purpose.JoinList turn at knows h = noted_join_timed_out sc n silent turn knows h
-noted_timed_out sc n number silent purpose.State turn at knows h = noted_state_timed_out sc n turn knows h
-noted_timed_out sc n number silent purpose.List turn at knows h =
+noted_timeout_of_lookup : (sc : Scenario) (n number silent : ℕ) (turn : Turn) → All (HasLast sc) turn.state.lookups → KnowsNodes sc turn.state
+    → HasNoted sc n turn → HasNoted sc (n + 1 + 1) (with_lookup number (lookup_timed_out sc silent) turn)
+noted_timeout_of_lookup sc n number silent turn lasts knows h =
+    noted_with_lookup sc (HasLast sc) n number (lookup_timed_out sc silent) turn
+    (λ place lookup last g. noted_lookup_timed_out sc n silent place lookup (without_lookup place turn) last knows g) lasts h
+
+noted_timed_out : (sc : Scenario) (n number silent : ℕ) (wanted : Purpose) (turn : Turn) → silent < node_count sc → All (HasLast sc) turn.state.lookups
+    → KnowsNodes sc turn.state → HasNoted sc n turn → HasNoted sc (n + 1 + 1) (timed_out sc number silent wanted turn)
+noted_timed_out sc n number silent purpose.Lookup turn at lasts knows h = noted_timeout_of_lookup sc n number silent turn lasts knows h
+noted_timed_out sc n number silent purpose.Owner turn at lasts knows h = noted_timeout_of_lookup sc n number silent turn lasts knows h
+noted_timed_out sc n number silent purpose.JoinStep turn at lasts knows h = noted_join_timed_out sc n silent turn knows h
+noted_timed_out sc n number silent purpose.JoinList turn at lasts knows h = noted_join_timed_out sc n silent turn knows h
+noted_timed_out sc n number silent purpose.State turn at lasts knows h = noted_state_timed_out sc n turn knows h
+noted_timed_out sc n number silent purpose.List turn at lasts knows h =
     one_more sc (n + 1) (noted_head_notified sc n turn knows h)
-noted_timed_out sc n number silent purpose.Check turn at knows h = one_more sc (n + 1) (noted_check_timed_out sc n silent turn at h)
-noted_timed_out sc n number silent (purpose.Ping notifier) turn at knows h =
+noted_timed_out sc n number silent purpose.Check turn at lasts knows h = one_more sc (n + 1) (noted_check_timed_out sc n silent turn at h)
+noted_timed_out sc n number silent (purpose.Ping notifier) turn at lasts knows h =
     two_more sc n (noted_ping_timed_out sc n silent notifier turn h)
 
 noted_call_repeated : (sc : Scenario) (n number : ℕ) (call : Call) (turn : Turn) → call.to < node_count sc → HasNoted sc n turn
@@ -345,23 +404,74 @@ noted_call_repeated sc n number call turn at h =
     (λ request _. noted_asked sc (n + 1) request (sent_once_more number call) (noted (line.Again (kind_of request) call.to) (without_call number turn)) at
     (noted_line sc n (line.Again (kind_of request) call.to) (without_call number turn) (one_node sc call.to at) h))
 
-noted_call_given_up : (sc : Scenario) (n number : ℕ) (call : Call) (turn : Turn) → call.to < node_count sc → KnowsNodes sc turn.state
-    → HasNoted sc n turn → HasNoted sc (n + 1 + 1 + 1) (call_given_up sc number call turn)
+-- the line of a rescue, if there is one
+notes_rescue : (sc : Scenario) (n : ℕ) (o : Option ℕ) (lines : List Line) (lookups : List Lookup) → IfSome o (λ node. node < node_count sc)
+    → AreNotes sc n lines lookups → AreNotes sc (n + 1) (lines ++ rescue_lines o) lookups
+notes_rescue sc n None lines lookups at h = notes_lines sc n 1 lines [] lookups (none_of (IsLineOf sc)) (omega arith) h
+notes_rescue sc n (Some finger) lines lookups at h =
+    notes_lines sc n 1 lines (line.Rescue finger ∷ []) lookups
+    (All-cons (IsLineOf sc) (line.Rescue finger) [] (one_node sc finger at) (none_of (IsLineOf sc))) (omega arith) h
+
+-- what drops a silent node, and then goes on with the same lookups
+noted_dropped_by : (sc : Scenario) (n silent : ℕ) (step : Turn → Turn) (o : Option ℕ) (turn : Turn) → IfSome o (λ node. node < node_count sc)
+    → KnowsNodes sc turn.state → HasNoted sc n turn
+    → ((fingers : List ℕ) → AllNodes sc fingers → HasNoted sc (n + 1 + 1) (step (record turn { state = record turn.state { fingers = fingers } })))
+    → HasNoted sc (n + 1 + 1) (dropped_by sc silent step o turn)
+noted_dropped_by sc n silent step None turn at knows h noted =
+    noted_when_some sc (n + 1 + 1) (λ via. via < node_count sc) turn.state.via (stranded sc) turn knows.via_known (two_more sc n h)
+    (λ via known. noted_stranded sc n via turn known h)
+noted_dropped_by sc n silent step (Some first) turn at knows h noted =
+    noted (map (λ x. if x == silent then first else x) turn.state.fingers) (put_known sc silent first turn.state.fingers at knows.fingers_known)
+
+noted_dropped : (sc : Scenario) (n silent : ℕ) (step : Turn → Turn) (turn : Turn) → KnowsNodes sc turn.state → HasNoted sc n turn
+    → ((succ fingers : List ℕ) (lines : List Line) → AllNodes sc succ → AllNodes sc fingers → AreNotes sc (n + 1) lines turn.state.lookups
+    → HasNoted sc (n + 1 + 1 + 1) (step (record turn { state = record turn.state { succ = succ; fingers = fingers }; lines = lines })))
+    → HasNoted sc (n + 1 + 1 + 1) (dropped sc silent step turn)
+unfolding dropped list_left
+noted_dropped sc n silent step turn knows h noted =
+    let list : AllNodes sc (list_after sc silent turn.state) = list_known sc silent turn.state knows.succ_known knows.fingers_known in
+    let rescue = rescuer_known sc silent turn.state knows.fingers_known in
+    let lines = notes_rescue sc n (rescuer sc silent turn.state) turn.lines turn.state.lookups rescue h in
+    noted_dropped_by sc (n + 1) silent step (slice_get (list_after sc silent turn.state) 0) (list_left sc silent turn)
+    (first_known sc (list_after sc silent turn.state) list)
+    (record {
+      own = knows.own;
+      via_known = knows.via_known;
+      prdc_known = knows.prdc_known;
+      succ_known = list;
+      fingers_known = knows.fingers_known;
+    })
+    lines
+    (λ fingers known. noted (list_after sc silent turn.state) fingers (turn.lines ++ rescue_lines (rescuer sc silent turn.state)) list known lines)
+
+noted_call_given_up : (sc : Scenario) (n number : ℕ) (call : Call) (turn : Turn) → call.to < node_count sc → All (HasLast sc) turn.state.lookups
+    → KnowsNodes sc turn.state → HasNoted sc n turn → HasNoted sc (n + 1 + 1 + 1 + 1) (call_given_up sc number call turn)
 unfolding call_given_up
-noted_call_given_up sc n number call turn at knows h =
-    noted_timed_out sc (n + 1) number call.to call.purpose (noted (line.Timeout call.to) (without_call number turn)) at knows
-    (noted_line sc n (line.Timeout call.to) (without_call number turn) (one_node sc call.to at) h)
+noted_call_given_up sc n number call turn at lasts knows h =
+    let mid : Turn = noted (line.Timeout call.to) turn in
+    let timed : HasNoted sc (n + 1) mid = noted_line sc n (line.Timeout call.to) turn (one_node sc call.to at) h in
+    noted_if sc (n + 1 + 1 + 1 + 1) (sc.rules.drop_silent && is_member turn.state) _ _
+    (noted_dropped sc (n + 1) call.to (call_over sc number call) mid knows timed
+    (λ succ fingers lines list own notes.
+    noted_timed_out sc (n + 1 + 1) number call.to call.purpose
+    (without_call number (record mid { state = record mid.state { succ = succ; fingers = fingers }; lines = lines })) at lasts
+    (record { own = knows.own; via_known = knows.via_known; prdc_known = knows.prdc_known; succ_known = list; fingers_known = own })
+    notes))
+    (one_more sc (n + 1 + 1 + 1) (noted_timed_out sc (n + 1) number call.to call.purpose (without_call number mid) at lasts knows timed))
+
+lasts_known : (sc : Scenario) (s : NodeState) → IsNodeState sc s → All (HasLast sc) s.lookups
+lasts_known sc s is = λ k d within. (is.lookups.each k d within).last
 
 noted_timeout : (sc : Scenario) (n number : ℕ) (turn : Turn) → IsNodeState sc turn.state → KnowsNodes sc turn.state → HasNoted sc n turn
-    → HasNoted sc (n + 1 + 1 + 1) (timeout sc number turn)
+    → HasNoted sc (n + 1 + 1 + 1 + 1) (timeout sc number turn)
 unfolding timeout
 noted_timeout sc n number turn is knows h =
-    noted_when_some sc (n + 1 + 1 + 1) (IsCall sc) (call_of number turn.state) _ turn
+    noted_when_some sc (n + 1 + 1 + 1 + 1) (IsCall sc) (call_of number turn.state) _ turn
     (IfSome-find (IsCall sc) (λ (call : Call). call.number == number) turn.state.calls is.calls.each)
-    (three_more sc n h)
-    (λ call out. noted_if sc (n + 1 + 1 + 1) (nat_lt call.resent sc.retries) _ _
-    (one_more sc (n + 1 + 1) (noted_call_repeated sc n number call turn out.to h))
-    (noted_call_given_up sc n number call turn out.to knows h))
+    (one_more sc (n + 1 + 1 + 1) (three_more sc n h))
+    (λ call out. noted_if sc (n + 1 + 1 + 1 + 1) (nat_lt call.resent sc.retries) _ _
+    (two_more sc (n + 1 + 1) (noted_call_repeated sc n number call turn out.to h))
+    (noted_call_given_up sc n number call turn out.to (lasts_known sc turn.state is) knows h))
 
 -- Requests, and notifies
 
@@ -454,20 +564,32 @@ noted_join_answered sc n to a turn at names knows h =
     noted_for_attempt sc n (join_followed sc to a) turn
     (λ attempt. noted_join_followed sc n to a attempt (without_attempt turn) at names knows h) h
 
-noted_lookup_answered : (sc : Scenario) (n : ℕ) (a : Answer) (place : ℕ) (lookup : Lookup) (turn : Turn) → NamesNode sc a → HasNoted sc n turn
-    → HasNoted sc (n + 1 + 1) (lookup_answered sc a place lookup turn)
+noted_lookup_answered : (sc : Scenario) (n from : ℕ) (a : Answer) (place : ℕ) (lookup : Lookup) (turn : Turn) → from < node_count sc → NamesNode sc a
+    → HasLast sc lookup → KnowsNodes sc turn.state → HasNoted sc n turn → HasNoted sc (n + 1 + 1) (lookup_answered sc from a place lookup turn)
 unfolding lookup_answered
-noted_lookup_answered sc n a place lookup turn names h =
-    noted_lookup_followed sc n place (record lookup { hops = lookup.hops + 1 }) a turn names h
+noted_lookup_answered sc n from a place lookup turn at names last knows h =
+    noted_if sc (n + 1 + 1) (sc.rules.goes_on && is_stuck a) _ _
+    (noted_lookup_diverted sc n from place (arrived sc from a lookup) turn
+    (arrived_last sc (sc.rules.goes_on && not (is_stuck a)) from lookup.last at last) knows h)
+    (noted_lookup_followed sc n place (arrived sc from a lookup) a turn names h)
+
+noted_owner_answered : (sc : Scenario) (n owner : ℕ) (prdc : Option ℕ) (place : ℕ) (lookup : Lookup) (turn : Turn) → owner < node_count sc
+    → IfSome prdc (λ node. node < node_count sc) → HasNoted sc n turn → HasNoted sc (n + 1 + 1) (owner_answered sc owner prdc place lookup turn)
+unfolding owner_answered
+noted_owner_answered sc n owner None place lookup turn at known h = one_more sc (n + 1) (noted_lookup_finished sc n lookup owner turn at h)
+noted_owner_answered sc n owner (Some prdc) place lookup turn at known h =
+    noted_if sc (n + 1 + 1) (is_handed_over sc lookup owner prdc) _ _
+    (noted_lookup_asked sc n place lookup prdc purpose.Owner turn known h)
+    (one_more sc (n + 1) (noted_lookup_finished sc n lookup owner turn at h))
 
 noted_answered_for : (sc : Scenario) (n : ℕ) (a : Answer) (call : Call) (wanted : Purpose) (turn : Turn) → call.to < node_count sc → NamesNode sc a
-    → KnowsNodes sc turn.state → HasNoted sc n turn → HasNoted sc (n + 1 + 1) (answered_for sc a call wanted turn)
-noted_answered_for sc n a call purpose.Lookup turn at names knows h =
-    noted_with_lookup sc n call.number (lookup_answered sc a) turn
-    (λ place lookup g. noted_lookup_answered sc n a place lookup (without_lookup place turn) names g) h
-noted_answered_for sc n a call purpose.JoinStep turn at names knows h =
+    → All (HasLast sc) turn.state.lookups → KnowsNodes sc turn.state → HasNoted sc n turn → HasNoted sc (n + 1 + 1) (answered_for sc a call wanted turn)
+noted_answered_for sc n a call purpose.Lookup turn at names lasts knows h =
+    noted_with_lookup sc (HasLast sc) n call.number (lookup_answered sc call.to a) turn
+    (λ place lookup last g. noted_lookup_answered sc n call.to a place lookup (without_lookup place turn) at names last knows g) lasts h
+noted_answered_for sc n a call purpose.JoinStep turn at names lasts knows h =
     noted_join_answered sc n call.to a turn at names knows h
-noted_answered_for sc n a call _ turn at names knows h = two_more sc n h
+noted_answered_for sc n a call _ turn at names lasts knows h = two_more sc n h
 
 noted_step_replied : (sc : Scenario) (n sender number : ℕ) (a : Answer) (turn : Turn) → sender < node_count sc → NamesNode sc a
     → IsNodeState sc turn.state → KnowsNodes sc turn.state → HasNoted sc n turn → HasNoted sc (n + 1 + 1) (step_replied sc sender number a turn)
@@ -476,7 +598,7 @@ noted_step_replied sc n sender number a turn at names is knows h =
     noted_replied sc (n + 1) kind.StepReply sender (λ call. answered_for sc a call call.purpose) (answered_call kind.StepReply number turn.state) turn
     at (call_answered sc kind.StepReply number turn.state is)
     (one_more sc n h)
-    (λ call out. noted_answered_for sc n a call call.purpose (without_call call.number turn) out.to names knows h)
+    (λ call out. noted_answered_for sc n a call call.purpose (without_call call.number turn) out.to names (lasts_known sc turn.state is) knows h)
 
 -- a node that takes the successors of another knows the scenario's nodes
 knows_successors_taken : (sc : Scenario) (to : ℕ) (list : List ℕ) (turn : Turn) → to < node_count sc → AllNodes sc list → KnowsNodes sc turn.state
@@ -507,15 +629,26 @@ noted_state_answered sc n None list call turn at all to_known knows h =
     noted_head_notified sc n (successors_taken sc call.to list turn) (knows_successors_taken sc call.to list turn to_known all knows) h
 noted_state_answered sc n (Some prdc) list call turn at all to_known knows h = noted_predecessor_told sc n prdc list call turn at all to_known knows h
 
+noted_state_answered_for : (sc : Scenario) (n : ℕ) (prdc : Option ℕ) (list : List ℕ) (call : Call) (wanted : Purpose) (turn : Turn)
+    → IfSome prdc (λ node. node < node_count sc) → AllNodes sc list → call.to < node_count sc → All (HasLast sc) turn.state.lookups
+    → KnowsNodes sc turn.state → HasNoted sc n turn → HasNoted sc (n + 1 + 1) (state_answered_for sc prdc list call wanted turn)
+noted_state_answered_for sc n prdc list call purpose.State turn at all to_known lasts knows h =
+    one_more sc (n + 1) (noted_state_answered sc n prdc list call turn at all to_known knows h)
+noted_state_answered_for sc n prdc list call purpose.Owner turn at all to_known lasts knows h =
+    noted_with_lookup sc (HasLast sc) n call.number (owner_answered sc call.to prdc) turn
+    (λ place lookup last g. noted_owner_answered sc n call.to prdc place lookup (without_lookup place turn) to_known at g) lasts h
+noted_state_answered_for sc n prdc list call _ turn at all to_known lasts knows h = two_more sc n h
+
 noted_state_replied : (sc : Scenario) (n sender number : ℕ) (prdc : Option ℕ) (list : List ℕ) (turn : Turn) → sender < node_count sc
     → IfSome prdc (λ node. node < node_count sc)
     → AllNodes sc list → IsNodeState sc turn.state → KnowsNodes sc turn.state → HasNoted sc n turn
-    → HasNoted sc (n + 1) (state_replied sc sender number prdc list turn)
+    → HasNoted sc (n + 1 + 1) (state_replied sc sender number prdc list turn)
 unfolding state_replied
 noted_state_replied sc n sender number prdc list turn at prdc_known all is knows h =
-    noted_replied sc n kind.StateReply sender (state_answered sc prdc list) (answered_call kind.StateReply number turn.state) turn
-    at (call_answered sc kind.StateReply number turn.state is) h
-    (λ call out. noted_state_answered sc n prdc list call (without_call call.number turn) prdc_known all out.to knows h)
+    noted_replied sc (n + 1) kind.StateReply sender (λ call. state_answered_for sc prdc list call call.purpose) (answered_call kind.StateReply number turn.state) turn
+    at (call_answered sc kind.StateReply number turn.state is) (one_more sc n h)
+    (λ call out. noted_state_answered_for sc n prdc list call call.purpose (without_call call.number turn) prdc_known all out.to
+    (lasts_known sc turn.state is) knows h)
 
 noted_list_answered : (sc : Scenario) (n to : ℕ) (list : List ℕ) (turn : Turn) → to < node_count sc → AllNodes sc list → KnowsNodes sc turn.state
     → HasNoted sc n turn → HasNoted sc (n + 1) (list_answered sc to list turn)
@@ -564,44 +697,46 @@ noted_ponged sc n sender number turn at is h =
 -- The whole table
 
 noted_acted : (sc : Scenario) (n sender : ℕ) (message : Body) (turn : Turn) → sender < node_count sc → IsBody sc message → IsNodeState sc turn.state
-    → KnowsNodes sc turn.state → HasNoted sc n turn → HasNoted sc (n + 1 + 1 + 1) (acted sc sender message turn)
+    → KnowsNodes sc turn.state → HasNoted sc n turn → HasNoted sc (n + 1 + 1 + 1 + 1) (acted sc sender message turn)
 noted_acted sc n sender (body.CmdJoin via) turn at names is knows h =
-    one_more sc (n + 1 + 1) (noted_cmd_join sc n via turn names h)
+    one_more sc (n + 1 + 1 + 1) (one_more sc (n + 1 + 1) (noted_cmd_join sc n via turn names h))
 noted_acted sc n sender body.CmdCrash turn at names is knows h =
-    two_more sc (n + 1) (noted_cmd_crash sc n turn h)
-noted_acted sc n sender (body.CmdLookup key) turn at names is knows h = noted_cmd_lookup sc n key turn knows h
+    one_more sc (n + 1 + 1 + 1) (two_more sc (n + 1) (noted_cmd_crash sc n turn h))
+noted_acted sc n sender (body.CmdLookup key) turn at names is knows h =
+    one_more sc (n + 1 + 1 + 1) (noted_cmd_lookup sc n key turn knows h)
 noted_acted sc n sender (body.StabilizeTick epoch) turn at names is knows h =
-    two_more sc (n + 1) (noted_stabilize_tick sc n epoch turn knows h)
+    one_more sc (n + 1 + 1 + 1) (two_more sc (n + 1) (noted_stabilize_tick sc n epoch turn knows h))
 noted_acted sc n sender (body.FingerTick epoch) turn at names is knows h =
-    one_more sc (n + 1 + 1) (noted_finger_tick sc n epoch turn knows h)
-noted_acted sc n sender (body.TrafficTick epoch) turn at names is knows h = noted_traffic_tick sc n epoch turn knows h
+    one_more sc (n + 1 + 1 + 1) (one_more sc (n + 1 + 1) (noted_finger_tick sc n epoch turn knows h))
+noted_acted sc n sender (body.TrafficTick epoch) turn at names is knows h =
+    one_more sc (n + 1 + 1 + 1) (noted_traffic_tick sc n epoch turn knows h)
 noted_acted sc n sender (body.LifeEnd epoch) turn at names is knows h =
-    two_more sc (n + 1) (noted_life_end sc n epoch turn h)
+    one_more sc (n + 1 + 1 + 1) (two_more sc (n + 1) (noted_life_end sc n epoch turn h))
 noted_acted sc n sender (body.Rise epoch) turn at names is knows h =
-    one_more sc (n + 1 + 1) (noted_rise sc n epoch turn knows.via_known h)
+    one_more sc (n + 1 + 1 + 1) (one_more sc (n + 1 + 1) (noted_rise sc n epoch turn knows.via_known h))
 noted_acted sc n sender (body.CheckTick epoch) turn at names is knows h =
-    two_more sc (n + 1) (noted_check_tick sc n epoch turn knows h)
+    one_more sc (n + 1 + 1 + 1) (two_more sc (n + 1) (noted_check_tick sc n epoch turn knows h))
 noted_acted sc n sender (body.Rejoin epoch) turn at names is knows h =
-    one_more sc (n + 1 + 1) (noted_rejoin sc n epoch turn knows h)
+    one_more sc (n + 1 + 1 + 1) (one_more sc (n + 1 + 1) (noted_rejoin sc n epoch turn knows h))
 noted_acted sc n sender (body.Timeout number) turn at names is knows h = noted_timeout sc n number turn is knows h
 noted_acted sc n sender (body.Step number key avoid) turn at names is knows h =
-    two_more sc (n + 1) (noted_step_asked sc n sender number key avoid turn at h)
+    one_more sc (n + 1 + 1 + 1) (two_more sc (n + 1) (noted_step_asked sc n sender number key avoid turn at h))
 noted_acted sc n sender (body.GetState number) turn at names is knows h =
-    two_more sc (n + 1) (noted_state_asked sc n sender number turn at h)
+    one_more sc (n + 1 + 1 + 1) (two_more sc (n + 1) (noted_state_asked sc n sender number turn at h))
 noted_acted sc n sender (body.GetList number) turn at names is knows h =
-    two_more sc (n + 1) (noted_list_asked sc n sender number turn at h)
+    one_more sc (n + 1 + 1 + 1) (two_more sc (n + 1) (noted_list_asked sc n sender number turn at h))
 noted_acted sc n sender (body.Ping number) turn at names is knows h =
-    two_more sc (n + 1) (noted_pinged sc n sender number turn at h)
+    one_more sc (n + 1 + 1 + 1) (two_more sc (n + 1) (noted_pinged sc n sender number turn at h))
 noted_acted sc n sender body.Notify turn at names is knows h =
-    two_more sc (n + 1) (noted_notified sc n sender turn at knows h)
+    one_more sc (n + 1 + 1 + 1) (two_more sc (n + 1) (noted_notified sc n sender turn at knows h))
 noted_acted sc n sender (body.StepReply number a) turn at names is knows h =
-    one_more sc (n + 1 + 1) (noted_step_replied sc n sender number a turn at names is knows h)
+    one_more sc (n + 1 + 1 + 1) (one_more sc (n + 1 + 1) (noted_step_replied sc n sender number a turn at names is knows h))
 noted_acted sc n sender (body.StateReply number prdc list) turn at names is knows h =
-    two_more sc (n + 1) (noted_state_replied sc n sender number prdc list turn at names.0 names.1 is knows h)
+    one_more sc (n + 1 + 1 + 1) (one_more sc (n + 1 + 1) (noted_state_replied sc n sender number prdc list turn at names.0 names.1 is knows h))
 noted_acted sc n sender (body.ListReply number list) turn at names is knows h =
-    one_more sc (n + 1 + 1) (noted_list_replied sc n sender number list turn at names is knows h)
+    one_more sc (n + 1 + 1 + 1) (one_more sc (n + 1 + 1) (noted_list_replied sc n sender number list turn at names is knows h))
 noted_acted sc n sender (body.Pong number) turn at names is knows h =
-    two_more sc (n + 1) (noted_ponged sc n sender number turn at is h)
+    one_more sc (n + 1 + 1 + 1) (two_more sc (n + 1) (noted_ponged sc n sender number turn at is h))
 
 -- a state has at most 60 lookups of users and one of a finger
 lookups_few : (sc : Scenario) (fingers : ℕ) (lookups : List Lookup) → AreLookups sc fingers lookups → length lookups ≤ 61
@@ -617,7 +752,7 @@ lookups_few sc fingers lookups h =
 
 -- what an event leaves by the rules
 noted_acts : (sc : Scenario) (s : NodeState) (e : Event Body) → IsNodeState sc s → IsSoundEvent sc e
-    → HasNoted sc (61 + 1 + 1 + 1) (acted sc (e.key.origin - 2) e.body (opening s e))
+    → HasNoted sc (61 + 1 + 1 + 1 + 1) (acted sc (e.key.origin - 2) e.body (opening s e))
 noted_acts sc s e h is =
     noted_acted sc 61 (e.key.origin - 2) e.body (opening s e) (omega (arith, is.origin, h.me)) is.body h
     (record {
@@ -630,14 +765,14 @@ noted_acts sc s e h is =
     (record { named = none_of (IsLineOf sc); few = omega (arith, lookups_few sc (length s.fingers) s.lookups h.lookups) })
 
 noted_effect : (sc : Scenario) (s : NodeState) (e : Event Body) → IsInRange sc → IsNodeState sc s → IsSoundEvent sc e
-    → HasDetail sc (61 + 1 + 1 + 1) (effect sc s e)
+    → HasDetail sc (61 + 1 + 1 + 1 + 1) (effect sc s e)
 unfolding effect
 noted_effect sc s e ranges h is =
     let turn : Turn = opening s e in
     let done : Turn = acted sc (e.key.origin - 2) e.body turn in
     let g : Grows sc most_made most_drawn turn done = grows_acted sc (e.key.origin - 2) e.body turn ranges in
     let few : length done.events ≤ most_made = omega (arith, ap length g.appended, g.at_most) in
-    noted_detailed sc (61 + 1 + 1 + 1) done few (kept_acts sc s e ranges h is) (noted_acts sc s e h is)
+    noted_detailed sc (61 + 1 + 1 + 1 + 1) done few (kept_acts sc s e ranges h is) (noted_acts sc s e h is)
 
 pub block_known : (sc : Scenario) (s : NodeState) (e : Event Body) → IsInRange sc → IsNodeState sc s → IsSoundEvent sc e → IsBlockOf sc (block_of sc s e)
 block_known sc s e ranges h is = record { target = is.target; lines = (noted_effect sc s e ranges h is).named }

@@ -8,6 +8,8 @@ use Rattle.chord_event.specs.declared.body.Body.TheVariants as body
 use Rattle.chord_event.specs.declared.event.Event.{Event}
 use Rattle.chord_event.specs.declared.line.Line.{Line}
 use Rattle.chord_event.specs.declared.line.Line.TheVariants as line
+use Rattle.chord_event.specs.declared.line.MessageKind.{MessageKind}
+use Rattle.chord_event.specs.declared.line.MessageKind.TheVariants as kind
 use Rattle.chord_scenario.specs.declared.scenario.Scenario.{Scenario}
 use Rattle.chord_scenario.specs.Blocks.{IsLineOf}
 use Rattle.chord_scenario.specs.World.{node_count}
@@ -31,12 +33,14 @@ pub record HasDetail (sc : Scenario) (n : ℕ) (turn : Turn) : Type 0 where
   pub named : All (IsLineOf sc) turn.lines
   pub few : length turn.lines ≤ n + most_made
 
+seek_known : (sc : Scenario) (k : MessageKind) (call : Call) (o : Option Lookup) → call.to < node_count sc
+    → IfSome (option_map (λ (lookup : Lookup). line.Seek k call.to call.number lookup.key lookup.started) o) (IsLineOf sc)
+seek_known sc k call None at = tt
+seek_known sc k call (Some lookup) at = one_node sc call.to at
+
 request_known : (sc : Scenario) (s : NodeState) (call : Call) (wanted : Purpose) → call.to < node_count sc → IfSome (request_line s call wanted) (IsLineOf sc)
-request_known sc s call purpose.Lookup at = sought (find (λ (lookup : Lookup). lookup.call == call.number) s.lookups)
-  where
-    sought : (o : Option Lookup) → IfSome (option_map (λ (lookup : Lookup). line.Seek call.to call.number lookup.key lookup.started) o) (IsLineOf sc)
-    sought None = tt
-    sought (Some lookup) = one_node sc call.to at
+request_known sc s call purpose.Lookup at = seek_known sc kind.Step call (find (λ (lookup : Lookup). lookup.call == call.number) s.lookups) at
+request_known sc s call purpose.Owner at = seek_known sc kind.GetState call (find (λ (lookup : Lookup). lookup.call == call.number) s.lookups) at
 request_known sc s call purpose.JoinStep at = one_node sc call.to at
 request_known sc s call purpose.JoinList at = one_node sc call.to at
 request_known sc s call purpose.State at = one_node sc call.to at

@@ -1,5 +1,5 @@
 -- A node that is looked at twice in a row counts once, in the search for the closest preceding node.
-use Rattle.std.proofs.Common.{◌≡◌, ◌==◌, ℕ, Bool, true, false, List, [], ◌∷◌, refl, nat_lt, arith, Some, None}
+use Rattle.std.proofs.Common.{◌≡◌, ◌==◌, ℕ, Bool, true, false, List, [], ◌∷◌, ◌++◌, ◌∙◌, refl, nat_lt, arith, Some, None}
 use Rattle.std.proofs.lemmas.Grind.{common_steps}
 use Rattle.std.proofs.lemmas.Bool.Decides.{nat_tests}
 use Rattle.std.specs.List.{filter, fold, list_all}
@@ -8,7 +8,7 @@ use Rattle.chord_scenario.specs.declared.scenario.Scenario.{Scenario}
 use Rattle.chord_circle.specs.Circle.{distance}
 use Rattle.chord_scenario.specs.World.{ident_of}
 use Rattle.chord_node.specs.declared.state.NodeState.{NodeState}
-use Rattle.chord_ops.specs.Search.{closest_preceding, farther, finger_nodes, precedes, successor_in_use, visited}
+use Rattle.chord_ops.specs.Search.{closest_preceding, farther, list_nodes, precedes, routing_nodes, successor_in_use, visited}
 
 -- how far a node is from node n
 abbrev far : Scenario → (n x : ℕ) → ℕ
@@ -48,14 +48,24 @@ visited_all sc n key avoid c (x ∷ xs) =
       | false ↦ visited_all sc n key avoid c xs
     ]
 
--- the closest preceding node, by looking at the successor in use and then at the fingers
-pub closest_after_some : (sc : Scenario) (s : NodeState) (key : ℕ) (avoid : List ℕ) (x : ℕ) → Some x ≡ successor_in_use s avoid
-    → fold (visited sc s.me key avoid) (visited sc s.me key avoid s.me x) s.fingers ≡ closest_preceding sc s key avoid
-unfolding closest_preceding
-closest_after_some sc s key avoid x found = rw (visited_all sc s.me key avoid s.me (finger_nodes s avoid), ← found) refl
+-- to look at nodes and then at more
+looked_on : (f : ℕ → ℕ → ℕ) (c : ℕ) (xs ys : List ℕ) → fold f (fold f c xs) ys ≡ fold f c (xs ++ ys)
+looked_on f c [] ys = refl
+looked_on f c (x ∷ xs) ys = looked_on f (f c x) xs ys
 
--- the closest preceding node without a successor in use, by looking at the fingers
-pub closest_after_none : (sc : Scenario) (s : NodeState) (key : ℕ) (avoid : List ℕ) → None ≡ successor_in_use s avoid
-    → fold (visited sc s.me key avoid) s.me s.fingers ≡ closest_preceding sc s key avoid
+-- the closest preceding node, by looking at the successor in use, then at the list if it routes, and then at the fingers
+pub closest_after_some : (sc : Scenario) (s : NodeState) (key : ℕ) (avoid : List ℕ) (x : ℕ) → Some x ≡ successor_in_use s avoid
+    → fold (visited sc s.me key avoid) (fold (visited sc s.me key avoid) (visited sc s.me key avoid s.me x) (list_nodes sc s)) s.fingers
+    ≡ closest_preceding sc s key avoid
 unfolding closest_preceding
-closest_after_none sc s key avoid found = rw (visited_all sc s.me key avoid s.me (finger_nodes s avoid), ← found) refl
+closest_after_some sc s key avoid x found =
+    let step : ℕ → ℕ → ℕ = visited sc s.me key avoid in
+    looked_on step (step s.me x) (list_nodes sc s) s.fingers ∙ rw (visited_all sc s.me key avoid s.me (routing_nodes sc s avoid), ← found) refl
+
+-- the closest preceding node without a successor in use, by looking at the others
+pub closest_after_none : (sc : Scenario) (s : NodeState) (key : ℕ) (avoid : List ℕ) → None ≡ successor_in_use s avoid
+    → fold (visited sc s.me key avoid) (fold (visited sc s.me key avoid) s.me (list_nodes sc s)) s.fingers ≡ closest_preceding sc s key avoid
+unfolding closest_preceding
+closest_after_none sc s key avoid found =
+    looked_on (visited sc s.me key avoid) s.me (list_nodes sc s) s.fingers
+    ∙ rw (visited_all sc s.me key avoid s.me (routing_nodes sc s avoid), ← found) refl

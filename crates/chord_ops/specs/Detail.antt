@@ -6,6 +6,7 @@ use Rattle.chord_event.specs.declared.body.Body.TheVariants as body
 use Rattle.chord_event.specs.declared.event.Event.{Event}
 use Rattle.chord_event.specs.declared.line.Line.{Line}
 use Rattle.chord_event.specs.declared.line.Line.TheVariants as line
+use Rattle.chord_event.specs.declared.line.MessageKind.{MessageKind}
 use Rattle.chord_event.specs.declared.line.MessageKind.TheVariants as kind
 use Rattle.chord_scenario.specs.declared.scenario.Scenario.{Scenario}
 use Rattle.chord_node.specs.declared.state.Call.{Call}
@@ -15,10 +16,15 @@ use Rattle.chord_node.specs.declared.state.Purpose.TheVariants as purpose
 use Rattle.chord_ops.specs.Procedures.{call_of}
 use Rattle.chord_ops.specs.declared.turn.Turn.{Turn}
 
--- the line of a call's request, by the purpose of the call; a call of a lookup has its lookup beside it
+-- the line of a lookup's request, which has its lookup beside it
+abbrev pub seek_line : NodeState → MessageKind → Call → Option Line
+seek_line s kind call =
+    option_map (λ lookup. line.Seek kind call.to call.number lookup.key lookup.started) (find (λ lookup. lookup.call == call.number) s.lookups)
+
+-- the line of a call's request, by the purpose of the call
 abbrev pub request_line : NodeState → Call → Purpose → Option Line
-request_line s call purpose.Lookup =
-    option_map (λ lookup. line.Seek call.to call.number lookup.key lookup.started) (find (λ lookup. lookup.call == call.number) s.lookups)
+request_line s call purpose.Lookup = seek_line s kind.Step call
+request_line s call purpose.Owner = seek_line s kind.GetState call
 request_line s call purpose.JoinStep = Some (line.Ask kind.Step call.to call.number)
 request_line s call purpose.JoinList = Some (line.Ask kind.GetList call.to call.number)
 request_line s call purpose.State = Some (line.Ask kind.GetState call.to call.number)

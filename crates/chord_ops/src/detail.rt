@@ -1,6 +1,6 @@
 //! What an event tells of the messages that it has made.
 ghost use Rattle.std.specs.Prelude.{◌≡◌, OnOk, ◌++◌};
-ghost use Rattle.chord_ops.specs.Detail.{detailed, line_for, message_lines, request_line};
+ghost use Rattle.chord_ops.specs.Detail.{detailed, line_for, message_lines, request_line, seek_line};
 
 use crate::calls::find_call;
 use crate::joins::push_some;
@@ -10,8 +10,8 @@ use chord_node::{Call, NodeState, Purpose};
 use chord_scenario::Scenario;
 
 /// The line of a lookup's request.
-fn line_of_lookup(state: &NodeState, call: Call) -> Option<Line>
-    ensures { result ≡ request_line state.now call Purpose.Lookup }
+fn seek_line(state: &NodeState, kind: MessageKind, call: Call) -> Option<Line>
+    ensures { result ≡ seek_line state.now kind call }
 {
     match state
         .lookups
@@ -20,6 +20,7 @@ fn line_of_lookup(state: &NodeState, call: Call) -> Option<Line>
         .find(|lookup| lookup.call == call.number)
     {
         Some(lookup) => Some(Line::Seek {
+            kind,
             receiver: call.to,
             call: call.number,
             key: lookup.key,
@@ -34,7 +35,8 @@ fn request_line(state: &NodeState, call: Call) -> Option<Line>
     ensures { result ≡ request_line state.now call call.purpose }
 {
     let kind = match call.purpose {
-        Purpose::Lookup => return line_of_lookup(state, call),
+        Purpose::Lookup => return seek_line(state, MessageKind::Step, call),
+        Purpose::Owner => return seek_line(state, MessageKind::GetState, call),
         Purpose::JoinStep => MessageKind::Step,
         Purpose::JoinList | Purpose::List => MessageKind::GetList,
         Purpose::State => MessageKind::GetState,

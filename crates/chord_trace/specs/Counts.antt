@@ -17,6 +17,7 @@ use Rattle.chord_trace.specs.Kinds.{
   is_loss,
   is_again,
   is_forgotten,
+  is_rescue,
 }
 use Rattle.chord_trace.specs.declared.line_counts.LineCounts.{LineCounts}
 
@@ -38,6 +39,7 @@ counts_in lines = record {
   losses = count_by is_loss lines;
   again = count_by is_again lines;
   forgotten = count_by is_forgotten lines;
+  rescues = count_by is_rescue lines;
 }
 
 -- two counts added, kind by kind
@@ -58,6 +60,7 @@ plus a b = record {
   losses = a.losses + b.losses;
   again = a.again + b.again;
   forgotten = a.forgotten + b.forgotten;
+  rescues = a.rescues + b.rescues;
 }
 
 -- no count is above the limit
@@ -77,3 +80,4 @@ pub record AreWithin (limit : ℕ) (c : LineCounts) : Type 0 where
   pub losses : c.losses ≤ limit
   pub again : c.again ≤ limit
   pub forgotten : c.forgotten ≤ limit
+  pub rescues : c.rescues ≤ limit

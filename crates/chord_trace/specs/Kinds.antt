@@ -43,6 +43,10 @@ abbrev pub is_forgotten : Line → Bool
 is_forgotten (line.Forget predecessor) = true
 is_forgotten _ = false
 
+abbrev pub is_rescue : Line → Bool
+is_rescue (line.Rescue finger) = true
+is_rescue _ = false
+
 abbrev pub is_lookup : Line → Bool
 is_lookup (line.Lookup key) = true
 is_lookup _ = false

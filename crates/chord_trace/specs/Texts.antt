@@ -49,9 +49,10 @@ line_words sc (line.Timeout silent) = codes "timeout " ++ name_of sc silent
 line_words sc (line.Lose kind receiver) = message_words sc (codes "lose") kind receiver
 line_words sc (line.Again kind receiver) = message_words sc (codes "again") kind receiver
 line_words sc (line.Forget predecessor) = codes "forget " ++ name_of sc predecessor
+line_words sc (line.Rescue finger) = codes "rescue " ++ name_of sc finger
 line_words sc (line.Ask kind receiver call) = message_words sc (codes "ask") kind receiver ++ codes " call=" ++ decimal call
-line_words sc (line.Seek receiver call key since) =
-    message_words sc (codes "ask") message.Step receiver
+line_words sc (line.Seek kind receiver call key since) =
+    message_words sc (codes "ask") kind receiver
     ++ codes " call=" ++ decimal call ++ codes " key=" ++ decimal key ++ codes " since=" ++ decimal since
 line_words sc (line.Send kind receiver) = message_words sc (codes "send") kind receiver
 line_words sc (line.Lookup key) = codes "lookup " ++ decimal key

@@ -89,18 +89,20 @@ fn push_words(text: &mut String, scenario: &Scenario, line: Line) -> Result<(), 
         Line::Again { kind, receiver } => push_message(text, scenario, "again", kind, receiver),
         Line::Timeout { silent } => push_node(text, scenario, "timeout ", silent),
         Line::Forget { predecessor } => push_node(text, scenario, "forget ", predecessor),
+        Line::Rescue { finger } => push_node(text, scenario, "rescue ", finger),
         Line::Ask {
             kind,
             receiver,
             call,
         } => push_ask(text, scenario, kind, receiver, call),
         Line::Seek {
+            kind,
             receiver,
             call,
             key,
             since,
         } => {
-            push_ask(text, scenario, MessageKind::Step, receiver, call)?;
+            push_ask(text, scenario, kind, receiver, call)?;
             write!(text, " key={} since={since}", key.raw())
         }
         Line::Send { kind, receiver } => push_message(text, scenario, "send", kind, receiver),

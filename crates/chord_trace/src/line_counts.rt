@@ -22,6 +22,8 @@ pub struct LineCounts {
     pub again: u64,
     /// Predecessors that were forgotten. Only the extended profile has them.
     pub forgotten: u64,
+    /// Fingers that were taken as successors. Only the extended profile has them.
+    pub rescues: u64,
 }
 
 impl LineCounts {
@@ -61,6 +63,7 @@ impl LineCounts {
             losses: self.losses + other.losses,
             again: self.again + other.again,
             forgotten: self.forgotten + other.forgotten,
+            rescues: self.rescues + other.rescues,
         }
     }
 
@@ -86,6 +89,7 @@ impl LineCounts {
             Line::Lose { .. } => self.losses += 1,
             Line::Again { .. } => self.again += 1,
             Line::Forget { .. } => self.forgotten += 1,
+            Line::Rescue { .. } => self.rescues += 1,
         }
     }
 }

@@ -66,6 +66,12 @@ impl Report {
             self.profile == EXTENDED_PROFILE,
             "forgotten",
             self.lines.forgotten,
+        )?;
+        push_if(
+            text,
+            self.profile == EXTENDED_PROFILE,
+            "rescues",
+            self.lines.rescues,
         )
     }
 

@@ -29,6 +29,9 @@ returns-in-Timeout c = rw c.in-Timeout.is c.push_node-in-Timeout.ensures
 pub returns-in-Forget : goal.returns-in-Forget
 returns-in-Forget c = rw c.in-Forget.is c.push_node-in-Forget.ensures
 
+pub returns-in-Rescue : goal.returns-in-Rescue
+returns-in-Rescue c = rw c.in-Rescue.is c.push_node-in-Rescue.ensures
+
 pub returns-in-Ask : goal.returns-in-Ask
 returns-in-Ask c = rw c.in-Ask.is c.push_ask.ensures
 
