@@ -38,6 +38,7 @@ use Rattle.chord_node.specs.declared.state.Status.TheVariants as status
 use Rattle.chord_node.specs.Invariant.{IsNodeState}
 use Rattle.chord_node.specs.Ring.{clockwise, finger, first_member, initial_state, never_up, others, put_by, sorted_by, way}
 use Rattle.chord_node.proofs.Rings.{clockwise-known, other-known, range-apart, filter-apart, timers-few}
+use Rattle.chord_node.proofs.RotationStart.{first_within}
 use Rattle.chord_node.proofs.Sorting.{AreApart}
 use Rattle.chord_ops.proofs.KeptRules.{no_calls, no_lookups, none_of}
 use Rattle.chord_scenario.specs.declared.scenario.Scenario.{Scenario}
@@ -158,7 +159,7 @@ member-sound sc n ranges known =
     record {
       me = known;
       epoch = omega (arith, few.0);
-      next_finger = (omega arith, omega (arith, ranges.numbers.bits_least));
+      next_finger = first_within sc n (slice_get (clockwise sc n) 0) ranges;
       neighbours = record {
         via_known = got Known (others sc n) 0 (other-known sc n);
         prdc_known = got Known (clockwise sc n) (length (clockwise sc n) - 1) (clockwise-known sc n);

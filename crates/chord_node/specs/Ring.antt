@@ -5,6 +5,7 @@ use Rattle.chord_circle.specs.Circle.{distance}
 use Rattle.chord_scenario.specs.declared.scenario.Scenario.{Scenario}
 use Rattle.chord_scenario.specs.Start.{initial_nodes, timers}
 use Rattle.chord_scenario.specs.World.{ident_of, is_initial, node_count}
+use Rattle.chord_node.specs.Rotation.{first_looked_up}
 use Rattle.chord_node.specs.declared.state.NodeState.{NodeState}
 use Rattle.chord_node.specs.declared.state.Status.TheVariants as status
 
@@ -47,7 +48,7 @@ first_member sc n = record {
   prdc = slice_get (clockwise sc n) (length (clockwise sc n) - 1);
   succ = take sc.list (clockwise sc n);
   fingers = map (finger sc n) (range_with_len 2 (sc.bits - 1));
-  next_finger = 2;
+  next_finger = first_looked_up sc n (slice_get (clockwise sc n) 0);
   calls = [];
   lookups = [];
   join = None;

@@ -7,6 +7,7 @@ ghost use Rattle.chord_scenario.specs.World.{ident_of, is_initial, node_count};
 ghost use Rattle.chord_node.specs.Places.{placed, ring, successor, two_rounds};
 ghost use Rattle.chord_node.specs.Ring.{clockwise, finger, first_member, initial_ring, initial_state};
 
+use crate::rotation::first_looked_up;
 use crate::state::{NodeState, Status};
 use chord_circle::Raw;
 use chord_event::{Listed, Memory};
@@ -128,6 +129,16 @@ fn nodes_of(alloc: Global, places: &[Place]) -> Result<Listed<u32>, Memory>
     Ok(nodes)
 }
 
+/// The node that is met first.
+fn first_node(met: &[Place]) -> Option<u32>
+    ensures { result ≡ slice_get (map (λ p. p.node) met.now) 0 }
+{
+    match met.first() {
+        Some(place) => Some(place.node),
+        None => None,
+    }
+}
+
 /// The node that is met last.
 fn last_node(met: &[Place]) -> Option<u32>
     ensures { result ≡ slice_get (map (λ p. p.node) met.now) (length (map (λ p. p.node) met.now) - 1) }
@@ -206,7 +217,7 @@ fn first_member(
         prdc: last_node(met),
         succ: nodes_of(alloc, &met[..most])?,
         fingers: fingers(alloc, scenario, rounds, node)?,
-        next_finger: 2,
+        next_finger: first_looked_up(scenario, node, first_node(met)),
         calls: Listed::new(alloc),
         lookups: Listed::new(alloc),
         join: None,

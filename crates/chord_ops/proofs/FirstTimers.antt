@@ -1,16 +1,16 @@
 -- The timers that a run starts with are those that a node arms at time 0 in its first life.
-use Rattle.std.proofs.Common.{◌≡◌, ℕ, ◌+◌, List, [], ◌∷◌, ◌++◌, Option, Some, None, refl, sym, ap, ◌∙◌, append_assoc, append-nil, arith, map, zero-add}
+use Rattle.std.proofs.Common.{◌≡◌, ℕ, ◌+◌, List, [], ◌∷◌, ◌++◌, Option, Some, None, refl, sym, ap, ◌∙◌, append_assoc, append-nil, arith, map, option_map, zero-add}
 use Rattle.std.specs.List.{enumerate_from, filter_map}
 use Rattle.chord_event.specs.declared.body.Body.{Body}
 use Rattle.chord_event.specs.declared.event.Event.{Event}
 use Rattle.chord_scenario.specs.declared.scenario.Scenario.{Scenario}
 use Rattle.chord_scenario.specs.declared.setting.Span.{Span}
 use Rattle.chord_scenario.specs.Draws.{delay}
-use Rattle.chord_scenario.specs.Start.{check_timer, first_timers, life_timer, timer_event, timer_table, timers, traffic_timer}
+use Rattle.chord_scenario.specs.Start.{at_first, check_timer, first_timers, life_timer, timer_event, timer_table, timers, traffic_timer}
 use Rattle.chord_node.specs.declared.state.NodeState.{NodeState}
 use Rattle.chord_ops.specs.declared.turn.Turn.{Turn}
 use Rattle.chord_ops.specs.FirstTurns.{IsNew, first_turn}
-use Rattle.chord_ops.specs.Procedures.{armed, check_armed, finger_armed, life_armed, row_armed, rows_armed, stabilize_armed, traffic_armed}
+use Rattle.chord_ops.specs.Procedures.{armed, check_started, finger_started, life_armed, row_armed, rows_armed, stabilize_started, traffic_started}
 use Rattle.chord_ops.specs.Turns.{timer_made}
 use Rattle.chord_ops.proofs.KeptJoins.{same_row_armed}
 
@@ -48,14 +48,14 @@ timers_armed sc s is =
 
 -- the table is armed timer by timer
 pub armed_in_order : (sc : Scenario) (turn : Turn)
-    → check_armed sc (life_armed sc (traffic_armed sc (finger_armed sc (stabilize_armed sc turn)))) ≡ armed sc turn
-unfolding armed check_armed life_armed traffic_armed finger_armed stabilize_armed timer_made
+    → check_started sc (life_armed sc (traffic_started sc (finger_started sc (stabilize_started sc turn)))) ≡ armed sc turn
+unfolding armed check_started life_armed traffic_started finger_started stabilize_started timer_made
 armed_in_order sc turn =
-    let two : Turn = finger_armed sc (stabilize_armed sc turn) in
-    let traffic : Option (Span × Body) = traffic_timer sc turn.state.epoch in
+    let two : Turn = finger_started sc (stabilize_started sc turn) in
+    let traffic : Option (Span × Body) = option_map (at_first sc) (traffic_timer sc turn.state.epoch) in
     let three : Turn = row_armed sc traffic two in
     let life : ℕ → ℕ → Turn = λ me epoch. row_armed sc (life_timer sc me epoch) three in
-    let check : ℕ → Turn → Turn = λ epoch before. row_armed sc (check_timer sc epoch) before in
+    let check : ℕ → Turn → Turn = λ epoch before. row_armed sc (option_map (at_first sc) (check_timer sc epoch)) before in
     let epoch_is : three.state.epoch ≡ turn.state.epoch = same_row_armed (λ s. s.epoch) sc traffic two (λ s count place. refl) in
     let me_is : three.state.me ≡ turn.state.me = same_row_armed (λ s. s.me) sc traffic two (λ s count place. refl) in
     let four : Turn = life three.state.me three.state.epoch in

@@ -8,7 +8,7 @@ use Rattle.chord_event.specs.declared.body.Body.TheVariants as body
 use Rattle.chord_scenario.specs.declared.scenario.Scenario.{Scenario}
 use Rattle.chord_scenario.specs.declared.setting.Span.{Span}
 use Rattle.chord_scenario.specs.Range.{IsChurn, IsInRange, IsSpan}
-use Rattle.chord_scenario.specs.Start.{check_timer, jittered, life_timer, timer_table, traffic_timer}
+use Rattle.chord_scenario.specs.Start.{at_first, check_timer, finger_timer, first_span, jittered, life_timer, stabilize_timer, timer_table, traffic_timer}
 use Rattle.chord_scenario.specs.World.{is_churn_node}
 use Rattle.chord_ops.specs.Asked.{IsBody}
 use Rattle.chord_ops.proofs.Growing.{known}
@@ -51,20 +51,53 @@ life_end_is sc n epoch =
 pub check_later : (sc : Scenario) (epoch : ℕ) → IsLater (check_timer sc epoch)
 check_later sc epoch = at (sc.check == 0) refl
   where
-    at : (b : Bool) → (sc.check == 0) ≡ b → IsLater (if b then None else Some (jittered sc sc.check, body.CheckTick epoch))
+    at : (b : Bool) → (sc.check == 0) ≡ b → IsLater (if b then None else Some (jittered sc.check sc.jitters.check, body.CheckTick epoch))
     at true none = tt
     at false some = grind (arith, nat_tests)
 
 pub check_tick_is : (sc : Scenario) (epoch : ℕ) → IsTick sc (check_timer sc epoch)
 check_tick_is sc epoch = at (sc.check == 0)
   where
-    at : (b : Bool) → IsTick sc (if b then None else Some (jittered sc sc.check, body.CheckTick epoch))
+    at : (b : Bool) → IsTick sc (if b then None else Some (jittered sc.check sc.jitters.check, body.CheckTick epoch))
     at true = tt
     at false = tt
 
+-- first timers are not at once either, and are the same ticks
+first_later : (sc : Scenario) (row : Option (Span × Body)) → IsLater row → IsLater (option_map (at_first sc) row)
+unfolding first_span
+first_later sc None h = tt
+first_later sc (Some timer) h = by sc.rules.random_start
+  where
+    by : (b : Bool) → 1 ≤ (if b then record { least = 1; greatest = timer.0.greatest } else timer.0).least
+    by true = omega arith
+    by false = h
+
+first_tick : (sc : Scenario) (row : Option (Span × Body)) → IsTick sc row → IsTick sc (option_map (at_first sc) row)
+first_tick sc None h = tt
+first_tick sc (Some timer) h = h
+
 pub table_later : (sc : Scenario) (n epoch : ℕ) → IsInRange sc → AllByRecursion IsLater (timer_table sc n epoch)
 table_later sc n epoch h =
-    (h.numbers.stabilize.least, (h.numbers.finger.least, (traffic_later sc epoch h, (life_later sc n epoch h, (check_later sc epoch, tt)))))
+    (
+      first_later sc (Some (stabilize_timer sc epoch)) h.numbers.stabilize.least,
+      (
+        first_later sc (Some (finger_timer sc epoch)) h.numbers.finger.least,
+        (
+          first_later sc (traffic_timer sc epoch) (traffic_later sc epoch h),
+          (life_later sc n epoch h, (first_later sc (check_timer sc epoch) (check_later sc epoch), tt)),
+        ),
+      ),
+    )
 
 pub table_ticks : (sc : Scenario) (n epoch : ℕ) → AllByRecursion (IsTick sc) (timer_table sc n epoch)
-table_ticks sc n epoch = (tt, (tt, (traffic_tick_is sc epoch, (life_end_is sc n epoch, (check_tick_is sc epoch, tt)))))
+table_ticks sc n epoch =
+    (
+      tt,
+      (
+        tt,
+        (
+          first_tick sc (traffic_timer sc epoch) (traffic_tick_is sc epoch),
+          (life_end_is sc n epoch, (first_tick sc (check_timer sc epoch) (check_tick_is sc epoch), tt)),
+        ),
+      ),
+    )

@@ -3,6 +3,7 @@ pub mod Hexadecimal
 pub mod KeyFaults
 pub mod FirstSome
 pub mod Built
+pub mod FirstFingers
 pub mod FirstFound
 pub mod Documents
 pub mod FirstRepeat

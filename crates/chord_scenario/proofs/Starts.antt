@@ -27,6 +27,7 @@ use Rattle.std.proofs.Common.{
   Option,
   Some,
   None,
+  option_map,
   inl,
   inr,
   append_assoc,
@@ -36,6 +37,8 @@ use Rattle.std.proofs.Common.{
 }
 use Rattle.std.specs.List.{enumerate_from, filter_map, flat_map, range_with_len}
 use Rattle.std.proofs.lemmas.Bool.{cases_Bool}
+use Rattle.std.proofs.lemmas.Option.{same_Some}
+use Rattle.std.specs.Prelude.{if◌then◌else◌}
 use Rattle.std.proofs.lemmas.List.{append-nil, drop_more, drop_all}
 use Rattle.chord_event.specs.declared.body.Body.{Body}
 use Rattle.chord_event.specs.declared.body.Body.TheVariants as body
@@ -43,7 +46,7 @@ use Rattle.chord_event.specs.declared.event.Event.{Event}
 use Rattle.chord_scenario.specs.declared.setting.Churn.{Churn}
 use Rattle.chord_scenario.specs.declared.setting.Span.{Span}
 use Rattle.chord_scenario.specs.Setup.{Setup}
-use Rattle.chord_scenario.specs.Start.{jittered, timer_event, life_timer, check_timer}
+use Rattle.chord_scenario.specs.Start.{at_first, first_span, jittered, timer_event, life_timer, check_timer}
 use Rattle.chord_scenario.specs.World.{is_churn_node}
 
 -- the numbers from one on
@@ -87,11 +90,25 @@ module _ {X B : Type 0} (make : ℕ × X → B) (xs : List X) (i : ℕ) (done al
 
 module _ (sc : Setup) where
   -- the timer of a check, or none
-  pub no_check : sc.check ≤ 0 → check_timer sc 1 ≡ None
-  no_check least = let is : sc.check ≡ 0 = omega arith in rw is refl
+  pub no_check : None ≡ option_map (λ timer. timer.0) (check_timer sc 0) → option_map (at_first sc) (check_timer sc 1) ≡ None
+  no_check = by (sc.check == 0)
+    where
+      by : (b : Bool) → None ≡ option_map (λ (timer : Span × Body). timer.0) (if b then None else Some (jittered sc.check sc.jitters.check, body.CheckTick 0))
+          → option_map (at_first sc) (if b then None else Some (jittered sc.check sc.jitters.check, body.CheckTick 1)) ≡ None
+      by true is = refl
+      by false is = absurd (cc)
 
-  pub some_check : (span : Span) → 0 < sc.check → span ≡ jittered sc sc.check → check_timer sc 1 ≡ Some (span, body.CheckTick 1)
-  some_check span more is = let other : (sc.check == 0) ≡ false = search (rules, tests) in rw (other, is) refl
+  pub some_check : (span first : Span) → Some span ≡ option_map (λ timer. timer.0) (check_timer sc 0) → first ≡ first_span sc span
+      → option_map (at_first sc) (check_timer sc 1) ≡ Some (first, body.CheckTick 1)
+  some_check span first = by (sc.check == 0)
+    where
+      by : (b : Bool) → Some span ≡ option_map (λ (timer : Span × Body). timer.0) (if b then None else Some (jittered sc.check sc.jitters.check, body.CheckTick 0))
+          → first ≡ first_span sc span
+          → option_map (at_first sc) (if b then None else Some (jittered sc.check sc.jitters.check, body.CheckTick 1)) ≡ Some (first, body.CheckTick 1)
+      by true is at = absurd (cc)
+      by false is at =
+          let same : span ≡ jittered sc.check sc.jitters.check = same_Some span (jittered sc.check sc.jitters.check) is in
+          sym (ap (λ (s : Span). Some (s, body.CheckTick 1)) (at ∙ ap (first_span sc) same))
 
 module _ (sc : Setup) (n : ℕ) where
   -- the timers of these rows as events, from this place on

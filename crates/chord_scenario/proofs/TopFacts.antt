@@ -52,12 +52,13 @@ use Rattle.chord_scenario.specs.declared.key.Group.{Group}
 use Rattle.chord_scenario.specs.declared.key.Group.TheVariants.{Nodes, Commands}
 use Rattle.chord_scenario.specs.declared.setting.Command.{Command}
 use Rattle.chord_scenario.specs.declared.setting.Node.{Node}
-use Rattle.chord_scenario.specs.FileKeys.{required, optional}
+use Rattle.chord_scenario.specs.FileKeys.{key_name, required, optional}
+use Rattle.chord_scenario.specs.KeyFaults.{is_listed}
 use Rattle.chord_scenario.specs.Values.{data_at, number_at, truth_at, has_type, is_within, item_count, is_profile, is_in_range}
 use Rattle.chord_scenario.specs.Sections.{Section, place_in, table_at, tables_among, tables_of, sections}
-use Rattle.chord_scenario.specs.Settings.{number_or, is_node, is_command, node_of, nodes_of, command_of, commands_of, churn_of, lookups_of, rules_of}
+use Rattle.chord_scenario.specs.Settings.{number_or, is_node, is_command, node_of, nodes_of, command_of, commands_of, churn_of, jitters_of, lookups_of, rules_of}
 use Rattle.chord_scenario.specs.Accepted.{setup_with}
-use Rattle.chord_scenario.specs.Range.{IsSpan, IsChurn, IsInterval, NumbersInRange, first_rules, most_events}
+use Rattle.chord_scenario.specs.Range.{AreJitters, IsSpan, IsChurn, IsInterval, NumbersInRange, first_rules, most_events}
 use Rattle.chord_scenario.proofs.SoundSections.{IsSound, Fits, HoldsInFile}
 use Rattle.chord_scenario.proofs.Entries.{Lists, in_each, profile_cases, required_fits, required_profile, required_agrees, optional_fits, unlisted_default, unlisted_false, has_typed, not_out}
 
@@ -207,6 +208,7 @@ module _ (profile bits : ℕ) (needs : Needs) (top : Members) (s : IsSound profi
           unlisted_default s key.LookupTimeouts 8 (rw (is, second) refl),
           unlisted_false s key.DropSilent (rw (is, second) refl),
           unlisted_false s key.SkipNear (rw (is, second) refl),
+          unlisted_false s key.RandomStart (rw (is, second) refl),
         ) refl
         | inr other ↦ rw (
           unlisted_false s key.ListRoutes (rw (is, other) refl),
@@ -215,7 +217,57 @@ module _ (profile bits : ℕ) (needs : Needs) (top : Members) (s : IsSound profi
           unlisted_default s key.LookupTimeouts 8 (rw (is, other) refl),
           unlisted_false s key.DropSilent (rw (is, other) refl),
           unlisted_false s key.SkipNear (rw (is, other) refl),
+          unlisted_false s key.RandomStart (rw (is, other) refl),
         ) refl
+      ]
+
+  -- a jitter of its own is in range, as is that of all
+  own_jitter_fits : (k : FileKey) → ((profile == 4 ≡ true) → Lists s (optional k (Whole 0 1000000000)))
+      → ((profile == 4 ≡ false) → (profile == 2 ≡ true) ⊎ (profile == 2 ≡ false) → number_or (number_or 0 key.JitterUs top) k top ≡ number_or 0 key.JitterUs top)
+      → number_or (number_or 0 key.JitterUs top) k top ≤ 1000000000
+  own_jitter_fits k listed unlisted =
+      elim (profile_cases profile) [
+        | inl extended ↦ (optional_fits s k 0 1000000000 (number_or 0 key.JitterUs top) (listed extended) jitter_fits).high
+        | inr (inl is) ↦ omega (arith, unlisted is.not_extended (inl is.second), jitter_fits.high)
+        | inr (inr is) ↦ omega (arith, unlisted is.not_extended (inr is.not_second), jitter_fits.high)
+      ]
+
+  same_jitter : (k : FileKey) → ((profile == 4 ≡ false) → (profile == 2 ≡ true) → is_listed profile place.Top (key_name k) ≡ false)
+      → ((profile == 4 ≡ false) → (profile == 2 ≡ false) → is_listed profile place.Top (key_name k) ≡ false)
+      → (profile == 4 ≡ false) → (profile == 2 ≡ true) ⊎ (profile == 2 ≡ false)
+      → number_or (number_or 0 key.JitterUs top) k top ≡ number_or 0 key.JitterUs top
+  same_jitter k in_second in_first not_extended second = elim second [
+      | inl is ↦ unlisted_default s k (number_or 0 key.JitterUs top) (in_second not_extended is)
+      | inr is ↦ unlisted_default s k (number_or 0 key.JitterUs top) (in_first not_extended is)
+    ]
+
+  stabilize_same : (profile == 4 ≡ false) → (profile == 2 ≡ true) ⊎ (profile == 2 ≡ false)
+      → number_or (number_or 0 key.JitterUs top) key.StabilizeJitterUs top ≡ number_or 0 key.JitterUs top
+  stabilize_same = same_jitter key.StabilizeJitterUs (λ not_extended is. rw (not_extended, is) refl) (λ not_extended is. rw (not_extended, is) refl)
+
+  finger_same : (profile == 4 ≡ false) → (profile == 2 ≡ true) ⊎ (profile == 2 ≡ false)
+      → number_or (number_or 0 key.JitterUs top) key.FingerJitterUs top ≡ number_or 0 key.JitterUs top
+  finger_same = same_jitter key.FingerJitterUs (λ not_extended is. rw (not_extended, is) refl) (λ not_extended is. rw (not_extended, is) refl)
+
+  check_same : (profile == 4 ≡ false) → (profile == 2 ≡ true) ⊎ (profile == 2 ≡ false)
+      → number_or (number_or 0 key.JitterUs top) key.CheckJitterUs top ≡ number_or 0 key.JitterUs top
+  check_same = same_jitter key.CheckJitterUs (λ not_extended is. rw (not_extended, is) refl) (λ not_extended is. rw (not_extended, is) refl)
+
+  jitters_fit : AreJitters (jitters_of top)
+  unfolding jitters_of
+  jitters_fit = record {
+    stabilize = own_jitter_fits key.StabilizeJitterUs (λ extended. rw extended refl) stabilize_same;
+    finger = own_jitter_fits key.FingerJitterUs (λ extended. rw extended refl) finger_same;
+    check = own_jitter_fits key.CheckJitterUs (λ extended. rw extended refl) check_same;
+  }
+
+  one_jitter : profile ≤ 2
+      → jitters_of top ≡ record { stabilize = number_or 0 key.JitterUs top; finger = number_or 0 key.JitterUs top; check = number_or 0 key.JitterUs top }
+  unfolding jitters_of
+  one_jitter early =
+      elim (cases_Bool (profile == 4)) [
+        | inl extended ↦ let is : profile ≡ 4 = eqb-true profile 4 extended in absurd (omega (arith, early, is))
+        | inr other ↦ rw (stabilize_same other (cases_Bool (profile == 2)), finger_same other (cases_Bool (profile == 2)), check_same other (cases_Bool (profile == 2))) refl
       ]
 
   no_loss : profile ≡ 1 → (number_or 0 key.LossPpm top ≡ 0) × (number_or 0 key.SpreadUs top ≡ 0)
@@ -253,6 +305,8 @@ module _ (profile bits : ℕ) (needs : Needs) (top : Members) (s : IsSound profi
     undetailed = λ early. tells_nothing (omega (arith, named, early));
     lookup_timeouts = rules_fit (number_at key.Profile top == 4) (ap (λ n. n == 4) named);
     unpublished = λ early. rules_absent (number_at key.Profile top == 4) (ap (λ n. n == 4) named) (omega (arith, named, early));
+    jitters = jitters_fit;
+    one_jitter = λ early. one_jitter (omega (arith, named, early));
   }
 
   -- the file has a churn table if a node churns

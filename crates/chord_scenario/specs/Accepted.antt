@@ -9,7 +9,7 @@ use Rattle.chord_scenario.specs.Distances.{latency_by_coordinates}
 use Rattle.chord_scenario.specs.Faults.{latency_by_rows, document, scenario_fault}
 use Rattle.chord_scenario.specs.Rows.{Row, rows_of}
 use Rattle.chord_scenario.specs.Sections.{sections}
-use Rattle.chord_scenario.specs.Settings.{number_or, nodes_of, commands_of, coordinates_of, churn_of, lookups_of, rules_of}
+use Rattle.chord_scenario.specs.Settings.{number_or, nodes_of, commands_of, coordinates_of, churn_of, jitters_of, lookups_of, rules_of}
 use Rattle.chord_scenario.specs.Setup.{Setup}
 use Rattle.chord_scenario.specs.Values.{number_at, truth_at}
 use Rattle.chord_scenario.specs.World.{latency}
@@ -38,6 +38,7 @@ setup_with top nodes commands latencies = record {
   check = number_or 0 key.CheckUs top;
   detail = truth_at key.Detail top;
   rules = rules_of (number_at key.Profile top == 4) top;
+  jitters = jitters_of top;
   churn = churn_of top;
   lookups = lookups_of top;
   nodes = nodes;

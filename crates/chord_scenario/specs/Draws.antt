@@ -25,6 +25,9 @@ key_purpose = 6
 abbrev pub message_purpose : ℕ
 message_purpose = 7
 
+abbrev pub finger_purpose : ℕ
+finger_purpose = 9
+
 -- when a timer's delay is drawn: in which life of the node, for the end of a life and for the rise after it; otherwise
 -- at which time
 abbrev pub timer_occasion : (time : ℕ) → Body → ℕ
@@ -60,3 +63,7 @@ extra sc n place number =
     if sc.profile == 4
     then second_number sc.seed (own_stream n message_purpose) number (sc.spread + 1)
     else drawn sc n (place + 1) (sc.spread + 1)
+
+-- the number below a bound that decides which finger node n looks up first
+abbrev pub finger_number : Setup → (n bound : ℕ) → ℕ
+finger_number sc n bound = first_number sc.seed (own_stream n finger_purpose) 0 bound

@@ -37,6 +37,10 @@ key_name key.AskOwner = codes "ask_owner"
 key_name key.LookupTimeouts = codes "lookup_timeouts"
 key_name key.DropSilent = codes "drop_silent"
 key_name key.SkipNear = codes "skip_near"
+key_name key.RandomStart = codes "random_start"
+key_name key.StabilizeJitterUs = codes "stabilize_jitter_us"
+key_name key.FingerJitterUs = codes "finger_jitter_us"
+key_name key.CheckJitterUs = codes "check_jitter_us"
 key_name key.Churn = codes "churn"
 key_name key.Lookups = codes "lookups"
 key_name key.Node = codes "node"
@@ -110,6 +114,10 @@ extended_keys =
     ∷ optional key.LookupTimeouts (Whole 0 64)
     ∷ optional key.DropSilent Boolean
     ∷ optional key.SkipNear Boolean
+    ∷ optional key.RandomStart Boolean
+    ∷ optional key.StabilizeJitterUs (Whole 0 1000000000)
+    ∷ optional key.FingerJitterUs (Whole 0 1000000000)
+    ∷ optional key.CheckJitterUs (Whole 0 1000000000)
     ∷ []
 
 abbrev pub top_keys : (profile : ℕ) → List Entry

@@ -27,6 +27,7 @@ setup_of s = record {
   check = s.check;
   detail = s.detail;
   rules = s.rules;
+  jitters = s.jitters;
   churn = s.churn;
   lookups = s.lookups;
   nodes = s.nodes.items;

@@ -6,6 +6,7 @@ use Rattle.chord_scenario.specs.declared.setting.Action.{Action}
 use Rattle.chord_scenario.specs.declared.setting.Action.TheVariants as action
 use Rattle.chord_scenario.specs.declared.setting.Churn.{Churn}
 use Rattle.chord_scenario.specs.declared.setting.Command.{Command}
+use Rattle.chord_scenario.specs.declared.setting.Jitters.{Jitters}
 use Rattle.chord_scenario.specs.declared.setting.Rules.{Rules}
 use Rattle.chord_scenario.specs.declared.setting.Span.{Span}
 use Rattle.chord_scenario.specs.Distances.{IsPlace}
@@ -57,7 +58,14 @@ first_rules = record {
   lookup_timeouts = 8;
   drop_silent = false;
   skip_near = false;
+  random_start = false;
 }
+
+-- timers come later than their periods by at most 1,000 seconds
+pub record AreJitters (jitters : Jitters) : Type 0 where
+  pub stabilize : jitters.stabilize ≤ 1000000000
+  pub finger : jitters.finger ≤ 1000000000
+  pub check : jitters.check ≤ 1000000000
 
 -- the numbers of a scenario are in the ranges of the file format; in the first profile messages are neither lost nor
 -- delayed at random, and in the extended profile alone are requests sent again, joins paused, predecessors checked,
@@ -92,6 +100,8 @@ pub record NumbersInRange (sc : Setup) : Type 0 where
   pub undetailed : sc.profile ≤ 2 → sc.detail ≡ false
   pub lookup_timeouts : sc.rules.lookup_timeouts ≤ 64
   pub unpublished : sc.profile ≤ 2 → sc.rules ≡ first_rules
+  pub jitters : AreJitters sc.jitters
+  pub one_jitter : sc.profile ≤ 2 → sc.jitters ≡ record { stabilize = sc.jitter; finger = sc.jitter; check = sc.jitter }
 
 -- no two nodes are at one place of the circle
 pub record NodesInRange (sc : Setup) : Type 0 where

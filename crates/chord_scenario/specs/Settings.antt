@@ -33,6 +33,7 @@ use Rattle.chord_scenario.specs.declared.key.FileKey.{FileKey}
 use Rattle.chord_scenario.specs.declared.key.FileKey.TheVariants as key
 use Rattle.chord_scenario.specs.declared.setting.Coordinates.{Coordinates}
 use Rattle.chord_scenario.specs.declared.setting.Node.{Node}
+use Rattle.chord_scenario.specs.declared.setting.Jitters.{Jitters}
 use Rattle.chord_scenario.specs.declared.setting.Rules.{Rules}
 use Rattle.chord_scenario.specs.declared.setting.Span.{Span}
 use Rattle.chord_scenario.specs.declared.setting.Churn.{Churn}
@@ -57,6 +58,15 @@ rules_of extended top = record {
   lookup_timeouts = number_or (if extended then 32 else 8) key.LookupTimeouts top;
   drop_silent = truth_or extended key.DropSilent top;
   skip_near = truth_or extended key.SkipNear top;
+  random_start = truth_or extended key.RandomStart top;
+}
+
+-- how much later than its period each timer may come: by a jitter of its own, or by that of all
+unfoldable pub jitters_of : Members → Jitters
+jitters_of top = record {
+  stabilize = number_or (number_or 0 key.JitterUs top) key.StabilizeJitterUs top;
+  finger = number_or (number_or 0 key.JitterUs top) key.FingerJitterUs top;
+  check = number_or (number_or 0 key.JitterUs top) key.CheckJitterUs top;
 }
 
 -- a number that is a place on a circle of this many bits

@@ -3,6 +3,7 @@ use Rattle.std.specs.Prelude.{ℕ, Bool, List, Option}
 use Rattle.chord_scenario.specs.declared.setting.Churn.{Churn}
 use Rattle.chord_scenario.specs.declared.setting.Command.{Command}
 use Rattle.chord_scenario.specs.declared.setting.Coordinates.{Coordinates}
+use Rattle.chord_scenario.specs.declared.setting.Jitters.{Jitters}
 use Rattle.chord_scenario.specs.declared.setting.Node.{Node}
 use Rattle.chord_scenario.specs.declared.setting.Rules.{Rules}
 use Rattle.chord_scenario.specs.declared.setting.Span.{Span}
@@ -39,6 +40,8 @@ pub record Setup : Type 0 where
   pub detail : Bool
   -- the rules of published Chord that the nodes follow: the first two profiles have none of them
   pub rules : Rules
+  -- how much later than its period each timer may come: in the first two profiles all have the same jitter
+  pub jitters : Jitters
   pub churn : Option Churn
   pub lookups : Option Span
   pub nodes : List Node

@@ -30,17 +30,25 @@ command_event number command = record {
 unfoldable pub command_events : Setup → List (Event Body)
 command_events sc = map (λ p. command_event p.0 p.1) (enumerate_from 1 sc.commands)
 
--- a span from a period to the period plus the jitter
-abbrev pub jittered : Setup → (period : ℕ) → Span
-jittered sc period = record { least = period; greatest = period + sc.jitter }
+-- a span from a period to the period plus a jitter
+abbrev pub jittered : (period jitter : ℕ) → Span
+jittered period jitter = record { least = period; greatest = period + jitter }
+
+-- the span of a node's first timer of a kind: from the first microsecond on if first timers are random
+unfoldable pub first_span : Setup → Span → Span
+first_span sc span = if sc.rules.random_start then record { least = 1; greatest = span.greatest } else span
+
+-- a timer of a node that comes up
+abbrev pub at_first : Setup → Span × Body → Span × Body
+at_first sc timer = (first_span sc timer.0, timer.1)
 
 -- The timers of a node: after which times each may come, and what it is.
 
 abbrev pub stabilize_timer : Setup → (epoch : ℕ) → Span × Body
-stabilize_timer sc epoch = (jittered sc sc.stabilize, body.StabilizeTick epoch)
+stabilize_timer sc epoch = (jittered sc.stabilize sc.jitters.stabilize, body.StabilizeTick epoch)
 
 abbrev pub finger_timer : Setup → (epoch : ℕ) → Span × Body
-finger_timer sc epoch = (jittered sc sc.finger, body.FingerTick epoch)
+finger_timer sc epoch = (jittered sc.finger sc.jitters.finger, body.FingerTick epoch)
 
 -- only if the scenario has generated lookups
 abbrev pub traffic_timer : Setup → (epoch : ℕ) → Option (Span × Body)
@@ -53,17 +61,17 @@ life_timer sc n epoch =
 
 -- only if the scenario has checks
 abbrev pub check_timer : Setup → (epoch : ℕ) → Option (Span × Body)
-check_timer sc epoch = if sc.check == 0 then None else Some (jittered sc sc.check, body.CheckTick epoch)
+check_timer sc epoch = if sc.check == 0 then None else Some (jittered sc.check sc.jitters.check, body.CheckTick epoch)
 
 -- The timers that node n sets when it comes up, in order. The only list of them: a run's first timers and those of a
 -- node that rises are both these. A new timer is a new row, and one more in `most_timers`.
 abbrev pub timer_table : Setup → (n epoch : ℕ) → List (Option (Span × Body))
 timer_table sc n epoch =
-    Some (stabilize_timer sc epoch)
-    ∷ Some (finger_timer sc epoch)
-    ∷ traffic_timer sc epoch
+    Some (at_first sc (stabilize_timer sc epoch))
+    ∷ Some (at_first sc (finger_timer sc epoch))
+    ∷ option_map (at_first sc) (traffic_timer sc epoch)
     ∷ life_timer sc n epoch
-    ∷ check_timer sc epoch
+    ∷ option_map (at_first sc) (check_timer sc epoch)
     ∷ []
 
 -- the number of rows of the table

@@ -6,7 +6,7 @@ ghost use Rattle.chord_scenario.specs.declared.key.FileKey.TheVariants as key;
 ghost use Rattle.chord_scenario.specs.Values.{data_at, number_at, truth_or};
 ghost use Rattle.toml.specs.View.{table_view};
 ghost use Rattle.chord_scenario.specs.Sections.{section_of};
-ghost use Rattle.chord_scenario.specs.Settings.{identifier_at, node_at, action_of, commands_of, number_or, span_of, churn_of, lookups_of, rules_of};
+ghost use Rattle.chord_scenario.specs.Settings.{identifier_at, node_at, action_of, commands_of, number_or, span_of, churn_of, jitters_of, lookups_of, rules_of};
 
 use crate::key::{FileKey, Place};
 use crate::names::Names;
@@ -14,7 +14,7 @@ use crate::node::{identifier_at, name_at};
 use crate::operation::{Operation, operation_at};
 use crate::scenario::EXTENDED_PROFILE;
 use crate::section::PlacedTable;
-use crate::setting::{Action, Churn, Command, Rules, Span};
+use crate::setting::{Action, Churn, Command, Jitters, Rules, Span};
 use crate::value::{number_at, truth_or, value_at, whole};
 use chord_circle::{Circle, Ident};
 use std::alloc::{AllocError, Global};
@@ -122,6 +122,20 @@ pub(crate) fn rules_of(table: &Table, extended: bool) -> Rules
         lookup_timeouts: number_or(table, FileKey::LookupTimeouts, lookup_timeouts),
         drop_silent: truth_or(table, FileKey::DropSilent, extended),
         skip_near: truth_or(table, FileKey::SkipNear, extended),
+        random_start: truth_or(table, FileKey::RandomStart, extended),
+    }
+}
+
+/// How much later than its period each timer may come.
+#[tactic(auto, unfolding(crate::specs::Settings::jitters_of))]
+pub(crate) fn jitters_of(table: &Table) -> Jitters
+    ensures { result ≡ jitters_of (table_view table.now) }
+{
+    let jitter = number_or(table, FileKey::JitterUs, 0);
+    Jitters {
+        stabilize: number_or(table, FileKey::StabilizeJitterUs, jitter),
+        finger: number_or(table, FileKey::FingerJitterUs, jitter),
+        check: number_or(table, FileKey::CheckJitterUs, jitter),
     }
 }
 

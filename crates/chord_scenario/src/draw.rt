@@ -1,7 +1,7 @@
 //! What nodes draw. In the first two profiles each draw takes the next words of the node's one stream.
 //! In the extended profile each draw has words of its own, so that no draw depends on earlier ones.
 ghost use Rattle.std.specs.Prelude.{◌≡◌, ◌+◌, ◌-◌, ◌^◌, ◌<◌, ◌≤◌};
-ghost use Rattle.chord_scenario.specs.Draws.{chance, delay, extra, timer_number, timer_occasion, timer_purpose};
+ghost use Rattle.chord_scenario.specs.Draws.{chance, delay, extra, finger_number, timer_number, timer_occasion, timer_purpose};
 ghost use Rattle.chord_scenario.specs.Range.{IsSpanUpTo};
 
 use crate::scenario::{EXTENDED_PROFILE, Scenario};
@@ -14,6 +14,9 @@ pub const KEY_PURPOSE: u32 = 6;
 
 /// The purpose of the words that decide what becomes of a message, in the extended profile.
 const MESSAGE_PURPOSE: u32 = 7;
+
+/// The purpose of the words that decide which finger a node looks up first, in the extended profile.
+const FINGER_PURPOSE: u32 = 9;
 
 /// Who draws and when: the node, how many words of its stream it has drawn, and the time in
 /// microseconds.
@@ -72,6 +75,15 @@ impl Scenario {
         ensures greatest { result ≤ span.greatest }
     {
         span.least + self.timer_number(drawer, timer, span.greatest - span.least + 1)
+    }
+
+    /// The number below a bound that decides which finger a node looks up first.
+    pub fn finger_number(&self, node: u32, bound: u64) -> u64
+        requires { 0 < bound }
+        ensures value { result ≡ finger_number self.now node bound }
+        ensures below { result < bound }
+    {
+        Stream::for_purpose(self.seed(), node, FINGER_PURPOSE).number_in(0, bound)
     }
 
     /// The two numbers of a node's message of this number. The first is below 1,000,000 and decides

@@ -60,6 +60,10 @@ pub enum FileKey {
     LookupTimeouts,
     DropSilent,
     SkipNear,
+    RandomStart,
+    StabilizeJitterUs,
+    FingerJitterUs,
+    CheckJitterUs,
     Churn,
     Lookups,
     Node,
@@ -83,7 +87,7 @@ pub enum FileKey {
 }
 
 /// The keys as the file writes them, in the order of `FileKey`.
-static KEY_NAMES: [&str; 46] = [
+static KEY_NAMES: [&str; 50] = [
     "profile",
     "bits",
     "list",
@@ -110,6 +114,10 @@ static KEY_NAMES: [&str; 46] = [
     "lookup_timeouts",
     "drop_silent",
     "skip_near",
+    "random_start",
+    "stabilize_jitter_us",
+    "finger_jitter_us",
+    "check_jitter_us",
     "churn",
     "lookups",
     "node",
@@ -307,6 +315,17 @@ const DROP_SILENT: Entry = Entry(FileKey::DropSilent, Form::Boolean, Presence::O
 
 const SKIP_NEAR: Entry = Entry(FileKey::SkipNear, Form::Boolean, Presence::Optional);
 
+const RANDOM_START: Entry = Entry(FileKey::RandomStart, Form::Boolean, Presence::Optional);
+
+/// A number of microseconds by which a timer may come later than its period.
+const LATER: Form = Form::Whole(0, 1_000_000_000);
+
+const STABILIZE_JITTER: Entry = Entry(FileKey::StabilizeJitterUs, LATER, Presence::Optional);
+
+const FINGER_JITTER: Entry = Entry(FileKey::FingerJitterUs, LATER, Presence::Optional);
+
+const CHECK_JITTER: Entry = Entry(FileKey::CheckJitterUs, LATER, Presence::Optional);
+
 const CHURN: Entry = Entry(FileKey::Churn, Form::Table, Presence::ForChurn);
 
 const LOOKUPS: Entry = Entry(FileKey::Lookups, Form::Table, Presence::Optional);
@@ -337,7 +356,7 @@ static NETWORK_TOP_KEYS: [Entry; 19] = [
 ];
 
 /// The keys at top in the extended profile.
-static EXTENDED_TOP_KEYS: [Entry; 30] = [
+static EXTENDED_TOP_KEYS: [Entry; 34] = [
     PROFILE,
     WIDE_BITS,
     LIST,
@@ -364,6 +383,10 @@ static EXTENDED_TOP_KEYS: [Entry; 30] = [
     LOOKUP_TIMEOUTS,
     DROP_SILENT,
     SKIP_NEAR,
+    RANDOM_START,
+    STABILIZE_JITTER,
+    FINGER_JITTER,
+    CHECK_JITTER,
     CHURN,
     LOOKUPS,
     MOST_NODES,

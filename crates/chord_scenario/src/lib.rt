@@ -30,4 +30,4 @@ pub use key::{FileKey, Place};
 pub use name::Name;
 pub use reader::read_scenario;
 pub use scenario::{EXTENDED_PROFILE, Scenario};
-pub use setting::{Action, Churn, Command, Coordinates, Node, Rules, Span};
+pub use setting::{Action, Churn, Command, Coordinates, Jitters, Node, Rules, Span};

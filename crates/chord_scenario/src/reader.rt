@@ -14,7 +14,7 @@ ghost use Rattle.chord_scenario.specs.Search.{row_fault};
 ghost use Rattle.chord_scenario.specs.Range.{IsInRange};
 ghost use Rattle.chord_scenario.specs.Accepted.{setup_with, IsSetupOf, Accepts};
 
-use crate::command::{churn_of, commands, is_extended, lookups_of, number_or, rules_of, small_number_at};
+use crate::command::{churn_of, commands, is_extended, jitters_of, lookups_of, number_or, rules_of, small_number_at};
 use crate::document::document;
 use crate::fault::ScenarioFault;
 use crate::key::FileKey;
@@ -275,6 +275,7 @@ fn assembled(circle: Circle, top: &Table, nodes: Vec<Node>, linked: Linked) -> S
         check: number_or(top, FileKey::CheckUs, 0),
         detail: truth_at(top, FileKey::Detail),
         rules: rules_of(top, is_extended(top)),
+        jitters: jitters_of(top),
         churn: churn_of(top),
         lookups: lookups_of(top),
         nodes,

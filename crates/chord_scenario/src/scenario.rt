@@ -4,7 +4,7 @@ ghost use Rattle.chord_scenario.specs.Range.{IsInRange};
 ghost use Rattle.chord_scenario.specs.World.{node_count, name_of, ident_of, is_initial, is_churn_node, latency, latency_by_place};
 
 use crate::latency::cell_at;
-use crate::setting::{Churn, Command, Coordinates, Node, Rules, Span};
+use crate::setting::{Churn, Command, Coordinates, Jitters, Node, Rules, Span};
 use chord_circle::{Circle, Ident};
 use std::marker::Model;
 
@@ -36,6 +36,7 @@ pub struct Scenario {
     pub(crate) check: u64,
     pub(crate) detail: bool,
     pub(crate) rules: Rules,
+    pub(crate) jitters: Jitters,
     pub(crate) churn: Option<Churn>,
     pub(crate) lookups: Option<Span>,
     pub(crate) nodes: Vec<Node>,
@@ -149,7 +150,8 @@ impl Scenario {
         self.finger
     }
 
-    /// How much later than its period a timer may come, in microseconds.
+    /// How much later than its period a timer may come, in microseconds, unless the timer has a
+    /// jitter of its own.
     pub fn jitter(&self) -> u64
         ensures { result ≡ self.now.jitter }
     {
@@ -222,6 +224,13 @@ impl Scenario {
         ensures { result ≡ self.now.rules }
     {
         self.rules
+    }
+
+    /// How much later than its period each timer may come: all the same in the first two profiles.
+    pub fn jitters(&self) -> Jitters
+        ensures { result ≡ self.now.jitters }
+    {
+        self.jitters
     }
 
     /// How long churn nodes live and stay down, if the scenario says so.

@@ -52,6 +52,16 @@ pub struct Rules {
     pub drop_silent: bool,
     /// Fingers that the first successor covers are not looked up.
     pub skip_near: bool,
+    /// The first delays of a node's timers, and the finger that it looks up first, are drawn.
+    pub random_start: bool,
+}
+
+/// How much later than its period each timer may come, in microseconds.
+#[derive(Clone, Copy, Drop)]
+pub struct Jitters {
+    pub stabilize: u64,
+    pub finger: u64,
+    pub check: u64,
 }
 
 /// What a command asks of its node.

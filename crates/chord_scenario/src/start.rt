@@ -1,8 +1,8 @@
 //! The events that a run starts with.
-ghost use Rattle.std.specs.Prelude.{◌≡◌, ◌+◌, ◌<◌, ◌^◌, ◌++◌, [], ◌∷◌, map, IfOk, OnOk};
+ghost use Rattle.std.specs.Prelude.{◌≡◌, ◌+◌, ◌<◌, ◌^◌, ◌++◌, [], ◌∷◌, map, option_map, IfOk, IfSome, OnOk};
 ghost use Rattle.std.specs.List.{enumerate_from};
 ghost use Rattle.chord_scenario.specs.Range.{IsSpanUpTo};
-ghost use Rattle.chord_scenario.specs.Start.{command_body, command_event, jittered, most_timers, timer_event, first_timers, start_events};
+ghost use Rattle.chord_scenario.specs.Start.{check_timer, command_body, command_event, first_span, jittered, most_timers, timer_event, first_timers, start_events};
 ghost use Rattle.chord_scenario.specs.World.{node_count};
 
 use crate::draw::Drawer;
@@ -37,6 +37,18 @@ fn command_event(number: u64, command: &Command) -> Event
     }
 }
 
+/// A span from a period to the period plus a jitter, in microseconds.
+fn jittered(period: u64, jitter: u64) -> Span
+    requires period { period < 2 ^ 32 }
+    requires jitter { jitter < 2 ^ 32 }
+    ensures { result ≡ jittered period jitter }
+{
+    Span {
+        least: period,
+        greatest: period + jitter,
+    }
+}
+
 /// Adds the commands, numbered from 1.
 fn push_commands(events: &mut Vec<Event>, commands: &[Command]) -> Result<(), Memory>
     ensures { OnOk result (events.new.items ≡ events.old.items ++ map (λ p. command_event p.0 p.1) (enumerate_from 1 commands.now)) }
@@ -48,15 +60,51 @@ fn push_commands(events: &mut Vec<Event>, commands: &[Command]) -> Result<(), Me
 }
 
 impl Scenario {
-    /// A span from a period to the period plus the jitter, in microseconds.
-    fn jittered(&self, period: u64) -> Span
-        requires { period < 2 ^ 32 }
-        ensures { result ≡ jittered self.now period }
+    /// The span of the timer to stabilize, in microseconds.
+    pub fn stabilize_span(&self) -> Span
+        ensures value { result ≡ jittered self.now.stabilize self.now.jitters.stabilize }
+        ensures is { IsSpanUpTo 2000000000 result }
     {
         self.recall_range();
-        Span {
-            least: period,
-            greatest: period + self.jitter(),
+        jittered(self.stabilize(), self.jitters().stabilize)
+    }
+
+    /// The span of the timer to look up a finger, in microseconds.
+    pub fn finger_span(&self) -> Span
+        ensures value { result ≡ jittered self.now.finger self.now.jitters.finger }
+        ensures is { IsSpanUpTo 2000000000 result }
+    {
+        self.recall_range();
+        jittered(self.finger(), self.jitters().finger)
+    }
+
+    /// The span of the timer to check the predecessor, in microseconds, if the scenario has checks.
+    pub fn check_span(&self) -> Option<Span>
+        ensures value { result ≡ option_map (λ timer. timer.0) (check_timer self.now 0) }
+        ensures is { IfSome result (IsSpanUpTo 2000000000) }
+    {
+        self.recall_range();
+        if self.check() == 0 {
+            None
+        } else {
+            Some(jittered(self.check(), self.jitters().check))
+        }
+    }
+
+    /// The span of a node's first timer of a kind, in microseconds.
+    #[tactic(auto, unfolding(crate::specs::Start::first_span))]
+    pub fn first_span(&self, span: Span) -> Span
+        requires { IsSpanUpTo 2000000000 span }
+        ensures value { result ≡ first_span self.now span }
+        ensures is { IsSpanUpTo 2000000000 result }
+    {
+        if self.rules().random_start {
+            Span {
+                least: 1,
+                greatest: span.greatest,
+            }
+        } else {
+            span
         }
     }
 
@@ -96,13 +144,14 @@ impl Scenario {
         ensures { OnOk result (events.new.items ≡ events.old.items ++ first_timers self.now node) }
     {
         self.recall_range();
-        let stabilize = self.jittered(self.stabilize());
+        let stabilize = self.first_span(self.stabilize_span());
         self.push_timer(events, node, 0, stabilize, Body::StabilizeTick { epoch: 1 })?;
-        let finger = self.jittered(self.finger());
+        let finger = self.first_span(self.finger_span());
         self.push_timer(events, node, 1, finger, Body::FingerTick { epoch: 1 })?;
         let mut place = 2;
         if let Some(gap) = self.lookups() {
-            self.push_timer(events, node, place, gap, Body::TrafficTick { epoch: 1 })?;
+            let first = self.first_span(gap);
+            self.push_timer(events, node, place, first, Body::TrafficTick { epoch: 1 })?;
             place += 1;
         }
         if self.churn(node) {
@@ -111,8 +160,8 @@ impl Scenario {
                 place += 1;
             }
         }
-        if self.check() > 0 {
-            let check = self.jittered(self.check());
+        if let Some(span) = self.check_span() {
+            let check = self.first_span(span);
             self.push_timer(events, node, place, check, Body::CheckTick { epoch: 1 })?;
         }
         Ok(())

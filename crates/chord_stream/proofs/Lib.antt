@@ -1,2 +1,3 @@
+pub mod Drawn
 mod Rows
 mod SeedKey

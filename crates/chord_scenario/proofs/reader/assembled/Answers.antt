@@ -28,6 +28,7 @@ returns c = λ i. record {
   check = c.number_or-7.ensures i;
   detail = c.truth_at-2.ensures i;
   rules = (c.rules_of.ensures ∙ ap (λ (b : Bool). rules_of b (table_view c.args.top.now)) c.is_extended.ensures) i;
+  jitters = c.jitters_of.ensures i;
   churn = c.churn_of.ensures i;
   lookups = c.lookups_of.ensures i;
   nodes = c.args.nodes.items;

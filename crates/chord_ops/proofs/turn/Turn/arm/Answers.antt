@@ -5,8 +5,8 @@ pub returns-clause-value : goal.returns-clause-value
 returns-clause-value c =
     rw (
       ← armed_in_order c.args.scenario.now c.args.self.now,
-      ← c.in_ok-arm_stabilize.ensures.value,
-      ← c.in_ok-arm_finger.ensures.value,
-      ← c.in_ok-arm_traffic.ensures.value,
+      ← c.in_ok-start_stabilize.ensures.value,
+      ← c.in_ok-start_finger.ensures.value,
+      ← c.in_ok-start_traffic.ensures.value,
       ← c.in_ok-arm_life.ensures.value,
-    ) c.arm_check.ensures.value
+    ) c.start_check.ensures.value
