@@ -11,7 +11,7 @@ use Rattle.std.proofs.lemmas.List.Sums.{sum_by-append, sum_by-cons}
 use Rattle.chord_audit.specs.declared.audit_line.AuditLine.{AuditLine}
 use Rattle.chord_event.specs.declared.line.Line.{Line}
 use Rattle.chord_trace.specs.Kinds.{found_in}
-use Rattle.chord_trace.specs.Numbers.{hops_of, times_of}
+use Rattle.chord_trace.specs.Numbers.{hops_of, timeouts_of, times_of}
 use Rattle.chord_trace.specs.Pieces.{block_in, audit_in, lines_in, blocks_of, lines_of, audits_of}
 use Rattle.chord_trace.specs.Report.{found_lookups}
 use Rattle.chord_trace.specs.declared.piece.Piece.{Piece}
@@ -43,10 +43,13 @@ pub founds-append : (xs ys : List Piece) → found_lookups (xs ++ ys) ≡ found_
 founds-append xs ys = ap (filter_map found_in) (lines-append xs ys) ∙ filter_map-append found_in (lines_of xs) (lines_of ys)
 
 pub hops-append : (xs ys : List Piece) → hops_of (found_lookups (xs ++ ys)) ≡ hops_of (found_lookups xs) ++ hops_of (found_lookups ys)
-hops-append xs ys = ap hops_of (founds-append xs ys) ∙ map-append (λ found. found.0) (found_lookups xs) (found_lookups ys)
+hops-append xs ys = ap hops_of (founds-append xs ys) ∙ map-append (λ found. found.hops) (found_lookups xs) (found_lookups ys)
+
+timeouts-append : (xs ys : List Piece) → timeouts_of (found_lookups (xs ++ ys)) ≡ timeouts_of (found_lookups xs) ++ timeouts_of (found_lookups ys)
+timeouts-append xs ys = ap timeouts_of (founds-append xs ys) ∙ map-append (λ found. found.timeouts) (found_lookups xs) (found_lookups ys)
 
 pub times-append : (xs ys : List Piece) → times_of (found_lookups (xs ++ ys)) ≡ times_of (found_lookups xs) ++ times_of (found_lookups ys)
-times-append xs ys = ap times_of (founds-append xs ys) ∙ map-append (λ found. found.1) (found_lookups xs) (found_lookups ys)
+times-append xs ys = ap times_of (founds-append xs ys) ∙ map-append (λ found. found.us) (found_lookups xs) (found_lookups ys)
 
 -- what is counted of the pieces of a trace
 pub blocks-add : IsAdditive (λ pieces. length (blocks_of pieces))
@@ -63,6 +66,10 @@ lines_by-add p xs ys = ap (count_by p) (lines-append xs ys) ∙ count_by-append 
 
 pub hops_by-add : (f : ℕ → ℕ) → IsAdditive (λ pieces. sum_by f (hops_of (found_lookups pieces)))
 hops_by-add f xs ys = ap (sum_by f) (hops-append xs ys) ∙ sum_by-append f (hops_of (found_lookups xs)) (hops_of (found_lookups ys))
+
+pub timeouts_by-add : (f : ℕ → ℕ) → IsAdditive (λ pieces. sum_by f (timeouts_of (found_lookups pieces)))
+timeouts_by-add f xs ys =
+    ap (sum_by f) (timeouts-append xs ys) ∙ sum_by-append f (timeouts_of (found_lookups xs)) (timeouts_of (found_lookups ys))
 
 pub times_by-add : (f : ℕ → ℕ) → IsAdditive (λ pieces. sum_by f (times_of (found_lookups pieces)))
 times_by-add f xs ys = ap (sum_by f) (times-append xs ys) ∙ sum_by-append f (times_of (found_lookups xs)) (times_of (found_lookups ys))

@@ -11,7 +11,7 @@ use Rattle.chord_trace.specs.Pieces.{lines_of, audits_of}
 use Rattle.chord_trace.specs.Report.{IsReportOf, report_with, found_lookups}
 use Rattle.chord_trace.specs.declared.piece.Piece.{Piece}
 use Rattle.chord_trace.specs.declared.report.Report.{Report}
-use Rattle.chord_trace.proofs.Additive.{same_number, blocks-add, audits-add, audits_by-add, lines_by-add, hops_by-add, times_by-add, times-add}
+use Rattle.chord_trace.proofs.Additive.{same_number, blocks-add, audits-add, audits_by-add, lines_by-add, hops_by-add, timeouts_by-add, times_by-add, times-add}
 use Rattle.chord_trace.proofs.Bounds.{same_greatest, same_least}
 
 same_median : (ns ms : List ℕ) (m : ℕ) → length ns ≡ length ms
@@ -42,6 +42,7 @@ numbers profile pieces others median moved =
       unfinished = lines is_lookup i - (lines is_found i + lines is_lost i);
       hops_sum = hops (λ n. n) i;
       hops_greatest = same_greatest (hops_of (found_lookups pieces)) (hops_of (found_lookups others)) (λ k. hops (λ n. cond (nat_lt k n) 1 0)) i;
+      timeouts_sum = same_number _ (timeouts_by-add (λ n. n)) pieces others moved i;
       us_sum = times (λ n. n) i;
       us_least = same_least (times_of (found_lookups pieces)) (times_of (found_lookups others))
           (same_number _ times-add pieces others moved) (λ k. times (λ n. cond (nat_lt n k) 1 0)) i;

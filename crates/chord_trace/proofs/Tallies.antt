@@ -19,6 +19,7 @@ use Rattle.chord_trace.specs.Pieces.{block_in, audit_in, lines_in, blocks_of, li
 use Rattle.chord_trace.specs.Report.{found_lookups}
 use Rattle.chord_trace.specs.Tally.{IsTallyOf}
 use Rattle.chord_trace.proofs.Additive.{count_by-append, blocks-add, audits-append, founds-append, lines-append}
+use Rattle.chord_trace.specs.declared.found_lookups.Found.{Found}
 
 blocks_more : (pieces : List Piece) (b : Block) → blocks_of (pieces ++ piece.OfEvent b ∷ []) ≡ blocks_of pieces ++ b ∷ []
 blocks_more pieces b = filter_map-append block_in pieces (piece.OfEvent b ∷ [])
@@ -47,7 +48,7 @@ audit_counts_in-append xs ys = simp (count_by-append, length-append)
 -- with a block
 pub with_block : (profile : ℕ) (pieces : List Piece) (b : Block) (old new : Tally) → IsTallyOf profile pieces old
     → new.profile ≡ old.profile → new.events ≡ old.events + 1 → new.counts ≡ plus old.counts (counts_in b.lines)
-    → ((seen : List (ℕ × ℕ)) → HasFound seen old.founds → HasFound (seen ++ filter_map found_in b.lines) new.founds)
+    → ((seen : List Found) → HasFound seen old.founds → HasFound (seen ++ filter_map found_in b.lines) new.founds)
     → new.audits ≡ old.audits → IsTallyOf profile (pieces ++ piece.OfEvent b ∷ []) new
 with_block profile pieces b old new t same events counts founds audits =
     let lines = lines_more pieces b in
@@ -82,7 +83,7 @@ with_audit profile pieces a old new t same events counts founds audits =
 -- of two traces together
 pub joined : (profile : ℕ) (mine others : List Piece) (a b new : Tally) → IsTallyOf profile mine a → IsTallyOf profile others b
     → new.profile ≡ a.profile → new.events ≡ a.events + b.events → new.counts ≡ plus a.counts b.counts
-    → ((seen more : List (ℕ × ℕ)) → HasFound seen a.founds → HasFound more b.founds → HasFound (seen ++ more) new.founds)
+    → ((seen more : List Found) → HasFound seen a.founds → HasFound more b.founds → HasFound (seen ++ more) new.founds)
     → new.audits ≡ audits_plus a.audits b.audits
     → IsTallyOf profile (mine ++ others) new
 joined profile mine others a b new t u same events counts founds audits =

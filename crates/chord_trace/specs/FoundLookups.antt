@@ -1,17 +1,19 @@
 -- What a tally has of the lookups that were found.
 use Rattle.std.specs.Prelude.{◌≡◌, ℕ, Bool, List, count_by, length, sum}
-use Rattle.chord_trace.specs.Numbers.{greatest, least, counted, hops_of, times_of}
+use Rattle.chord_trace.specs.Numbers.{greatest, least, counted, hops_of, timeouts_of, times_of}
 use Rattle.chord_trace.specs.declared.found_lookups.FoundLookups.{FoundLookups}
+use Rattle.chord_trace.specs.declared.found_lookups.Found.{Found}
 
 -- how many lookups it has
 abbrev pub found_len : FoundLookups → ℕ
 found_len f = f.len
 
--- it has these lookups, each by its hops and its time
-pub record HasFound (seen : List (ℕ × ℕ)) (f : FoundLookups) : Type 0 where
+-- it has these lookups
+pub record HasFound (seen : List Found) (f : FoundLookups) : Type 0 where
   pub len : f.len ≡ length seen
   pub hops_sum : f.hops_sum ≡ sum (hops_of seen)
   pub hops_greatest : f.hops_greatest ≡ greatest (hops_of seen)
+  pub timeouts_sum : f.timeouts_sum ≡ sum (timeouts_of seen)
   pub us_sum : f.us_sum ≡ sum (times_of seen)
   pub us_least : f.us_least ≡ least (times_of seen)
   pub us_greatest : f.us_greatest ≡ greatest (times_of seen)

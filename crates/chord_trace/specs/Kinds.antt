@@ -1,7 +1,8 @@
 -- The kinds of line.
-use Rattle.std.specs.Prelude.{ℕ, Bool, true, false, Option, Some, None}
+use Rattle.std.specs.Prelude.{Bool, true, false, Option, Some, None}
 use Rattle.chord_event.specs.declared.line.Line.{Line}
 use Rattle.chord_event.specs.declared.line.Line.TheVariants as line
+use Rattle.chord_trace.specs.declared.found_lookups.Found.{Found}
 
 abbrev pub is_member : Line → Bool
 is_member (line.Member predecessor) = true
@@ -67,7 +68,7 @@ abbrev pub is_ignored : Line → Bool
 is_ignored (line.Ignored command) = true
 is_ignored _ = false
 
--- the hops and the time of a lookup that was found
-abbrev pub found_in : Line → Option (ℕ × ℕ)
-found_in (line.Found key owner hops timeouts us) = Some (hops, us)
+-- the hops, the timeouts and the time of a lookup that was found
+abbrev pub found_in : Line → Option Found
+found_in (line.Found key owner hops timeouts us) = Some (record { hops = hops; timeouts = timeouts; us = us })
 found_in _ = None

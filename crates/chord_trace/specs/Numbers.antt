@@ -1,5 +1,6 @@
 -- Hops and times of lookups.
 use Rattle.std.specs.Prelude.{◌≡◌, ℕ, ◌+◌, ◌/◌, ◌<◌, ◌≤◌, Bool, cond, nat_le, nat_lt, List, [], ◌∷◌, count_by, fold, length, map, max, min, sum_by}
+use Rattle.chord_trace.specs.declared.found_lookups.Found.{Found}
 
 -- the greatest number, and 0 if there is none
 abbrev pub greatest : List ℕ → ℕ
@@ -10,12 +11,15 @@ abbrev pub least : List ℕ → ℕ
 least [] = 0
 least (n ∷ ns) = fold min n ns
 
--- the hops, and the times, of lookups that were found
-abbrev pub hops_of : List (ℕ × ℕ) → List ℕ
-hops_of = map (λ found. found.0)
+-- the hops, the timeouts, and the times, of lookups that were found
+abbrev pub hops_of : List Found → List ℕ
+hops_of = map (λ found. found.hops)
 
-abbrev pub times_of : List (ℕ × ℕ) → List ℕ
-times_of = map (λ found. found.1)
+abbrev pub timeouts_of : List Found → List ℕ
+timeouts_of = map (λ found. found.timeouts)
+
+abbrev pub times_of : List Found → List ℕ
+times_of = map (λ found. found.us)
 
 -- the counts of the times that pass a test, together
 abbrev pub counted : (ℕ → Bool) → List (ℕ × ℕ) → ℕ

@@ -3,14 +3,15 @@ use Rattle.std.specs.Prelude.{◌≡◌, ℕ, ◌+◌, ◌-◌, List, count_by, 
 use Rattle.std.specs.List.{filter_map}
 use Rattle.chord_trace.specs.AuditCounts.{audit_counts_in}
 use Rattle.chord_trace.specs.Counts.{counts_in}
-use Rattle.chord_trace.specs.Numbers.{IsMedian, greatest, least, hops_of, times_of}
+use Rattle.chord_trace.specs.Numbers.{IsMedian, greatest, least, hops_of, timeouts_of, times_of}
 use Rattle.chord_trace.specs.Kinds.{is_lookup, is_found, is_lost, found_in}
 use Rattle.chord_trace.specs.Pieces.{blocks_of, lines_of, audits_of}
 use Rattle.chord_trace.specs.declared.piece.Piece.{Piece}
 use Rattle.chord_trace.specs.declared.report.Report.{Report}
+use Rattle.chord_trace.specs.declared.found_lookups.Found.{Found}
 
--- the hops and the time of each lookup that was found
-abbrev pub found_lookups : List Piece → List (ℕ × ℕ)
+-- the lookups that were found
+abbrev pub found_lookups : List Piece → List Found
 found_lookups pieces = filter_map found_in (lines_of pieces)
 
 -- the report of the trace of these pieces in a profile, if its median is this
@@ -22,6 +23,7 @@ report_with profile pieces median = record {
   unfinished = count_by is_lookup (lines_of pieces) - (count_by is_found (lines_of pieces) + count_by is_lost (lines_of pieces));
   hops_sum = sum (hops_of (found_lookups pieces));
   hops_greatest = greatest (hops_of (found_lookups pieces));
+  timeouts_sum = sum (timeouts_of (found_lookups pieces));
   us_sum = sum (times_of (found_lookups pieces));
   us_least = least (times_of (found_lookups pieces));
   us_median = median;

@@ -26,7 +26,7 @@ abbrev pub number_text : List (List ℕ × ℕ) → List ℕ
 number_text = flat_map (λ p. p.0 ++ codes " " ++ decimal p.1 ++ codes "\n")
 
 -- the text of a report, a line for each of its numbers: the first profile has no losses, and only the extended one has
--- requests that are sent again, predecessors that are forgotten and fingers that rescue
+-- requests that are sent again, predecessors that are forgotten, fingers that rescue and a sum of timeouts
 abbrev pub report_text : Report → List ℕ
 report_text r =
     number_text (numbers_of r)
@@ -34,3 +34,4 @@ report_text r =
     ++ number_text (number_if (r.profile == 4) (codes "again") r.lines.again)
     ++ number_text (number_if (r.profile == 4) (codes "forgotten") r.lines.forgotten)
     ++ number_text (number_if (r.profile == 4) (codes "rescues") r.lines.rescues)
+    ++ number_text (number_if (r.profile == 4) (codes "timeouts-sum") r.timeouts_sum)

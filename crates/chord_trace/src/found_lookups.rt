@@ -7,18 +7,29 @@ use chord_event::Line;
 use std::alloc::{AllocError, Global};
 use std::collections::BTreeMap;
 
-/// The lookups that were found: their hops, their times in microseconds, and how many took each
-/// time.
+/// A lookup that was found: how many nodes it was at, how many requests timed out, and how long it
+/// took in microseconds.
+#[derive(Clone, Copy, Drop)]
+pub(crate) struct Found {
+    pub hops: u32,
+    pub timeouts: u32,
+    pub us: u64,
+}
+
+/// The lookups that were found: their hops, their timeouts, their times in microseconds, and how
+/// many took each time.
 #[derive(Drop)]
 pub struct FoundLookups {
     pub len: u64,
     pub hops_sum: u128,
     pub hops_greatest: u64,
+    pub timeouts_sum: u128,
     pub us_sum: u128,
     pub us_least: u64,
     pub us_greatest: u64,
     pub counts: BTreeMap<u64, u64>,
     ghost hops_fit: { hops_sum ≤ len * 2 ^ 32 },
+    ghost timeouts_fit: { timeouts_sum ≤ len * 2 ^ 32 },
     ghost times_fit: { us_sum ≤ len * 2 ^ 64 },
     ghost counts_fit: { counted (λ _. true) counts.entries ≡ len },
 }
@@ -28,6 +39,7 @@ impl FoundLookups {
     ghost use Rattle.std.specs.List.{filter_map};
     ghost use Rattle.chord_trace.specs.FoundLookups.{HasFound, found_len};
     ghost use Rattle.chord_trace.specs.Numbers.{IsMedian, times_of};
+    ghost use Rattle.chord_trace.specs.declared.found_lookups.Found.{Found as AFound};
 
     /// No lookups.
     pub fn new(alloc: Global) -> FoundLookups
@@ -37,6 +49,7 @@ impl FoundLookups {
             len: 0,
             hops_sum: 0,
             hops_greatest: 0,
+            timeouts_sum: 0,
             us_sum: 0,
             us_least: 0,
             us_greatest: 0,
@@ -47,23 +60,24 @@ impl FoundLookups {
     /// Adds the lookups that were found according to these lines.
     pub fn add_lines(&mut self, lines: &[Line]) -> Result<(), AllocError>
         requires { found_len self.old + length lines.now ≤ 2 ^ 47 }
-        ensures has { OnOk result ((seen : List (ℕ × ℕ)) → HasFound seen self.old → HasFound (seen ++ filter_map found_in lines.now) self.new) }
+        ensures has { OnOk result ((seen : List AFound) → HasFound seen self.old → HasFound (seen ++ filter_map found_in lines.now) self.new) }
         ensures at_most { found_len self.new ≤ found_len self.old + length lines.now }
     {
         for line in lines {
-            if let Some((hops, us)) = found_in(*line) {
-                self.add(hops, us)?;
+            if let Some(found) = found_in(*line) {
+                self.add(found)?;
             }
         }
         Ok(())
     }
 
-    fn add(&mut self, hops: u32, us: u64) -> Result<(), AllocError>
+    fn add(&mut self, found: Found) -> Result<(), AllocError>
         requires { found_len self.old < 2 ^ 47 }
-        ensures has { OnOk result ((seen : List (ℕ × ℕ)) → HasFound seen self.old → HasFound (seen ++ (hops, us) ∷ []) self.new) }
+        ensures has { OnOk result ((seen : List AFound) → HasFound seen self.old → HasFound (seen ++ found ∷ []) self.new) }
         ensures one_more { OnOk result (found_len self.new ≡ found_len self.old + 1) }
         ensures at_most { found_len self.new ≤ found_len self.old + 1 }
     {
+        let Found { hops, timeouts, us } = found;
         count_more(&mut self.counts, us, 1)?;
         self.us_least = if self.len == 0 {
             us
@@ -73,6 +87,7 @@ impl FoundLookups {
         self.len += 1;
         self.hops_sum += u128::from(hops);
         self.hops_greatest = self.hops_greatest.max(u64::from(hops));
+        self.timeouts_sum += u128::from(timeouts);
         self.us_sum += u128::from(us);
         self.us_greatest = self.us_greatest.max(us);
         Ok(())
@@ -81,7 +96,7 @@ impl FoundLookups {
     /// Both together.
     pub fn join(self, other: FoundLookups) -> Result<FoundLookups, AllocError>
         requires { found_len self + found_len other ≤ 2 ^ 47 }
-        ensures has { IfOk result (λ joined. (seen more : List (ℕ × ℕ)) → HasFound seen self → HasFound more other → HasFound (seen ++ more) joined) }
+        ensures has { IfOk result (λ joined. (seen more : List AFound) → HasFound seen self → HasFound more other → HasFound (seen ++ more) joined) }
         ensures len { IfOk result (λ joined. found_len joined ≡ found_len self + found_len other) }
     {
         let mut counts = self.counts;
@@ -97,6 +112,7 @@ impl FoundLookups {
             len: self.len + other.len,
             hops_sum: self.hops_sum + other.hops_sum,
             hops_greatest: self.hops_greatest.max(other.hops_greatest),
+            timeouts_sum: self.timeouts_sum + other.timeouts_sum,
             us_sum: self.us_sum + other.us_sum,
             us_least,
             us_greatest: self.us_greatest.max(other.us_greatest),
@@ -107,7 +123,7 @@ impl FoundLookups {
     /// The median time in microseconds: the lower of the two middle ones, and 0 if there are no
     /// times.
     pub fn us_median(&self) -> u64
-        ensures { (seen : List (ℕ × ℕ)) → HasFound seen self.now → IsMedian (times_of seen) result }
+        ensures { (seen : List AFound) → HasFound seen self.now → IsMedian (times_of seen) result }
     {
         if self.len == 0 {
             return 0;
@@ -116,12 +132,14 @@ impl FoundLookups {
     }
 }
 
-/// The hops and the time of a lookup that was found, if the line is of one.
-fn found_in(line: Line) -> Option<(u32, u64)>
+/// The lookup that was found, if the line is of one.
+fn found_in(line: Line) -> Option<Found>
     ensures { result ≡ found_in line }
 {
     match line {
-        Line::Found { hops, us, .. } => Some((hops, us)),
+        Line::Found {
+            hops, timeouts, us, ..
+        } => Some(Found { hops, timeouts, us }),
         _ => None,
     }
 }

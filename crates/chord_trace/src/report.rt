@@ -26,6 +26,8 @@ pub struct Report {
     pub unfinished: u64,
     pub hops_sum: u128,
     pub hops_greatest: u64,
+    /// The timeouts of the lookups that were found. Written in the extended profile only.
+    pub timeouts_sum: u128,
     pub us_sum: u128,
     pub us_least: u64,
     pub us_median: u64,
@@ -54,24 +56,35 @@ impl Report {
         ensures { OnOk result (string_bytes text.new ≡ string_bytes text.old ++ report_text self.now) }
     {
         push_numbers(text, &self.numbers())?;
-        push_if(text, self.profile > 1, "losses", self.lines.losses)?;
+        push_if(
+            text,
+            self.profile > 1,
+            "losses",
+            u128::from(self.lines.losses),
+        )?;
         push_if(
             text,
             self.profile == EXTENDED_PROFILE,
             "again",
-            self.lines.again,
+            u128::from(self.lines.again),
         )?;
         push_if(
             text,
             self.profile == EXTENDED_PROFILE,
             "forgotten",
-            self.lines.forgotten,
+            u128::from(self.lines.forgotten),
         )?;
         push_if(
             text,
             self.profile == EXTENDED_PROFILE,
             "rescues",
-            self.lines.rescues,
+            u128::from(self.lines.rescues),
+        )?;
+        push_if(
+            text,
+            self.profile == EXTENDED_PROFILE,
+            "timeouts-sum",
+            self.timeouts_sum,
         )
     }
 
@@ -108,11 +121,11 @@ impl Report {
 }
 
 /// Adds a number that not every profile has.
-fn push_if(text: &mut String, has: bool, word: &str, number: u64) -> Result<(), AllocError>
+fn push_if(text: &mut String, has: bool, word: &str, number: u128) -> Result<(), AllocError>
     ensures { OnOk result (string_bytes text.new ≡ string_bytes text.old ++ number_text (number_if has word.now number)) }
 {
     if has {
-        push_numbers(text, &[(word, u128::from(number))])
+        push_numbers(text, &[(word, number)])
     } else {
         Ok(())
     }

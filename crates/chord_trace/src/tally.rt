@@ -103,6 +103,7 @@ impl Tally {
             unfinished: lookups.saturating_sub(found).saturating_sub(lost),
             hops_sum: self.founds.hops_sum,
             hops_greatest: self.founds.hops_greatest,
+            timeouts_sum: self.founds.timeouts_sum,
             us_sum: self.founds.us_sum,
             us_least: self.founds.us_least,
             us_median: self.founds.us_median(),

@@ -19,6 +19,33 @@ fn in_profile<T: Abort + AllocGlobal>(rt: &T, profile: &str, example: &Example) 
     scenario_of(rt, text.as_str(), b"")
 }
 
+/// The extended profile without the rules of published Chord.
+const FIRST_RULES: &str =
+    "profile = 4\nlist_routes = false\ngoes_on = false\nask_owner = false\nlookup_timeouts = 8\n\
+    drop_silent = false\nskip_near = false\nrandom_start = false";
+
+/// The timeouts of a lookup, by its line of a trace.
+fn timeouts_of(line: &str) -> u64 {
+    let Some((_, after)) = line.split_once(" timeouts=") else {
+        return 0;
+    };
+    match after.split_once(" ") {
+        Some((digits, _)) => digits.parse().unwrap_or(0),
+        None => 0,
+    }
+}
+
+/// The timeouts of the lookups that were found, by the lines of a trace.
+fn timeouts_in(trace: &str) -> u64 {
+    let mut sum: u64 = 0;
+    for line in trace.lines() {
+        if line.contains(" found ") {
+            sum = sum.saturating_add(timeouts_of(line));
+        }
+    }
+    sum
+}
+
 /// An example that draws nothing that makes a difference has its trace in each profile, and more lines in its report.
 #[test]
 fn examples_without_loss(rt: HostRuntime) {
@@ -30,12 +57,15 @@ fn examples_without_loss(rt: HostRuntime) {
 fn have_no_loss<T: Abort + AllocGlobal + Threads + Wait + Sync>(rt: &T, group: &[Example]) {
     for example in group {
         has_no_loss(rt, example, "profile = 2", "losses 0\n");
-        has_no_loss(
+        let last = value_of(
             rt,
-            example,
-            "profile = 4\nretries = 0",
-            "losses 0\nagain 0\nforgotten 0\n",
+            format!(
+                in rt.alloc();
+                "losses 0\nagain 0\nforgotten 0\nrescues 0\ntimeouts-sum {}\n",
+                timeouts_in(example.trace)
+            ),
         );
+        has_no_loss(rt, example, FIRST_RULES, last.as_str());
     }
 }
 

@@ -32,13 +32,14 @@ use Rattle.chord_trace.specs.FoundLookups.{HasFound, found_len}
 use Rattle.chord_trace.specs.Kinds.{found_in}
 use Rattle.chord_trace.proofs.found_lookups.FoundLookups.add_lines.Goals as goal
 use Rattle.chord_trace.proofs.found_lookups.FoundLookups.add_lines.Goals.{in-Some+in_ok-add, in_default}
+use Rattle.chord_trace.specs.declared.found_lookups.Found.{Found}
 
-single : (l : Line) (o : Option (ℕ × ℕ)) → o ≡ found_in l → filter_map found_in (l ∷ []) ≡ option_to_list o
+single : (l : Line) (o : Option Found) → o ≡ found_in l → filter_map found_in (l ∷ []) ≡ option_to_list o
 single l None is = rw (← is) refl
 single l (Some found) is = rw (← is) refl
 
 -- what one line more adds
-step : (xs : List Line) (i : ℕ) (l : Line) (seen : List (ℕ × ℕ)) (o : Option (ℕ × ℕ)) (f : FoundLookups) → i < length xs → l ≡ get_or xs i l → o ≡ found_in l
+step : (xs : List Line) (i : ℕ) (l : Line) (seen : List Found) (o : Option Found) (f : FoundLookups) → i < length xs → l ≡ get_or xs i l → o ≡ found_in l
     → HasFound ((seen ++ filter_map found_in (take i xs)) ++ option_to_list o) f → HasFound (seen ++ filter_map found_in (take (i + 1) xs)) f
 step xs i l seen o f lt at is has =
     let before = filter_map found_in (take i xs) in
@@ -51,7 +52,7 @@ loop-line-preserved c = elim c.match-found_in.branch [
   | in-Some+in_ok-add w ↦ (
     (λ seen t.
         let has = w.in_ok-add.ensures.has _ (c.loop-line.invariant.0 seen t) in
-        subst (HasFound _) (sym w.self-is) (step c.args.lines.now c.loop-line.line-index _ seen (Some (w.in-Some.hops, w.in-Some.us)) _ (omega arith)
+        subst (HasFound _) (sym w.self-is) (step c.args.lines.now c.loop-line.line-index _ seen (Some w.in-Some.found) _ (omega arith)
         c.line-item.is w.in-Some.ensures has)),
     omega (arith, ap found_len w.self-is, w.in_ok-add.ensures.one_more, c.loop-line.invariant.1),
   )
