@@ -84,8 +84,16 @@ module _ (profile bits : ℕ) (needs : Needs) (top : Members) (s : IsSound profi
             record { low = fits.low; high = omega (arith, fits.high) }
       ]
 
-  list_fits : Fits 1 16 (number_at key.List top)
-  list_fits = required_fits s key.List 1 16 (in_each profile refl refl refl)
+  list_fits : Fits 1 32 (number_at key.List top)
+  list_fits =
+      elim (profile_cases profile) [
+        | inl extended ↦ required_fits s key.List 1 32 (rw extended refl)
+        | inr (inl is) ↦ shorter (required_fits s key.List 1 16 (rw (is.not_extended, is.second) refl))
+        | inr (inr is) ↦ shorter (required_fits s key.List 1 16 (rw (is.not_extended, is.not_second) refl))
+      ]
+    where
+      shorter : {n : ℕ} → Fits 1 16 n → Fits 1 32 n
+      shorter f = record { low = f.low; high = omega (arith, f.high) }
 
   duration_fits : Fits 1 1000000000000 (number_at key.DurationUs top)
   duration_fits = required_fits s key.DurationUs 1 1000000000000 (in_each profile refl refl refl)

@@ -72,13 +72,13 @@ optional k form = record { 0 = k; 1 = form; 2 = Optional }
 abbrev pub interval : Form
 interval = Whole 1 1000000000
 
--- the keys at top, by the most bits of a circle, the most nodes of a file, the most events of a run, and the keys that
--- only this profile has
-abbrev pub top_keys_of : (most_bits most_nodes most_events : ℕ) → (own : List Entry) → List Entry
-top_keys_of most_bits most_nodes most_events own =
+-- the keys at top, by the most bits of a circle, the most entries of a successor list, the most nodes of a file, the most
+-- events of a run, and the keys that only this profile has
+abbrev pub top_keys_of : (most_bits most_listed most_nodes most_events : ℕ) → (own : List Entry) → List Entry
+top_keys_of most_bits most_listed most_nodes most_events own =
     required key.Profile Profile
     ∷ required key.Bits (Whole 3 most_bits)
-    ∷ required key.List (Whole 1 16)
+    ∷ required key.List (Whole 1 most_listed)
     ∷ required key.Seed (Whole 0 9223372036854775807)
     ∷ required key.DurationUs (Whole 1 1000000000000)
     ∷ required key.WindowUs interval
@@ -122,9 +122,9 @@ extended_keys =
 
 abbrev pub top_keys : (profile : ℕ) → List Entry
 top_keys profile =
-    if profile == 4 then top_keys_of 128 65536 100000000000 (network_keys_and extended_keys)
-    else if profile == 2 then top_keys_of 128 4096 50000000 (network_keys_and [])
-    else top_keys_of 64 512 50000000 []
+    if profile == 4 then top_keys_of 128 32 65536 100000000000 (network_keys_and extended_keys)
+    else if profile == 2 then top_keys_of 128 16 4096 50000000 (network_keys_and [])
+    else top_keys_of 64 16 512 50000000 []
 
 abbrev pub churn_keys : List Entry
 churn_keys =

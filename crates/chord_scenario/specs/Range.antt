@@ -74,7 +74,7 @@ pub record NumbersInRange (sc : Setup) : Type 0 where
   pub bits_least : 3 ≤ sc.bits
   pub bits_greatest : sc.bits ≤ 128
   pub list_least : 1 ≤ sc.list
-  pub list_greatest : sc.list ≤ 16
+  pub list_greatest : sc.list ≤ 32
   pub duration_least : 1 ≤ sc.duration
   pub duration_greatest : sc.duration ≤ 1000000000000
   pub window : IsInterval sc.window

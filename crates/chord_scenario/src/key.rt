@@ -226,6 +226,8 @@ const WIDE_BITS: Entry = Entry(FileKey::Bits, Form::Whole(3, 128), Presence::Req
 
 const LIST: Entry = Entry(FileKey::List, Form::Whole(1, 16), Presence::Required);
 
+const LONG_LIST: Entry = Entry(FileKey::List, Form::Whole(1, 32), Presence::Required);
+
 const SEED: Entry = Entry(
     FileKey::Seed,
     Form::Whole(0, 9_223_372_036_854_775_807),
@@ -359,7 +361,7 @@ static NETWORK_TOP_KEYS: [Entry; 19] = [
 static EXTENDED_TOP_KEYS: [Entry; 34] = [
     PROFILE,
     WIDE_BITS,
-    LIST,
+    LONG_LIST,
     SEED,
     DURATION,
     WINDOW,
