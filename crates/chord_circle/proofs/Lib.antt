@@ -1,3 +1,4 @@
 pub mod Digits
 pub mod Distance
+pub mod Meeting
 pub mod Powers
