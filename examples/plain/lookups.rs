@@ -28,18 +28,23 @@ pub fn step_answer(scenario: &Scenario, node: &Node, key: Ident, avoid: &[u32]) 
     }
     let mut closest = head;
     let mut farthest = circle.distance(me, scenario.ident(head));
-    for &finger in &node.fingers {
+    let others: &[u32] = if scenario.ways.list_routes {
+        &node.successors
+    } else {
+        &[]
+    };
+    for &other in node.fingers.iter().chain(others) {
         // Fingers that are next to each other are mostly the same node.
-        if finger == closest || avoid.contains(&finger) {
+        if other == closest || avoid.contains(&other) {
             continue;
         }
-        let ident = scenario.ident(finger);
+        let ident = scenario.ident(other);
         if !between(me, ident, key) {
             continue;
         }
         let distance = circle.distance(me, ident);
         if distance > farthest {
-            (closest, farthest) = (finger, distance);
+            (closest, farthest) = (other, distance);
         }
     }
     Answer::Next(closest)

@@ -21,6 +21,11 @@ pub enum Profile {
     Extended,
 }
 
+/// The rules of Chord as published, each of which may be off. In the first two profiles all are.
+pub struct Ways {
+    pub list_routes: bool,
+}
+
 /// How long a churn node is up, and then down.
 pub struct Churn {
     pub life: Span,
@@ -51,6 +56,7 @@ pub struct Scenario {
     pub join_pause_us: u64,
     pub joins_forever: bool,
     pub has_detail: bool,
+    pub ways: Ways,
     pub circle: Circle,
     pub list: usize,
     pub seed: u64,
@@ -81,6 +87,7 @@ impl Scenario {
         let (join_pause_us, joins_forever) = (words.next(), words.flag());
         let check_us: u64 = words.next();
         let has_detail = words.flag();
+        let ways = words.ways();
         let circle = Circle::new(words.next());
         let (list, seed) = (words.next(), words.next());
         let (duration_us, timeout_us, audit_us) = (words.next(), words.next(), words.next());
@@ -102,6 +109,7 @@ impl Scenario {
             join_pause_us,
             joins_forever,
             has_detail,
+            ways,
             circle,
             list,
             seed,
@@ -251,6 +259,13 @@ impl<'a> Words<'a> {
             "1" => Profile::First,
             "2" => Profile::Second,
             _ => Profile::Extended,
+        }
+    }
+
+    /// The rules of Chord as published.
+    fn ways(&mut self) -> Ways {
+        Ways {
+            list_routes: self.flag(),
         }
     }
 

@@ -15,6 +15,7 @@ examples/plain reads this form. The scenario and its latencies are checked as ch
 EPILOG = """\
 The flat form:
   profile, loss_ppm, spread_us, retries, join_pause_us, join_forever as 1 or 0, check_us, detail as 1 or 0
+  list_routes as 1 or 0; 0 in profiles 1 and 2
   bits, list, seed, duration_us, timeout_us, audit_us, stabilize_us, finger_us, jitter_us, max_events, latency_us
   1 and life_min_us, life_max_us, down_min_us, down_max_us, or 0 if there is no [churn]
   1 and gap_min_us, gap_max_us, or 0 if there is no [lookups]
@@ -50,6 +51,7 @@ def lines_of(scenario: Scenario) -> Iterator[list[int | str]]:
     s = scenario
     yield [s.profile, s.loss_ppm, s.spread_us, s.retries, s.join_pause_us, int(s.join_forever), s.check_us,
            int(s.detail)]
+    yield [int(s.ways.list_routes)]
     yield [s.bits, s.list, s.seed, s.duration_us, s.timeout_us, s.audit_us, s.stabilize_us, s.finger_us, s.jitter_us,
            s.max_events, s.latency_us]
     c = s.churn

@@ -5,6 +5,7 @@ The nodes n0, n1 and n3 begin at the lines 17, 21 and 25; in profile 4 nothing e
 
 from unittest import TestCase
 
+from chordsim_tools.scenario.tables import WAYS
 from tests.test_explain import SOUND, changed, faults
 from tests.test_explain_traps import spoken
 
@@ -66,13 +67,16 @@ class ExplainLaterTest(TestCase):
 
     def test_later_keys(self) -> None:
         """Each is named with its profile, and checked in it."""
-        for key in ("join_pause_us", "join_forever", "check_us", "detail"):
+        for key in ("join_pause_us", "join_forever", "check_us", "detail", *(key.name for key in WAYS)):
             (found,) = faults(changed(("seed = 1", f"seed = 1\n{key} = 1")))
             assert found.hints == [f"profile 4 has `{key}`: write profile = 4"]
         (found,) = faults(changed(EXTENDED, ("seed = 1", "seed = 1\njoin_forever = 1")))
         assert (found.fault, found.hints) == ("S4 WrongType top join_forever", ["join_forever = true"])
         (found,) = faults(changed(EXTENDED, ("seed = 1", 'seed = 1\ndetail = "yes"')))
         assert (found.fault, found.hints) == ("S4 WrongType top detail", ["detail = true"])
+        for key in (key.name for key in WAYS if key.kind == "boolean"):
+            (found,) = faults(changed(EXTENDED, ("seed = 1", f'seed = 1\n{key} = "no"')))
+            assert (found.fault, found.hints) == (f"S4 WrongType top {key}", [f"{key} = false"])
         (found,) = faults(changed(EXTENDED, ("seed = 1", 'seed = 1\ncheck_us = "5s"')))
         assert (found.fault, found.hints) == ("S4 WrongType top check_us", ["in microseconds: 5000000"])
 

@@ -28,7 +28,7 @@ from chordsim_tools.reference.state import (
 )
 from chordsim_tools.scenario.reading import read_scenario
 from tests.support.programs import ended
-from tests.support.worlds import EXAMPLES, RING
+from tests.support.worlds import EXAMPLES, RING, SWITCHED_OFF
 from tests.test_second_profile import AUDIT, CRASH, N3, PLAIN, fault, happen, many, ran
 
 LONGER = (("duration_us = 200", "duration_us = 400"), ("audit_us = 200", "audit_us = 400"))
@@ -400,12 +400,12 @@ class OwnDrawsTest(TestCase):
             assert times[0] == times[1]
 
     def test_without_draws(self) -> None:
-        """No jitter, lookups or loss: the trace is that of the first profile, and three zeros are behind its report."""
+        """No jitter, lookups or loss, and no rule as published: the trace of the first profile, and more zeros."""
         for name in ("ring", "join_stuck", "ninth_timeout"):
             text = (EXAMPLES / f"{name}.toml").read_text()
             lines, numbers = ran(text)
             for keys in ("", *ZEROS):
-                changed = text.replace("profile = 1", f"profile = 4{keys}", 1)
+                changed = text.replace("profile = 1", f"profile = 4{keys}\n{SWITCHED_OFF}", 1)
                 assert ran(changed) == (lines, numbers | {"losses": 0, "again": 0, "forgotten": 0}), name
 
 

@@ -10,10 +10,12 @@ from unittest import TestCase, mock
 
 from chordsim_tools.generate.command import main
 from chordsim_tools.generate.random_scenario import scenario_files
+from chordsim_tools.generate.top import WAYS as WAYS_OF_OPTIONS
 from chordsim_tools.known import known
 from chordsim_tools.reference.circle import Circle
 from chordsim_tools.scenario.coordinates import Coordinates
-from chordsim_tools.scenario.reading import Churn, Command, Lookups, Scenario, read_scenario
+from chordsim_tools.scenario.reading import PUBLISHED, Churn, Command, Lookups, Scenario, read_scenario
+from chordsim_tools.scenario.tables import WAYS
 from tests.support.programs import checked, ended, program
 
 TOOL = Path(__file__).resolve().parents[1] / "generate"
@@ -62,6 +64,7 @@ REFUSED = [
     ("--profile 2 --join-forever", "--join-forever: only with --profile 4"),
     ("--profile 2 --check 1s", "--check: only with --profile 4"),
     ("--profile 2 --detail", "--detail: only with --profile 4"),
+    ("--profile 2 --no-list-routes", "--no-list-routes: only with --profile 4"),
     ("--profile 4 --check 1001s", "--check: a time of 0us to 1000s"),
     ("--profile 4 --join-pause 1001s", "--join-pause: a time of 0us to 1000s"),
     ("--profile 4 --max-events 100000000001", "--max-events: 1 to 100000000000"),
@@ -227,6 +230,13 @@ class GenerateTest(TestCase):
         ring = tomllib.loads(text_of("--profile 4 --detail --check 1s"))
         assert list(ring.items())[16:18] == [("check_us", 1_000_000), ("detail", True)]
         assert "detail" not in tomllib.loads(text_of("--profile 4"))
+
+    def test_published_rules(self) -> None:
+        """The keys that are given stand behind `detail`, in their order. An option with `no` makes a false."""
+        ring = tomllib.loads(text_of("--profile 4 --no-list-routes --detail"))
+        assert list(ring.items())[16:18] == [("detail", True), ("list_routes", False)]
+        assert [key for _, key in WAYS_OF_OPTIONS] == [key.name for key in WAYS]
+        assert made("--profile 4").ways == PUBLISHED
 
     def test_coordinates(self) -> None:
         """Places of the square and heights of the span, both to their ends; the window is the two least heights."""

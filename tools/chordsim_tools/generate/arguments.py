@@ -59,6 +59,8 @@ OPTIONS = (
     ("check", "TIME", duration(0, BILLION),
      "profile 4 alone: time between a node's checks of its predecessor, 0us to 1000s, 0us for none (0us)"),
     ("detail", "", None, "profile 4 alone: the trace has lines that tell of each message"),
+    ("no-list-routes", "", None,
+     "profile 4 alone: only the first entry of the successor list counts in the search for the closest preceding node"),
     ("coordinates", "LAW", value(law_of_places, LAWS), f"profile 4 alone: latencies by coordinates: {LAWS} (none)"),
     ("seed", "N", whole(0, GREATEST_SEED),
      "of the simulated streams, and of all that is drawn here: 0 to 9223372036854775807 (1)"),

@@ -5,6 +5,11 @@ from random import Random
 WIDE = [3, 4, 5, 6, 8, 32, 33, 64, 65, 96, 97, 127, 128]
 BITS = {1: [3, 4, 5, 6, 8, 16, 31, 32, 33, 63, 64], 2: WIDE, 4: WIDE}
 """The bits of the scenarios of each profile."""
+FALSE = ("true", ("false",))
+WAYS = (("list_routes", *FALSE),)
+"""The rules of Chord as published, with the values that keep to it and those that do not.
+
+A later one is drawn after the earlier ones, so that these stay as they were."""
 
 
 def scenario_files(seed: int) -> tuple[str, str]:
@@ -39,6 +44,7 @@ def scenario_files(seed: int) -> tuple[str, str]:
             links = ""
         if seed // 6 % 3 == 0:
             top["detail"] = "true"
+        top |= ways_of(dice)
     head = "".join(f"{key} = {value}\n" for key, value in top.items())
     return head + rest + "".join(node_tables) + commands, links
 
@@ -92,6 +98,17 @@ def patience_of(dice: Random) -> dict[str, int | str]:
     forever = dice.choice(["true", "true", "false"])
     keys: dict[str, int | str] = {"join_pause_us": pause, "join_forever": forever, "check_us": check}
     return {key: value for key, value in keys.items() if dice.random() < 0.75}
+
+
+def ways_of(dice: Random) -> dict[str, int | str]:
+    """Rules of Chord as published that are switched off: none of them, some or all. Some others are switched on."""
+    share = dice.choice([0, 0.2, 0.5, 1])
+    keys: dict[str, int | str] = {}
+    for name, published, others in WAYS:
+        is_off, is_written, other = dice.random() < share, dice.random() < 0.3, dice.choice(others)
+        if is_off or is_written:
+            keys[name] = other if is_off else published
+    return keys
 
 
 def coordinates(dice: Random, window: int) -> str:

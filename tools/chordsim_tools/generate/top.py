@@ -6,6 +6,12 @@ from chordsim_tools.scenario.coordinates import Coordinates, least_latency
 from chordsim_tools.scenario.tables import PROFILES
 
 
+WAYS = (
+    ("no-list-routes", "list_routes"),
+)
+"""The options of the rules of Chord as published, with their keys, in the order of docs/formats.md."""
+
+
 def window_of(options: Options, latency: int, places: tuple[Coordinates, ...]) -> int:
     """The window: by default as long as may be."""
     if places:
@@ -45,7 +51,7 @@ def network_of(options: Options, profile: int) -> dict[str, int]:
     """The keys of loss and spread, which profiles 2 and 4 have, and those that profile 4 alone has."""
     for name in ("loss", "spread"):
         options.only_with(name, profile >= 2, "--profile 2 or 4")
-    for name in ("retries", "join-pause", "join-forever", "check", "detail"):
+    for name in ("retries", "join-pause", "join-forever", "check", "detail", *dict(WAYS)):
         options.only_with(name, profile == 4, "--profile 4")
     if profile == 1:
         return {}
@@ -54,4 +60,12 @@ def network_of(options: Options, profile: int) -> dict[str, int]:
         return network
     later = {"join-pause": "join_pause_us", "join-forever": "join_forever", "check": "check_us", "detail": "detail"}
     given = {key: options.get(name, 0) for name, key in later.items() if options.has(name)}
-    return network | {"retries": options.get("retries", 0)} | given
+    return network | {"retries": options.get("retries", 0)} | given | ways_of(options)
+
+
+def ways_of(options: Options) -> dict[str, int]:
+    """The keys of the rules of Chord as published that were given. An option that begins with `no` is a key's false."""
+    return {
+        key: False if name.startswith("no-") else options.get(name, 0)
+        for name, key in WAYS if options.has(name)
+    }

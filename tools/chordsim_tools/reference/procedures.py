@@ -52,6 +52,7 @@ class Procedures:
     def __init__(self, world: World, node: Node, time: int) -> None:
         """The procedures for this node at this time."""
         self.world = world
+        self.ways = world.scenario.ways
         self.n = node
         self.t = time
         self.events: list[Event] = []
@@ -238,6 +239,8 @@ class Procedures:
         if circle.in_half_open(me, key, idents[s]):
             return Owner(s)
         candidates = {s, *n.fingers.values()}
+        if self.ways.list_routes:
+            candidates.update(n.succ)
         preceding = [x for x in candidates if x not in avoid and circle.between(me, idents[x], key)]
         return Next(max(preceding, key=lambda x: circle.distance(me, idents[x])))
 

@@ -1,6 +1,6 @@
 """The scenario that the two files say (docs/formats.md, sections 2 to 4)."""
 
-from dataclasses import dataclass
+from dataclasses import dataclass, fields, replace
 from typing import Any
 
 from chordsim_tools.cli import Refused
@@ -50,6 +50,17 @@ class Lookups:
     gap_max_us: int
 
 
+@dataclass(frozen=True)
+class Ways:
+    """The rules of Chord as published. These values switch each of them off, as in the first and second profile."""
+
+    list_routes: bool = False
+
+
+PUBLISHED = Ways(list_routes=True)
+"""What the keys are in the extended profile if they are not given."""
+
+
 # The field `list` of a scenario hides the type within its class.
 Nodes = list[NodeSpec]
 Commands = list[Command]
@@ -79,6 +90,7 @@ class Scenario:
     join_forever: bool
     check_us: int
     detail: bool
+    ways: Ways
     churn: Churn | None
     lookups: Lookups | None
     nodes: Nodes
@@ -120,12 +132,20 @@ def whole_scenario(document: Document) -> Scenario:
         join_forever=top.get("join_forever", False),
         check_us=top.get("check_us", 0),
         detail=top.get("detail", False),
+        ways=ways_of(top),
         churn=Churn(**top["churn"]) if "churn" in top else None,
         lookups=Lookups(**top["lookups"]) if "lookups" in top else None,
         nodes=nodes,
         commands=commands,
         latencies=latencies_of(document),
     )
+
+
+def ways_of(top: dict[str, Any]) -> Ways:
+    """The rules of Chord as published: all of them in the extended profile but those that its keys switch off."""
+    if top["profile"] != 4:
+        return Ways()
+    return replace(PUBLISHED, **{key.name: top[key.name] for key in fields(Ways) if key.name in top})
 
 
 def node_of(table: dict[str, Any], ident: int) -> NodeSpec:

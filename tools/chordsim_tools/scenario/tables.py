@@ -101,6 +101,10 @@ PATIENCE = [
     Key("detail", "boolean", required=False),
 ]
 """The keys of the top that the extended profile alone has."""
+WAYS = [
+    Key("list_routes", "boolean", required=False),
+]
+"""Further keys of its top: the rules of Chord as published, each of which can be switched off."""
 COORDINATES = [
     Key("x_us", "integer", 0, 500_000_000, required=False),
     Key("y_us", "integer", 0, 500_000_000, required=False),
@@ -172,7 +176,7 @@ class Profile:
 
 FIRST = Profile(64, 512, 50_000_000, [], [])
 SECOND = Profile(128, 4096, 50_000_000, NETWORK, [])
-EXTENDED = Profile(128, 65_536, 100_000_000_000, [*NETWORK, *PATIENCE], COORDINATES)
+EXTENDED = Profile(128, 65_536, 100_000_000_000, [*NETWORK, *PATIENCE, *WAYS], COORDINATES)
 PROFILES = {1: FIRST, 2: SECOND, 4: EXTENDED}
 
 

@@ -21,6 +21,7 @@ CHANGES = (
 PATIENCE = (
     "join_pause_us = 70", "join_pause_us = 1_000_000_001", 'join_pause_us = "1s"', "join_forever = true",
     "join_forever = 1", "check_us = 90", "check_us = -1", "check_us = 1.5", "detail = true", "detail = 1",
+    "list_routes = false", "list_routes = 1",
 )
 """Further lines of the top in the extended profile."""
 PLACES = (

@@ -9,6 +9,10 @@ from chordsim_tools.scenario.reading import Scenario, read_scenario
 
 EXAMPLES = Path(__file__).resolve().parents[3] / "examples"
 RING = (EXAMPLES / "ring.toml").read_text()
+OFF = {"list_routes": "false"}
+"""The keys of the rules of Chord as published, each with the value that switches its rule off."""
+SWITCHED_OFF = "".join(f"{key} = {value}\n" for key, value in OFF.items())
+"""These as lines."""
 
 
 def ring(*changes: tuple[str, str], rows: str = "") -> Scenario:
