@@ -2,13 +2,15 @@
 
 use crate::circle::between;
 use crate::events::{Answer, Body, Request};
-use crate::lookups::MOST_STEPS;
 use crate::state::{Attempt, Purpose, Status};
 use crate::trace::Line;
 use crate::turn::Turn;
 
 /// The failures that end an attempt.
 const MOST_FAILURES: u32 = 8;
+
+/// The requests of a try after its first.
+const MOST_STEPS: u32 = 128;
 
 /// The pauses after an attempt, if the next one follows.
 const PAUSES_BETWEEN_ATTEMPTS: u64 = 8;

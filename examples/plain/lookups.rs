@@ -10,11 +10,11 @@ use crate::turn::Turn;
 /// The most lookups of a user that a node has at once.
 const MOST_USER_LOOKUPS: usize = 60;
 
-/// The most requests of a lookup. A join has as many after its first.
-pub const MOST_STEPS: u32 = 128;
+/// The most requests of a lookup that may leave out no node.
+const LEAST_STEPS: u32 = 112;
 
-/// The timeouts that a lookup survives.
-const MOST_TIMEOUTS: u32 = 8;
+/// The further requests that it may send for each node that it may leave out.
+const STEPS_EACH: u32 = 2;
 
 /// The step answer of a node, for a key and nodes to avoid.
 pub fn step_answer(scenario: &Scenario, node: &Node, key: Ident, avoid: &[u32]) -> Answer {
@@ -87,7 +87,7 @@ impl Turn<'_> {
     /// Asks the next node, unless the lookup has sent all its requests.
     fn ask_next(&mut self, index: usize, next: u32) {
         let lookup = &mut self.node.lookups[index];
-        if lookup.steps >= MOST_STEPS {
+        if lookup.steps >= LEAST_STEPS + STEPS_EACH * self.scenario.ways.lookup_timeouts as u32 {
             return self.fail_lookup(index);
         }
         lookup.steps += 1;
@@ -128,24 +128,44 @@ impl Turn<'_> {
         }
     }
 
-    /// A request of a lookup was answered.
-    pub fn lookup_answered(&mut self, call: u64, answer: Answer) {
+    /// A request of a lookup was answered by the node that was asked. If the lookup goes on, this is
+    /// where it does, unless the node is a dead end.
+    pub fn lookup_answered(&mut self, call: u64, asked: u32, answer: Answer) {
         let index = self.node.lookup_of(call);
-        self.node.lookups[index].hops += 1;
+        let lookup = &mut self.node.lookups[index];
+        if lookup.last != Some(asked) {
+            lookup.hops += 1;
+        }
+        if self.scenario.ways.goes_on {
+            if matches!(answer, Answer::Stuck) {
+                return self.leave_out(index, asked);
+            }
+            lookup.last = Some(asked);
+        }
         self.follow_answer(index, answer);
     }
 
     /// A request of a lookup to a node timed out.
     pub fn lookup_timed_out(&mut self, call: u64, asked: u32) {
         let index = self.node.lookup_of(call);
+        self.node.lookups[index].timeouts += 1;
+        self.leave_out(index, asked);
+    }
+
+    /// A lookup avoids one more node, if it may, and goes on from the node that answered last. Without
+    /// such a node it begins again.
+    fn leave_out(&mut self, index: usize, silent: u32) {
         let lookup = &mut self.node.lookups[index];
-        lookup.timeouts += 1;
-        if lookup.timeouts > MOST_TIMEOUTS {
+        if lookup.avoid.len() >= self.scenario.ways.lookup_timeouts {
             return self.fail_lookup(index);
         }
-        if !lookup.avoid.contains(&asked) {
-            lookup.avoid.push(asked);
+        lookup.avoid.push(silent);
+        match lookup.last.filter(|&last| last != silent) {
+            Some(last) => self.ask_next(index, last),
+            None => {
+                lookup.last = None;
+                self.walk_lookup(index);
+            }
         }
-        self.walk_lookup(index);
     }
 }

@@ -32,10 +32,10 @@ pub struct Report {
     losses: u64,
     again: u64,
     forgotten: u64,
+    timeouts_sum: u64,
     /// Whether the losses are printed, as they are in the second and the extended profile.
     pub has_losses: bool,
-    /// Whether the requests that were sent again and the predecessors that were forgotten are printed,
-    /// as they are in the extended profile.
+    /// Whether the numbers of the extended profile are printed.
     pub is_extended: bool,
 }
 
@@ -55,7 +55,9 @@ impl Report {
             Line::Again { .. } => self.again += 1,
             Line::Forget { .. } => self.forgotten += 1,
             Line::Lookup { .. } => self.lookups += 1,
-            Line::Found { hops, us, .. } => self.count_found(u64::from(*hops), *us),
+            Line::Found {
+                hops, timeouts, us, ..
+            } => self.count_found(u64::from(*hops), u64::from(*timeouts), *us),
             Line::Lost { .. } => self.lost += 1,
             Line::Busy { .. } => self.busy += 1,
             Line::Ignored { .. } => self.ignored += 1,
@@ -63,8 +65,9 @@ impl Report {
     }
 
     /// Counts a lookup that was found.
-    fn count_found(&mut self, hops: u64, us: u64) {
+    fn count_found(&mut self, hops: u64, timeouts: u64, us: u64) {
         self.found += 1;
+        self.timeouts_sum += timeouts;
         self.hops_sum += hops;
         self.hops_greatest = self.hops_greatest.max(hops);
         self.times_us.push(us);
@@ -116,7 +119,14 @@ impl Report {
         ];
         rows.extend(self.has_losses.then_some(("losses", self.losses)));
         if self.is_extended {
-            rows.extend([("again", self.again), ("forgotten", self.forgotten)]);
+            rows.extend([
+                ("again", self.again),
+                ("forgotten", self.forgotten),
+                ("leaves", 0),
+                ("rescues", 0),
+                ("creates", 0),
+                ("timeouts-sum", self.timeouts_sum),
+            ]);
         }
         rows
     }

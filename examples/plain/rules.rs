@@ -297,7 +297,7 @@ impl Turn<'_> {
             return;
         };
         if call.purpose == Purpose::Lookup {
-            self.lookup_answered(number, answer);
+            self.lookup_answered(number, call.to, answer);
         } else {
             self.join_step_answered(call.to, answer);
         }

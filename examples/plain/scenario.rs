@@ -21,9 +21,12 @@ pub enum Profile {
     Extended,
 }
 
-/// The rules of Chord as published, each of which may be off. In the first two profiles all are.
+/// The rules of Chord as published, each of which may be off. In the first two profiles all are, and
+/// a lookup leaves out at most 8 nodes.
 pub struct Ways {
     pub list_routes: bool,
+    pub goes_on: bool,
+    pub lookup_timeouts: usize,
 }
 
 /// How long a churn node is up, and then down.
@@ -266,6 +269,8 @@ impl<'a> Words<'a> {
     fn ways(&mut self) -> Ways {
         Ways {
             list_routes: self.flag(),
+            goes_on: self.flag(),
+            lookup_timeouts: self.next(),
         }
     }
 

@@ -60,7 +60,8 @@ pub enum Aim {
 
 /// A lookup in progress: the number of its call, its key and aim, and when it started. `steps`
 /// counts the requests that it has sent, `hops` those that were answered, and `timeouts` those that
-/// timed out. It avoids the nodes that did not reply.
+/// timed out. It avoids the nodes that did not reply, and dead ends. `last` is the node that answered
+/// last, if the lookup goes on from it.
 pub struct Lookup {
     pub call: u64,
     pub key: Ident,
@@ -70,6 +71,7 @@ pub struct Lookup {
     pub hops: u32,
     pub timeouts: u32,
     pub avoid: Vec<u32>,
+    pub last: Option<u32>,
 }
 
 impl Lookup {
@@ -84,6 +86,7 @@ impl Lookup {
             hops: 0,
             timeouts: 0,
             avoid: Vec::new(),
+            last: None,
         }
     }
 

@@ -1,6 +1,7 @@
 """The command examples/plain/flatten: the flat form of a scenario, which the plain program of examples/plain reads."""
 
 from collections.abc import Iterator
+from dataclasses import astuple
 
 from chordsim_tools.cli import Parser, run
 from chordsim_tools.files import check_output, put, read_input
@@ -15,7 +16,7 @@ examples/plain reads this form. The scenario and its latencies are checked as ch
 EPILOG = """\
 The flat form:
   profile, loss_ppm, spread_us, retries, join_pause_us, join_forever as 1 or 0, check_us, detail as 1 or 0
-  list_routes as 1 or 0; 0 in profiles 1 and 2
+  list_routes and goes_on as 1 or 0, lookup_timeouts; in profiles 1 and 2 0, 0 and 8
   bits, list, seed, duration_us, timeout_us, audit_us, stabilize_us, finger_us, jitter_us, max_events, latency_us
   1 and life_min_us, life_max_us, down_min_us, down_max_us, or 0 if there is no [churn]
   1 and gap_min_us, gap_max_us, or 0 if there is no [lookups]
@@ -51,7 +52,7 @@ def lines_of(scenario: Scenario) -> Iterator[list[int | str]]:
     s = scenario
     yield [s.profile, s.loss_ppm, s.spread_us, s.retries, s.join_pause_us, int(s.join_forever), s.check_us,
            int(s.detail)]
-    yield [int(s.ways.list_routes)]
+    yield [int(value) for value in astuple(s.ways)]
     yield [s.bits, s.list, s.seed, s.duration_us, s.timeout_us, s.audit_us, s.stabilize_us, s.finger_us, s.jitter_us,
            s.max_events, s.latency_us]
     c = s.churn

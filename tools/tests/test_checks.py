@@ -13,7 +13,7 @@ from chordsim_tools.reference.state import (
     CheckTick, CmdCrash, CmdJoin, FingerTick, GetState, LifeEnd, Node, Notify, Ping, Pong, Purpose, StabilizeTick,
     StateReply, Status, Timeout, TrafficTick,
 )
-from tests.support.worlds import EXAMPLES
+from tests.support.worlds import EXAMPLES, LATER
 from tests.test_second_profile import CRASH, happen, ran
 from tests.test_extended_profile import LONGER, SPANS, numbers_of, extended, world_of
 
@@ -53,7 +53,7 @@ class ChecksTest(TestCase):
         for keys in ((), ("check_us = 0",)):
             lines, numbers = ran(quiet(*keys) + CRASH)
             assert len(lines) == 2 and numbers["events"] == 1
-            assert list(numbers)[24:] == ["losses", "again", "forgotten"] and numbers["forgotten"] == 0
+            assert list(numbers)[24:] == list(LATER) and numbers["forgotten"] == 0
 
     def test_example(self) -> None:
         """The trace of examples/check_predecessor.toml is that of its head, and so is the one without checks."""

@@ -77,6 +77,8 @@ class ExplainLaterTest(TestCase):
         for key in (key.name for key in WAYS if key.kind == "boolean"):
             (found,) = faults(changed(EXTENDED, ("seed = 1", f'seed = 1\n{key} = "no"')))
             assert (found.fault, found.hints) == (f"S4 WrongType top {key}", [f"{key} = false"])
+        (found,) = faults(changed(EXTENDED, ("seed = 1", "seed = 1\nlookup_timeouts = 65")))
+        assert (found.fault, found.allowed) == ("S5 OutOfRange top lookup_timeouts", "an integer from 0 to 64")
         (found,) = faults(changed(EXTENDED, ("seed = 1", 'seed = 1\ncheck_us = "5s"')))
         assert (found.fault, found.hints) == ("S4 WrongType top check_us", ["in microseconds: 5000000"])
 

@@ -28,7 +28,7 @@ from chordsim_tools.reference.state import (
 )
 from chordsim_tools.scenario.reading import read_scenario
 from tests.support.programs import ended
-from tests.support.worlds import EXAMPLES, RING, SWITCHED_OFF
+from tests.support.worlds import EXAMPLES, LATER, RING, SWITCHED_OFF
 from tests.test_second_profile import AUDIT, CRASH, N3, PLAIN, fault, happen, many, ran
 
 LONGER = (("duration_us = 200", "duration_us = 400"), ("audit_us = 200", "audit_us = 400"))
@@ -146,7 +146,7 @@ class SendAgainTest(TestCase):
                 AUDIT,
             ]
             assert (numbers["losses"], numbers["again"]) == (1, 0)
-            assert list(numbers)[24:] == ["losses", "again", "forgotten"]
+            assert list(numbers)[24:] == list(LATER)
 
     def test_all_sendings_are_lost(self) -> None:
         """Four steps at 100, 140, 180 and 220, and the timeout at 260. A line `lose` is behind its line `again`."""
@@ -276,8 +276,8 @@ class SendAgainTest(TestCase):
             name.write_text(extended("loss_ppm = 20387", "retries = 1"))
             status, out, _ = ended(main, str(name), "--report", "--messages")
             lines = out.splitlines()
-            assert (status, len(lines)) == (0, 27 + 9 + 9)
-            assert lines[24:28] == ["losses 1", "again 1", "forgotten 0", "sent step 2"]
+            assert (status, len(lines)) == (0, 31 + 9 + 9)
+            assert lines[24:32] == ["losses 1", "again 1", *(f"{word} 0" for word in LATER[2:]), "sent step 2"]
             assert "sent step-reply 1" in lines and "lost step 1" in lines
 
 
@@ -406,7 +406,8 @@ class OwnDrawsTest(TestCase):
             lines, numbers = ran(text)
             for keys in ("", *ZEROS):
                 changed = text.replace("profile = 1", f"profile = 4{keys}\n{SWITCHED_OFF}", 1)
-                assert ran(changed) == (lines, numbers | {"losses": 0, "again": 0, "forgotten": 0}), name
+                later = dict.fromkeys(LATER, 0) | {"timeouts-sum": ran(changed)[1]["timeouts-sum"]}
+                assert ran(changed) == (lines, numbers | later), name
 
 
 class LimitsTest(TestCase):

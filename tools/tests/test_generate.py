@@ -65,6 +65,9 @@ REFUSED = [
     ("--profile 2 --check 1s", "--check: only with --profile 4"),
     ("--profile 2 --detail", "--detail: only with --profile 4"),
     ("--profile 2 --no-list-routes", "--no-list-routes: only with --profile 4"),
+    ("--no-goes-on", "--no-goes-on: only with --profile 4"),
+    ("--profile 2 --lookup-timeouts 8", "--lookup-timeouts: only with --profile 4"),
+    ("--profile 4 --lookup-timeouts 65", "--lookup-timeouts: 0 to 64"),
     ("--profile 4 --check 1001s", "--check: a time of 0us to 1000s"),
     ("--profile 4 --join-pause 1001s", "--join-pause: a time of 0us to 1000s"),
     ("--profile 4 --max-events 100000000001", "--max-events: 1 to 100000000000"),
@@ -233,8 +236,9 @@ class GenerateTest(TestCase):
 
     def test_published_rules(self) -> None:
         """The keys that are given stand behind `detail`, in their order. An option with `no` makes a false."""
-        ring = tomllib.loads(text_of("--profile 4 --no-list-routes --detail"))
-        assert list(ring.items())[16:18] == [("detail", True), ("list_routes", False)]
+        ring = tomllib.loads(text_of("--profile 4 --lookup-timeouts 3 --no-goes-on --no-list-routes --detail"))
+        wanted = [("detail", True), ("list_routes", False), ("goes_on", False), ("lookup_timeouts", 3)]
+        assert list(ring.items())[16:20] == wanted
         assert [key for _, key in WAYS_OF_OPTIONS] == [key.name for key in WAYS]
         assert made("--profile 4").ways == PUBLISHED
 

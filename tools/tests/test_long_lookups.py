@@ -1,6 +1,7 @@
 """Lookups that are as many or as long as they may be, and in as many nodes, by the program."""
 
 from tests.support.rings import ONE_HOP, PLANS, WHOLE, ProgramTest, numbers_of, of_profile, ring_of, text_of_three
+from tests.support.worlds import LATER
 
 SIXTY_REPORT = (
     "events 241\nmembers 0\njoin-failed 0\ncrashes 0\nstranded 0\ndrops 0\nlate 0\ntimeouts 0\n"
@@ -63,7 +64,7 @@ class LongLookups(ProgramTest):
         for profile, last in (
             ("profile = 1", ""),
             ("profile = 2", "losses 0\n"),
-            ("profile = 4", "losses 0\nagain 0\nforgotten 0\n"),
+            ("profile = 4", "".join(f"{word} 0\n" for word in LATER)),
         ):
             with self.subTest(profile):
                 self.all_leave(of_profile(profile, text_of_three(61 * ONE_HOP)), trace, SIXTY_REPORT + last)

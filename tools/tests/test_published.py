@@ -6,12 +6,16 @@ Latencies are 10, and a timeout comes after 50. The node nK is at K. Fingers are
 from typing import NamedTuple
 from unittest import TestCase
 
+from chordsim_tools.reference.procedures import World
 from chordsim_tools.reference.report import Report
 from chordsim_tools.reference.simulation import Simulation
+from chordsim_tools.reference.state import Body, CmdLookup, Next, Node, Owner, Step, StepReply, Stuck, Timeout
 from chordsim_tools.scenario.reading import Ways, read_scenario
 from chordsim_tools.scenario.tables import WAYS
 from tests.support.rings import ProgramTest
-from tests.support.worlds import OFF, RING, fault
+from tests.support.worlds import LATER, OFF, RING, fault
+from tests.test_extended_profile import world_of
+from tests.test_second_profile import happen
 
 TOP = {
     "profile": "4", "bits": "8", "list": "2", "seed": "1", "duration_us": "2000", "window_us": "10",
@@ -45,6 +49,11 @@ def ring(*idents: int) -> str:
 def command(time: int, do: str, node: str, more: str = "") -> str:
     """A command."""
     return f'[[command]]\nat_us = {time}\ndo = "{do}"\nnode = "{node}"\n{more}\n'
+
+
+def member(**keys: str) -> tuple[World, Node]:
+    """n0 of the ring of three at its start. No other rule of those published holds than these keys say."""
+    return world_of(*(f"{key} = {value}" for key, value in (OFF | keys).items()))
 
 
 def ended(text: str) -> tuple[str, dict[str, int]]:
@@ -84,7 +93,96 @@ LIST_ROUTES = Worked(
 The timers of the start are the events 1 and 2 of each node. n3 has the list n5, n40, n0, so that n5 is the owner.
 """
 
-WORKED = {"list_routes": LIST_ROUTES}
+GOES_ON = Worked(
+    keys={"goes_on": "true"},
+    off={"goes_on": "false"},
+    nodes=ring(0, 32, 64, 80, 96, 104, 112, 200),
+    commands=command(50, "crash", "n104") + command(100, "lookup", "n0", "key = 110"),
+    trace=(
+        "50 n104 crash\n"
+        "100 n0 lookup 110\n"
+        "100 n0 ask step n64 call=3 key=110 since=100\n"
+        "110 n64 send step-reply n0\n"
+        "120 n0 ask step n96 call=5 key=110 since=100\n"
+        "130 n96 send step-reply n0\n"
+        "140 n0 ask step n104 call=7 key=110 since=100\n"
+        "150 n104 drop step n0\n"
+        "190 n0 timeout n104\n"
+        "190 n0 ask step n96 call=9 key=110 since=100\n"
+        "200 n96 send step-reply n0\n"
+        "210 n0 found 110 n112 hops=2 timeouts=1 us=110\n"
+        "2000 audit members=7 dead=0 ring=7 ordered=yes principals=7 sufficient=yes\n"
+    ),
+    other=(
+        "50 n104 crash\n"
+        "100 n0 lookup 110\n"
+        "100 n0 ask step n64 call=3 key=110 since=100\n"
+        "110 n64 send step-reply n0\n"
+        "120 n0 ask step n96 call=5 key=110 since=100\n"
+        "130 n96 send step-reply n0\n"
+        "140 n0 ask step n104 call=7 key=110 since=100\n"
+        "150 n104 drop step n0\n"
+        "190 n0 timeout n104\n"
+        "190 n0 ask step n64 call=9 key=110 since=100\n"
+        "200 n64 send step-reply n0\n"
+        "210 n0 ask step n96 call=11 key=110 since=100\n"
+        "220 n96 send step-reply n0\n"
+        "230 n0 found 110 n112 hops=4 timeouts=1 us=130\n"
+        "2000 audit members=7 dead=0 ring=7 ordered=yes principals=7 sufficient=yes\n"
+    ),
+)
+"""n0 knows 7:n64, n64 knows 6:n96, and n96 knows 4:n104, which is down. n96 is asked again, and counts as one hop.
+
+Its list is n104, n112. So with n104 to avoid it names n112. Without the rule n64 and n96 are both asked again.
+"""
+LOOKUP_TIMEOUTS = Worked(
+    keys={"list": "4", "lookup_timeouts": "2"},
+    off={"lookup_timeouts": "3"},
+    nodes=ring(0, 10, 20, 30, 40, 200),
+    commands=(
+        "".join(command(50, "crash", f"n{ident}") for ident in (10, 20, 30)) + command(100, "lookup", "n0", "key = 35")
+    ),
+    trace=(
+        "50 n10 crash\n"
+        "50 n20 crash\n"
+        "50 n30 crash\n"
+        "100 n0 lookup 35\n"
+        "100 n0 ask step n20 call=3 key=35 since=100\n"
+        "110 n20 drop step n0\n"
+        "150 n0 timeout n20\n"
+        "150 n0 ask step n10 call=5 key=35 since=100\n"
+        "160 n10 drop step n0\n"
+        "200 n0 timeout n10\n"
+        "200 n0 ask step n30 call=7 key=35 since=100\n"
+        "210 n30 drop step n0\n"
+        "250 n0 timeout n30\n"
+        "250 n0 lost 35 hops=0 timeouts=3 us=150\n"
+        "2000 audit members=3 dead=0 ring=3 ordered=yes principals=3 sufficient=no\n"
+    ),
+    other=(
+        "50 n10 crash\n"
+        "50 n20 crash\n"
+        "50 n30 crash\n"
+        "100 n0 lookup 35\n"
+        "100 n0 ask step n20 call=3 key=35 since=100\n"
+        "110 n20 drop step n0\n"
+        "150 n0 timeout n20\n"
+        "150 n0 ask step n10 call=5 key=35 since=100\n"
+        "160 n10 drop step n0\n"
+        "200 n0 timeout n10\n"
+        "200 n0 ask step n30 call=7 key=35 since=100\n"
+        "210 n30 drop step n0\n"
+        "250 n0 timeout n30\n"
+        "250 n0 found 35 n40 hops=0 timeouts=3 us=150\n"
+        "2000 audit members=3 dead=0 ring=3 ordered=yes principals=3 sufficient=no\n"
+    ),
+)
+"""n10, n20 and n30 are down: all of the list of n0 but n40, the owner of 35. Its fingers are n10, 6:n20, 7:n40, 8:n200.
+
+The third silent node is one too many if a lookup may leave out two. Otherwise n40 is the next of the list.
+"""
+
+WORKED = {"list_routes": LIST_ROUTES, "goes_on": GOES_ON, "lookup_timeouts": LOOKUP_TIMEOUTS}
 
 
 class WorkedTest(TestCase):
@@ -107,6 +205,89 @@ class PublishedProgram(ProgramTest):
             with self.subTest(name=name):
                 self.all_write(one.text(True), one.trace)
                 self.all_write(one.text(False), one.other)
+
+
+class GoesOnTest(TestCase):
+    """n0 looks up 7: it asks n3 by the call 1, and n3 names n1, which is asked by the call 3."""
+
+    def asked(self, **keys: str) -> tuple[World, Node]:
+        """n0 in a lookup that goes on, if no key says otherwise, after the answer of n3."""
+        world, node = member(**({"goes_on": "true"} | keys))
+        assert happen(world, node, CmdLookup(7), 1)[1][0] == (110, 1, 2, Step(1, 7, []))
+        assert happen(world, node, StepReply(1, Next(1)), 4)[1][0] == (110, 3, 1, Step(3, 7, []))
+        return world, node
+
+    def test_silent_node(self) -> None:
+        """n1 is silent: n3 is asked again, without n1. Its second answer is no second hop."""
+        world, node = self.asked()
+        lines, made = happen(world, node, Timeout(3), 2)
+        assert (lines, made[0]) == (["timeout n1"], (110, 5, 2, Step(5, 7, [1])))
+        assert (node.lookups[0].last, node.lookups[0].avoid) == (2, [1])
+        assert happen(world, node, StepReply(5, Owner(0)), 4)[0] == ["found 7 n0 hops=1 timeouts=1 us=0"]
+
+    def test_last_node_is_silent(self) -> None:
+        """Then n3, which answered before, is silent too. No node has answered last; n0 itself knows nobody else."""
+        world, node = self.asked()
+        happen(world, node, Timeout(3), 2)
+        assert happen(world, node, Timeout(5), 2) == (["timeout n3", "lost 7 hops=1 timeouts=2 us=0"], [])
+
+    def test_dead_end(self) -> None:
+        """n1 knows nobody: it is left out as a silent node is, and is a hop. n3 is asked again, and then n0 itself."""
+        world, node = self.asked()
+        lines, made = happen(world, node, StepReply(3, Stuck()), 3)
+        assert (lines, made[0], node.lookups[0].hops) == ([], (110, 5, 2, Step(5, 7, [1])), 2)
+        assert happen(world, node, StepReply(5, Stuck()), 4) == (["lost 7 hops=2 timeouts=0 us=0"], [])
+
+    def test_first_node_is_a_dead_end(self) -> None:
+        """n3 knows nobody. Then n0 names n1, the next of its list."""
+        world, node = member(goes_on="true")
+        happen(world, node, CmdLookup(7), 1)
+        assert happen(world, node, StepReply(1, Stuck()), 4)[1][0] == (110, 3, 1, Step(3, 7, [2]))
+        assert (node.lookups[0].last, node.lookups[0].hops) == (None, 1)
+
+    def test_without_the_rule(self) -> None:
+        """A dead end is the end, and after a timeout n0 begins again: n3 is asked again, and is a second hop."""
+        world, node = self.asked(goes_on="false")
+        assert happen(world, node, StepReply(3, Stuck()), 3) == (["lost 7 hops=2 timeouts=0 us=0"], [])
+        world, node = self.asked(goes_on="false")
+        assert happen(world, node, Timeout(3), 2)[1][0] == (110, 5, 2, Step(5, 7, [1]))
+        assert happen(world, node, StepReply(5, Owner(0)), 4)[0] == ["found 7 n0 hops=2 timeouts=1 us=0"]
+
+    def test_nodes_to_avoid(self) -> None:
+        """A dead end counts among the nodes that may be left out, but is no timeout."""
+        world, node = self.asked(lookup_timeouts="1")
+        happen(world, node, StepReply(3, Stuck()), 3)
+        assert happen(world, node, Timeout(5), 2)[0] == ["timeout n3", "lost 7 hops=2 timeouts=1 us=0"]
+        world, node = self.asked(lookup_timeouts="0")
+        assert happen(world, node, StepReply(3, Stuck()), 3)[0] == ["lost 7 hops=2 timeouts=0 us=0"]
+
+    def test_steps(self) -> None:
+        """112 requests and two for each node that may be left out, of whichever kind the last one is."""
+        for timeouts, steps in (("0", 112), ("8", 128), ("32", 176), ("64", 240)):
+            bodies: list[Body] = [StepReply(3, Next(2)), Timeout(3)]
+            for body in bodies:
+                world, node = self.asked(lookup_timeouts=timeouts)
+                node.lookups[0].steps = steps
+                assert happen(world, node, body, 3)[0][-1].startswith("lost 7 ")
+                world, node = self.asked(lookup_timeouts=timeouts)
+                node.lookups[0].steps = steps - 1
+                assert (happen(world, node, body, 3)[1] == []) == (timeouts == "0" and body == Timeout(3))
+
+
+class ReportTest(TestCase):
+    """The numbers of the report that count what these rules do."""
+
+    def test_timeouts_of_found_lookups(self) -> None:
+        """One and two timeouts of lookups that are found are three; those of one that is lost do not count."""
+        report = Report(4)
+        for timeouts, word in ((1, "found 5 n1"), (7, "lost 5"), (2, "found 5 n1")):
+            report.read(f"9 n0 {word} hops=1 timeouts={timeouts} us=4")
+        assert report.numbers(9)["timeouts-sum"] == 3
+
+    def test_numbers_of_the_profiles(self) -> None:
+        """The extended profile has seven numbers after the first 24, and the others have none and one."""
+        for profile, later in ((1, ()), (2, LATER[:1]), (4, LATER)):
+            assert list(Report(profile).numbers(0))[24:] == list(later)
 
 
 class KeysTest(TestCase):
@@ -141,7 +322,7 @@ class KeysTest(TestCase):
         for profile in (1, 2):
             assert ways(f"profile = {profile}") == Ways()
         published = ways("profile = 4")
-        assert published == Ways(list_routes=True)
+        assert published == Ways(list_routes=True, goes_on=True, lookup_timeouts=32)
         assert ways("\n".join(["profile = 4", *(f"{key} = {value}" for key, value in OFF.items())])) == Ways()
         for name, value in OFF.items():
             changed = ways(f"profile = 4\n{name} = {value}")

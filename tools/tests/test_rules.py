@@ -124,10 +124,11 @@ class RulesTest(TestCase):
         assert happen(node, CmdLookup(7), 1) == (["busy 7"], [])
 
     def test_ninth_timeout(self) -> None:
-        """A lookup outlives eight timeouts."""
+        """A lookup outlives eight timeouts, of as many nodes."""
         node = member()
         happen(node, CmdLookup(7), 1)
         node.lookups[0].timeouts = 8
+        node.lookups[0].avoid = list(range(3, 11))
         assert happen(node, Timeout(1), 2) == (["timeout n3", "lost 7 hops=0 timeouts=9 us=0"], [])
 
     def test_stuck_after_two_timeouts(self) -> None:

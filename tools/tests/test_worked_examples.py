@@ -11,6 +11,7 @@ from pathlib import Path
 
 from chordsim_tools.reference.chacha import Stream
 from tests.support.rings import FOUR, PLANS, SERIAL, THREE, TOP, TWO, ProgramTest
+from tests.support.worlds import LATER, SWITCHED_OFF
 
 TOP_FOLDER = Path(__file__).parents[2]
 WORDS = (
@@ -331,11 +332,17 @@ class WorkedRuns(ProgramTest):
                     self.has_run(run, run.toml, plan)
 
     def test_lossless_runs_of_later_profiles(self) -> None:
-        """Without loss and spread profile 2 has the same traces, and one line more in its reports; profile 4 three."""
+        """Without loss and spread profile 2 has the same traces, and one line more in its reports.
+
+        So has profile 4, with seven lines more, if the rules of Chord as published are switched off.
+        """
         for run in WITHOUT_DRAWS:
-            for profile, more in ((2, "losses 0\n"), (4, "losses 0\nagain 0\nforgotten 0\n")):
+            late = sum(int(line.split()[6].removeprefix("timeouts=")) for line in run.trace if " found " in line)
+            numbers_of_4 = dict.fromkeys(LATER, 0) | {"timeouts-sum": late}
+            more = "".join(f"{word} {number}\n" for word, number in numbers_of_4.items())
+            for profile, lines in (("profile = 2", "losses 0\n"), (f"profile = 4\n{SWITCHED_OFF}", more)):
                 with self.subTest(run.name, profile=profile):
-                    self.has_run(run, run.toml.replace("profile = 1", f"profile = {profile}", 1), SERIAL, more)
+                    self.has_run(run, run.toml.replace("profile = 1", profile, 1), SERIAL, lines)
 
     def test_lost_messages(self) -> None:
         """All messages of profile 2 are lost."""

@@ -6,7 +6,9 @@ WIDE = [3, 4, 5, 6, 8, 32, 33, 64, 65, 96, 97, 127, 128]
 BITS = {1: [3, 4, 5, 6, 8, 16, 31, 32, 33, 63, 64], 2: WIDE, 4: WIDE}
 """The bits of the scenarios of each profile."""
 FALSE = ("true", ("false",))
-WAYS = (("list_routes", *FALSE),)
+WAYS = (
+    ("list_routes", *FALSE), ("goes_on", *FALSE), ("lookup_timeouts", "32", ("8", "0", "1", "2", "3", "64")),
+)
 """The rules of Chord as published, with the values that keep to it and those that do not.
 
 A later one is drawn after the earlier ones, so that these stay as they were."""

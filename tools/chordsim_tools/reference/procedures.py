@@ -11,8 +11,8 @@ from chordsim_tools.reference.state import (
 from chordsim_tools.scenario.reading import Scenario
 
 USER_LOOKUPS = 60
-LOOKUP_STEPS = 128
-LOOKUP_TIMEOUTS = 8
+LOOKUP_STEPS = 112
+STEPS_A_TIMEOUT = 2
 JOIN_FAILURES = 8
 PAUSES_AFTER_A_JOIN = 8
 JOIN_STEPS = 128
@@ -29,6 +29,7 @@ class World:
         self.names = [node.name for node in scenario.nodes]
         self.streams = [Stream(scenario.seed, i) for i in range(len(scenario.nodes))]
         self.own_streams: dict[int, Stream] = {}
+        self.lookup_steps = LOOKUP_STEPS + STEPS_A_TIMEOUT * scenario.ways.lookup_timeouts
 
     def own_stream(self, node: int, what: Drawn) -> Stream:
         """The stream from which a node draws this in the extended profile."""
@@ -264,7 +265,7 @@ class Procedures:
         self.follow(lookup, self.step_answer(lookup.key, lookup.avoid))
 
     def follow(self, lookup: Lookup, answer: Answer) -> None:
-        """Follows an answer."""
+        """Follows an answer. One of a node that was asked is not Stuck if the lookup goes on (`lookup_answered`)."""
         match answer:
             case Owner(s):
                 self.finish(lookup, s)
@@ -275,11 +276,38 @@ class Procedures:
 
     def ask(self, lookup: Lookup, x: int) -> None:
         """Asks x."""
-        if lookup.steps == LOOKUP_STEPS:
+        if lookup.steps == self.world.lookup_steps:
             self.fail(lookup)
             return
         lookup.steps += 1
         lookup.call = self.call(Step, x, Purpose.LOOKUP, lookup.key, list(lookup.avoid))
+
+    def lookup_answered(self, lookup: Lookup, x: int, answer: Answer) -> None:
+        """x was asked and has answered. If it is asked again, to go on from it, it is no further hop."""
+        if x != lookup.last:
+            lookup.hops += 1
+        if self.ways.goes_on and isinstance(answer, Stuck):
+            self.leave_out(lookup, x)
+            return
+        if self.ways.goes_on:
+            lookup.last = x
+        self.follow(lookup, answer)
+
+    def leave_out(self, lookup: Lookup, x: int) -> None:
+        """Leaves out x, which is silent or a dead end. It fails if it has as many nodes to avoid as it may have.
+
+        Otherwise the lookup goes on from the node that answered last, or is walked if there is none.
+        """
+        if len(lookup.avoid) == self.ways.lookup_timeouts:
+            self.fail(lookup)
+            return
+        lookup.avoid.append(x)
+        if lookup.last == x:
+            lookup.last = None
+        if lookup.last is None:
+            self.walk(lookup)
+        else:
+            self.ask(lookup, lookup.last)
 
     def finish(self, lookup: Lookup, s: int) -> None:
         """Finishes with s."""

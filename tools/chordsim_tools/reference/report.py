@@ -9,6 +9,10 @@ LINES = (
     ("lost", "lost"), ("busy", "busy"), ("ignored", "ignored"),
 )
 """The numbers that count lines of one kind, and the word of these lines."""
+EXTENDED_LINES = (
+    ("again", "again"), ("forgotten", "forget"), ("leaves", "leave"), ("rescues", "rescue"), ("creates", "create"),
+)
+"""Those that the extended profile alone has. No rule makes a line `leave`, `rescue` or `create` yet."""
 
 
 class Report:
@@ -22,6 +26,7 @@ class Report:
         self.audits: Counter[str] = Counter()
         self.hops: list[int] = []
         self.times: list[int] = []
+        self.timeouts: list[int] = []
 
     def read(self, line: str) -> None:
         """Counts one line."""
@@ -37,10 +42,11 @@ class Report:
             self.lost_messages[fields[3]] += 1
         if fields[2] == "found":
             self.hops.append(int(fields[5].removeprefix("hops=")))
+            self.timeouts.append(int(fields[6].removeprefix("timeouts=")))
             self.times.append(int(fields[7].removeprefix("us=")))
 
     def numbers(self, events: int) -> dict[str, int]:
-        """The 24 numbers, in their order; in the second profile the 25th, and in the extended profile also the 26th and 27th."""
+        """The 24 numbers, in their order; in the second profile a 25th, in the extended one also the 26th to 31st."""
         numbers = {"events": events}
         for word, kind in LINES:
             numbers[word] = self.lines[kind]
@@ -56,8 +62,9 @@ class Report:
         if self.profile >= 2:
             numbers["losses"] = self.lines["lose"]
         if self.profile == 4:
-            numbers["again"] = self.lines["again"]
-            numbers["forgotten"] = self.lines["forget"]
+            for word, kind in EXTENDED_LINES:
+                numbers[word] = self.lines[kind]
+            numbers["timeouts-sum"] = sum(self.timeouts)
         return numbers
 
     def text(self, events: int) -> str:

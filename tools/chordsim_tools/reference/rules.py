@@ -4,7 +4,7 @@ from collections.abc import Callable
 from typing import cast
 
 from chordsim_tools.known import known
-from chordsim_tools.reference.procedures import JOIN_STEPS, LOOKUP_TIMEOUTS, Procedures, World
+from chordsim_tools.reference.procedures import JOIN_STEPS, Procedures, World
 from chordsim_tools.reference.state import (
     ASKS_FOR, KINDS, Body, Call, CheckTick, CmdCrash, CmdJoin, CmdLookup, Event, FingerTick, GetList, GetState, LifeEnd,
     ListReply, Lookup, Next, Node, Notify, Owner, Ping, Pong, Purpose, Rejoin, Reply, Request, Rise, StabilizeTick,
@@ -138,14 +138,10 @@ class Rules(Procedures):
                     self.n.prdc = None
 
     def timeout_of_lookup(self, call: Call) -> None:
-        """The lookup has one timeout more. At the ninth it fails; otherwise it is walked again from n."""
+        """The lookup has one timeout more, and the node that was asked is left out."""
         lookup = self.lookup_of(call)
         lookup.timeouts += 1
-        if lookup.timeouts == LOOKUP_TIMEOUTS + 1:
-            self.fail(lookup)
-            return
-        lookup.avoid.append(call.asked)
-        self.walk(lookup)
+        self.leave_out(lookup, call.asked)
 
     def timeout_of_state(self) -> None:
         """The head leaves succ; strand, or ask the new head."""
@@ -205,9 +201,7 @@ class Rules(Procedures):
     def step_reply(self, body: StepReply, call: Call) -> None:
         """StepReply, with an answer."""
         if call.purpose == Purpose.LOOKUP:
-            lookup = self.lookup_of(call)
-            lookup.hops += 1
-            self.follow(lookup, body.answer)
+            self.lookup_answered(self.lookup_of(call), call.asked, body.answer)
             return
         match body.answer:
             case Owner():

@@ -61,6 +61,7 @@ class Lookup:
     hops: int = 0
     timeouts: int = 0
     avoid: list[int] = field(default_factory=list)
+    last: int | None = None  # the node that answered last, if the lookup goes on from it
 
 
 @dataclass(slots=True)

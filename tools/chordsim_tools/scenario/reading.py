@@ -55,9 +55,11 @@ class Ways:
     """The rules of Chord as published. These values switch each of them off, as in the first and second profile."""
 
     list_routes: bool = False
+    goes_on: bool = False
+    lookup_timeouts: int = 8
 
 
-PUBLISHED = Ways(list_routes=True)
+PUBLISHED = Ways(list_routes=True, goes_on=True, lookup_timeouts=32)
 """What the keys are in the extended profile if they are not given."""
 
 

@@ -103,8 +103,10 @@ PATIENCE = [
 """The keys of the top that the extended profile alone has."""
 WAYS = [
     Key("list_routes", "boolean", required=False),
+    Key("goes_on", "boolean", required=False),
+    Key("lookup_timeouts", "integer", 0, 64, required=False),
 ]
-"""Further keys of its top: the rules of Chord as published, each of which can be switched off."""
+"""Further keys of its top: the rules of Chord as published, each of which can be switched off or changed."""
 COORDINATES = [
     Key("x_us", "integer", 0, 500_000_000, required=False),
     Key("y_us", "integer", 0, 500_000_000, required=False),

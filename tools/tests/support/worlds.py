@@ -9,10 +9,12 @@ from chordsim_tools.scenario.reading import Scenario, read_scenario
 
 EXAMPLES = Path(__file__).resolve().parents[3] / "examples"
 RING = (EXAMPLES / "ring.toml").read_text()
-OFF = {"list_routes": "false"}
+OFF = {"list_routes": "false", "goes_on": "false", "lookup_timeouts": "8"}
 """The keys of the rules of Chord as published, each with the value that switches its rule off."""
 SWITCHED_OFF = "".join(f"{key} = {value}\n" for key, value in OFF.items())
 """These as lines."""
+LATER = ("losses", "again", "forgotten", "leaves", "rescues", "creates", "timeouts-sum")
+"""The numbers of the report that the extended profile has after the first 24."""
 
 
 def ring(*changes: tuple[str, str], rows: str = "") -> Scenario:
