@@ -32,6 +32,7 @@ pub struct Report {
     losses: u64,
     again: u64,
     forgotten: u64,
+    rescues: u64,
     timeouts_sum: u64,
     /// Whether the losses are printed, as they are in the second and the extended profile.
     pub has_losses: bool,
@@ -54,6 +55,7 @@ impl Report {
             Line::Lose { .. } => self.losses += 1,
             Line::Again { .. } => self.again += 1,
             Line::Forget { .. } => self.forgotten += 1,
+            Line::Rescue { .. } => self.rescues += 1,
             Line::Lookup { .. } => self.lookups += 1,
             Line::Found {
                 hops, timeouts, us, ..
@@ -123,7 +125,7 @@ impl Report {
                 ("again", self.again),
                 ("forgotten", self.forgotten),
                 ("leaves", 0),
-                ("rescues", 0),
+                ("rescues", self.rescues),
                 ("creates", 0),
                 ("timeouts-sum", self.timeouts_sum),
             ]);

@@ -162,10 +162,13 @@ impl Turn<'_> {
         self.note(Line::Timeout {
             asked: self.name(asked),
         });
+        if self.scenario.ways.drop_silent && self.node.is_member() && !self.drop_node(asked) {
+            return;
+        }
         match call.purpose {
             Purpose::Lookup => self.lookup_timed_out(number, asked),
             Purpose::JoinStep | Purpose::JoinList => self.join_timed_out(asked),
-            Purpose::State => self.drop_head(),
+            Purpose::State => self.drop_asked(asked),
             Purpose::List => self.notify_head(),
             Purpose::Ping { notifier } => {
                 if self.node.predecessor == Some(asked) {
@@ -192,9 +195,49 @@ impl Turn<'_> {
         Some(self.node.calls.remove(index))
     }
 
-    /// Drops the head of the successor list, and asks the next one.
-    fn drop_head(&mut self) {
-        self.node.successors.remove(0);
+    /// Forgets a node that is silent, in the successor list and among the fingers. If no other node is
+    /// left in the list, the nearest finger is. Returns whether the node is not stranded.
+    fn drop_node(&mut self, silent: u32) -> bool {
+        let me = self.node.me;
+        self.node.successors.retain(|&other| other != silent);
+        if self.node.successors.iter().all(|&other| other == me) {
+            self.take_finger(silent);
+        }
+        let Some(&head) = self.node.successors.first() else {
+            self.strand();
+            return false;
+        };
+        for finger in &mut self.node.fingers {
+            if *finger == silent {
+                *finger = head;
+            }
+        }
+        true
+    }
+
+    /// Puts the nearest finger at the head of the successor list, if there is another than the node
+    /// itself and a silent one.
+    fn take_finger(&mut self, silent: u32) {
+        let me = self.node.me;
+        let (circle, here) = (self.scenario.circle, self.scenario.ident(me));
+        let others = self.node.fingers.iter().copied();
+        let others = others.filter(|&other| other != me && other != silent);
+        let distance = |&other: &u32| circle.distance(here, self.scenario.ident(other));
+        if let Some(nearest) = others.min_by_key(distance) {
+            self.note(Line::Rescue {
+                successor: self.name(nearest),
+            });
+            self.node.successors.insert(0, nearest);
+            self.node.successors.truncate(self.scenario.list);
+        }
+    }
+
+    /// Drops the node that was asked for its state from the successor list, and asks the head.
+    fn drop_asked(&mut self, asked: u32) {
+        let successors = &mut self.node.successors;
+        if let Some(index) = successors.iter().position(|&other| other == asked) {
+            successors.remove(index);
+        }
         if self.node.successors.is_empty() {
             self.strand();
         } else {

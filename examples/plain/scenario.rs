@@ -27,6 +27,7 @@ pub struct Ways {
     pub list_routes: bool,
     pub goes_on: bool,
     pub lookup_timeouts: usize,
+    pub drop_silent: bool,
 }
 
 /// How long a churn node is up, and then down.
@@ -271,6 +272,7 @@ impl<'a> Words<'a> {
             list_routes: self.flag(),
             goes_on: self.flag(),
             lookup_timeouts: self.next(),
+            drop_silent: self.flag(),
         }
     }
 

@@ -47,6 +47,9 @@ pub enum Line<'a> {
     Forget {
         predecessor: &'a str,
     },
+    Rescue {
+        successor: &'a str,
+    },
     /// The lookup, if one waits for the call: its key, and when it started.
     Ask {
         kind: MessageKind,
@@ -96,6 +99,7 @@ impl fmt::Display for Line<'_> {
             Line::Lose { kind, receiver } => write!(out, "lose {kind} {receiver}"),
             Line::Again { kind, asked } => write!(out, "again {kind} {asked}"),
             Line::Forget { predecessor } => write!(out, "forget {predecessor}"),
+            Line::Rescue { successor } => write!(out, "rescue {successor}"),
             Line::Ask {
                 kind,
                 asked,

@@ -8,11 +8,12 @@ The seed of the ring is 1. The stream (node, kind) of n0's CheckTick is (n0, 8).
 
 from unittest import TestCase
 
-from chordsim_tools.reference.procedures import Procedures, World
+from chordsim_tools.reference.procedures import Procedures
 from chordsim_tools.reference.state import (
     CheckTick, CmdCrash, CmdJoin, FingerTick, GetState, LifeEnd, Node, Notify, Ping, Pong, Purpose, StabilizeTick,
     StateReply, Status, Timeout, TrafficTick,
 )
+from chordsim_tools.reference.turn import World
 from tests.support.worlds import EXAMPLES, LATER
 from tests.test_second_profile import CRASH, happen, ran
 from tests.test_extended_profile import LONGER, SPANS, numbers_of, extended, world_of

@@ -2,10 +2,10 @@
 
 from unittest import TestCase
 
-from chordsim_tools.reference.procedures import World
+from chordsim_tools.reference.turn import World
 from chordsim_tools.scenario.coordinates import Coordinates, greatest_latency, least_latency
 from chordsim_tools.scenario.reading import read_scenario
-from tests.support.worlds import fault
+from tests.support.worlds import SWITCHED_OFF, fault
 from tests.test_second_profile import AUDIT, ran
 from tests.test_extended_profile import extended
 
@@ -90,7 +90,7 @@ class FaultsTest(TestCase):
         """They have no such keys, and nothing follows from them."""
         for profile in (1, 2):
             text = placed("", "y_us = 1", "", of_profile=profile)
-            assert fault(text.replace("jitter_us = 0\n", "", 1)) == "S2 UnknownKey node 2"
+            assert fault(text.replace("jitter_us = 0\n", "", 1).replace(SWITCHED_OFF, "")) == "S2 UnknownKey node 2"
 
     def test_missing_keys(self) -> None:
         """If a node has one of the three keys, each has x_us and y_us."""

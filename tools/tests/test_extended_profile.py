@@ -19,16 +19,17 @@ from unittest.mock import patch
 from chordsim_tools.generate.random_scenario import scenario_files
 from chordsim_tools.reference.chacha import Stream
 from chordsim_tools.reference.command import main
-from chordsim_tools.reference.procedures import Procedures, World
+from chordsim_tools.reference.procedures import Procedures
 from chordsim_tools.reference.simulation import Simulation, TooManyEvents, initial_states
 from chordsim_tools.reference.state import (
     Attempt, Body, CmdCrash, CmdJoin, CmdLookup, Drawn, FingerTick, GetList, GetState, LifeEnd, ListReply, Message,
     Node, Notify, Owner, Ping, Pong, Purpose, Rise, StabilizeTick, StateReply, Status, Step, StepReply, Timeout,
     TrafficTick,
 )
+from chordsim_tools.reference.turn import World
 from chordsim_tools.scenario.reading import read_scenario
 from tests.support.programs import ended
-from tests.support.worlds import EXAMPLES, LATER, RING, SWITCHED_OFF
+from tests.support.worlds import EXAMPLES, LATER, RING, SWITCHED_OFF, switched_off
 from tests.test_second_profile import AUDIT, CRASH, N3, PLAIN, fault, happen, many, ran
 
 LONGER = (("duration_us = 200", "duration_us = 400"), ("audit_us = 200", "audit_us = 400"))
@@ -42,8 +43,11 @@ ZEROS = ("\nloss_ppm = 0\nspread_us = 0\nretries = 0", "\njoin_pause_us = 0\njoi
 
 
 def extended(*keys: str, changes: tuple[tuple[str, str], ...] = ()) -> str:
-    """The ring in the extended profile with these keys of the network, where n3 looks up key 1, and other changes."""
-    text = PLAIN.replace("profile = 2", "\n".join(("profile = 4", "jitter_us = 0", *keys)))
+    """The ring in the extended profile with these keys of the network, where n3 looks up key 1, and other changes.
+
+    Of the rules of Chord as published only those hold that the keys name.
+    """
+    text = PLAIN.replace("profile = 2", "\n".join(("profile = 4", "jitter_us = 0", *keys, *switched_off(*keys))))
     for old, new in changes:
         assert old in text, old
         text = text.replace(old, new, 1)

@@ -65,6 +65,7 @@ REFUSED = [
     ("--profile 2 --check 1s", "--check: only with --profile 4"),
     ("--profile 2 --detail", "--detail: only with --profile 4"),
     ("--profile 2 --no-list-routes", "--no-list-routes: only with --profile 4"),
+    ("--profile 1 --no-drop-silent", "--no-drop-silent: only with --profile 4"),
     ("--no-goes-on", "--no-goes-on: only with --profile 4"),
     ("--profile 2 --lookup-timeouts 8", "--lookup-timeouts: only with --profile 4"),
     ("--profile 4 --lookup-timeouts 65", "--lookup-timeouts: 0 to 64"),
@@ -236,9 +237,10 @@ class GenerateTest(TestCase):
 
     def test_published_rules(self) -> None:
         """The keys that are given stand behind `detail`, in their order. An option with `no` makes a false."""
-        ring = tomllib.loads(text_of("--profile 4 --lookup-timeouts 3 --no-goes-on --no-list-routes --detail"))
-        wanted = [("detail", True), ("list_routes", False), ("goes_on", False), ("lookup_timeouts", 3)]
-        assert list(ring.items())[16:20] == wanted
+        switches = " ".join(f"--{name}" for name, _ in reversed(WAYS_OF_OPTIONS) if name.startswith("no-"))
+        ring = tomllib.loads(text_of(f"--profile 4 --lookup-timeouts 3 {switches} --detail"))
+        wanted = [("detail", True), *((key, 3 if key == "lookup_timeouts" else False) for _, key in WAYS_OF_OPTIONS)]
+        assert list(ring.items())[16 : 16 + len(wanted)] == wanted
         assert [key for _, key in WAYS_OF_OPTIONS] == [key.name for key in WAYS]
         assert made("--profile 4").ways == PUBLISHED
 

@@ -2,10 +2,10 @@
 
 from unittest import TestCase
 
-from chordsim_tools.reference.procedures import World
 from chordsim_tools.reference.state import (
     Attempt, CmdCrash, CmdJoin, Next, Node, Rejoin, Rise, Status, Step, StepReply, Stuck, Timeout,
 )
+from chordsim_tools.reference.turn import World
 from tests.test_second_profile import happen, ran
 from tests.test_extended_profile import SPANS, extended, world_of
 

@@ -6,10 +6,14 @@ Latencies are 10, and a timeout comes after 50. The node nK is at K. Fingers are
 from typing import NamedTuple
 from unittest import TestCase
 
-from chordsim_tools.reference.procedures import World
+from chordsim_tools.reference.procedures import Procedures
 from chordsim_tools.reference.report import Report
 from chordsim_tools.reference.simulation import Simulation
-from chordsim_tools.reference.state import Body, CmdLookup, Next, Node, Owner, Step, StepReply, Stuck, Timeout
+from chordsim_tools.reference.state import (
+    Body, CheckTick, CmdCrash, CmdJoin, CmdLookup, GetState, Next, Node, Notify, Owner, StabilizeTick, Status, Step,
+    StepReply, Stuck, Timeout,
+)
+from chordsim_tools.reference.turn import World
 from chordsim_tools.scenario.reading import Ways, read_scenario
 from chordsim_tools.scenario.tables import WAYS
 from tests.support.rings import ProgramTest
@@ -53,7 +57,7 @@ def command(time: int, do: str, node: str, more: str = "") -> str:
 
 def member(**keys: str) -> tuple[World, Node]:
     """n0 of the ring of three at its start. No other rule of those published holds than these keys say."""
-    return world_of(*(f"{key} = {value}" for key, value in (OFF | keys).items()))
+    return world_of(*(f"{key} = {value}" for key, value in keys.items()))
 
 
 def ended(text: str) -> tuple[str, dict[str, int]]:
@@ -182,7 +186,51 @@ LOOKUP_TIMEOUTS = Worked(
 The third silent node is one too many if a lookup may leave out two. Otherwise n40 is the next of the list.
 """
 
-WORKED = {"list_routes": LIST_ROUTES, "goes_on": GOES_ON, "lookup_timeouts": LOOKUP_TIMEOUTS}
+DROP_SILENT = Worked(
+    keys={
+        "drop_silent": "true", "stabilize_us": "100", "duration_us": "300", "audit_us": "300", "detail": "false",
+    },
+    off={"drop_silent": "false"},
+    nodes=ring(0, 40, 50, 60, 90, 130, 200),
+    commands=command(50, "crash", "n50") + command(50, "crash", "n60"),
+    trace=(
+        "50 n50 crash\n"
+        "50 n60 crash\n"
+        "110 n50 drop get-state n40\n"
+        "150 n40 timeout n50\n"
+        "160 n60 drop get-state n40\n"
+        "200 n40 timeout n60\n"
+        "200 n40 rescue n90\n"
+        "230 n60 drop get-list n40\n"
+        "270 n40 timeout n60\n"
+        "290 n60 drop ping n90\n"
+        "300 audit members=5 dead=0 ring=5 ordered=yes principals=5 sufficient=yes\n"
+    ),
+    other=(
+        "50 n50 crash\n"
+        "50 n60 crash\n"
+        "110 n50 drop get-state n40\n"
+        "150 n40 timeout n50\n"
+        "160 n60 drop get-state n40\n"
+        "200 n40 timeout n60\n"
+        "200 n40 stranded n0\n"
+        "210 n40 drop get-state n0\n"
+        "250 n0 timeout n40\n"
+        "260 n50 drop get-state n0\n"
+        "280 n40 member n0\n"
+        "300 audit members=5 dead=2 ring=0 ordered=yes principals=4 sufficient=no\n"
+    ),
+)
+"""n40 has the list n50, n60, which are down, and the fingers 2:n50, 3:n50, 4:n50, 5:n60, 6:n90, 7:n130 and 8:n200.
+
+At 200 its list is empty, and n90 is the nearest finger that is not n60. At 220 n90 names its predecessor n60, which
+lies between; so n40 asks that once more, and then notifies n90. Without the rule n40 is stranded and joins through n0,
+behind which it comes to be a member at 280. But n0 has found n40 silent meanwhile, and both know n50 alone.
+"""
+
+WORKED = {
+    "list_routes": LIST_ROUTES, "goes_on": GOES_ON, "lookup_timeouts": LOOKUP_TIMEOUTS, "drop_silent": DROP_SILENT,
+}
 
 
 class WorkedTest(TestCase):
@@ -274,6 +322,96 @@ class GoesOnTest(TestCase):
                 assert (happen(world, node, body, 3)[1] == []) == (timeouts == "0" and body == Timeout(3))
 
 
+class DropSilentTest(TestCase):
+    """n0 with the list n1, n3 and the fingers 2:n3 and 3:n0. In its lookup of 7 it asks n3 by the call 1."""
+
+    def asking(self, succ: list[int], fingers: list[int], **keys: str) -> tuple[World, Node]:
+        """n0 with this list and these fingers; it asks the first of the list but one, n3."""
+        world, node = member(**({"drop_silent": "true"} | keys))
+        happen(world, node, CmdLookup(7), 1)
+        node.succ, node.fingers = succ, dict(enumerate(fingers, start=2))
+        return world, node
+
+    def test_list_and_fingers(self) -> None:
+        """n3 leaves both, at all its places. The fingers that it was become the head. The predecessor stays n3."""
+        world, node = self.asking([2, 1, 2], [2, 0])
+        lines, made = happen(world, node, Timeout(1), 2)
+        assert (lines, made[0]) == (["timeout n3"], (110, 3, 1, Step(3, 7, [2])))
+        assert (node.succ, node.fingers, node.prdc) == ([1], {2: 1, 3: 0}, 2)
+
+    def test_without_the_rule(self) -> None:
+        """Nothing leaves them."""
+        world, node = self.asking([1, 2], [2, 0], drop_silent="false")
+        assert happen(world, node, Timeout(1), 2)[0] == ["timeout n3"]
+        assert (node.succ, node.fingers) == ([1, 2], {2: 2, 3: 0})
+
+    def test_rescue(self) -> None:
+        """n3 was the last of the list: the finger n1 takes its place, and the lookup asks it. n0 itself cannot."""
+        world, node = self.asking([2], [1, 0])
+        lines, made = happen(world, node, Timeout(1), 2)
+        assert (lines, made[0]) == (["timeout n3", "rescue n1"], (110, 3, 1, Step(3, 7, [2])))
+        assert (node.succ, node.fingers) == ([1], {2: 1, 3: 0})
+
+    def test_nearest_finger(self) -> None:
+        """Of n1 and a fourth node n6 it is n1, at whichever place. What is left of the list comes behind it, cut."""
+        sixth = ("[[command]]", '[[node]]\nname = "n6"\nid = 6\ninitial = true\n[[command]]')
+        for fingers, succ, wanted in (([1, 3], [2], [1]), ([3, 1], [2, 0], [1, 0]), ([3, 3], [0, 2, 0], [3, 0])):
+            world, node = world_of(changes=(sixth,))
+            node.succ, node.fingers = succ, dict(enumerate(fingers, start=2))
+            procedures = Procedures(world, node, 100)
+            assert not procedures.drop(2)
+            assert (procedures.lines, node.succ) == ([f"100 n0 rescue {world.names[wanted[0]]}"], wanted)
+
+    def test_strand(self) -> None:
+        """Without a finger but n3 and n0 itself it strands. Its lookup has no timeout more, and nothing else comes."""
+        world, node = self.asking([2], [2, 0])
+        lines, made = happen(world, node, Timeout(1), 2)
+        assert lines == ["timeout n3", "stranded n1", "lost 7 hops=0 timeouts=0 us=0"]
+        assert [body for *_, body in made] == [Step(3, 0, []), Timeout(3)] and node.status == Status.JOINING
+
+    def test_own_successor(self) -> None:
+        """The list that has n0 itself is not empty: n0 is the ring then, and owns the key."""
+        world, node = self.asking([2, 0], [2, 2])
+        assert happen(world, node, Timeout(1), 2)[0] == ["timeout n3", "found 7 n0 hops=0 timeouts=1 us=0"]
+        assert (node.succ, node.fingers) == ([0], {2: 0, 3: 0})
+
+    def test_other_calls(self) -> None:
+        """The silent node is dropped after a Ping and a Check too, and is not the predecessor any more."""
+        world, node = member(drop_silent="true", check_us="100")
+        happen(world, node, Notify(), 3)
+        assert happen(world, node, Timeout(1), 2) == (["timeout n3"], [])
+        assert (node.prdc, node.succ, node.fingers) == (1, [1], {2: 1, 3: 0})
+        world, node = member(drop_silent="true", check_us="100")
+        happen(world, node, CheckTick(1), 2)
+        assert happen(world, node, Timeout(2), 2) == (["timeout n3", "forget n3"], [])
+        assert (node.prdc, node.succ, node.fingers) == (None, [1], {2: 1, 3: 0})
+
+    def test_state(self) -> None:
+        """The head n1 has left the list by a lookup when its state is waited for. Its timeout takes nobody else."""
+        for rule, succ in (("true", [2]), ("false", [1, 2])):
+            world, node = member(drop_silent=rule)
+            happen(world, node, StabilizeTick(1), 2)
+            happen(world, node, CmdLookup(2), 1)
+            assert [call.asked for call in node.calls.values()] == [1, 1]
+            assert happen(world, node, Timeout(4), 2)[0][0] == "timeout n1" and node.succ == succ
+            lines, made = happen(world, node, Timeout(2), 2)
+            assert (lines, made[0][2:], node.succ) == (["timeout n1"], (2, GetState(made[0][1])), [2])
+
+    def test_sent_again(self) -> None:
+        """A node is dropped after the last sending alone."""
+        world, node = self.asking([1, 2], [2, 0], retries="1")
+        assert happen(world, node, Timeout(1), 2)[0] == ["again step n3"] and node.succ == [1, 2]
+        assert happen(world, node, Timeout(1), 2)[0] == ["timeout n3"] and node.succ == [1]
+
+    def test_joining_node(self) -> None:
+        """It has neither list nor fingers."""
+        world, node = member(drop_silent="true")
+        happen(world, node, CmdCrash(), 1)
+        happen(world, node, CmdJoin(2), 1)
+        assert happen(world, node, Timeout(list(node.calls)[0]), 2)[0] == ["timeout n3"]
+        assert (node.succ, node.fingers, node.status) == ([], {}, Status.JOINING)
+
+
 class ReportTest(TestCase):
     """The numbers of the report that count what these rules do."""
 
@@ -283,6 +421,12 @@ class ReportTest(TestCase):
         for timeouts, word in ((1, "found 5 n1"), (7, "lost 5"), (2, "found 5 n1")):
             report.read(f"9 n0 {word} hops=1 timeouts={timeouts} us=4")
         assert report.numbers(9)["timeouts-sum"] == 3
+
+    def test_rescues(self) -> None:
+        """Lines `rescue`."""
+        report = Report(4)
+        report.read("9 n0 rescue n1")
+        assert report.numbers(9)["rescues"] == 1
 
     def test_numbers_of_the_profiles(self) -> None:
         """The extended profile has seven numbers after the first 24, and the others have none and one."""
@@ -322,7 +466,7 @@ class KeysTest(TestCase):
         for profile in (1, 2):
             assert ways(f"profile = {profile}") == Ways()
         published = ways("profile = 4")
-        assert published == Ways(list_routes=True, goes_on=True, lookup_timeouts=32)
+        assert published == Ways(list_routes=True, goes_on=True, lookup_timeouts=32, drop_silent=True)
         assert ways("\n".join(["profile = 4", *(f"{key} = {value}" for key, value in OFF.items())])) == Ways()
         for name, value in OFF.items():
             changed = ways(f"profile = 4\n{name} = {value}")

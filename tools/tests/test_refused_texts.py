@@ -298,6 +298,7 @@ EXTENDED: tuple[Change, ...] = (
     ("seed = 1", "seed = 1\nlookup_timeouts = 65", "S5 OutOfRange top lookup_timeouts"),
     ("seed = 1", "seed = 1\nlookup_timeouts = true\ngoes_on = 1", "S4 WrongType top goes_on"),
     ("profile = 4", "profile = 1\nlookup_timeouts = 8", "S2 UnknownKey top"),
+    ("seed = 1", "seed = 1\ndrop_silent = 0", "S4 WrongType top drop_silent"),
     ("seed = 1", 'seed = 1\ndetail = "yes"', "S4 WrongType top detail"),
     ("profile = 4", "profile = 1\ndetail = false", "S2 UnknownKey top"),
     ("bits = 3", "bits = 128", GOOD),
@@ -462,11 +463,11 @@ class RefusedTexts(ProgramTest):
 
     def test_extended_profile(self) -> None:
         """Its keys and ranges."""
-        self.have_results(of_profile("profile = 4", text_of_three(NO_HOP)), EXTENDED)
+        self.have_results(text_of_three(NO_HOP).replace("profile = 1", "profile = 4"), EXTENDED)
 
     def test_coordinates(self) -> None:
         """Its keys of nodes. If a row is there too, a fault of the heights comes first."""
-        base = of_profile("profile = 4", TOP + SETTINGS + IN_THE_PLANE + ONE_HOP)
+        base = (TOP + SETTINGS + IN_THE_PLANE + ONE_HOP).replace("profile = 1", "profile = 4")
         self.have_results(base, PLACED)
         self.has_answer(base, "n0,n3,20", "S16 RowsAndCoordinates")
         self.has_answer(base.replace("height_us = 5", "", 1), "n0,n3,20", "S15 LatencyBelowWindow n0 n1")

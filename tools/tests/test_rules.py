@@ -2,13 +2,13 @@
 
 from unittest import TestCase
 
-from chordsim_tools.reference.procedures import World
 from chordsim_tools.reference.rules import act
 from chordsim_tools.reference.simulation import initial_states
 from chordsim_tools.reference.state import (
     Body, Call, CmdCrash, CmdJoin, CmdLookup, Event, GetList, GetState, LifeEnd, ListReply, Lookup, Next, Node, Notify,
     Owner, Ping, Pong, Purpose, Rise, StabilizeTick, StateReply, Status, Step, StepReply, Stuck, Timeout,
 )
+from chordsim_tools.reference.turn import World
 from tests.support.worlds import ring
 
 WORLD = World(ring())

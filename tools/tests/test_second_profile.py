@@ -8,13 +8,14 @@ from unittest import TestCase
 from chordsim_tools.cli import Refused
 from chordsim_tools.generate.random_scenario import scenario_files
 from chordsim_tools.reference.command import main
-from chordsim_tools.reference.procedures import Procedures, World
+from chordsim_tools.reference.procedures import Procedures
 from chordsim_tools.reference.report import Report
 from chordsim_tools.reference.rules import act
 from chordsim_tools.reference.simulation import Simulation, initial_states
 from chordsim_tools.reference.state import (
     Body, CmdCrash, CmdJoin, CmdLookup, Event, GetState, Node, Notify, Ping, Step, Timeout,
 )
+from chordsim_tools.reference.turn import World
 from chordsim_tools.scenario.reading import read_scenario
 from tests.support.programs import ended
 from tests.support.worlds import EXAMPLES, RING

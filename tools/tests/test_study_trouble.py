@@ -10,7 +10,7 @@ from chordsim_tools.scenario.reading import read_scenario
 from chordsim_tools.study.page import page
 from chordsim_tools.study.trouble import Trouble
 from tests.support.studies import row, table_of, tables_of
-from tests.support.worlds import EXAMPLES
+from tests.support.worlds import EXAMPLES, SWITCHED_OFF
 
 NAMES = ("timeouts", "timeouts-of-members", "removed-members", "again", "stranded", "join-failed")
 IDENTS = {"a": 10, "b": 20, "c": 30, "d": 40}
@@ -59,12 +59,15 @@ class TroubleTest(TestCase):
         assert numbers_of(*again) == [1, 1, 1, 1, 0, 0]
 
     def test_as_the_reference_simulator_removes_them(self) -> None:
-        """A tenth of the messages lost: the members that leave lists, with and without requests sent again."""
+        """A tenth of the messages lost: the members that leave lists, with and without requests sent again.
+
+        The rules of Chord as published are switched off: a member leaves a list only if it was asked for its state.
+        """
         text = (EXAMPLES / "lossy64.toml").read_text().replace("duration_us = 120000000", "duration_us = 20000000")
         text = text.replace("loss_ppm = 20000", "loss_ppm = 100000").replace("profile = 2", "profile = 4")
         counts = []
         for retries in (0, 1):
-            changed = text.replace("profile = 4", f"profile = 4\nretries = {retries}")
+            changed = text.replace("profile = 4", f"profile = 4\nretries = {retries}\n{SWITCHED_OFF}")
             scenario, top = read_scenario(changed.encode(), b""), tomllib.loads(changed)
             idents = {node.name: node.ident for node in scenario.nodes}
             members = Members(idents, [node.name for node in scenario.nodes if node.initial])

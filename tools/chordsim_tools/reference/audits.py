@@ -3,8 +3,8 @@
 from collections import Counter
 
 from chordsim_tools.known import known
-from chordsim_tools.reference.procedures import World
 from chordsim_tools.reference.state import Node, Status
+from chordsim_tools.reference.turn import World
 
 
 def members_of(nodes: list[Node]) -> set[int]:

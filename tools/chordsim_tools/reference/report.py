@@ -12,7 +12,7 @@ LINES = (
 EXTENDED_LINES = (
     ("again", "again"), ("forgotten", "forget"), ("leaves", "leave"), ("rescues", "rescue"), ("creates", "create"),
 )
-"""Those that the extended profile alone has. No rule makes a line `leave`, `rescue` or `create` yet."""
+"""Those that the extended profile alone has. No rule makes a line `leave` or `create` yet."""
 
 
 class Report:

@@ -4,12 +4,13 @@ from collections.abc import Callable
 from typing import cast
 
 from chordsim_tools.known import known
-from chordsim_tools.reference.procedures import JOIN_STEPS, Procedures, World
+from chordsim_tools.reference.procedures import JOIN_STEPS, Procedures
 from chordsim_tools.reference.state import (
     ASKS_FOR, KINDS, Body, Call, CheckTick, CmdCrash, CmdJoin, CmdLookup, Event, FingerTick, GetList, GetState, LifeEnd,
     ListReply, Lookup, Next, Node, Notify, Owner, Ping, Pong, Purpose, Rejoin, Reply, Request, Rise, StabilizeTick,
     StateReply, Status, Step, StepReply, Timeout, TrafficTick,
 )
+from chordsim_tools.reference.turn import World
 
 
 class Rules(Procedures):
@@ -118,6 +119,12 @@ class Rules(Procedures):
             return
         del self.n.calls[body.call]
         self.line(f"timeout {self.name(call.asked)}")
+        is_dropped = self.ways.drop_silent and self.n.status == Status.MEMBER
+        if not (is_dropped and self.drop(call.asked)):
+            self.taken_for_dead(call)
+
+    def taken_for_dead(self, call: Call) -> None:
+        """What follows if the node that was asked is silent, by the call's purpose."""
         match call.purpose:
             case Purpose.LOOKUP:
                 self.timeout_of_lookup(call)
@@ -126,7 +133,7 @@ class Rules(Procedures):
                     known(self.n.join).avoid.append(call.asked)
                 self.join_failure()
             case Purpose.STATE:
-                self.timeout_of_state()
+                self.timeout_of_state(call.asked)
             case Purpose.LIST:
                 self.send(self.n.succ[0], Notify())
             case Purpose.PING:
@@ -143,9 +150,10 @@ class Rules(Procedures):
         lookup.timeouts += 1
         self.leave_out(lookup, call.asked)
 
-    def timeout_of_state(self) -> None:
-        """The head leaves succ; strand, or ask the new head."""
-        self.n.succ = self.n.succ[1:]
+    def timeout_of_state(self, p: int) -> None:
+        """The first entry that is p leaves succ, if it is there still; strand, or ask the head."""
+        if p in self.n.succ:
+            self.n.succ.remove(p)
         if not self.n.succ:
             self.strand()
         else:
@@ -245,11 +253,6 @@ class Rules(Procedures):
     def has_call(self, *purposes: Purpose) -> bool:
         """Whether n has a call out for one of these purposes."""
         return any(call.purpose in purposes for call in self.n.calls.values())
-
-    def cut(self, nodes: list[int]) -> list[int]:
-        """The list, cut to `list` entries."""
-        return nodes[: self.world.scenario.list]
-
 
 COMMANDS_AND_TIMERS: dict[type, Callable[..., None]] = {
     CmdJoin: Rules.cmd_join,

@@ -8,9 +8,10 @@ from collections.abc import Iterator
 from chordsim_tools.cli import Failure
 from chordsim_tools.known import known
 from chordsim_tools.reference.audits import audit_line, audit_times
-from chordsim_tools.reference.procedures import Procedures, World
+from chordsim_tools.reference.procedures import Procedures
 from chordsim_tools.reference.rules import act
 from chordsim_tools.reference.state import KINDS, Body, CmdCrash, CmdJoin, CmdLookup, Event, Node, Status
+from chordsim_tools.reference.turn import World
 from chordsim_tools.scenario.reading import Command, Scenario
 
 

@@ -57,9 +57,10 @@ class Ways:
     list_routes: bool = False
     goes_on: bool = False
     lookup_timeouts: int = 8
+    drop_silent: bool = False
 
 
-PUBLISHED = Ways(list_routes=True, goes_on=True, lookup_timeouts=32)
+PUBLISHED = Ways(list_routes=True, goes_on=True, lookup_timeouts=32, drop_silent=True)
 """What the keys are in the extended profile if they are not given."""
 
 

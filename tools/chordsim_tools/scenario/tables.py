@@ -105,6 +105,7 @@ WAYS = [
     Key("list_routes", "boolean", required=False),
     Key("goes_on", "boolean", required=False),
     Key("lookup_timeouts", "integer", 0, 64, required=False),
+    Key("drop_silent", "boolean", required=False),
 ]
 """Further keys of its top: the rules of Chord as published, each of which can be switched off or changed."""
 COORDINATES = [

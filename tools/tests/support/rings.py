@@ -8,6 +8,7 @@ from typing import NamedTuple
 from unittest import TestCase
 
 from tests.support.programs import program
+from tests.support.worlds import switched_off
 
 TOP = "profile = 1\nbits = 3\nseed = 1\nlatency_us = 10\n"
 """What most scenarios have in common."""
@@ -75,8 +76,14 @@ def text_of_three(commands: str) -> str:
 
 
 def of_profile(profile: str, text: str) -> str:
-    """A scenario with these settings in place of its profile."""
-    return text.replace("profile = 1", profile, 1)
+    """A scenario with these settings in place of its profile.
+
+    In the extended profile the rules of Chord as published are switched off that the settings do not have.
+    """
+    lines = profile.split("\n")
+    if lines[0] == "profile = 4":
+        lines += switched_off(*lines)
+    return text.replace("profile = 1", "\n".join(lines), 1)
 
 
 def ring_of(bits: int, nodes: int, key: int) -> str:

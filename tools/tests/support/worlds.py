@@ -3,18 +3,24 @@
 from pathlib import Path
 
 from chordsim_tools.cli import Refused
-from chordsim_tools.reference.procedures import World
 from chordsim_tools.reference.state import Node, Status
+from chordsim_tools.reference.turn import World
 from chordsim_tools.scenario.reading import Scenario, read_scenario
 
 EXAMPLES = Path(__file__).resolve().parents[3] / "examples"
 RING = (EXAMPLES / "ring.toml").read_text()
-OFF = {"list_routes": "false", "goes_on": "false", "lookup_timeouts": "8"}
+OFF = {"list_routes": "false", "goes_on": "false", "lookup_timeouts": "8", "drop_silent": "false"}
 """The keys of the rules of Chord as published, each with the value that switches its rule off."""
 SWITCHED_OFF = "".join(f"{key} = {value}\n" for key, value in OFF.items())
 """These as lines."""
 LATER = ("losses", "again", "forgotten", "leaves", "rescues", "creates", "timeouts-sum")
 """The numbers of the report that the extended profile has after the first 24."""
+
+
+def switched_off(*lines: str) -> list[str]:
+    """The lines that switch off the rules of Chord as published whose keys these lines do not have."""
+    given = {line.split(" = ")[0] for line in lines}
+    return [f"{key} = {value}" for key, value in OFF.items() if key not in given]
 
 
 def ring(*changes: tuple[str, str], rows: str = "") -> Scenario:
