@@ -100,10 +100,34 @@ impl Turn<'_> {
             return;
         }
         let circle = self.scenario.circle;
-        let index = self.node.next_finger;
+        let first = self.take_near_fingers();
+        let index = self.node.next_finger.max(first);
+        if index > circle.bits() {
+            return;
+        }
         self.node.next_finger = if index == circle.bits() { 2 } else { index + 1 };
         let start = circle.finger_start(self.scenario.ident(self.node.me), index);
         self.begin_lookup(start, Aim::Finger { index });
+    }
+
+    /// Makes the fingers that the first successor covers that successor, if they are not looked up.
+    /// Returns the first of the others.
+    fn take_near_fingers(&mut self) -> u32 {
+        if !self.scenario.ways.skip_near {
+            return 2;
+        }
+        let (circle, head) = (self.scenario.circle, self.node.head());
+        let distance =
+            circle.distance(self.scenario.ident(self.node.me), self.scenario.ident(head));
+        // The start of a finger is a power of two away. A distance of 0 is the whole circle.
+        let covered = Ident::BITS - distance.leading_zeros();
+        let last = if distance == 0 {
+            circle.bits()
+        } else {
+            covered.max(1)
+        };
+        self.node.fingers[..last as usize - 1].fill(head);
+        last + 1
     }
 
     /// The timer to look up a random key.

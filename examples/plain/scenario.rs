@@ -28,6 +28,7 @@ pub struct Ways {
     pub goes_on: bool,
     pub lookup_timeouts: usize,
     pub drop_silent: bool,
+    pub skip_near: bool,
 }
 
 /// How long a churn node is up, and then down.
@@ -273,6 +274,7 @@ impl<'a> Words<'a> {
             goes_on: self.flag(),
             lookup_timeouts: self.next(),
             drop_silent: self.flag(),
+            skip_near: self.flag(),
         }
     }
 

@@ -47,6 +47,20 @@ class RoundTest(TestCase):
         assert round_told(TOP) == "Each finger is refreshed about every 133s: 127 fingers in turn, one each 1.05s."
         assert [about(micros) for micros in (900, 1500, 250_000, 8_525_000)] == ["900us", "1.5ms", "250ms", "8.53s"]
 
+    def test_round_of_far_fingers(self) -> None:
+        """In profile 4 it is of those that the successor does not cover: of 64 nodes 7, but never more than all."""
+        top = {**TOP, "profile": 4, "node": nodes(64)}
+        told = "Each finger is refreshed about every 7.35s: 7 fingers in turn, one each 1.05s; "
+        assert round_told(top) == told + "the others are the first successor."
+        assert finger_round({**top, "skip_near": True}) == 7_350_000
+        assert finger_round({**top, "bits": 7}) == finger_round({**top, "bits": 7, "node": nodes(33)}) == 6_300_000
+        assert finger_round({**top, "node": nodes(65)}) == 8_400_000
+        for key, value in (("skip_near", False), ("profile", 2), ("profile", 1)):
+            assert finger_round({**top, key: value}) == 133_350_000
+        line = "# Each finger is refreshed about every 1.93s: 7 fingers in turn, one each 275ms; the others are"
+        assert line in ended(generate, "--profile", "4")[1]
+        assert "every 8.53s: 31 fingers in turn" in ended(generate, "--profile", "4", "--no-skip-near")[1]
+
     def test_head_of_a_file(self) -> None:
         """tools/generate says it in the file: 31 times 275 ms are 8.525 s."""
         line = "# Each finger is refreshed about every 8.53s: 31 fingers in turn, one each 275ms.\n"
@@ -105,6 +119,7 @@ class ChurnTrapsTest(TestCase):
     def test_generate_and_explain_agree(self) -> None:
         """What generate warns of before the file is there is what its text has."""
         words = "--nodes 6 --stay 0 --lifetime exp:3s --down exp:9s --bits 64 --profile 4 --join-forever --duration 60s"
+        words += " --no-skip-near"
         with tempfile.TemporaryDirectory() as folder:
             file = Path(folder) / "a.toml"
             lines = [line.removeprefix("warning: ") for line in

@@ -10,8 +10,8 @@ from chordsim_tools.reference.procedures import Procedures
 from chordsim_tools.reference.report import Report
 from chordsim_tools.reference.simulation import Simulation
 from chordsim_tools.reference.state import (
-    Body, CheckTick, CmdCrash, CmdJoin, CmdLookup, GetState, Next, Node, Notify, Owner, StabilizeTick, Status, Step,
-    StepReply, Stuck, Timeout,
+    Body, CheckTick, CmdCrash, CmdJoin, CmdLookup, FingerTick, GetState, Next, Node, Notify, Owner, StabilizeTick,
+    Status, Step, StepReply, Stuck, Timeout,
 )
 from chordsim_tools.reference.turn import World
 from chordsim_tools.scenario.reading import Ways, read_scenario
@@ -228,8 +228,41 @@ lies between; so n40 asks that once more, and then notifies n90. Without the rul
 behind which it comes to be a member at 280. But n0 has found n40 silent meanwhile, and both know n50 alone.
 """
 
+SKIP_NEAR = Worked(
+    keys={"skip_near": "true", "finger_us": "100", "duration_us": "250", "audit_us": "250"},
+    off={"skip_near": "false"},
+    nodes=ring(0, 64, 128, 192),
+    commands="",
+    trace=(
+        "100 n0 ask step n64 call=4 key=128 since=100\n"
+        "100 n64 ask step n128 call=4 key=192 since=100\n"
+        "100 n128 ask step n192 call=4 key=0 since=100\n"
+        "100 n192 ask step n0 call=4 key=64 since=100\n"
+        "110 n64 send step-reply n0\n"
+        "110 n128 send step-reply n64\n"
+        "110 n192 send step-reply n128\n"
+        "110 n0 send step-reply n192\n"
+        "200 n0 ask step n64 call=8 key=128 since=200\n"
+        "200 n64 ask step n128 call=8 key=192 since=200\n"
+        "200 n128 ask step n192 call=8 key=0 since=200\n"
+        "200 n192 ask step n0 call=8 key=64 since=200\n"
+        "210 n64 send step-reply n0\n"
+        "210 n128 send step-reply n64\n"
+        "210 n192 send step-reply n128\n"
+        "210 n0 send step-reply n192\n"
+        "250 audit members=4 dead=0 ring=4 ordered=yes principals=4 sufficient=yes\n"
+    ),
+    other="250 audit members=4 dead=0 ring=4 ordered=yes principals=4 sufficient=yes\n",
+)
+"""The successor is 64 away, and the starts of the fingers 2 to 7 are up to 64 away. So each tick is of finger 8.
+
+Before the call 8 come two timers, a timer, a step, a timeout, a reply and a timer. Without the rule the ticks are of
+the fingers 2 and 3, which a node knows by itself.
+"""
+
 WORKED = {
     "list_routes": LIST_ROUTES, "goes_on": GOES_ON, "lookup_timeouts": LOOKUP_TIMEOUTS, "drop_silent": DROP_SILENT,
+    "skip_near": SKIP_NEAR,
 }
 
 
@@ -412,6 +445,54 @@ class DropSilentTest(TestCase):
         assert (node.succ, node.fingers, node.status) == ([], {}, Status.JOINING)
 
 
+class SkipNearTest(TestCase):
+    """Which finger a tick is of."""
+
+    def test_first_finger(self) -> None:
+        """One more than the bits of the way to the head, but at least 2; if the head is n itself, beyond all."""
+        for bits in (3, 4, 8):
+            world, node = world_of("skip_near = true", changes=(("bits = 3", f"bits = {bits}"),))
+            node.succ = [1]
+            for distance in range(1, 2**bits):
+                world.idents[1] = distance
+                assert Procedures(world, node, 100).first_finger() == max(2, distance.bit_length() + 1)
+            node.succ = [0]
+            assert Procedures(world, node, 100).first_finger() == bits + 1
+
+    def test_near_fingers(self) -> None:
+        """The head is n3: finger 2 becomes n3, and finger 3, whose start is 4, is looked up. The next is 2 again."""
+        world, node = member(skip_near="true")
+        node.succ, node.fingers = [2, 0], {2: 1, 3: 1}
+        lines, made = happen(world, node, FingerTick(1), 2)
+        assert (lines, [body for *_, body in made]) == ([], [FingerTick(1), Step(2, 4, []), Timeout(2)])
+        assert (node.fingers, node.next_finger, node.lookups[0].finger) == ({2: 2, 3: 1}, 2, 3)
+
+    def test_next_finger(self) -> None:
+        """It is n1 that is the head, and nothing is near. The finger that is next is looked up, as without the rule."""
+        for rule in ("true", "false"):
+            for finger, key, following in ((2, 2, 3), (3, 4, 2)):
+                world, node = member(skip_near=rule)
+                node.next_finger = finger
+                assert happen(world, node, FingerTick(1), 2)[1][1][3] == Step(2, key, [])
+                assert (node.fingers, node.next_finger) == ({2: 2, 3: 0}, following)
+
+    def test_all_are_near(self) -> None:
+        """A ring of one: all fingers become the node itself, and none is looked up or moves on."""
+        world, node = member(skip_near="true")
+        node.succ = [0]
+        assert happen(world, node, FingerTick(1), 2) == ([], [(1100, 1, 0, FingerTick(1))])
+        assert (node.fingers, node.next_finger, node.lookups) == ({2: 0, 3: 0}, 2, [])
+
+    def test_finger_lookup_in_progress(self) -> None:
+        """The tick does nothing else then."""
+        world, node = member(skip_near="true")
+        node.succ = [2, 0]
+        happen(world, node, FingerTick(1), 2)
+        node.fingers = {2: 1, 3: 1}
+        assert [body for *_, body in happen(world, node, FingerTick(1), 2)[1]] == [FingerTick(1)]
+        assert node.fingers == {2: 1, 3: 1}
+
+
 class ReportTest(TestCase):
     """The numbers of the report that count what these rules do."""
 
@@ -466,7 +547,7 @@ class KeysTest(TestCase):
         for profile in (1, 2):
             assert ways(f"profile = {profile}") == Ways()
         published = ways("profile = 4")
-        assert published == Ways(list_routes=True, goes_on=True, lookup_timeouts=32, drop_silent=True)
+        assert published == Ways(list_routes=True, goes_on=True, lookup_timeouts=32, drop_silent=True, skip_near=True)
         assert ways("\n".join(["profile = 4", *(f"{key} = {value}" for key, value in OFF.items())])) == Ways()
         for name, value in OFF.items():
             changed = ways(f"profile = 4\n{name} = {value}")

@@ -36,7 +36,8 @@ called unexplained. That can be for these reasons, since Python's tomllib reads 
 Without the program the first line is that of this tool.
 
 Of files that are accepted, the second line says how often each finger is refreshed: in (bits - 1) times (finger_us +
-jitter_us / 2) a node refreshes each of its fingers once. A section "accepted, but:" names traps, and the status stays
+jitter_us / 2) a node refreshes each of its fingers once. In profile 4, unless skip_near = false, these are only those
+that the first successor does not cover: of N nodes about 1 + log2 N. A section "accepted, but:" names traps, and the status stays
 0: a timeout below the greatest round trip, a duration below the periods, a round of fingers that takes longer than the
 run or a mean life, joins that go on for ever without a pause, a time at which no node is up (no ring is ever made
 again), and a `max_events` below what the run is likely to need. This last one is estimated if the timers alone come

@@ -14,9 +14,20 @@ def finger_period(top: dict[str, Any]) -> int:
     return 2 * int(top["finger_us"]) + int(top.get("jitter_us", 0))
 
 
+def finger_count(top: dict[str, Any]) -> int:
+    """How many fingers a node looks up in turn: all of them, or about those that its successor does not cover.
+
+    Of N nodes at random places these are about one more than log2 N.
+    """
+    every = int(top["bits"]) - 1
+    if top.get("profile") != 4 or top.get("skip_near") is False or not top.get("node"):
+        return every
+    return min(every, 1 + math.ceil(math.log2(len(top["node"]))))
+
+
 def finger_round(top: dict[str, Any]) -> int:
-    """The mean time in which a node refreshes each of its fingers 2 to bits once, in microseconds, rounded up."""
-    return -(-(int(top["bits"]) - 1) * finger_period(top) // 2)
+    """The mean time in which a node refreshes each of its fingers once, in microseconds, rounded up."""
+    return -(-finger_count(top) * finger_period(top) // 2)
 
 
 def about(micros: int) -> str:
@@ -28,10 +39,11 @@ def about(micros: int) -> str:
 
 def round_told(top: dict[str, Any]) -> str:
     """How often each finger is refreshed."""
-    count = int(top["bits"]) - 1
+    count = finger_count(top)
     period = about(-(-finger_period(top) // 2))
     whole = about(finger_round(top))
-    return f"Each finger is refreshed about every {whole}: {count} fingers in turn, one each {period}."
+    told = f"Each finger is refreshed about every {whole}: {count} fingers in turn, one each {period}"
+    return f"{told}." if count == int(top["bits"]) - 1 else f"{told}; the others are the first successor."
 
 
 def mean_life(top: dict[str, Any]) -> float | None:

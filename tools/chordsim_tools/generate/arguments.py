@@ -67,6 +67,8 @@ OPTIONS = (
      "profile 4 alone: how many nodes a lookup may leave out since they are silent or dead ends, 0 to 64 (32)"),
     ("no-drop-silent", "", None,
      "profile 4 alone: a node that is taken for dead in a lookup stays among the fingers and in the successor list"),
+    ("no-skip-near", "", None,
+     "profile 4 alone: all fingers are looked up in turn, also those that are the first successor"),
     ("coordinates", "LAW", value(law_of_places, LAWS), f"profile 4 alone: latencies by coordinates: {LAWS} (none)"),
     ("seed", "N", whole(0, GREATEST_SEED),
      "of the simulated streams, and of all that is drawn here: 0 to 9223372036854775807 (1)"),

@@ -65,7 +65,7 @@ def head(plan: Plan, made: Made, arguments: list[str]) -> str:
         *nodes_told(plan),
         *made.told,
         *plan.notes,
-        round_told(plan.top),
+        round_told({**plan.top, "node": range(plan.nodes)}),
     ]
     return "".join(f"# {line}".rstrip() + "\n" for line in lines)
 

@@ -1,4 +1,4 @@
-"""The procedures (docs/rules.md, sections 8.4 to 8.8)."""
+"""The procedures (docs/rules.md, sections 8.4 to 8.9)."""
 
 from chordsim_tools.known import known
 from chordsim_tools.reference.state import (
@@ -13,7 +13,7 @@ JOIN_STEPS = 128
 
 
 class Procedures(Turn):
-    """Node n acts: it searches, looks up, joins, and drops silent nodes."""
+    """Node n acts: it searches, looks up, joins, drops silent nodes, and refreshes fingers."""
 
     # 8.4 Step answer
 
@@ -218,6 +218,23 @@ class Procedures(Turn):
         nearest = min(others, key=lambda x: self.world.circle.distance(idents[self.n.me], idents[x]))
         self.line(f"rescue {self.name(nearest)}")
         self.n.succ = self.cut([nearest, *self.n.succ])
+
+    # 8.9 The rotation of fingers
+
+    def first_finger(self) -> int:
+        """The first finger in the rotation: 2, or with skip_near the first one whose start the head does not cover.
+
+        It is m + 1 if the head covers all of them.
+        """
+        circle, idents = self.world.circle, self.world.idents
+        me, head = idents[self.n.me], idents[self.n.succ[0]]
+        fingers = range(2, circle.bits + 1)
+        if not self.ways.skip_near:
+            return fingers.start
+        far = (i for i in fingers if not circle.in_half_open(me, circle.finger_start(me, i), head))
+        return next(far, fingers.stop)
+
+    # What the rules ask of lists
 
     def cut(self, nodes: list[int]) -> list[int]:
         """The list, cut to `list` entries."""

@@ -60,11 +60,18 @@ class Rules(Procedures):
             self.arm_finger()
         else:
             self.arm_finger()
-            circle = self.world.circle
-            i = self.n.next_finger
-            self.n.next_finger = 2 if i == circle.bits else i + 1
-            start = circle.finger_start(self.world.idents[self.n.me], i)
-            self.begin_lookup(Lookup(start, i, self.t))
+            self.refresh_finger()
+
+    def refresh_finger(self) -> None:
+        """Fingers before the first one in the rotation become the head; the next one in the rotation is looked up."""
+        n, circle, first = self.n, self.world.circle, self.first_finger()
+        for i in range(2, first):
+            n.fingers[i] = n.succ[0]
+        i = max(n.next_finger, first)
+        if i > circle.bits:
+            return
+        n.next_finger = 2 if i == circle.bits else i + 1
+        self.begin_lookup(Lookup(circle.finger_start(self.world.idents[n.me], i), i, self.t))
 
     def traffic_tick(self, body: TrafficTick) -> None:
         """TrafficTick."""

@@ -106,6 +106,7 @@ WAYS = [
     Key("goes_on", "boolean", required=False),
     Key("lookup_timeouts", "integer", 0, 64, required=False),
     Key("drop_silent", "boolean", required=False),
+    Key("skip_near", "boolean", required=False),
 ]
 """Further keys of its top: the rules of Chord as published, each of which can be switched off or changed."""
 COORDINATES = [

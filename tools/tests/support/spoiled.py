@@ -22,7 +22,8 @@ PATIENCE = (
     "join_pause_us = 70", "join_pause_us = 1_000_000_001", 'join_pause_us = "1s"', "join_forever = true",
     "join_forever = 1", "check_us = 90", "check_us = -1", "check_us = 1.5", "detail = true", "detail = 1",
     "list_routes = false", "list_routes = 1", "goes_on = true", "goes_on = 0", "lookup_timeouts = 64",
-    "drop_silent = true", 'drop_silent = "yes"', "lookup_timeouts = 65", "lookup_timeouts = false",
+    "lookup_timeouts = 65", "lookup_timeouts = false", "drop_silent = true", 'drop_silent = "yes"', "skip_near = false",
+    "skip_near = 2",
 )
 """Further lines of the top in the extended profile."""
 PLACES = (
