@@ -1,7 +1,7 @@
 //! Lookups: the search for the next node, and how a lookup starts, goes on and ends.
 
 use crate::circle::{between, in_half_open, Ident};
-use crate::events::Answer;
+use crate::events::{Answer, Request};
 use crate::scenario::Scenario;
 use crate::state::{Aim, Lookup, Node, Purpose};
 use crate::trace::Line;
@@ -78,21 +78,51 @@ impl Turn<'_> {
     /// Goes on with a lookup as a step answer says.
     fn follow_answer(&mut self, index: usize, answer: Answer) {
         match answer {
-            Answer::Owner(owner) => self.finish_lookup(index, owner),
+            Answer::Owner(owner) => self.owner_named(index, owner),
             Answer::Next(next) => self.ask_next(index, next),
             Answer::Stuck => self.fail_lookup(index),
         }
     }
 
-    /// Asks the next node, unless the lookup has sent all its requests.
+    /// The owner of a lookup's key is known. A user's lookup asks it.
+    fn owner_named(&mut self, index: usize, owner: u32) {
+        if self.scenario.ways.ask_owner && self.node.lookups[index].aim == Aim::User {
+            self.ask(index, owner, Purpose::Owner);
+        } else {
+            self.finish_lookup(index, owner);
+        }
+    }
+
+    /// The owner of a lookup's key has answered. Its predecessor may be the owner by now.
+    pub fn owner_answered(&mut self, call: u64, owner: u32, predecessor: Option<u32>) {
+        let index = self.node.lookup_of(call);
+        let lookup = &self.node.lookups[index];
+        let ident = |node: u32| self.scenario.ident(node);
+        let takes_key = |&other: &u32| !in_half_open(ident(other), lookup.key, ident(owner));
+        let other = predecessor.filter(|other| !lookup.avoid.contains(other));
+        match other.filter(takes_key) {
+            Some(newcomer) => self.ask(index, newcomer, Purpose::Owner),
+            None => self.finish_lookup(index, owner),
+        }
+    }
+
+    /// Asks the next node.
     fn ask_next(&mut self, index: usize, next: u32) {
+        self.ask(index, next, Purpose::Lookup);
+    }
+
+    /// Asks a node, unless the lookup has sent all its requests.
+    fn ask(&mut self, index: usize, node: u32, purpose: Purpose) {
         let lookup = &mut self.node.lookups[index];
         if lookup.steps >= LEAST_STEPS + STEPS_EACH * self.scenario.ways.lookup_timeouts as u32 {
             return self.fail_lookup(index);
         }
         lookup.steps += 1;
-        let request = lookup.request();
-        self.node.lookups[index].call = self.call(next, request, Purpose::Lookup);
+        let request = match purpose {
+            Purpose::Owner => Request::GetState,
+            _ => lookup.request(),
+        };
+        self.node.lookups[index].call = self.call(node, request, purpose);
     }
 
     /// Ends a lookup whose owner is known.

@@ -190,7 +190,7 @@ impl Turn<'_> {
             return;
         }
         match call.purpose {
-            Purpose::Lookup => self.lookup_timed_out(number, asked),
+            Purpose::Lookup | Purpose::Owner => self.lookup_timed_out(number, asked),
             Purpose::JoinStep | Purpose::JoinList => self.join_timed_out(asked),
             Purpose::State => self.drop_asked(asked),
             Purpose::List => self.notify_head(),
@@ -370,12 +370,15 @@ impl Turn<'_> {
         }
     }
 
-    /// The reply to a request for the state: renews the successor list. A node between this one and
+    /// The reply to a request for the state. If it is not of a lookup, it renews the successor list. A node between this one and
     /// its successor is asked for its list.
     fn on_state_reply(&mut self, sender: u32, number: u64, predecessor: Option<u32>, list: &[u32]) {
         let Some(call) = self.answered(MessageKind::StateReply, sender, number) else {
             return;
         };
+        if call.purpose == Purpose::Owner {
+            return self.owner_answered(number, call.to, predecessor);
+        }
         self.node
             .renew_successors(call.to, list, self.scenario.list);
         let ident = |node: u32| self.scenario.ident(node);

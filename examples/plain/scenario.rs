@@ -26,6 +26,7 @@ pub enum Profile {
 pub struct Ways {
     pub list_routes: bool,
     pub goes_on: bool,
+    pub ask_owner: bool,
     pub lookup_timeouts: usize,
     pub drop_silent: bool,
     pub skip_near: bool,
@@ -272,6 +273,7 @@ impl<'a> Words<'a> {
         Ways {
             list_routes: self.flag(),
             goes_on: self.flag(),
+            ask_owner: self.flag(),
             lookup_timeouts: self.next(),
             drop_silent: self.flag(),
             skip_near: self.flag(),

@@ -17,6 +17,7 @@ pub enum Status {
 #[derive(Clone, Copy, PartialEq)]
 pub enum Purpose {
     Lookup,
+    Owner,
     JoinStep,
     JoinList,
     State,
@@ -31,7 +32,7 @@ impl Purpose {
         match self {
             Purpose::Lookup | Purpose::JoinStep => MessageKind::StepReply,
             Purpose::JoinList | Purpose::List => MessageKind::ListReply,
-            Purpose::State => MessageKind::StateReply,
+            Purpose::State | Purpose::Owner => MessageKind::StateReply,
             Purpose::Ping { .. } | Purpose::Check => MessageKind::Pong,
         }
     }
@@ -173,7 +174,7 @@ impl Node {
     /// The index of the lookup that waits for the call of this number.
     pub fn lookup_of(&self, call: u64) -> usize {
         let index = self.lookups.iter().position(|lookup| lookup.call == call);
-        index.expect("each Lookup call has its lookup")
+        index.expect("each call of a lookup has its lookup")
     }
 
     /// Makes the successor list of a node and the nodes of a list after it.

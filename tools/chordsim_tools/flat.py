@@ -16,7 +16,8 @@ examples/plain reads this form. The scenario and its latencies are checked as ch
 EPILOG = """\
 The flat form:
   profile, loss_ppm, spread_us, retries, join_pause_us, join_forever as 1 or 0, check_us, detail as 1 or 0
-  list_routes and goes_on as 1 or 0, lookup_timeouts, drop_silent and skip_near; in profiles 1 and 2 0, 0, 8, 0, 0
+  list_routes, goes_on and ask_owner as 1 or 0, lookup_timeouts, drop_silent and skip_near as 1 or 0
+  (in profiles 1 and 2 these are 0 0 0 8 0 0)
   bits, list, seed, duration_us, timeout_us, audit_us, stabilize_us, finger_us, jitter_us, max_events, latency_us
   1 and life_min_us, life_max_us, down_min_us, down_max_us, or 0 if there is no [churn]
   1 and gap_min_us, gap_max_us, or 0 if there is no [lookups]

@@ -67,6 +67,7 @@ REFUSED = [
     ("--profile 2 --no-list-routes", "--no-list-routes: only with --profile 4"),
     ("--profile 1 --no-drop-silent", "--no-drop-silent: only with --profile 4"),
     ("--no-skip-near", "--no-skip-near: only with --profile 4"),
+    ("--profile 2 --no-ask-owner", "--no-ask-owner: only with --profile 4"),
     ("--no-goes-on", "--no-goes-on: only with --profile 4"),
     ("--profile 2 --lookup-timeouts 8", "--lookup-timeouts: only with --profile 4"),
     ("--profile 4 --lookup-timeouts 65", "--lookup-timeouts: 0 to 64"),

@@ -80,7 +80,8 @@ class Latencies(ProgramTest):
         ring, row = ring_of(12, 4096, 3000), "n1,n4095,25\n"
         self.has_answer(ring, row, "ok nodes=4096 commands=1")
         # 25 each way are more than the timeout of this ring.
-        text = ring.replace("profile = 2", "profile = 4\ndetail = true").replace("timeout_us = 40", "timeout_us = 60")
+        text = of_profile("profile = 4\ndetail = true", ring.replace("profile = 2", "profile = 1"))
+        text = text.replace("timeout_us = 40", "timeout_us = 60")
         nodes = text.partition("[[command]]")[0]
         for key, asked, owner, latency in ((2, "n1", "n2", 25), (1, "n0", "n1", 10)):
             with self.subTest(asked=asked):

@@ -28,7 +28,7 @@ SEEDS = range(12)
 EXTENDED_SEEDS = [seed for seed in range(60) if seed // 2 % 3 == 2]
 FLAT_RING = """\
 1 0 0 0 0 0 0 0
-0 0 8 0 0
+0 0 0 8 0 0
 3 2 1 200 40 200 1000 1000 0 50000000 10
 0
 0
@@ -203,7 +203,7 @@ class FlattenTest(TestCase):
             ("n0", 1, "height_us = 9"), ("n1", 3, "height_us = 10"), ("n3", 5, "height_us = 8"),
         )]
         flat = flat_form(ring(*changes, ("window_us = 10", "window_us = 8"), ("height_us = 8", "")))
-        self.assertTrue(flat.startswith("4 0 0 1 70 1 90 1\n1 1 32 1 1\n3 2 1"))
+        self.assertTrue(flat.startswith("4 0 0 1 70 1 90 1\n1 1 1 32 1 1\n3 2 1"))
         self.assertIn("\nn3 3 1 0\n0\n1\n1 2 9\n3 2 10\n5 2 0\n1\n100 0", flat)
 
     def test_command(self) -> None:

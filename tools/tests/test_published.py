@@ -11,7 +11,7 @@ from chordsim_tools.reference.report import Report
 from chordsim_tools.reference.simulation import Simulation
 from chordsim_tools.reference.state import (
     Body, CheckTick, CmdCrash, CmdJoin, CmdLookup, FingerTick, GetState, Next, Node, Notify, Owner, StabilizeTick,
-    Status, Step, StepReply, Stuck, Timeout,
+    StateReply, Status, Step, StepReply, Stuck, Timeout,
 )
 from chordsim_tools.reference.turn import World
 from chordsim_tools.scenario.reading import Ways, read_scenario
@@ -260,9 +260,60 @@ Before the call 8 come two timers, a timer, a step, a timeout, a reply and a tim
 the fingers 2 and 3, which a node knows by itself.
 """
 
+ASK_OWNER = Worked(
+    keys={"ask_owner": "true"},
+    off={"ask_owner": "false"},
+    nodes=ring(0, 40, 50, 60, 200),
+    commands=command(50, "crash", "n50") + command(100, "lookup", "n40", "key = 45"),
+    trace=(
+        "50 n50 crash\n"
+        "100 n40 lookup 45\n"
+        "100 n40 ask get-state n50 call=3 key=45 since=100\n"
+        "110 n50 drop get-state n40\n"
+        "150 n40 timeout n50\n"
+        "150 n40 ask get-state n60 call=5 key=45 since=100\n"
+        "160 n60 send state-reply n40\n"
+        "170 n40 found 45 n60 hops=0 timeouts=1 us=70\n"
+        "2000 audit members=4 dead=0 ring=4 ordered=yes principals=4 sufficient=yes\n"
+    ),
+    other=(
+        "50 n50 crash\n"
+        "100 n40 lookup 45\n"
+        "100 n40 found 45 n50 hops=0 timeouts=0 us=0\n"
+        "2000 audit members=4 dead=0 ring=4 ordered=yes principals=4 sufficient=yes\n"
+    ),
+)
+"""n40 has the list n50, n60, and n50 is down. n60 has the predecessor n50, which is to be avoided by now."""
+NEWCOMER = Worked(
+    keys={
+        "ask_owner": "true", "stabilize_us": "1000", "duration_us": "1300", "audit_us": "1300", "detail": "false",
+    },
+    off={"ask_owner": "false"},
+    nodes=ring(0, 40, 60, 200) + '[[node]]\nname = "n55"\nid = 55\n',
+    commands=command(100, "join", "n55", 'via = "n0"') + command(1200, "lookup", "n40", "key = 52"),
+    trace=(
+        "100 n55 join n0\n"
+        "160 n55 member n40\n"
+        "1200 n40 lookup 52\n"
+        "1240 n40 found 52 n55 hops=0 timeouts=0 us=40\n"
+        "1300 audit members=5 dead=0 ring=4 ordered=yes principals=4 sufficient=yes\n"
+    ),
+    other=(
+        "100 n55 join n0\n"
+        "160 n55 member n40\n"
+        "1200 n40 lookup 52\n"
+        "1200 n40 found 52 n60 hops=0 timeouts=0 us=0\n"
+        "1300 audit members=5 dead=0 ring=4 ordered=yes principals=4 sufficient=yes\n"
+    ),
+)
+"""n55 stabilizes at 1100 for the first time, and n60 hears of it at 1130. n40, which stabilizes at 1000, does not yet.
+
+So n40 asks n60, which owns 52 no more: 52 is not between its predecessor n55 and itself. Then n40 asks n55.
+"""
+
 WORKED = {
     "list_routes": LIST_ROUTES, "goes_on": GOES_ON, "lookup_timeouts": LOOKUP_TIMEOUTS, "drop_silent": DROP_SILENT,
-    "skip_near": SKIP_NEAR,
+    "skip_near": SKIP_NEAR, "ask_owner": ASK_OWNER, "a newcomer": NEWCOMER,
 }
 
 
@@ -493,6 +544,103 @@ class SkipNearTest(TestCase):
         assert node.fingers == {2: 1, 3: 1}
 
 
+class AskOwnerTest(TestCase):
+    """n0 looks up 1 or 2, which it knows to be those of n1 and n3 if n1 is silent, by the calls 1, 3 and so on."""
+
+    def asking(self, key: int = 1, **keys: str) -> tuple[World, Node]:
+        """n0, which asks the owner n1 or n3 of the key."""
+        world, node = member(**({"ask_owner": "true"} | keys))
+        node.succ = [1, 2] if key == 1 else [2, 0]
+        lines, made = happen(world, node, CmdLookup(key), 1)
+        owner = node.succ[0]
+        assert (lines[:1], made) == ([f"lookup {key}"], [(110, 1, owner, GetState(1)), (140, 2, 0, Timeout(1))])
+        return world, node
+
+    def test_owner(self) -> None:
+        """It has the predecessor n0, or none: it is the owner, and no hop. Its list is not used."""
+        for predecessor in (0, None):
+            world, node = self.asking()
+            reply = StateReply(1, predecessor, [0, 0])
+            assert happen(world, node, reply, 3) == (["found 1 n1 hops=0 timeouts=0 us=0"], [])
+            assert (node.succ, node.calls, node.lookups) == ([1, 2], {}, [])
+
+    def test_newcomer(self) -> None:
+        """n0 does not know n1: it asks n3 for 1, whose predecessor n1 owns it, and says so. n1 does not own 2."""
+        world, node = self.asking(2)
+        node.lookups[0].key = 1
+        assert happen(world, node, StateReply(1, 1, []), 4) == ([], [(110, 3, 1, GetState(3)), (140, 4, 0, Timeout(3))])
+        assert (node.lookups[0].steps, node.lookups[0].call) == (2, 3)
+        assert happen(world, node, StateReply(3, 0, []), 3)[0] == ["found 1 n1 hops=0 timeouts=0 us=0"]
+        world, node = self.asking(2)
+        assert happen(world, node, StateReply(1, 1, []), 4)[0] == ["found 2 n3 hops=0 timeouts=0 us=0"]
+
+    def test_silent_newcomer(self) -> None:
+        """n1 is silent. Then n3 is asked again, which still names n1: this is left out, and n3 is the owner."""
+        world, node = self.asking(2)
+        node.lookups[0].key = 1
+        happen(world, node, StateReply(1, 1, []), 4)
+        lines, made = happen(world, node, Timeout(3), 2)
+        assert (lines, made[0]) == (["timeout n1"], (110, 5, 2, GetState(5)))
+        assert happen(world, node, StateReply(5, 1, []), 4)[0] == ["found 1 n3 hops=0 timeouts=1 us=0"]
+
+    def test_silent_owner(self) -> None:
+        """It is left out, as any silent node: the lookup begins again at n0, or goes on at the node that named it."""
+        world, node = self.asking()
+        lines, made = happen(world, node, Timeout(1), 2)
+        assert (lines, made[0]) == (["timeout n1"], (110, 3, 2, GetState(3)))
+        world, node = member(ask_owner="true", goes_on="true")
+        happen(world, node, CmdLookup(7), 1)
+        assert happen(world, node, StepReply(1, Owner(1)), 4)[1][0] == (110, 3, 1, GetState(3))
+        assert happen(world, node, Timeout(3), 2)[1][0] == (110, 5, 2, Step(5, 7, [1]))
+        assert happen(world, node, StepReply(5, Owner(0)), 4)[1][0] == (101, 7, 0, GetState(7))
+        assert happen(world, node, StateReply(7, 2, []), 2)[0] == ["found 7 n0 hops=1 timeouts=1 us=0"]
+
+    def test_last_one_that_may_be_left_out(self) -> None:
+        """A lookup that may leave out nobody fails with its owner."""
+        world, node = self.asking(lookup_timeouts="0")
+        assert happen(world, node, Timeout(1), 2) == (["timeout n1", "lost 1 hops=0 timeouts=1 us=0"], [])
+
+    def test_steps(self) -> None:
+        """The request to an owner is a step. A lookup that has made all its steps fails."""
+        for done, lines in ((127, []), (128, ["lost 7 hops=1 timeouts=0 us=0"])):
+            world, node = member(ask_owner="true")
+            happen(world, node, CmdLookup(7), 1)
+            node.lookups[0].steps = done
+            assert happen(world, node, StepReply(1, Owner(1)), 4)[0] == lines
+
+    def test_sent_again(self) -> None:
+        """The request is sent again as get-state. With detail both sendings have a line with the key."""
+        world, node = self.asking(retries="1", detail="true")
+        lines, made = happen(world, node, Timeout(1), 2)
+        assert lines == ["again get-state n1", "ask get-state n1 call=1 key=1 since=100"]
+        assert made[0] == (110, 3, 1, GetState(1))
+
+    def test_fingers(self) -> None:
+        """The lookup of a finger does not ask. The finger 3 begins at 4, and n3 names n0."""
+        world, node = member(ask_owner="true")
+        node.next_finger = 3
+        happen(world, node, FingerTick(1), 2)
+        assert happen(world, node, StepReply(2, Owner(1)), 4) == ([], []) and node.fingers[3] == 1
+
+    def test_stabilization(self) -> None:
+        """It goes on while an owner is asked. Each of the two replies goes to its own call."""
+        world, node = self.asking()
+        assert happen(world, node, StabilizeTick(1), 2)[1][1] == (110, 4, 1, GetState(4))
+        assert happen(world, node, StateReply(1, 0, []), 3)[0] == ["found 1 n1 hops=0 timeouts=0 us=0"]
+        assert happen(world, node, StateReply(4, 0, [0]), 3)[1][0][3] == Notify() and node.succ == [1, 0]
+
+    def test_drops_the_silent_owner(self) -> None:
+        """With drop_silent the owner that is silent leaves list and fingers."""
+        world, node = self.asking(drop_silent="true")
+        assert happen(world, node, Timeout(1), 2)[0] == ["timeout n1"] and node.succ == [2]
+
+    def test_late_reply(self) -> None:
+        """It comes when the owner has been left out."""
+        world, node = self.asking()
+        happen(world, node, Timeout(1), 2)
+        assert happen(world, node, StateReply(1, 0, []), 3) == (["late state-reply n1"], [])
+
+
 class ReportTest(TestCase):
     """The numbers of the report that count what these rules do."""
 
@@ -547,7 +695,9 @@ class KeysTest(TestCase):
         for profile in (1, 2):
             assert ways(f"profile = {profile}") == Ways()
         published = ways("profile = 4")
-        assert published == Ways(list_routes=True, goes_on=True, lookup_timeouts=32, drop_silent=True, skip_near=True)
+        assert published == Ways(
+            list_routes=True, goes_on=True, ask_owner=True, lookup_timeouts=32, drop_silent=True, skip_near=True
+        )
         assert ways("\n".join(["profile = 4", *(f"{key} = {value}" for key, value in OFF.items())])) == Ways()
         for name, value in OFF.items():
             changed = ways(f"profile = 4\n{name} = {value}")

@@ -300,6 +300,7 @@ EXTENDED: tuple[Change, ...] = (
     ("profile = 4", "profile = 1\nlookup_timeouts = 8", "S2 UnknownKey top"),
     ("seed = 1", "seed = 1\ndrop_silent = 0", "S4 WrongType top drop_silent"),
     ("seed = 1", "seed = 1\nskip_near = 1\nlookup_timeouts = 65", "S4 WrongType top skip_near"),
+    ("seed = 1", "seed = 1\nskip_near = 1\nask_owner = 1", "S4 WrongType top ask_owner"),
     ("seed = 1", 'seed = 1\ndetail = "yes"', "S4 WrongType top detail"),
     ("profile = 4", "profile = 1\ndetail = false", "S2 UnknownKey top"),
     ("bits = 3", "bits = 128", GOOD),

@@ -5,6 +5,7 @@ lists.
 """
 
 from tests.support.rings import ONE_HOP, SETTINGS, THREE, Example, ProgramTest
+from tests.support.worlds import SWITCHED_OFF
 
 FOUND_AGAIN = Example(
     settings=SETTINGS,
@@ -135,7 +136,7 @@ class SentAgain(ProgramTest):
         request, reply = (0x654788CB518A7266 * 1_000_000_001 >> 64, 0x0D5EF83F73E1E88A * 1_000_000_001 >> 64)
         self.assertNotEqual(request, 0x654788CB654788CB * 1_000_000_001 >> 64)
         toml = (
-            "profile = 4\nbits = 3\nseed = 15\nlatency_us = 10\nspread_us = 1000000000\nlist = 2\n"
+            f"profile = 4\n{SWITCHED_OFF}bits = 3\nseed = 15\nlatency_us = 10\nspread_us = 1000000000\nlist = 2\n"
             "duration_us = 1000000000\nwindow_us = 10\ntimeout_us = 1000000000\naudit_us = 1000000000\n"
             f"stabilize_us = 1000000000\nfinger_us = 1000000000\n{THREE}{ONE_HOP}"
         )

@@ -63,6 +63,8 @@ OPTIONS = (
      "profile 4 alone: only the first entry of the successor list counts in the search for the closest preceding node"),
     ("no-goes-on", "", None,
      "profile 4 alone: a lookup begins again at its own node after a timeout, not at the node that answered last"),
+    ("no-ask-owner", "", None,
+     "profile 4 alone: a lookup ends with the node that is named as the owner, and does not ask it"),
     ("lookup-timeouts", "N", whole(0, 64),
      "profile 4 alone: how many nodes a lookup may leave out since they are silent or dead ends, 0 to 64 (32)"),
     ("no-drop-silent", "", None,

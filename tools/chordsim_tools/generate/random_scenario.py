@@ -8,7 +8,7 @@ BITS = {1: [3, 4, 5, 6, 8, 16, 31, 32, 33, 63, 64], 2: WIDE, 4: WIDE}
 FALSE = ("true", ("false",))
 WAYS = (
     ("list_routes", *FALSE), ("goes_on", *FALSE), ("lookup_timeouts", "32", ("8", "0", "1", "2", "3", "64")),
-    ("drop_silent", *FALSE), ("skip_near", *FALSE),
+    ("drop_silent", *FALSE), ("skip_near", *FALSE), ("ask_owner", *FALSE),
 )
 """The rules of Chord as published, with the values that keep to it and those that do not.
 

@@ -7,7 +7,8 @@ from chordsim_tools.scenario.tables import PROFILES
 
 
 WAYS = (
-    ("no-list-routes", "list_routes"), ("no-goes-on", "goes_on"), ("lookup-timeouts", "lookup_timeouts"),
+    ("no-list-routes", "list_routes"), ("no-goes-on", "goes_on"), ("no-ask-owner", "ask_owner"),
+    ("lookup-timeouts", "lookup_timeouts"),
     ("no-drop-silent", "drop_silent"), ("no-skip-near", "skip_near"),
 )
 """The options of the rules of Chord as published, with their keys, in the order of docs/formats.md."""

@@ -2,7 +2,7 @@
 
 from chordsim_tools.known import known
 from chordsim_tools.reference.state import (
-    Answer, Attempt, Drawn, Lookup, Next, Owner, Purpose, Rejoin, Rise, Status, Step, Stuck,
+    Answer, Attempt, Drawn, GetState, Lookup, Next, Owner, Purpose, Rejoin, Rise, Status, Step, Stuck,
 )
 from chordsim_tools.reference.turn import Turn
 
@@ -55,6 +55,8 @@ class Procedures(Turn):
     def follow(self, lookup: Lookup, answer: Answer) -> None:
         """Follows an answer. One of a node that was asked is not Stuck if the lookup goes on (`lookup_answered`)."""
         match answer:
+            case Owner(s) if self.ways.ask_owner and lookup.finger is None:
+                self.ask_owner(lookup, s)
             case Owner(s):
                 self.finish(lookup, s)
             case Stuck():
@@ -64,11 +66,32 @@ class Procedures(Turn):
 
     def ask(self, lookup: Lookup, x: int) -> None:
         """Asks x."""
+        if self.may_step(lookup):
+            lookup.call = self.call(Step, x, Purpose.LOOKUP, lookup.key, list(lookup.avoid))
+
+    def ask_owner(self, lookup: Lookup, s: int) -> None:
+        """Asks the owner s."""
+        if self.may_step(lookup):
+            lookup.call = self.call(GetState, s, Purpose.OWNER)
+
+    def may_step(self, lookup: Lookup) -> bool:
+        """Whether the lookup may make one more step, which is counted here. Otherwise it fails."""
         if lookup.steps == self.world.lookup_steps:
             self.fail(lookup)
-            return
+            return False
         lookup.steps += 1
-        lookup.call = self.call(Step, x, Purpose.LOOKUP, lookup.key, list(lookup.avoid))
+        return True
+
+    def owner_answered(self, lookup: Lookup, s: int, p: int | None) -> None:
+        """The owner s has answered, and p is its predecessor. If p owns the key, it is asked in the place of s."""
+        if p is None or p in lookup.avoid or self.owns(s, p, lookup.key):
+            self.finish(lookup, s)
+        else:
+            self.ask_owner(lookup, p)
+
+    def owns(self, s: int, p: int, key: int) -> bool:
+        """Whether s owns the key if p is its predecessor."""
+        return self.world.circle.in_half_open(self.world.idents[p], key, self.world.idents[s])
 
     def lookup_answered(self, lookup: Lookup, x: int, answer: Answer) -> None:
         """x was asked and has answered. If it is asked again, to go on from it, it is no further hop."""

@@ -133,7 +133,7 @@ class Rules(Procedures):
     def taken_for_dead(self, call: Call) -> None:
         """What follows if the node that was asked is silent, by the call's purpose."""
         match call.purpose:
-            case Purpose.LOOKUP:
+            case Purpose.LOOKUP | Purpose.OWNER:
                 self.timeout_of_lookup(call)
             case Purpose.JOIN_STEP | Purpose.JOIN_LIST:
                 if call.asked != self.n.via:
@@ -230,6 +230,9 @@ class Rules(Procedures):
     def state_reply(self, body: StateReply, call: Call) -> None:
         """StateReply, with a predecessor or none, and a list."""
         p = call.asked
+        if call.purpose == Purpose.OWNER:
+            self.owner_answered(self.lookup_of(call), p, body.prdc)
+            return
         self.n.succ = self.cut([p, *body.succ])
         if body.prdc is not None and self.world.between(self.n.me, body.prdc, p):
             self.call(GetList, body.prdc, Purpose.LIST)

@@ -17,6 +17,7 @@ class Purpose(Enum):
     """What a call is for."""
 
     LOOKUP = "Lookup"
+    OWNER = "Owner"
     JOIN_STEP = "JoinStep"
     JOIN_LIST = "JoinList"
     STATE = "State"
@@ -293,6 +294,7 @@ KINDS: dict[type, str] = {
 
 ASKS_FOR: dict[Purpose, type] = {
     Purpose.LOOKUP: StepReply,
+    Purpose.OWNER: StateReply,
     Purpose.JOIN_STEP: StepReply,
     Purpose.JOIN_LIST: ListReply,
     Purpose.STATE: StateReply,
@@ -304,6 +306,7 @@ ASKS_FOR: dict[Purpose, type] = {
 
 REQUEST_OF: dict[Purpose, type] = {
     Purpose.LOOKUP: Step,
+    Purpose.OWNER: GetState,
     Purpose.JOIN_STEP: Step,
     Purpose.JOIN_LIST: GetList,
     Purpose.STATE: GetState,

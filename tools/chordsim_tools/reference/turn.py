@@ -170,7 +170,7 @@ class Turn:
     def tell_of_request(self, call: Call) -> None:
         """The line of a request, lost or not; if a lookup waits for the call, with its key and its start."""
         rest = ""
-        if call.purpose == Purpose.LOOKUP:
+        if call.purpose in (Purpose.LOOKUP, Purpose.OWNER):
             lookup = self.lookup_of(call)
             rest = f" key={lookup.key} since={lookup.started}"
         self.line(f"ask {KINDS[REQUEST_OF[call.purpose]]} {self.name(call.asked)} call={call.number}{rest}")

@@ -56,12 +56,15 @@ class Ways:
 
     list_routes: bool = False
     goes_on: bool = False
+    ask_owner: bool = False
     lookup_timeouts: int = 8
     drop_silent: bool = False
     skip_near: bool = False
 
 
-PUBLISHED = Ways(list_routes=True, goes_on=True, lookup_timeouts=32, drop_silent=True, skip_near=True)
+PUBLISHED = Ways(
+    list_routes=True, goes_on=True, ask_owner=True, lookup_timeouts=32, drop_silent=True, skip_near=True,
+)
 """What the keys are in the extended profile if they are not given."""
 
 

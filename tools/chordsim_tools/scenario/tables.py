@@ -104,6 +104,7 @@ PATIENCE = [
 WAYS = [
     Key("list_routes", "boolean", required=False),
     Key("goes_on", "boolean", required=False),
+    Key("ask_owner", "boolean", required=False),
     Key("lookup_timeouts", "integer", 0, 64, required=False),
     Key("drop_silent", "boolean", required=False),
     Key("skip_near", "boolean", required=False),

@@ -23,7 +23,7 @@ PATIENCE = (
     "join_forever = 1", "check_us = 90", "check_us = -1", "check_us = 1.5", "detail = true", "detail = 1",
     "list_routes = false", "list_routes = 1", "goes_on = true", "goes_on = 0", "lookup_timeouts = 64",
     "lookup_timeouts = 65", "lookup_timeouts = false", "drop_silent = true", 'drop_silent = "yes"', "skip_near = false",
-    "skip_near = 2",
+    "skip_near = 2", "ask_owner = true", "ask_owner = []",
 )
 """Further lines of the top in the extended profile."""
 PLACES = (
