@@ -31,6 +31,11 @@ impl Span {
         let width = (greatest - least + 1) as u32;
         Self { least, width }
     }
+
+    /// The times from 1 to the greatest one of the span.
+    pub fn from_one(self) -> Self {
+        Self::new(1, self.least + u64::from(self.width) - 1)
+    }
 }
 
 /// What is drawn. In the extended profile this number is the upper half of the stream's number.
@@ -44,6 +49,7 @@ pub enum Subject {
     Key = 6,
     Message = 7,
     CheckTick = 8,
+    FirstFinger = 9,
 }
 
 /// Where a node takes the words of its draws from.

@@ -1,6 +1,7 @@
 //! The rule table: what a node does at each body of an event.
 
 use crate::circle::{between, Ident};
+use crate::draws::{Span, Subject};
 use crate::events::{Answer, Body, MessageKind, Request};
 use crate::lookups::step_answer;
 use crate::state::{Aim, Call, Purpose};
@@ -100,7 +101,9 @@ impl Turn<'_> {
             return;
         }
         let circle = self.scenario.circle;
-        let first = self.take_near_fingers();
+        let first = self.first_finger();
+        let head = self.node.head();
+        self.node.fingers[..first as usize - 2].fill(head);
         let index = self.node.next_finger.max(first);
         if index > circle.bits() {
             return;
@@ -110,9 +113,9 @@ impl Turn<'_> {
         self.begin_lookup(start, Aim::Finger { index });
     }
 
-    /// Makes the fingers that the first successor covers that successor, if they are not looked up.
-    /// Returns the first of the others.
-    fn take_near_fingers(&mut self) -> u32 {
+    /// The first finger that is looked up: the first one that the first successor does not cover, if the
+    /// others are not looked up.
+    fn first_finger(&self) -> u32 {
         if !self.scenario.ways.skip_near {
             return 2;
         }
@@ -126,8 +129,17 @@ impl Turn<'_> {
         } else {
             covered.max(1)
         };
-        self.node.fingers[..last as usize - 1].fill(head);
         last + 1
+    }
+
+    /// Draws the finger with which an initial node begins.
+    pub fn draw_first_finger(&mut self) {
+        let (first, last) = (self.first_finger(), self.scenario.circle.bits());
+        if self.scenario.ways.random_start && first <= last {
+            let span = Span::new(u64::from(first), u64::from(last));
+            let finger = self.node.draws.time(span, Subject::FirstFinger, 0);
+            self.node.next_finger = finger as u32;
+        }
     }
 
     /// The timer to look up a random key.

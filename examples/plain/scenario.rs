@@ -30,6 +30,7 @@ pub struct Ways {
     pub lookup_timeouts: usize,
     pub drop_silent: bool,
     pub skip_near: bool,
+    pub random_start: bool,
 }
 
 /// How long a churn node is up, and then down.
@@ -94,11 +95,11 @@ impl Scenario {
         let check_us: u64 = words.next();
         let has_detail = words.flag();
         let ways = words.ways();
+        let jitters: [u64; 3] = [words.next(), words.next(), words.next()];
         let circle = Circle::new(words.next());
         let (list, seed) = (words.next(), words.next());
         let (duration_us, timeout_us, audit_us) = (words.next(), words.next(), words.next());
-        let (stabilize_us, finger_us, jitter_us): (u64, u64, u64) =
-            (words.next(), words.next(), words.next());
+        let (stabilize_us, finger_us): (u64, u64) = (words.next(), words.next());
         let max_events = words.next();
         let latency_us = words.next();
         let churn = words.churn();
@@ -122,9 +123,9 @@ impl Scenario {
             duration_us,
             timeout_us,
             audit_us,
-            stabilize: Span::new(stabilize_us, stabilize_us + jitter_us),
-            finger: Span::new(finger_us, finger_us + jitter_us),
-            check: (check_us > 0).then(|| Span::new(check_us, check_us + jitter_us)),
+            stabilize: Span::new(stabilize_us, stabilize_us + jitters[0]),
+            finger: Span::new(finger_us, finger_us + jitters[1]),
+            check: (check_us > 0).then(|| Span::new(check_us, check_us + jitters[2])),
             max_events,
             churn,
             lookup_gap,
@@ -277,6 +278,7 @@ impl<'a> Words<'a> {
             lookup_timeouts: self.next(),
             drop_silent: self.flag(),
             skip_near: self.flag(),
+            random_start: self.flag(),
         }
     }
 

@@ -62,18 +62,19 @@ impl<'a> Simulation<'a> {
         }
     }
 
-    /// Sets the first timers of the initial nodes.
+    /// Sets the first timers of the initial nodes, and draws their first fingers.
     fn arm_members(&mut self) {
         for node in self.nodes.iter_mut().filter(|node| node.is_member()) {
-            Turn {
+            let mut turn = Turn {
                 scenario: self.scenario,
                 queue: &mut self.queue,
                 trace: &mut self.trace,
                 node,
                 time: 0,
                 sent: Vec::new(),
-            }
-            .arm();
+            };
+            turn.arm();
+            turn.draw_first_finger();
         }
     }
 

@@ -179,34 +179,68 @@ impl<'a> Turn<'a> {
         self.make(delay, timer(epoch));
     }
 
-    /// Sets the timers of a node that comes up.
+    /// Sets the timers of a node that comes up. All but the end of its life may come at any time of the
+    /// first period.
     pub fn arm(&mut self) {
-        self.arm_stabilize();
-        self.arm_finger();
-        self.arm_traffic();
+        let scenario = self.scenario;
+        let first = |span: Span| match scenario.ways.random_start {
+            true => span.from_one(),
+            false => span,
+        };
+        self.set_stabilize(first(scenario.stabilize));
+        self.set_finger(first(scenario.finger));
+        self.set_traffic(scenario.lookup_gap.map(first));
         if self.churns() {
             self.arm_life();
         }
-        self.arm_check();
+        self.set_check(scenario.check.map(first));
+    }
+
+    /// Sets the timer to stabilize again.
+    pub fn arm_stabilize(&mut self) {
+        self.set_stabilize(self.scenario.stabilize);
+    }
+
+    /// Sets the timer to refresh a finger again.
+    pub fn arm_finger(&mut self) {
+        self.set_finger(self.scenario.finger);
+    }
+
+    /// Sets the timer to look up a random key again.
+    pub fn arm_traffic(&mut self) {
+        self.set_traffic(self.scenario.lookup_gap);
+    }
+
+    /// Sets the timer to check the predecessor again.
+    pub fn arm_check(&mut self) {
+        self.set_check(self.scenario.check);
     }
 
     /// Sets the timer to stabilize.
-    pub fn arm_stabilize(&mut self) {
+    fn set_stabilize(&mut self, span: Span) {
         let timer = |epoch| Body::StabilizeTick { epoch };
-        self.set_timer(self.scenario.stabilize, Subject::StabilizeTick, timer);
+        self.set_timer(span, Subject::StabilizeTick, timer);
     }
 
     /// Sets the timer to refresh a finger.
-    pub fn arm_finger(&mut self) {
+    fn set_finger(&mut self, span: Span) {
         let timer = |epoch| Body::FingerTick { epoch };
-        self.set_timer(self.scenario.finger, Subject::FingerTick, timer);
+        self.set_timer(span, Subject::FingerTick, timer);
     }
 
     /// Sets the timer to look up a random key, if the scenario has such lookups.
-    pub fn arm_traffic(&mut self) {
-        if let Some(gap) = self.scenario.lookup_gap {
+    fn set_traffic(&mut self, gap: Option<Span>) {
+        if let Some(gap) = gap {
             let timer = |epoch| Body::TrafficTick { epoch };
             self.set_timer(gap, Subject::TrafficTick, timer);
+        }
+    }
+
+    /// Sets the timer to check the predecessor, if the scenario has such checks.
+    fn set_check(&mut self, span: Option<Span>) {
+        if let Some(span) = span {
+            let timer = |epoch| Body::CheckTick { epoch };
+            self.set_timer(span, Subject::CheckTick, timer);
         }
     }
 
@@ -215,14 +249,6 @@ impl<'a> Turn<'a> {
         if let Some(churn) = &self.scenario.churn {
             let timer = |epoch| Body::LifeEnd { epoch };
             self.set_timer(churn.life, Subject::LifeEnd, timer);
-        }
-    }
-
-    /// Sets the timer to check the predecessor, if the scenario has such checks.
-    pub fn arm_check(&mut self) {
-        if let Some(span) = self.scenario.check {
-            let timer = |epoch| Body::CheckTick { epoch };
-            self.set_timer(span, Subject::CheckTick, timer);
         }
     }
 

@@ -16,9 +16,10 @@ examples/plain reads this form. The scenario and its latencies are checked as ch
 EPILOG = """\
 The flat form:
   profile, loss_ppm, spread_us, retries, join_pause_us, join_forever as 1 or 0, check_us, detail as 1 or 0
-  list_routes, goes_on and ask_owner as 1 or 0, lookup_timeouts, drop_silent and skip_near as 1 or 0
-  (in profiles 1 and 2 these are 0 0 0 8 0 0)
-  bits, list, seed, duration_us, timeout_us, audit_us, stabilize_us, finger_us, jitter_us, max_events, latency_us
+  list_routes, goes_on and ask_owner as 1 or 0, lookup_timeouts, drop_silent, skip_near and random_start as 1 or 0
+  (in profiles 1 and 2 these are 0 0 0 8 0 0 0)
+  the jitters of stabilize_us, finger_us and check_us
+  bits, list, seed, duration_us, timeout_us, audit_us, stabilize_us, finger_us, max_events, latency_us
   1 and life_min_us, life_max_us, down_min_us, down_max_us, or 0 if there is no [churn]
   1 and gap_min_us, gap_max_us, or 0 if there is no [lookups]
   the number of nodes; for each its name, its identifier, initial and churn as 1 or 0
@@ -54,8 +55,9 @@ def lines_of(scenario: Scenario) -> Iterator[list[int | str]]:
     yield [s.profile, s.loss_ppm, s.spread_us, s.retries, s.join_pause_us, int(s.join_forever), s.check_us,
            int(s.detail)]
     yield [int(value) for value in astuple(s.ways)]
-    yield [s.bits, s.list, s.seed, s.duration_us, s.timeout_us, s.audit_us, s.stabilize_us, s.finger_us, s.jitter_us,
-           s.max_events, s.latency_us]
+    yield list(astuple(s.jitters))
+    yield [s.bits, s.list, s.seed, s.duration_us, s.timeout_us, s.audit_us, s.stabilize_us, s.finger_us, s.max_events,
+           s.latency_us]
     c = s.churn
     yield [0] if c is None else [1, c.life_min_us, c.life_max_us, c.down_min_us, c.down_max_us]
     yield [0] if s.lookups is None else [1, s.lookups.gap_min_us, s.lookups.gap_max_us]

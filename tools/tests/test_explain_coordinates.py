@@ -77,6 +77,9 @@ class ExplainLaterTest(TestCase):
         for key in (key.name for key in WAYS if key.kind == "boolean"):
             (found,) = faults(changed(EXTENDED, ("seed = 1", f'seed = 1\n{key} = "no"')))
             assert (found.fault, found.hints) == (f"S4 WrongType top {key}", [f"{key} = false"])
+        for key in ("stabilize_jitter_us", "finger_jitter_us", "check_jitter_us"):
+            (found,) = faults(changed(EXTENDED, ("seed = 1", f"seed = 1\n{key} = 1000000001")))
+            assert (found.fault, found.allowed) == (f"S5 OutOfRange top {key}", "an integer from 0 to 1000000000")
         (found,) = faults(changed(EXTENDED, ("seed = 1", "seed = 1\nlookup_timeouts = 65")))
         assert (found.fault, found.allowed) == ("S5 OutOfRange top lookup_timeouts", "an integer from 0 to 64")
         (found,) = faults(changed(EXTENDED, ("seed = 1", 'seed = 1\ncheck_us = "5s"')))

@@ -55,6 +55,7 @@ class RoundTest(TestCase):
         assert finger_round({**top, "skip_near": True}) == 7_350_000
         assert finger_round({**top, "bits": 7}) == finger_round({**top, "bits": 7, "node": nodes(33)}) == 6_300_000
         assert finger_round({**top, "node": nodes(65)}) == 8_400_000
+        assert finger_round({**top, "finger_jitter_us": 0}) == 7_000_000
         for key, value in (("skip_near", False), ("profile", 2), ("profile", 1)):
             assert finger_round({**top, key: value}) == 133_350_000
         line = "# Each finger is refreshed about every 1.93s: 7 fingers in turn, one each 275ms; the others are"

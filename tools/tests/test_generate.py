@@ -14,7 +14,7 @@ from chordsim_tools.generate.top import WAYS as WAYS_OF_OPTIONS
 from chordsim_tools.known import known
 from chordsim_tools.reference.circle import Circle
 from chordsim_tools.scenario.coordinates import Coordinates
-from chordsim_tools.scenario.reading import PUBLISHED, Churn, Command, Lookups, Scenario, read_scenario
+from chordsim_tools.scenario.reading import PUBLISHED, Churn, Command, Jitters, Lookups, Scenario, read_scenario
 from chordsim_tools.scenario.tables import WAYS
 from tests.support.programs import checked, ended, program
 
@@ -68,6 +68,9 @@ REFUSED = [
     ("--profile 1 --no-drop-silent", "--no-drop-silent: only with --profile 4"),
     ("--no-skip-near", "--no-skip-near: only with --profile 4"),
     ("--profile 2 --no-ask-owner", "--no-ask-owner: only with --profile 4"),
+    ("--profile 2 --no-random-start", "--no-random-start: only with --profile 4"),
+    ("--profile 2 --finger-jitter 0", "--finger-jitter: only with --profile 4"),
+    ("--profile 4 --check-jitter 1001s", "--check-jitter: a time of 0us to 1000s"),
     ("--no-goes-on", "--no-goes-on: only with --profile 4"),
     ("--profile 2 --lookup-timeouts 8", "--lookup-timeouts: only with --profile 4"),
     ("--profile 4 --lookup-timeouts 65", "--lookup-timeouts: 0 to 64"),
@@ -179,7 +182,7 @@ class GenerateTest(TestCase):
         assert (ring.bits, ring.list, ring.seed, ring.max_events) == (32, 4, 1, 50_000_000)
         assert (ring.duration_us, ring.audit_us) == (120_000_000, 5_000_000)
         assert (ring.window_us, ring.latency_us, ring.timeout_us) == (20_000, 20_000, 200_000)
-        assert (ring.stabilize_us, ring.finger_us, ring.jitter_us) == (500_000, 250_000, 50_000)
+        assert (ring.stabilize_us, ring.finger_us, ring.jitters) == (500_000, 250_000, Jitters(50_000, 50_000, 50_000))
         assert [node.name for node in ring.nodes] == [f"n{i}" for i in range(64)]
         assert all(node.initial and not node.churn for node in ring.nodes)
         assert (ring.churn, ring.lookups, ring.commands) == (None, Lookups(500_000, 1_500_000), [])
@@ -193,7 +196,7 @@ class GenerateTest(TestCase):
         )
         assert (ring.bits, ring.list, ring.seed, ring.max_events, ring.duration_us) == (8, 5, 9, 8, 2_000_000)
         assert (ring.window_us, ring.latency_us, ring.timeout_us, ring.audit_us) == (1000, 2000, 3000, 4000)
-        assert (ring.stabilize_us, ring.finger_us, ring.jitter_us) == (5000, 6000, 7000)
+        assert (ring.stabilize_us, ring.finger_us, ring.jitters) == (5000, 6000, Jitters(7000, 7000, 7000))
         assert ring.lookups == Lookups(10_000, 11_000)
         assert ring.churn == Churn(12_000, 13_000, 14_000, 15_000)
         assert [node.initial for node in ring.nodes] == [True] * 6 + [False] * 3
@@ -240,8 +243,10 @@ class GenerateTest(TestCase):
     def test_published_rules(self) -> None:
         """The keys that are given stand behind `detail`, in their order. An option with `no` makes a false."""
         switches = " ".join(f"--{name}" for name, _ in reversed(WAYS_OF_OPTIONS) if name.startswith("no-"))
-        ring = tomllib.loads(text_of(f"--profile 4 --lookup-timeouts 3 {switches} --detail"))
-        wanted = [("detail", True), *((key, 3 if key == "lookup_timeouts" else False) for _, key in WAYS_OF_OPTIONS)]
+        numbers = {"lookup-timeouts": 3, "check-jitter": 4, "finger-jitter": 5, "stabilize-jitter": 6}
+        given = " ".join(f"--{name} {number}" for name, number in numbers.items())
+        ring = tomllib.loads(text_of(f"--profile 4 {given} {switches} --detail"))
+        wanted = [("detail", True), *((key, numbers.get(name, False)) for name, key in WAYS_OF_OPTIONS)]
         assert list(ring.items())[16 : 16 + len(wanted)] == wanted
         assert [key for _, key in WAYS_OF_OPTIONS] == [key.name for key in WAYS]
         assert made("--profile 4").ways == PUBLISHED

@@ -28,8 +28,9 @@ SEEDS = range(12)
 EXTENDED_SEEDS = [seed for seed in range(60) if seed // 2 % 3 == 2]
 FLAT_RING = """\
 1 0 0 0 0 0 0 0
-0 0 0 8 0 0
-3 2 1 200 40 200 1000 1000 0 50000000 10
+0 0 0 8 0 0 0
+0 0 0
+3 2 1 200 40 200 1000 1000 50000000 10
 0
 0
 3
@@ -198,12 +199,13 @@ class FlattenTest(TestCase):
     def test_coordinates(self) -> None:
         """The flat form of coordinates, with and without a height, and of the keys of joins and checks."""
         keys = "retries = 1\njoin_pause_us = 70\njoin_forever = true\ncheck_us = 90\ndetail = true"
+        keys += "\nfinger_jitter_us = 7"
         changes = [("profile = 1", f"profile = 4\n{keys}")]
         changes += [(f'"{name}"', f'"{name}"\nx_us = {x}\ny_us = 2\n{height}') for name, x, height in (
             ("n0", 1, "height_us = 9"), ("n1", 3, "height_us = 10"), ("n3", 5, "height_us = 8"),
         )]
         flat = flat_form(ring(*changes, ("window_us = 10", "window_us = 8"), ("height_us = 8", "")))
-        self.assertTrue(flat.startswith("4 0 0 1 70 1 90 1\n1 1 1 32 1 1\n3 2 1"))
+        self.assertTrue(flat.startswith("4 0 0 1 70 1 90 1\n1 1 1 32 1 1 1\n0 7 0\n3 2 1"))
         self.assertIn("\nn3 3 1 0\n0\n1\n1 2 9\n3 2 10\n5 2 0\n1\n100 0", flat)
 
     def test_command(self) -> None:

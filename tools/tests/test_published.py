@@ -6,19 +6,20 @@ Latencies are 10, and a timeout comes after 50. The node nK is at K. Fingers are
 from typing import NamedTuple
 from unittest import TestCase
 
+from chordsim_tools.reference.chacha import Stream
 from chordsim_tools.reference.procedures import Procedures
 from chordsim_tools.reference.report import Report
 from chordsim_tools.reference.simulation import Simulation
 from chordsim_tools.reference.state import (
-    Body, CheckTick, CmdCrash, CmdJoin, CmdLookup, FingerTick, GetState, Next, Node, Notify, Owner, StabilizeTick,
-    StateReply, Status, Step, StepReply, Stuck, Timeout,
+    Body, CheckTick, CmdCrash, CmdJoin, CmdLookup, FingerTick, GetState, LifeEnd, Next, Node, Notify, Owner,
+    StabilizeTick, StateReply, Status, Step, StepReply, Stuck, Timeout, TrafficTick,
 )
 from chordsim_tools.reference.turn import World
 from chordsim_tools.scenario.reading import Ways, read_scenario
 from chordsim_tools.scenario.tables import WAYS
 from tests.support.rings import ProgramTest
 from tests.support.worlds import LATER, OFF, RING, fault
-from tests.test_extended_profile import world_of
+from tests.test_extended_profile import SPANS, extended, world_of
 from tests.test_second_profile import happen
 
 TOP = {
@@ -311,9 +312,45 @@ NEWCOMER = Worked(
 So n40 asks n60, which owns 52 no more: 52 is not between its predecessor n55 and itself. Then n40 asks n55.
 """
 
+RANDOM_START = Worked(
+    keys={
+        "random_start": "true", "stabilize_us": "1000", "finger_us": "1000", "stabilize_jitter_us": "0",
+        "finger_jitter_us": "300", "duration_us": "700", "audit_us": "700",
+    },
+    off={"random_start": "false"},
+    nodes=ring(0, 8, 16, 24),
+    commands="",
+    trace=(
+        "60 n24 ask get-state n0 call=4\n"
+        "70 n0 send state-reply n24\n"
+        "80 n24 send notify n0\n"
+        "169 n16 ask get-state n24 call=4\n"
+        "171 n0 ask get-state n8 call=5\n"
+        "179 n24 send state-reply n16\n"
+        "181 n8 send state-reply n0\n"
+        "189 n16 send notify n24\n"
+        "191 n0 send notify n8\n"
+        "637 n8 ask step n24 call=5 key=72 since=637\n"
+        "647 n24 send step-reply n8\n"
+        "700 audit members=4 dead=0 ring=4 ordered=yes principals=4 sufficient=yes\n"
+    ),
+    other="700 audit members=4 dead=0 ring=4 ordered=yes principals=4 sufficient=yes\n",
+)
+"""The words of the draws, as parts w of 2^64. StabilizeTick comes at 1 + 1000 w, and FingerTick at 1 + 1300 w.
+
+  node      (node, 1) k=0                 (node, 2) k=0                 (node, 9) k=0
+  n0   0    2b8f4646 7b2509f7 0.170: 171  b3f347b1 a6a653ff 0.702: 914  d1d5ee95 c8257de5 0.819: finger 2 + 5
+  n8   1    ccf7e5b0 db2bd814 0.800: 801  7d6fc6ab fab5307f 0.489: 637  d365b858 f102cf4e 0.825: finger 2 + 5
+  n16  2    2b05ca9a 88699f96 0.168: 169  7764730d 076cb953 0.466: 607  6c141722 91218bad 0.422: finger 2 + 2
+  n24  3    0f29215c 7362c1bf 0.059: 60   6edce6aa 8d221568 0.433: 563  8baa6ea3 37f89e46 0.545: finger 2 + 3
+
+n8 refreshes finger 7, whose start is 72, by n24. The finger 4 of n16 and 5 of n24 are their successors.
+"""
+
 WORKED = {
     "list_routes": LIST_ROUTES, "goes_on": GOES_ON, "lookup_timeouts": LOOKUP_TIMEOUTS, "drop_silent": DROP_SILENT,
     "skip_near": SKIP_NEAR, "ask_owner": ASK_OWNER, "a newcomer": NEWCOMER,
+    "random_start": RANDOM_START,
 }
 
 
@@ -641,6 +678,60 @@ class AskOwnerTest(TestCase):
         assert happen(world, node, StateReply(1, 0, []), 3) == (["late state-reply n1"], [])
 
 
+class RandomStartTest(TestCase):
+    """First timers and first fingers, by the words that test_extended_profile lists for n0."""
+
+    def test_first_timers(self) -> None:
+        """All but LifeEnd come at a time from 1 on: 1099 w, 1099 w, 60 w and 499 w are 187.0, 772.5, 7.8 and 108.3.
+
+        The words of the kind 8 are 37921f05 4096c6f9, which is 0.217 of 2^64.
+        """
+        world, node = world_of("random_start = true", "check_us = 400", changes=SPANS)
+        procedures = Procedures(world, node, 0)
+        procedures.arm()
+        assert [(event.time, event.body) for event in procedures.events] == [
+            (188, StabilizeTick(1)), (773, FingerTick(1)), (8, TrafficTick(1)), (649, LifeEnd(1)), (109, CheckTick(1)),
+        ]
+
+    def test_timers_set_again(self) -> None:
+        """They come after a whole period, with the rule and without it."""
+        for rule in ("true", "false"):
+            world, node = world_of(f"random_start = {rule}", changes=SPANS)
+            assert happen(world, node, FingerTick(1), 2)[1][0] == (1120, 1, 0, FingerTick(1))
+            assert happen(world, node, StabilizeTick(1), 2)[1][0][0] == 1171
+
+    def test_node_that_joins(self) -> None:
+        """Its first timers are drawn so too, with the time as the occasion. Its first finger is 2."""
+        world, node = member(random_start="true")
+        happen(world, node, CmdCrash(), 1)
+        made = happen(world, node, CmdJoin(2), 1)[1]
+        number = Stream(1, 2**32).word(400) * 2**32 + Stream(1, 2**32).word(401)
+        assert made[0] == (101 + number * 1000 // 2**64, 1, 0, StabilizeTick(2)) and made[0][0] < 1100
+        assert (node.next_finger, node.place) == (2, 4)
+
+    def test_first_finger(self) -> None:
+        """Of the fingers 2 and 3: 2 w is 1.6 at n0, so 3. If near ones are skipped, n1 has 3 alone, and n3 none."""
+        for near, fingers, places in (("false", [3, 3, 2], [3, 3, 3]), ("true", [3, 3, 2], [3, 3, 2])):
+            text = extended("random_start = true", f"skip_near = {near}")
+            nodes = Simulation(read_scenario(text.encode(), b"")).nodes
+            assert ([node.next_finger for node in nodes], [node.place for node in nodes]) == (fingers, places)
+        nodes = Simulation(read_scenario(extended().encode(), b"")).nodes
+        assert ([node.next_finger for node in nodes], [node.place for node in nodes]) == ([2, 2, 2], [2, 2, 2])
+
+    def test_jitters(self) -> None:
+        """Each timer has its own jitter, or that of all. The words of n0 are 0.170, 0.702 and 0.217 of 2^64."""
+        for keys, times in (
+            ((), (1017, 1070, 421)),
+            (("stabilize_jitter_us = 0",), (1000, 1070, 421)),
+            (("finger_jitter_us = 199",), (1017, 1140, 421)),
+            (("check_jitter_us = 999",), (1017, 1070, 617)),
+        ):
+            world, node = world_of("check_us = 400", *keys, changes=(("jitter_us = 0", "jitter_us = 99"),))
+            procedures = Procedures(world, node, 0)
+            procedures.arm()
+            assert tuple(event.time for event in procedures.events) == times
+
+
 class ReportTest(TestCase):
     """The numbers of the report that count what these rules do."""
 
@@ -669,13 +760,13 @@ class KeysTest(TestCase):
     def test_profiles(self) -> None:
         """They are keys of the top in profile 4 alone, in the order of docs/formats.md."""
         for key in WAYS:
-            line = f"{key.name} = {OFF[key.name]}"
+            line = f"{key.name} = {OFF.get(key.name, 0)}"
             assert fault(RING.replace("profile = 1", f"profile = 4\n{line}")) == "accepted"
             assert fault(RING.replace("[[node]]", f"[[node]]\n{line}", 1)) == "S2 UnknownKey node 1"
             for profile in (1, 2, 3):
                 changed = RING.replace("profile = 1", f"profile = {profile}\n{line}")
                 assert fault(changed) == "S2 UnknownKey top"
-        assert [key.name for key in WAYS] == list(OFF)
+        assert [key.name for key in WAYS if not key.name.endswith("jitter_us")] == list(OFF)
 
     def test_booleans(self) -> None:
         """Nothing but a boolean is accepted. Of several faults the first in the order of the keys is named."""
@@ -696,7 +787,8 @@ class KeysTest(TestCase):
             assert ways(f"profile = {profile}") == Ways()
         published = ways("profile = 4")
         assert published == Ways(
-            list_routes=True, goes_on=True, ask_owner=True, lookup_timeouts=32, drop_silent=True, skip_near=True
+            list_routes=True, goes_on=True, ask_owner=True, lookup_timeouts=32, drop_silent=True, skip_near=True,
+            random_start=True,
         )
         assert ways("\n".join(["profile = 4", *(f"{key} = {value}" for key, value in OFF.items())])) == Ways()
         for name, value in OFF.items():

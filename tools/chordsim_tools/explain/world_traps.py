@@ -11,7 +11,7 @@ RARE = 0.001
 
 def finger_period(top: dict[str, Any]) -> int:
     """The mean time between two refreshes of one finger, in half microseconds."""
-    return 2 * int(top["finger_us"]) + int(top.get("jitter_us", 0))
+    return 2 * int(top["finger_us"]) + int(top.get("finger_jitter_us", top.get("jitter_us", 0)))
 
 
 def finger_count(top: dict[str, Any]) -> int:

@@ -9,6 +9,7 @@ FALSE = ("true", ("false",))
 WAYS = (
     ("list_routes", *FALSE), ("goes_on", *FALSE), ("lookup_timeouts", "32", ("8", "0", "1", "2", "3", "64")),
     ("drop_silent", *FALSE), ("skip_near", *FALSE), ("ask_owner", *FALSE),
+    ("random_start", *FALSE),
 )
 """The rules of Chord as published, with the values that keep to it and those that do not.
 
@@ -47,7 +48,7 @@ def scenario_files(seed: int) -> tuple[str, str]:
             links = ""
         if seed // 6 % 3 == 0:
             top["detail"] = "true"
-        top |= ways_of(dice)
+        top |= ways_of(dice) | jitters_of(dice)
     head = "".join(f"{key} = {value}\n" for key, value in top.items())
     return head + rest + "".join(node_tables) + commands, links
 
@@ -112,6 +113,12 @@ def ways_of(dice: Random) -> dict[str, int | str]:
         if is_off or is_written:
             keys[name] = other if is_off else published
     return keys
+
+
+def jitters_of(dice: Random) -> dict[str, int | str]:
+    """A jitter of some timers that is not that of the others."""
+    keys: dict[str, int | str] = {f"{word}_jitter_us": dice.randint(0, 60) for word in ("stabilize", "finger", "check")}
+    return {key: value for key, value in keys.items() if dice.random() < 0.3}
 
 
 def coordinates(dice: Random, window: int) -> str:

@@ -9,7 +9,9 @@ from chordsim_tools.scenario.tables import PROFILES
 WAYS = (
     ("no-list-routes", "list_routes"), ("no-goes-on", "goes_on"), ("no-ask-owner", "ask_owner"),
     ("lookup-timeouts", "lookup_timeouts"),
-    ("no-drop-silent", "drop_silent"), ("no-skip-near", "skip_near"),
+    ("no-drop-silent", "drop_silent"), ("no-skip-near", "skip_near"), ("no-random-start", "random_start"),
+    ("stabilize-jitter", "stabilize_jitter_us"), ("finger-jitter", "finger_jitter_us"),
+    ("check-jitter", "check_jitter_us"),
 )
 """The options of the rules of Chord as published, with their keys, in the order of docs/formats.md."""
 

@@ -257,6 +257,13 @@ class Procedures(Turn):
         far = (i for i in fingers if not circle.in_half_open(me, circle.finger_start(me, i), head))
         return next(far, fingers.stop)
 
+    def draw_next_finger(self) -> None:
+        """Draws the finger with which an initial node begins, of those in the rotation."""
+        first, last = self.first_finger(), self.world.circle.bits
+        if self.ways.random_start and first <= last:
+            [number] = self.numbers_below(Drawn.FIRST_FINGER, 0, last - first + 1)
+            self.n.next_finger = first + number
+
     # What the rules ask of lists
 
     def cut(self, nodes: list[int]) -> list[int]:

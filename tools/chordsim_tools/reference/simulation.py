@@ -43,6 +43,7 @@ class Simulation:
             if node.status == Status.MEMBER:
                 procedures = Procedures(self.world, node, 0)
                 procedures.arm()
+                procedures.draw_next_finger()
                 self.add(procedures.events)
 
     def add(self, events: list[Event]) -> None:

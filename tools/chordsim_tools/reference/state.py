@@ -37,6 +37,7 @@ class Drawn(IntEnum):
     KEY = 6
     MESSAGE = 7
     CHECK_TICK = 8
+    FIRST_FINGER = 9
 
 
 @dataclass(slots=True)

@@ -179,31 +179,33 @@ class Turn:
 
     def arm(self) -> None:
         """Sets the timers of a node, in this order."""
-        self.arm_stabilize()
-        self.arm_finger()
+        is_first = self.ways.random_start
+        self.arm_stabilize(is_first)
+        self.arm_finger(is_first)
         if self.world.scenario.lookups is not None:
-            self.arm_traffic()
+            self.arm_traffic(is_first)
         if self.is_churn():
             self.arm_life()
         if self.world.scenario.check_us > 0:
-            self.arm_check()
+            self.arm_check(is_first)
 
-    def arm_stabilize(self) -> None:
-        """Sets StabilizeTick, always."""
+    def arm_stabilize(self, is_first: bool = False) -> None:
+        """Sets StabilizeTick, always. If `is_first`, at any time of the first period."""
         s = self.world.scenario
-        delay = self.time_from_span(s.stabilize_us, s.stabilize_us + s.jitter_us, Drawn.STABILIZE_TICK, self.t)
-        self.set_timer(delay, StabilizeTick(self.n.epoch))
+        least, greatest = 1 if is_first else s.stabilize_us, s.stabilize_us + s.jitters.stabilize_us
+        self.set_timer(self.time_from_span(least, greatest, Drawn.STABILIZE_TICK, self.t), StabilizeTick(self.n.epoch))
 
-    def arm_finger(self) -> None:
+    def arm_finger(self, is_first: bool = False) -> None:
         """Sets FingerTick, always."""
         s = self.world.scenario
-        delay = self.time_from_span(s.finger_us, s.finger_us + s.jitter_us, Drawn.FINGER_TICK, self.t)
-        self.set_timer(delay, FingerTick(self.n.epoch))
+        least, greatest = 1 if is_first else s.finger_us, s.finger_us + s.jitters.finger_us
+        self.set_timer(self.time_from_span(least, greatest, Drawn.FINGER_TICK, self.t), FingerTick(self.n.epoch))
 
-    def arm_traffic(self) -> None:
+    def arm_traffic(self, is_first: bool = False) -> None:
         """Sets TrafficTick, if the scenario has [lookups]."""
         lookups = known(self.world.scenario.lookups)
-        delay = self.time_from_span(lookups.gap_min_us, lookups.gap_max_us, Drawn.TRAFFIC_TICK, self.t)
+        least = 1 if is_first else lookups.gap_min_us
+        delay = self.time_from_span(least, lookups.gap_max_us, Drawn.TRAFFIC_TICK, self.t)
         self.set_timer(delay, TrafficTick(self.n.epoch))
 
     def arm_life(self) -> None:
@@ -212,11 +214,11 @@ class Turn:
         delay = self.time_from_span(churn.life_min_us, churn.life_max_us, Drawn.LIFE_END, self.n.epoch)
         self.set_timer(delay, LifeEnd(self.n.epoch))
 
-    def arm_check(self) -> None:
+    def arm_check(self, is_first: bool = False) -> None:
         """Sets CheckTick, if check_us is above 0."""
         s = self.world.scenario
-        delay = self.time_from_span(s.check_us, s.check_us + s.jitter_us, Drawn.CHECK_TICK, self.t)
-        self.set_timer(delay, CheckTick(self.n.epoch))
+        least, greatest = 1 if is_first else s.check_us, s.check_us + s.jitters.check_us
+        self.set_timer(self.time_from_span(least, greatest, Drawn.CHECK_TICK, self.t), CheckTick(self.n.epoch))
 
     def is_churn(self) -> bool:
         """Whether the node has churn = true."""

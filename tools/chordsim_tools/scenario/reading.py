@@ -42,6 +42,15 @@ class Churn:
     down_max_us: int
 
 
+@dataclass(frozen=True)
+class Jitters:
+    """The jitter of each timer."""
+
+    stabilize_us: int
+    finger_us: int
+    check_us: int
+
+
 @dataclass
 class Lookups:
     """The table [lookups]."""
@@ -60,10 +69,12 @@ class Ways:
     lookup_timeouts: int = 8
     drop_silent: bool = False
     skip_near: bool = False
+    random_start: bool = False
 
 
 PUBLISHED = Ways(
     list_routes=True, goes_on=True, ask_owner=True, lookup_timeouts=32, drop_silent=True, skip_near=True,
+    random_start=True,
 )
 """What the keys are in the extended profile if they are not given."""
 
@@ -88,7 +99,7 @@ class Scenario:
     audit_us: int
     stabilize_us: int
     finger_us: int
-    jitter_us: int
+    jitters: Jitters
     max_events: int
     loss_ppm: int
     spread_us: int
@@ -130,7 +141,7 @@ def whole_scenario(document: Document) -> Scenario:
     plain = {key.name: top[key.name] for key in document.top.keys if key.kind == "integer" and key.required}
     return Scenario(
         **plain,
-        jitter_us=top.get("jitter_us", 0),
+        jitters=jitters_of(top),
         max_events=top.get("max_events", 50_000_000),
         loss_ppm=top.get("loss_ppm", 0),
         spread_us=top.get("spread_us", 0),
@@ -146,6 +157,12 @@ def whole_scenario(document: Document) -> Scenario:
         commands=commands,
         latencies=latencies_of(document),
     )
+
+
+def jitters_of(top: dict[str, Any]) -> Jitters:
+    """The jitters: that of all timers, if a timer has none of its own."""
+    every = top.get("jitter_us", 0)
+    return Jitters(*(top.get(f"{word}_jitter_us", every) for word in ("stabilize", "finger", "check")))
 
 
 def ways_of(top: dict[str, Any]) -> Ways:

@@ -108,6 +108,10 @@ WAYS = [
     Key("lookup_timeouts", "integer", 0, 64, required=False),
     Key("drop_silent", "boolean", required=False),
     Key("skip_near", "boolean", required=False),
+    Key("random_start", "boolean", required=False),
+    Key("stabilize_jitter_us", "integer", 0, BILLION, required=False),
+    Key("finger_jitter_us", "integer", 0, BILLION, required=False),
+    Key("check_jitter_us", "integer", 0, BILLION, required=False),
 ]
 """Further keys of its top: the rules of Chord as published, each of which can be switched off or changed."""
 COORDINATES = [

@@ -23,7 +23,8 @@ PATIENCE = (
     "join_forever = 1", "check_us = 90", "check_us = -1", "check_us = 1.5", "detail = true", "detail = 1",
     "list_routes = false", "list_routes = 1", "goes_on = true", "goes_on = 0", "lookup_timeouts = 64",
     "lookup_timeouts = 65", "lookup_timeouts = false", "drop_silent = true", 'drop_silent = "yes"', "skip_near = false",
-    "skip_near = 2", "ask_owner = true", "ask_owner = []",
+    "skip_near = 2", "ask_owner = true", "ask_owner = []", "random_start = false", "random_start = -1",
+    "finger_jitter_us = 5", "check_jitter_us = 1_000_000_001", 'stabilize_jitter_us = "5us"',
 )
 """Further lines of the top in the extended profile."""
 PLACES = (

@@ -11,7 +11,7 @@ EXAMPLES = Path(__file__).resolve().parents[3] / "examples"
 RING = (EXAMPLES / "ring.toml").read_text()
 OFF = {
     "list_routes": "false", "goes_on": "false", "ask_owner": "false", "lookup_timeouts": "8", "drop_silent": "false",
-    "skip_near": "false",
+    "skip_near": "false", "random_start": "false",
 }
 """The keys of the rules of Chord as published, each with the value that switches its rule off."""
 SWITCHED_OFF = "".join(f"{key} = {value}\n" for key, value in OFF.items())
