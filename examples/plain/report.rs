@@ -124,9 +124,7 @@ impl Report {
             rows.extend([
                 ("again", self.again),
                 ("forgotten", self.forgotten),
-                ("leaves", 0),
                 ("rescues", self.rescues),
-                ("creates", 0),
                 ("timeouts-sum", self.timeouts_sum),
             ]);
         }

@@ -16,7 +16,7 @@ OFF = {
 """The keys of the rules of Chord as published, each with the value that switches its rule off."""
 SWITCHED_OFF = "".join(f"{key} = {value}\n" for key, value in OFF.items())
 """These as lines."""
-LATER = ("losses", "again", "forgotten", "leaves", "rescues", "creates", "timeouts-sum")
+LATER = ("losses", "again", "forgotten", "rescues", "timeouts-sum")
 """The numbers of the report that the extended profile has after the first 24."""
 
 
