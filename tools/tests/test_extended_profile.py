@@ -280,8 +280,8 @@ class SendAgainTest(TestCase):
             name.write_text(extended("loss_ppm = 20387", "retries = 1"))
             status, out, _ = ended(main, str(name), "--report", "--messages")
             lines = out.splitlines()
-            assert (status, len(lines)) == (0, 31 + 9 + 9)
-            assert lines[24:32] == ["losses 1", "again 1", *(f"{word} 0" for word in LATER[2:]), "sent step 2"]
+            assert (status, len(lines)) == (0, 29 + 9 + 9)
+            assert lines[24:30] == ["losses 1", "again 1", *(f"{word} 0" for word in LATER[2:]), "sent step 2"]
             assert "sent step-reply 1" in lines and "lost step 1" in lines
 
 

@@ -4,6 +4,7 @@ The latency is 10, so that a request arrives 10 after its line `ask`.
 """
 
 import json
+import re
 import shutil
 import subprocess
 from contextlib import suppress
@@ -374,5 +375,27 @@ class RandomTraces(TestCase):
         for one in every:
             if one.outcome == "found" and alike.count((one.node, one.key, one.begin)) == 1:
                 told = parted(list(lookup_requests(run, one)))[1]
-                ends = [sum(f"; {word} after" in line for line in told) for word in ("reply", "timeout")]
-                self.assertEqual(ends, [one.hops, one.timeouts], told)
+                timeouts = sum("; timeout after" in line for line in told)
+                hops = hops_of(told, run.history.scenario.ways.goes_on)
+                self.assertEqual((hops, timeouts), (one.hops, one.timeouts), told)
+
+
+def hops_of(told: list[str], goes_on: bool) -> int:
+    """The hops of a lookup by the lines of its calls. A node that is asked again, to go on from it, counts once.
+
+    The node before the last one is asked again only if the last one knew nobody."""
+    hops, last, before = 0, "", ""
+    for line in told:
+        match = re.fullmatch(r"call \d+, step to (\S+), sent .*; (reply|timeout) after .*", line)
+        if match is None:
+            continue
+        asked, ended = match.groups()
+        if ended == "timeout":
+            last, before = ("", "") if asked == last else (last, before)
+        elif not goes_on:
+            hops += 1
+        elif asked in (last, before):
+            last, before = asked, ""
+        else:
+            hops, last, before = hops + 1, asked, last
+    return hops

@@ -157,10 +157,12 @@ def join_story(run: Run, spec: str) -> list[str]:
 
 
 def removal_story(run: Run, name: str) -> list[str]:
-    """Each time that a node removed the head of its successor list, and why."""
+    """Each time that a node removed the head of its successor list when it had asked it for its state, and why."""
     if not run.history.scenario.detail:
         raise Failure(2, "--removed: the scenario has no `detail = true`, so that no line says what a timeout was for")
-    calls = [call for call in calls_of(run, run.history.numbers[name]) if call.kind == "get-state"]
+    calls = [
+        call for call in calls_of(run, run.history.numbers[name]) if call.kind == "get-state" and call.key is None
+    ]
     silent = [(call, call.timeout) for call in calls if call.timeout is not None]
     told = [f"successors that {name} has removed because they did not reply: {counted(len(silent))}"]
     for call, at in silent:
@@ -175,15 +177,17 @@ def removal_story(run: Run, name: str) -> list[str]:
 
 
 def what_follows(run: Run, timeout: int) -> list[int]:
-    """The places of the lines that the same event made: another successor is asked, or the node is stranded."""
+    """The places of the lines that the same event made: a finger becomes the successor, another successor is asked, or
+    the node is stranded."""
     lines, places = run.history.lines, []
-    wanted = {CODES["lose get-state"], CODES["ask get-state"], STRANDED}
+    goes_on = {CODES["lose get-state"], CODES["rescue"]}
+    wanted = goes_on | {CODES["ask get-state"], STRANDED}
     for at in range(timeout + 1, len(lines.times)):
         is_same = (lines.nodes[at], lines.times[at]) == (lines.nodes[timeout], lines.times[timeout])
         if not is_same or lines.kinds[at] not in wanted:
             break
         places.append(at)
-        if lines.kinds[at] != CODES["lose get-state"]:
+        if lines.kinds[at] not in goes_on:
             break
     return places
 

@@ -8,6 +8,8 @@ from chordsim_tools.scenario.reading import Scenario
 from chordsim_tools.trace.lines import CHANGES, CODES, NOBODY, Audit, Lines, Lookup
 
 DOWN, JOINING, MEMBER, STRANDED = range(4)
+OF_LOOKUPS = ("step", "get-state")
+"""The requests that a lookup makes: the second one to the owner of its key."""
 
 
 @dataclass(slots=True)
@@ -69,7 +71,7 @@ class History:
                 self.lookup_ends(time, node, fields)
                 if self.lines.text(len(self.lines.times) - 1) != line:
                     raise ValueError("it has other words than such a line")
-            case "timeout" | "forget":
+            case "timeout" | "forget" | "rescue":
                 self.keep(time, node, kind, fields, 4)
             case "ask" | "send" if not self.scenario.detail:
                 raise ValueError("the scenario has no `detail = true`")
@@ -94,10 +96,10 @@ class History:
     def ask(self, time: int, node: int, fields: list[str]) -> None:
         """A request: TIME NODE ask KIND Q call=C, and if it is one of a lookup also key=K since=T."""
         key, start = None, 0
-        if len(fields) == 8 and fields[3] == "step":
+        if len(fields) == 8 and fields[3] in OF_LOOKUPS:
             key, start = self.key(value_of("key", fields[6])), below(time + 1, value_of("since", fields[7]))
         elif len(fields) != 6:
-            raise ValueError("6 words are wanted, or 8 of a step")
+            raise ValueError("6 words are wanted, or 8 of a step or get-state")
         self.lines.asks.append(len(self.lines.times), whole(value_of("call", fields[5])), key, start)
         self.lines.append(time, node, CODES[f"ask {fields[3]}"], self.numbers[fields[4]])
 
@@ -180,8 +182,9 @@ class History:
         if not waiting:
             del self.open[node][key, time - taken]
         one.end, one.outcome = time, fields[2]
-        one.hops = below(129, fields[-3].removeprefix("hops="))
-        one.timeouts = below(10, fields[-2].removeprefix("timeouts="))
+        most = self.scenario.ways.lookup_timeouts
+        one.hops = below(113 + 2 * most, fields[-3].removeprefix("hops="))
+        one.timeouts = below(most + 2, fields[-2].removeprefix("timeouts="))
         self.lines.append(time, node, CODES[fields[2]], one.number)
         if fields[2] == "found":
             self.judge(one, fields[4])

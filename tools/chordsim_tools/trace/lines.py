@@ -14,7 +14,7 @@ KINDS = (
     *PLAIN,
     *(f"{word} {message}" for word in ("drop", "late", "lose") for message in MESSAGES),
     *(f"again {message}" for message in REQUESTS),
-    "forget",
+    "forget", "rescue",
     *(f"ask {message}" for message in REQUESTS),
     *(f"send {message}" for message in MESSAGES[4:]),
 )

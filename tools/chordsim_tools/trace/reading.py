@@ -113,7 +113,7 @@ REPORT_WORDS = {
     "members": "member", "join-failed": "join-failed", "crashes": "crash", "stranded": "stranded", "drops": "drop",
     "late": "late", "timeouts": "timeout", "lookups": "lookup", "found": "found", "lost": "lost", "busy": "busy",
     "ignored": "ignored", "audits": "audit", "losses": "lose",
-    "again": "again", "forgotten": "forget",
+    "again": "again", "forgotten": "forget", "rescues": "rescue",
 }
 """The numbers of the report that count lines, with the first word of these."""
 
@@ -141,6 +141,7 @@ def check_report(name: str, run: Run) -> None:
     found = [one for one in run.history.lines.lookups if one.outcome == "found"]
     numbers["hops-sum"] = sum(one.hops for one in found)
     numbers["us-sum"] = sum(one.taken(0) for one in found)
+    numbers["timeouts-sum"] = sum(one.timeouts for one in found)
     for word, count in numbers.items():
         if run.report.get(word, count) != count:
             told = f"{name} has `{word} {run.report[word]}`, and the trace {count}"

@@ -46,6 +46,7 @@ def summary(run: Run) -> Facts:
         "losses": lines["lose"] if history.scenario.profile >= 2 else None,
         "again": lines["again"] if history.scenario.profile == 4 else None,
         "forgotten": lines["forget"] if history.scenario.profile == 4 else None,
+        "rescues": lines["rescue"] if history.scenario.profile == 4 else None,
         "messages": message_counts(run),
         "report": dict(run.report) or None,
         "report_of_lines": None if run.is_whole else report_of_lines(run),

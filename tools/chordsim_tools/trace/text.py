@@ -93,6 +93,8 @@ def join_text(facts: Facts) -> Iterator[str]:
         yield line("requests sent again", counted(facts["again"]))
     if facts["forgotten"] is not None:
         yield line("predecessors forgotten", counted(facts["forgotten"]))
+    if facts["rescues"]:
+        yield line("rescues", counted(facts["rescues"]), "members whose list had nobody else left took a finger")
     yield line("crashes", counted(facts["crashes"]))
     for key, head in (("joins", "joins begun"), ("stranded", "stranded, join again")):
         joins = facts[key]
@@ -138,6 +140,7 @@ MEANS = {
     "members": "joins that succeeded", "join-failed": "times that a join had failed eight times",
     "drops": "messages that were not handled", "late": "replies for which no call was out",
     "again": "requests sent again", "forgotten": "predecessors that did not reply to a check",
+    "rescues": "members that took a finger as successor", "timeouts-sum": "timeouts of found lookups",
     "hops-greatest": "most hops of a found lookup", "us-least": "least time of a found lookup",
     "us-median": "median time of found lookups", "us-greatest": "greatest time of a found lookup",
     "unordered": "audits whose ring is out of order", "ringless": "audits without a ring",

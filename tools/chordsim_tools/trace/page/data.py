@@ -77,7 +77,7 @@ def kept_kinds(codes: Iterable[int]) -> tuple[frozenset[int], list[str]]:
     if used > MOST_CHANGES:
         raise Failure(3, f"the trace has {used} changes of nodes, and a page holds {MOST_CHANGES} at most")
     kept, left_out = set(CHANGES), []
-    words = ("busy", "ignored", "forget", "timeout", "drop", "late", "lose", "again", "ask", "send")
+    words = ("busy", "ignored", "forget", "rescue", "timeout", "drop", "late", "lose", "again", "ask", "send")
     others = [[code for code, kind in enumerate(KINDS) if kind.split(" ")[0] == word] for word in words]
     for group in ([LOOKUP, FOUND, LOST], *others):
         size = sum(counts[code] for code in group)
