@@ -1,7 +1,7 @@
 #!/bin/sh
 # Runs each scenario of this folder, one event at a time, and by two workers with three parts as a crew and as a team, and
-# compares its report with the one in reports/. None of those was made by chordsim: tools/reference made them from the
-# documents, or a hand did.
+# compares its report with the one in reports/. Those were not only made by chordsim: tools/reference or the plain program
+# of examples/plain makes each of them from the rules too, or a hand did.
 #
 #   examples/compare_reports.sh
 #
