@@ -34,7 +34,7 @@ class FirstRulesTest(TestCase):
                 with self.subTest(seed=run["seed"]):
                     (folder / "toml").write_text(SWITCHED_OFF + run["scenario"], encoding="utf-8")
                     (folder / "csv").write_text(run["latency"], encoding="utf-8")
-                    files = ["--scenario", folder / "toml", "--latency", folder / "csv", "--trace", folder / "trace"]
+                    files = ("--scenario", f"{folder}/toml", "--latency", f"{folder}/csv", "--trace", f"{folder}/trace")
                     done = subprocess.run([chordsim, "run", "--serial", *files], capture_output=True, check=False)
                     report = done.stdout.decode().splitlines(keepends=True)
                     old = "".join(line for line in report if not line.startswith(NEW_NUMBERS))

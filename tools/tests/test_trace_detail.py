@@ -226,6 +226,21 @@ class Lookups(TestCase):
             ["  020 a lookup 15", "  020 a found 15 b hops=0 timeouts=0 us=0"], ["no node was asked"],
         ))
 
+    def test_owner(self) -> None:
+        """d names c as the owner, which is asked for its state, twice."""
+        lines = (
+            "20 a lookup 35", "20 a ask step d call=7 key=35 since=20", "30 d send step-reply a",
+            "40 a lose get-state c", "40 a ask get-state c call=9 key=35 since=20",
+            "80 a again get-state c", "80 a ask get-state c call=9 key=35 since=20", "90 c send state-reply a",
+            "100 a found 35 c hops=1 timeouts=0 us=80",
+        )
+        run = run_of(*lines)
+        calls = parted(list(lookup_requests(run, run.history.lines.lookups[0])))[1]
+        self.assertEqual(calls, [
+            "call 7, step to d, sent once: replied; reply after 0.00002 s",
+            "call 9, get-state to c, sent 2 times: lost, replied; reply after 0.00006 s",
+        ])
+
     def test_lookups_that_are_alike(self) -> None:
         """Two lookups of one key begun at one time."""
         lines = ("20 a lookup 35", "20 a ask step c call=4 key=35 since=20",
@@ -319,10 +334,20 @@ class Removals(TestCase):
         self.assertEqual(told[:8], [line.partition(" ")[2] for line in REMOVAL if line != "15 b crash"][:8])
         self.assertEqual(told[-2:], ["a timeout c", "a stranded b"])
 
+    def test_rescue(self) -> None:
+        """b is down, and a has nobody else in its list: a finger, d, is its successor now, and is asked."""
+        rescue = ("90 a timeout b", "90 a rescue d", "90 a ask get-state d call=8", "100 d send state-reply a")
+        run = run_of(*REMOVAL[:6], *rescue)
+        told = [line.split(" s  ")[-1] for line in removal_story(run, "a") if line.startswith((" ", "|"))]
+        self.assertEqual(told[-3:], ["a timeout b", "a rescue d", "a ask get-state d call=8"])
+        self.assertEqual(summary(run)["rescues"], 1)
+
     def test_none(self) -> None:
-        """Timeouts of lookups remove nobody."""
-        self.assertEqual(removal_story(run_of(*LOOKUP[:14], "190 d drop step a"), "a"),
-                         ["successors that a has removed because they did not reply: 0"])
+        """Timeouts of lookups remove nobody, and none does that of an owner that a lookup asks for its state."""
+        none = ["successors that a has removed because they did not reply: 0"]
+        self.assertEqual(removal_story(run_of(*LOOKUP[:14], "190 d drop step a"), "a"), none)
+        lines = [line.replace("step-reply", "state-reply").replace("step", "get-state") for line in LOOKUP[:14]]
+        self.assertEqual(removal_story(run_of(*lines, "190 d drop get-state a"), "a"), none)
 
     def test_without_detail(self) -> None:
         """No line says what a timeout was for."""
