@@ -279,6 +279,8 @@ SECOND: tuple[Change, ...] = (
 """The ring of three with one lookup in the second profile, one text replaced by another, and the result."""
 EXTENDED: tuple[Change, ...] = (
     ("seed = 1", "seed = 1\nloss_ppm = 0\nspread_us = 0\nretries = 0", GOOD),
+    ("list = 2", "list = 32", "S10 TooFewInitial"),
+    ("list = 2", "list = 33", "S5 OutOfRange top list"),
     ("seed = 1", "seed = 1\nretries = 3", GOOD),
     ("seed = 1", "seed = 1\nretries = 4", "S5 OutOfRange top retries"),
     ("seed = 1", "seed = 1\nretries = -1\nspread_us = -1", "S5 OutOfRange top spread_us"),

@@ -35,7 +35,7 @@ OPTIONS = (
     ("initial", "N", a_whole(), "how many of them, the first ones, are members at the start: 2 to NODES (all)"),
     ("bits", "N", a_whole(), "bits of an identifier: 3 to 64, in profiles 2 and 4 to 128 (32)"),
     ("list", "N", a_whole(),
-     "entries of a successor list: 1 to 16, and below the initial nodes (4, or as many as may be)"),
+     "entries of a successor list: 1 to 16, in profile 4 to 32, and below the initial nodes (4, or as many as may be)"),
     ("duration", "TIME", duration(1, 1000 * BILLION), "1us to 1000000s (120s)"),
     ("window", "TIME", a_time(),
      "1us to 1000s, and at most the latency, or with --coordinates the sum of the two least heights (just this)"),

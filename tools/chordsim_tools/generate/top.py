@@ -29,7 +29,8 @@ def top_of(
 ) -> dict[str, int]:
     """The keys of the top table, in the order of docs/formats.md. A default follows what it depends on."""
     profile, bits, initial, duration = numbers
-    why = " (at most 16, and below --initial)"
+    entries = PROFILES[profile].greatest("list")
+    why = f" (at most {entries}, and below --initial)"
     latency = options.get("latency", 20_000)
     audit = min(BILLION, max(1, duration // 24))
     least_audit = -(-duration // 1_000_000)
@@ -37,7 +38,7 @@ def top_of(
     return {
         "profile": profile,
         "bits": bits,
-        "list": options.whole("list", min(4, initial - 1), 1, min(16, initial - 1), why),
+        "list": options.whole("list", min(4, initial - 1), 1, min(entries, initial - 1), why),
         "seed": options.get("seed", 1),
         "duration_us": duration,
         "window_us": window_of(options, latency, places),

@@ -76,7 +76,6 @@ class Row:
 
 
 RUN = [
-    Key("list", "integer", 1, 16),
     Key("seed", "integer"),
     Key("duration_us", "integer", 1, 1000 * BILLION),
     Key("window_us", "integer", 1, BILLION),
@@ -87,7 +86,7 @@ RUN = [
     Key("finger_us", "integer", 1, BILLION),
     Key("jitter_us", "integer", 0, BILLION, required=False),
 ]
-"""The plain keys of the top that are the same in all profiles."""
+"""The plain keys of the top that are the same in all profiles, after `list`."""
 NETWORK = [
     Key("loss_ppm", "integer", 0, 1_000_000, required=False),
     Key("spread_us", "integer", 0, BILLION, required=False),
@@ -124,11 +123,12 @@ CHURN = [Key(f"{word}_us", "integer", 1, BILLION) for word in ("life_min", "life
 LOOKUPS = [Key(f"{word}_us", "integer", 1, BILLION) for word in ("gap_min", "gap_max")]
 
 
-def top_keys(bits: int, nodes: int, events: int, network: list[Key]) -> list[Key]:
-    """The keys of the top, for these greatest numbers of bits, nodes and events, and with these keys of the network."""
+def top_keys(bits: int, entries: int, nodes: int, events: int, network: list[Key]) -> list[Key]:
+    """The keys of the top, for these greatest numbers, of entries in a list too, and with these keys of the network."""
     return [
         Key("profile", "integer", 1, 4, missing=(3,)),
         Key("bits", "integer", 3, bits),
+        Key("list", "integer", 1, entries),
         *RUN,
         Key("max_events", "integer", 1, events, required=False),
         *network,
@@ -164,14 +164,10 @@ def command_keys(digits: int) -> list[Key]:
 class Profile:
     """The keys of all tables in a profile: `tables` has them by the kind of the table."""
 
-    def __init__(self, bits: int, nodes: int, events: int, network: list[Key], coordinates: list[Key]) -> None:
-        """The profile with these greatest numbers of bits, nodes and events.
-
-        It has these keys of its network at the top, and these of a node's coordinates.
-        """
-        digits = bits // 4
+    def __init__(self, top: list[Key], digits: int, coordinates: list[Key]) -> None:
+        """The profile with these keys at the top, these digits of an identifier, and these keys of coordinates."""
         self.tables = {
-            "top": top_keys(bits, nodes, events, network),
+            "top": top,
             "churn": CHURN,
             "lookups": LOOKUPS,
             "node": node_keys(digits, coordinates),
@@ -183,9 +179,11 @@ class Profile:
         return next(key.greatest for key in self.tables["top"] if key.name == name)
 
 
-FIRST = Profile(64, 512, 50_000_000, [], [])
-SECOND = Profile(128, 4096, 50_000_000, NETWORK, [])
-EXTENDED = Profile(128, 65_536, 100_000_000_000, [*NETWORK, *PATIENCE, *WAYS], COORDINATES)
+FIRST = Profile(top_keys(64, 16, 512, 50_000_000, []), 16, [])
+SECOND = Profile(top_keys(128, 16, 4096, 50_000_000, NETWORK), 32, [])
+EXTENDED = Profile(
+    top_keys(128, 32, 65_536, 100_000_000_000, [*NETWORK, *PATIENCE, *WAYS]), 32, COORDINATES
+)
 PROFILES = {1: FIRST, 2: SECOND, 4: EXTENDED}
 
 
