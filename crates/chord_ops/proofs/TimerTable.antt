@@ -77,27 +77,25 @@ first_tick sc None h = tt
 first_tick sc (Some timer) h = h
 
 pub table_later : (sc : Scenario) (n epoch : ℕ) → IsInRange sc → AllByRecursion IsLater (timer_table sc n epoch)
-table_later sc n epoch h =
+table_later sc n epoch h = (
+  first_later sc (Some (stabilize_timer sc epoch)) h.numbers.stabilize.least,
+  (
+    first_later sc (Some (finger_timer sc epoch)) h.numbers.finger.least,
     (
-      first_later sc (Some (stabilize_timer sc epoch)) h.numbers.stabilize.least,
-      (
-        first_later sc (Some (finger_timer sc epoch)) h.numbers.finger.least,
-        (
-          first_later sc (traffic_timer sc epoch) (traffic_later sc epoch h),
-          (life_later sc n epoch h, (first_later sc (check_timer sc epoch) (check_later sc epoch), tt)),
-        ),
-      ),
-    )
+      first_later sc (traffic_timer sc epoch) (traffic_later sc epoch h),
+      (life_later sc n epoch h, (first_later sc (check_timer sc epoch) (check_later sc epoch), tt)),
+    ),
+  ),
+)
 
 pub table_ticks : (sc : Scenario) (n epoch : ℕ) → AllByRecursion (IsTick sc) (timer_table sc n epoch)
-table_ticks sc n epoch =
+table_ticks sc n epoch = (
+  tt,
+  (
+    tt,
     (
-      tt,
-      (
-        tt,
-        (
-          first_tick sc (traffic_timer sc epoch) (traffic_tick_is sc epoch),
-          (life_end_is sc n epoch, (first_tick sc (check_timer sc epoch) (check_tick_is sc epoch), tt)),
-        ),
-      ),
-    )
+      first_tick sc (traffic_timer sc epoch) (traffic_tick_is sc epoch),
+      (life_end_is sc n epoch, (first_tick sc (check_timer sc epoch) (check_tick_is sc epoch), tt)),
+    ),
+  ),
+)

@@ -245,9 +245,9 @@ module _ (profile bits : ℕ) (needs : Needs) (top : Members) (s : IsSound profi
       → (profile == 4 ≡ false) → (profile == 2 ≡ true) ⊎ (profile == 2 ≡ false)
       → number_or (number_or 0 key.JitterUs top) k top ≡ number_or 0 key.JitterUs top
   same_jitter k in_second in_first not_extended second = elim second [
-      | inl is ↦ unlisted_default s k (number_or 0 key.JitterUs top) (in_second not_extended is)
-      | inr is ↦ unlisted_default s k (number_or 0 key.JitterUs top) (in_first not_extended is)
-    ]
+    | inl is ↦ unlisted_default s k (number_or 0 key.JitterUs top) (in_second not_extended is)
+    | inr is ↦ unlisted_default s k (number_or 0 key.JitterUs top) (in_first not_extended is)
+  ]
 
   stabilize_same : (profile == 4 ≡ false) → (profile == 2 ≡ true) ⊎ (profile == 2 ≡ false)
       → number_or (number_or 0 key.JitterUs top) key.StabilizeJitterUs top ≡ number_or 0 key.JitterUs top

@@ -14,7 +14,9 @@ ghost use Rattle.chord_scenario.specs.Search.{row_fault};
 ghost use Rattle.chord_scenario.specs.Range.{IsInRange};
 ghost use Rattle.chord_scenario.specs.Accepted.{setup_with, IsSetupOf, Accepts};
 
-use crate::command::{churn_of, commands, is_extended, jitters_of, lookups_of, number_or, rules_of, small_number_at};
+use crate::command::{
+    churn_of, commands, is_extended, jitters_of, lookups_of, number_or, rules_of, small_number_at,
+};
 use crate::document::document;
 use crate::fault::ScenarioFault;
 use crate::key::FileKey;

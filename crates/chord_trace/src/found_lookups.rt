@@ -138,7 +138,10 @@ fn found_in(line: Line) -> Option<Found>
 {
     match line {
         Line::Found {
-            hops, timeouts, us, ..
+            hops,
+            timeouts,
+            us,
+            ..
         } => Some(Found { hops, timeouts, us }),
         _ => None,
     }

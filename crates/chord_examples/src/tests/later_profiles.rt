@@ -59,8 +59,7 @@ fn have_no_loss<T: Abort + AllocGlobal + Threads + Wait + Sync>(rt: &T, group: &
         has_no_loss(rt, example, "profile = 2", "losses 0\n");
         let last = value_of(
             rt,
-            format!(
-                in rt.alloc();
+            format!(in rt.alloc();
                 "losses 0\nagain 0\nforgotten 0\nrescues 0\ntimeouts-sum {}\n",
                 timeouts_in(example.trace)
             ),
