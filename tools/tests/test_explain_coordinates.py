@@ -109,10 +109,15 @@ class ExplainLaterTest(TestCase):
         assert spoken(text.replace("height_us = 7", "height_us = 6")) == []
 
     def test_duration(self) -> None:
-        """A run that is shorter than a check or a pause."""
-        (line,) = spoken(SOUND.replace("profile = 1", "profile = 4\ncheck_us = 9001\njoin_pause_us = 9002"))
-        assert line.startswith(
-            "duration_us = 9000 (9ms) is below check_us = 9001 (no predecessor is checked), "
-            "join_pause_us = 9002 (no join is tried again)"
-        )
+        """A run that is shorter than a check or a pause. If first timers are drawn, some checks come."""
+        short = SOUND.replace("profile = 1", "profile = 4\ncheck_us = 9001\njoin_pause_us = 9002")
+        for text, told in (
+            (short, "some nodes never check their predecessor"),
+            (short.replace("check_us", "random_start = false\ncheck_us"), "no predecessor is checked"),
+        ):
+            (line,) = spoken(text)
+            assert line.startswith(
+                f"duration_us = 9000 (9ms) is below check_us = 9001 ({told}), "
+                "join_pause_us = 9002 (no join is tried again)"
+            )
         assert spoken(SOUND.replace("profile = 1", "profile = 4\ncheck_us = 9000\njoin_pause_us = 0")) == []

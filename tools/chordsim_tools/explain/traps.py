@@ -27,6 +27,11 @@ PERIODS = (
     ("stabilize_us", "no node stabilizes"), ("finger_us", "no finger is refreshed"), ("audit_us", "there is no audit"),
     ("check_us", "no predecessor is checked"), ("join_pause_us", "no join is tried again"),
 )
+DRAWN = {
+    "stabilize_us": "some nodes never stabilize", "finger_us": "some nodes refresh no finger",
+    "check_us": "some nodes never check their predecessor",
+}
+"""What is so instead if the first timers of nodes come at any time of their period."""
 
 
 def warn(traps: list[str]) -> None:
@@ -66,7 +71,8 @@ def timeout_trap(timeout: int, greatest: int, retries: int = 0) -> list[str]:
 def duration_traps(top: dict[str, Any]) -> list[str]:
     """A duration that is below the periods."""
     duration = top["duration_us"]
-    short = [(key, what) for key, what in PERIODS if duration < top.get(key, 0)]
+    drawn = DRAWN if top["profile"] == 4 and top.get("random_start") is not False else {}
+    short = [(key, drawn.get(key, what)) for key, what in PERIODS if duration < top.get(key, 0)]
     if not short:
         return []
     said = ", ".join(f"{key} = {top[key]} ({what})" for key, what in short)
