@@ -1,6 +1,6 @@
 """Prints the tables of docs/published.md, and draws its plots: from the results of the studies and from published.csv.
 
-In the folder examples/published, after the three studies:
+In the folder examples/published, after the studies:
   /usr/bin/python3 draw.py
 """
 
@@ -29,8 +29,8 @@ RULES = {
     ("false", "false", "false", "8"): "all four",
 }
 CRASH, NODES, LIST = "generate.--crash", "generate.--nodes", "generate.--list"
-AS_ARTICLE, LIMITED, DEFAULTS = "false, 64", "false, 32", "true, 32"
-"""Settings of drop_silent and lookup_timeouts."""
+AS_ARTICLE, NOT_ASKED, LIMITED, DEFAULTS = "false, 64, true", "false, 64, false", "false, 32, true", "true, 32, true"
+"""Settings of drop_silent, lookup_timeouts and ask_owner."""
 
 
 def table(name: str) -> list[Row]:
@@ -57,6 +57,8 @@ def total(rows: Iterable[Row], number: str) -> int:
 
 def told(one: Interval, digits: int = 3) -> str:
     """A mean and half of its interval."""
+    if 0 < (one.mean or 0) < 10**-digits / 2:
+        return f"below {10**-digits:.{digits}f}"
     return f"{one.mean:.{digits}f} ± {one.half or 0:.{digits}f}"
 
 
@@ -71,7 +73,8 @@ def failure() -> dict[tuple[str, float], list[Row]]:
     """The runs after a failure, by setting and by the share that fails."""
     found: dict[tuple[str, float], list[Row]] = defaultdict(list)
     for row in table("failure/runs.csv"):
-        found[f"{row['drop_silent']}, {row['lookup_timeouts']}", SHARES[row[CRASH]]].append(row)
+        setting = ", ".join(row[key] for key in ("drop_silent", "lookup_timeouts", "ask_owner"))
+        found[setting, SHARES[row[CRASH]]].append(row)
     return found
 
 
@@ -94,13 +97,14 @@ def print_failure() -> None:
         cells += [told(mean(ours, "timeouts"), 2), f"{min(each):.2f} to {max(each):.2f}"]
         rows.append([*cells, f"{lost}", f"{wrong}", f"{ended:,}"])
         line: list[object] = [f"{share:g}"]
-        for setting in (LIMITED, DEFAULTS):
+        for setting in (NOT_ASKED, LIMITED, DEFAULTS):
             lost, wrong, _ = bad(runs[setting, share])
-            line += [told(mean(runs[setting, share], number), 2) for number in ("hops", "timeouts")] + [lost, wrong]
+            line += [told(mean(runs[setting, share], number), 2) for number in ("hops", "timeouts")]
+            line += [f"{lost}, {wrong:,}"]
         others.append(line)
     columns("p | hops: published | hops | timeouts: published | timeouts | of each seed | lost | wrong | lookups", rows)
-    columns("p | `lookup_timeouts = 32`: hops | timeouts | lost | wrong | and `drop_silent = true`: hops | timeouts "
-            "| lost | wrong", others)
+    columns("p | owner not asked: hops | timeouts | lost, wrong | limit of 32: hops | timeouts | lost, wrong "
+            "| defaults: hops | timeouts | lost, wrong", others)
 
 
 def print_rules() -> None:
@@ -120,11 +124,15 @@ def print_rules() -> None:
 
 
 def distribution(nodes: int, entries: str) -> list[list[float]]:
-    """The share of lookups with 0, 1, 2 .. hops, for each seed."""
+    """The share of lookups with 0, 1, 2 .. hops, for each seed, of a ring of length.toml."""
+    return by_hops([row for row in table("length/hops.csv") if row[NODES] == str(nodes) and row[LIST] == entries])
+
+
+def by_hops(rows: Iterable[Row]) -> list[list[float]]:
+    """The share of lookups with 0, 1, 2 .. hops, for each seed, of lines that have the share within each value."""
     within: dict[str, dict[int, float]] = defaultdict(dict)
-    for row in table("length/hops.csv"):
-        if row[NODES] == str(nodes) and row[LIST] == entries:
-            within[row["seed"]][int(row["value"])] = float(row["share"])
+    for row in rows:
+        within[row["seed"]][int(row["value"])] = float(row["share"])
     longest = max(max(shares) for shares in within.values())
     found = []
     for shares in within.values():
@@ -162,18 +170,26 @@ def print_length() -> None:
             shares = distribution(nodes, entries)
             hops = mean(runs, "hops")
             cells += [*([entries] if entries != "1" else []), told(hops),
-                      *([f"{(hops.mean or 0) - value:+.2f}"] if entries == "1" else []),
+                      *([f"{(hops.mean or 0) - value:+.2f}".replace("-", "−")] if entries == "1" else []),
                       f"{percentile(shares, 0.01)}, {percentile(shares, 0.99)}"]
         every = [row for runs in by_list.values() for row in runs]
         lost, wrong, ended = bad(every)
         rows.append([*cells, f"{ended:,}", lost + wrong])
     columns("N | ½ log2 N | hops, lists of 1 | difference | 1st, 99th percentile | longer lists | hops "
             "| 1st, 99th percentile | lookups | wrong or lost", rows)
-    shares = distribution(4096, "1")
-    columns("hops | share | binomial (12, ½)", [
-        (hops, told(interval(list(one)), 4), f"{math.comb(12, hops) / 4096:.4f}")
-        for hops, one in enumerate(zip(*shares, strict=True))
-    ])
+
+
+def print_distribution() -> None:
+    """How hops are distributed in rings of 4,096 nodes."""
+    both = [distribution(4096, "1"), by_hops(table("circle/hops.csv"))]
+    rows = [
+        [hops, *(told(interval([seed[hops] for seed in shares]), 4) if max(map(len, shares)) > hops else "0"
+                 for shares in both), f"{math.comb(12, hops) / 4096:.4f}"]
+        for hops in range(13)
+    ]
+    runs = (lengths()[4096]["1"], table("circle/runs.csv"))
+    columns("hops | 64 bits | 12 bits, each of a node | binomial (12, ½)",
+            [*rows, ["mean", *(told(mean(one, "hops"), 3) for one in runs), "6"]])
 
 
 def draw_points(axes: Any, found: dict[float, Interval], look: str, label: str) -> None:
@@ -193,12 +209,14 @@ def draw_failure(pyplot: Any) -> None:
     runs = failure()
     figure, places = pyplot.subplots(1, 2, figsize=(10, 4.2), layout="constrained")
     for axes, number in zip(places, ("hops", "timeouts"), strict=True):
-        looks = ((AS_ARTICLE, "C0.-", "the article's setting"), (DEFAULTS, "C1.--", "all keys at their defaults"))
+        looks = ((AS_ARTICLE, "C0.-", "the article's setting"), (NOT_ASKED, "C2.:", "the owner not asked"),
+                 (DEFAULTS, "C1.--", "all keys at their defaults"))
         for setting, look, words in looks:
             means = {share: mean(runs[setting, share], number) for share in SHARES.values()}
             draw_points(axes, means, look, f"chordsim, {words}")
         draw_published(axes, published(f"{number} after a failure"), "published (ToN 2003, Table II)")
-        axes.set(xlabel="share of the nodes that has failed", ylabel=f"mean {number} of a lookup", ylim=(0, None))
+        axes.set(xlabel="share of the nodes that has failed", ylabel=f"mean {number} of a lookup")
+        axes.set_ylim(0, 1.05 * axes.get_ylim()[1])
         axes.grid(alpha=0.3)
         axes.legend()
     figure.suptitle("Lookups after a simultaneous failure: 1,000 nodes, lists of 20, bars: 95% intervals of ten seeds")
@@ -219,14 +237,14 @@ def draw_length(pyplot: Any) -> None:
         one = [interval(list(share)) for share in zip(*distribution(4096, chosen[4096]), strict=True)]
         draw_points(right, {float(hops): share for hops, share in enumerate(one)}, f"{look}.-", f"chordsim, {label}")
     draw_published(left, published("path length"), "published: about ½ log2 N")
-    left.set(xlabel="nodes", ylabel="hops of a lookup", xscale="log", ylim=(0, None))
+    left.set(xlabel="nodes", ylabel="hops of a lookup", ylim=(0, 16))
     left.set_xscale("log", base=2)
     right.plot(range(13), [math.comb(12, hops) / 4096 for hops in range(13)], "k:", label="binomial (12, ½)")
     draw_published(right, published("share of lookups with so many hops"), "published top (its height is unsure)")
-    right.set(xlabel="hops of a lookup, ring of 4,096 nodes", ylabel="share of the lookups", ylim=(0, None))
-    for axes in (left, right):
+    right.set(xlabel="hops of a lookup, ring of 4,096 nodes", ylabel="share of the lookups", ylim=(0, 0.38))
+    for axes, corner in ((left, "upper left"), (right, "upper right")):
         axes.grid(alpha=0.3)
-        axes.legend(fontsize=7)
+        axes.legend(fontsize=8, loc=corner)
     figure.suptitle("Path length in rings that are just built, bars: 95% intervals of ten seeds")
     figure.savefig(FOLDER / "length.png", dpi=110)
 
@@ -236,16 +254,18 @@ def print_tables() -> None:
     print_failure()
     print_rules()
     print_length()
+    print_distribution()
 
 
 def keep_hops() -> None:
-    """Keeps the lines of hops of the study's cdf.csv, which is large."""
-    if (FOLDER / "length/cdf.csv").exists():
-        rows = [row for row in table("length/cdf.csv") if row.pop("number") == "hops"]
-        with open(FOLDER / "length/hops.csv", "w", encoding="utf-8", newline="") as file:
-            writer = csv.DictWriter(file, list(rows[0]), lineterminator="\n")
-            writer.writeheader()
-            writer.writerows(rows)
+    """Keeps the lines of hops of the studies' cdf.csv, which are large."""
+    for study in ("length", "circle"):
+        if (FOLDER / study / "cdf.csv").exists():
+            rows = [row for row in table(f"{study}/cdf.csv") if row.pop("number") == "hops"]
+            with open(FOLDER / study / "hops.csv", "w", encoding="utf-8", newline="") as file:
+                writer = csv.DictWriter(file, list(rows[0]), lineterminator="\n")
+                writer.writeheader()
+                writer.writerows(rows)
 
 
 def main() -> None:
