@@ -184,11 +184,25 @@ class StartTest(TestCase):
             (folder / "study.toml").write_text(varied)
             assert longest_round(read_study(folder / "study.toml")) == 15 * 2_025_000
 
+    def test_rounds_of_fingers_that_are_not_near(self) -> None:
+        """Of 8 nodes profile 4 refreshes four fingers, and five of 16; without skip_near 31. Fingers have a jitter."""
+        generate = 'question = "How?"\ngenerate = ["--profile", "4", "--finger", "1s", "--jitter", "100ms", '
+        generate += '"--nodes", "8"'
+        for more, wanted in (
+            ("]", 4 * 1_050_000), (', "--no-skip-near"]', 31 * 1_050_000), (', "--finger-jitter", "0"]', 4_000_000),
+            (']\n[vary]\n"generate.--nodes" = [8, 16]', 5 * 1_050_000),
+            (']\n[vary]\nskip_near = [true, false]', 31 * 1_050_000),
+            (']\n[vary]\n"generate.--finger-jitter" = ["0s", "200ms"]', 4 * 1_100_000),
+        ):
+            vary = more.replace("]\n", "]\nseeds = 2\n", 1) if "\n" in more else f"{more}\nseeds = 2\n"
+            with self.subTest(more), study_folder(generate + vary + "\n") as folder:
+                assert longest_round(read_study(folder / "study.toml")) == wanted
+
     def test_short_rounds(self) -> None:
         """A warm-up and a judged span of 20 s, and rounds of 20 and 21 s."""
         facts = {"duration_us": 45_000_000, "warmup_us": 20_000_000, "cooldown_us": 5_000_000}
         told = round_traps({**facts, "finger_round_us": 21_000_000})
-        first = "warmup_us (20s) and the judged span (20s) are below one round of fingers, 21s: (bits"
+        first = "warmup_us (20s) and the judged span (20s) are below one round of fingers, 21s, in which"
         assert len(told) == 1 and told[0].startswith(first)
         assert round_traps({**facts, "finger_round_us": 20_000_000}) == round_traps(facts) == []
 

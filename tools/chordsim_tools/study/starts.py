@@ -3,6 +3,7 @@
 from collections.abc import Mapping
 from typing import Any
 
+from chordsim_tools.explain.world_traps import finger_round
 from chordsim_tools.quantities import time_of, time_text
 from chordsim_tools.study.bounded import seeds_to_show
 from chordsim_tools.study.interval import LEAST_SEEDS
@@ -12,8 +13,7 @@ from chordsim_tools.study.plan import Setting, Study
 
 CHURN = ("--lifetime", "--churn-uniform")
 STATIONARY = "--stationary"
-KEYS = ("bits", "finger_us", "jitter_us")
-"""What the round of a member's fingers depends on."""
+FINGER_JITTER = "finger_jitter_us"
 
 
 def has_option(option: str, generate: list[str], vary: Mapping[str, Any]) -> bool:
@@ -33,10 +33,15 @@ def churn_trap(generate: list[str] | None, vary: Mapping[str, Any]) -> list[str]
     return [f"{text}; set {remedy}"]
 
 
+def option_of(key: str) -> str:
+    """The key of [vary] that is an option of tools/generate for a key of the scenario."""
+    return f"{OF_GENERATE}--{key.removesuffix('_us').replace('_', '-')}"
+
+
 def value_in(study: Study, setting: Setting, key: str) -> int:
     """A key of the scenario in a setting, in microseconds if it is a time."""
     varied = dict(setting)
-    option = f"{OF_GENERATE}--{key.removesuffix('_us')}"
+    option = option_of(key)
     if option in varied:
         text = str(varied[option])
         return int((time_of(text) if key.endswith("_us") else text) or 0)
@@ -44,9 +49,17 @@ def value_in(study: Study, setting: Setting, key: str) -> int:
 
 
 def round_of(study: Study, setting: Setting) -> int:
-    """How long a member takes to refresh all its fingers once, one after another."""
-    bits, finger, jitter = (value_in(study, setting, key) for key in KEYS)
-    return (bits - 1) * (2 * finger + jitter) // 2
+    """How long a member takes to refresh each of the fingers in its rotation once, one after another."""
+    has_jitter = any(key in study.scenario or key in dict(setting) for key in (FINGER_JITTER, option_of(FINGER_JITTER)))
+    nodes = dict(setting).get(option_of("nodes"), len(study.scenario.get("node", [])))
+    return finger_round({
+        "profile": value_in(study, setting, "profile"),
+        "bits": value_in(study, setting, "bits"),
+        "finger_us": value_in(study, setting, "finger_us"),
+        FINGER_JITTER: value_in(study, setting, FINGER_JITTER if has_jitter else "jitter_us"),
+        "skip_near": dict(setting).get("skip_near", study.scenario.get("skip_near")) not in (False, "false"),
+        "node": range(int(nodes)),
+    })
 
 
 def longest_round(study: Study) -> int:
@@ -62,8 +75,8 @@ def round_traps(manifest: Mapping[str, Any]) -> list[str]:
     warmup = manifest["warmup_us"]
     spans = {"warmup_us": warmup} if warmup else {}
     spans["the judged span"] = duration - warmup - manifest["cooldown_us"]
-    text = f"below one round of fingers, {time_text(micros)}: (bits - 1) x (finger_us + jitter_us / 2)"
-    why = "at the start all fingers are perfect, and all nodes refresh the same one at the same time"
+    text = f"below one round of fingers, {time_text(micros)}, in which a member refreshes each of them once"
+    why = "at the start all fingers are perfect"
     short = [f"{name} ({time_text(span)})" for name, span in spans.items() if span < micros]
     verb = "are" if len(short) > 1 else "is"
     return [f"{' and '.join(short)} {verb} {text}; {why}"] if short else []
