@@ -1,13 +1,13 @@
 -- Which fingers start on a way, and which of two places is met first.
-use Rattle.std.proofs.Common.{◌≡◌, ◌==◌, ◌||◌, ◌&&◌, ◌∙◌, ℕ, ◌+◌, ◌-◌, ◌^◌, ◌<◌, ◌≤◌, Bool, true, false, nat_lt, refl, sym, ap, arith, inl, inr, ◌⊎◌}
-use Rattle.std.proofs.Math.Pow.{pow-lt, pow_mono}
+use Rattle.std.proofs.Common.{◌≡◌, ◌==◌, ◌||◌, ◌&&◌, ◌∙◌, ℕ, ◌+◌, ◌-◌, ◌^◌, ◌<◌, ◌≤◌, true, false, nat_lt, refl, sym, ap, arith, inl, inr, ◌⊎◌}
+use Rattle.std.proofs.Math.Pow.{pow_mono}
 use Rattle.std.proofs.Math.Nat.{mod-lt}
 use Rattle.std.proofs.lemmas.Bool.{cases_Bool}
 use Rattle.std.proofs.lemmas.Bool.Decides.{nat_tests}
 use Rattle.std.proofs.lemmas.Nat.{pow_pos}
-use Rattle.std.specs.Prelude.{max, if◌then◌else◌}
+use Rattle.std.specs.Prelude.{max}
 use native.Mathlib.Decide.{dec_lt}
-use Rattle.chord_circle.specs.Circle.{between, digit_count, distance, finger_beyond, finger_start, in_half_open, way_to}
+use Rattle.chord_circle.specs.Circle.{digit_count, distance, finger_beyond, finger_start, in_half_open}
 use Rattle.chord_circle.proofs.Digits.{has_digits}
 use Rattle.chord_circle.proofs.Distance.{distance-ahead, distance-behind, distance-injective}
 use Rattle.chord_circle.proofs.Powers.{finger-ahead, finger-past, finger-within, way_within}

@@ -1,5 +1,5 @@
 -- A timer of an earlier life of its node changes nothing.
-use Rattle.std.proofs.Common.{◌≡◌, ◌≢◌, ◌==◌, ◌∙◌, ◌++◌, ◌-◌, if◌then◌else◌, ℕ, Bool, true, false, List, [], Option, Some, None, sym, ap, refl, ne_eqb}
+use Rattle.std.proofs.Common.{◌≡◌, ◌≢◌, ◌==◌, ◌∙◌, ◌++◌, ◌-◌, if◌then◌else◌, ℕ, true, false, [], Some, sym, ap, refl, ne_eqb}
 use Rattle.std.proofs.lemmas.Option.{same_Some}
 use Rattle.chord_event.specs.declared.body.Body.{Body}
 use Rattle.chord_event.specs.declared.body.Body.TheVariants as body

@@ -20,7 +20,6 @@ use Rattle.chord_node.specs.Invariant.{is_user}
 use Rattle.chord_scenario.specs.Blocks.{IsLineOf}
 use Rattle.chord_node.specs.Limits.{most_failures, most_lookup_steps, most_user_lookups}
 use Rattle.chord_scenario.specs.World.{is_churn_node, node_count}
-use Rattle.chord_ops.specs.declared.turn.Request.TheVariants as request
 use Rattle.chord_ops.specs.declared.turn.Turn.{Turn}
 use Rattle.chord_ops.specs.Procedures.{
   alone,

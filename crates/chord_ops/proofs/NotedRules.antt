@@ -1,5 +1,5 @@
 -- Each row of the rule table leaves lines of the scenario's nodes, and no more than a block has room for.
-use Rattle.std.proofs.Common.{◌==◌, ℕ, ◌+◌, ◌-◌, ◌<◌, ◌≤◌, ◌&&◌, ◌||◌, not, List, [], ◌∷◌, ◌++◌, drop, length, map, max, nat_lt, replicate, Option, Some, None, refl, arith, ap, ◌≡◌}
+use Rattle.std.proofs.Common.{◌==◌, ℕ, ◌+◌, ◌-◌, ◌<◌, ◌≤◌, ◌&&◌, ◌||◌, not, List, [], ◌∷◌, ◌++◌, drop, length, map, max, nat_lt, replicate, Option, Some, None, refl, arith, ap}
 use Rattle.std.proofs.lemmas.List.Elements.{All-append, All-cons, All-drop, All-replicate, All-take}
 use Rattle.std.proofs.lemmas.List.Filters.{length-filter_both}
 use Rattle.std.proofs.lemmas.List.Sums.{length-filter}
@@ -37,25 +37,7 @@ use Rattle.chord_ops.specs.Growth.{Grows}
 use Rattle.chord_ops.specs.Asked.{IsBody}
 use Rattle.chord_ops.specs.declared.turn.Request.TheVariants as request
 use Rattle.chord_ops.specs.declared.turn.Turn.{Turn}
-use Rattle.chord_ops.specs.Procedures.{
-  holds,
-  call_of,
-  gone_down,
-  finger_armed,
-  own_step,
-  stabilize_armed,
-  stranded,
-  traffic_armed,
-  came_up,
-  with_attempt,
-  with_lookup,
-  without_attempt,
-  without_call,
-  without_lookup,
-  check_armed,
-  join_retried,
-  for_attempt,
-}
+use Rattle.chord_ops.specs.Procedures.{holds, call_of, gone_down, finger_armed, own_step, stabilize_armed, stranded, traffic_armed, came_up, with_attempt, with_lookup, without_attempt, without_call, without_lookup, check_armed, join_retried}
 use Rattle.chord_ops.specs.Rules.{
   acted,
   answered_call,

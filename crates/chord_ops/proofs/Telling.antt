@@ -1,5 +1,5 @@
 -- The lines that tell of messages: they name nodes of the scenario, and there are no more of them than events.
-use Rattle.std.proofs.Common.{◌≡◌, ◌==◌, ℕ, suc, ◌+◌, ◌<◌, ◌≤◌, List, [], ◌∷◌, ◌++◌, get_or, length, Option, Some, None, Bool, true, false, arith, length-append}
+use Rattle.std.proofs.Common.{◌==◌, ℕ, suc, ◌+◌, ◌<◌, ◌≤◌, List, [], ◌∷◌, ◌++◌, get_or, length, Option, Some, None, Bool, true, false, arith, length-append}
 use Rattle.std.specs.List.{cons_option, filter_map}
 use Rattle.std.specs.Prelude.{All, IfSome, find, option_and_then, option_map, if◌then◌else◌}
 use Rattle.std.proofs.lemmas.List.Elements.{All-append, All-cons, All-head, All-tail}

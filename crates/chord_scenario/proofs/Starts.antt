@@ -1,40 +1,5 @@
 -- The start events, node by node.
-use Rattle.std.proofs.Common.{
-  ◌≡◌,
-  ◌∙◌,
-  sym,
-  ap,
-  refl,
-  ℕ,
-  suc,
-  ◌+◌,
-  ◌-◌,
-  ◌<◌,
-  ◌≤◌,
-  ◌==◌,
-  Bool,
-  true,
-  false,
-  List,
-  [],
-  ◌∷◌,
-  ◌++◌,
-  map,
-  filter,
-  length,
-  drop,
-  get_or,
-  Option,
-  Some,
-  None,
-  option_map,
-  inl,
-  inr,
-  append_assoc,
-  arith,
-  rules,
-  tests,
-}
+use Rattle.std.proofs.Common.{◌≡◌, ◌∙◌, sym, ap, refl, ℕ, suc, ◌+◌, ◌-◌, ◌<◌, ◌≤◌, ◌==◌, Bool, true, false, List, [], ◌∷◌, ◌++◌, map, filter, length, drop, get_or, Option, Some, None, option_map, inl, inr, append_assoc, arith}
 use Rattle.std.specs.List.{enumerate_from, filter_map, flat_map, range_with_len}
 use Rattle.std.proofs.lemmas.Bool.{cases_Bool}
 use Rattle.std.proofs.lemmas.Option.{same_Some}

@@ -1,5 +1,5 @@
 -- A drawn number is below its bound.
-use Rattle.std.proofs.Common.{ℕ, ◌+◌, ◌*◌, ◌/◌, ◌^◌, ◌<◌, arith, subst}
+use Rattle.std.proofs.Common.{ℕ, ◌+◌, ◌*◌, ◌^◌, ◌<◌, arith, subst}
 use Rattle.std.proofs.Math.Nat.{div-lt_iff_lt-mul, mod-lt, mul_comm, mul-lt-mul_of_pos_right}
 use Rattle.std.proofs.lemmas.Nat.{pow_pos}
 use Rattle.rand_chacha.specs.Block.{block_word}

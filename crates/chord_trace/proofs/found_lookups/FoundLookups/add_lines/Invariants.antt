@@ -1,4 +1,4 @@
-use Rattle.std.proofs.Common.{ℕ, ◌+◌, ◌≤◌, List, ◌++◌, take}
+use Rattle.std.proofs.Common.{◌+◌, ◌≤◌, List, ◌++◌, take}
 use Rattle.std.specs.List.{filter_map}
 use Rattle.chord_trace.specs.FoundLookups.{HasFound, found_len}
 use Rattle.chord_trace.specs.Kinds.{found_in}
