@@ -37,7 +37,7 @@ impl Turn<'_> {
         self.node.next_finger = 2;
         self.start_attempt();
         self.arm();
-        self.ask_for_place(via);
+        self.try_to_join();
     }
 
     /// Becomes a joining node, with an attempt that has no failures and no steps.
@@ -61,21 +61,26 @@ impl Turn<'_> {
     }
 
     /// A try of the attempt has failed. The node tries again after a pause. After the last try it goes
-    /// down, or pauses for longer and begins another attempt.
+    /// down, or pauses for longer and begins another attempt, or makes a ring of its own.
     fn fail_join(&mut self) {
         let pause = self.scenario.join_pause_us;
+        self.node.move_via(&self.scenario.bootstraps);
         let attempt = self.attempt();
         attempt.failures += 1;
         if attempt.failures < MOST_FAILURES {
             attempt.steps = 0;
             return self.pause(pause);
         }
+        let is_alone = !attempt.is_answered && self.scenario.bootstraps.contains(&self.node.me);
         self.note(Line::JoinFailed);
+        if is_alone && self.scenario.ways.create_alone {
+            return self.create();
+        }
         if self.scenario.joins_forever {
             self.start_attempt();
             return self.pause(PAUSES_BETWEEN_ATTEMPTS * pause);
         }
-        self.node.go_down();
+        self.go_down();
         if self.churns() {
             self.arm_rise();
         }
@@ -84,7 +89,7 @@ impl Turn<'_> {
     /// Tries again after this time, at once if it is 0.
     fn pause(&mut self, delay: u64) {
         if delay == 0 {
-            return self.try_again();
+            return self.try_to_join();
         }
         let epoch = self.node.epoch;
         self.make(delay, Body::Rejoin { epoch });
@@ -94,17 +99,38 @@ impl Turn<'_> {
     pub fn on_rejoin(&mut self, epoch: u64) {
         let is_joining = self.node.status == Status::Joining;
         if self.node.epoch == epoch && is_joining && self.node.calls.is_empty() {
-            self.try_again();
+            self.try_to_join();
         }
     }
 
-    /// The next try of the attempt.
-    fn try_again(&mut self) {
-        self.ask_for_place(self.via());
+    /// A try of the attempt. A node that joins through itself makes a ring of its own.
+    fn try_to_join(&mut self) {
+        let via = self.via();
+        if via == self.node.me {
+            self.create();
+        } else {
+            self.ask_for_place(via);
+        }
+    }
+
+    /// Makes a ring, in which the node is alone.
+    fn create(&mut self) {
+        let me = self.node.me;
+        self.note(Line::Create);
+        self.node.successors = vec![me];
+        self.node.fingers = vec![me; self.scenario.circle.bits() as usize - 1];
+        self.node.status = Status::Member;
+        self.node.attempt = None;
+    }
+
+    /// Goes down.
+    pub fn go_down(&mut self) {
+        self.node.go_down(&self.scenario.bootstraps);
     }
 
     /// Joins again, since no successor is left.
     pub fn strand(&mut self) {
+        self.node.leave_own_via(&self.scenario.bootstraps);
         let via = self.via();
         self.note(Line::Stranded {
             via: self.name(via),
@@ -114,11 +140,12 @@ impl Turn<'_> {
         }
         self.node.forget_ring();
         self.start_attempt();
-        self.ask_for_place(via);
+        self.try_to_join();
     }
 
     /// A node has answered a step of the attempt.
     pub fn join_step_answered(&mut self, asked: u32, answer: Answer) {
+        self.attempt().is_answered = true;
         match answer {
             Answer::Owner(_) => {
                 self.call(asked, Request::GetList, Purpose::JoinList);
@@ -131,8 +158,11 @@ impl Turn<'_> {
         }
     }
 
-    /// A node has sent its successor list. If the node's place is at its head, the node takes it.
-    pub fn join_list_received(&mut self, predecessor: u32, successors: Vec<u32>) {
+    /// A node has sent its successor list. If the node's place is at its head, the node takes it, or asks
+    /// the head before.
+    pub fn join_list_received(&mut self, predecessor: u32, list: Vec<u32>) {
+        self.attempt().is_answered = true;
+        let successors = self.cleaned(predecessor, list);
         let scenario = self.scenario;
         let me = scenario.ident(self.node.me);
         let is_before =
@@ -140,6 +170,34 @@ impl Turn<'_> {
         let Some(head) = successors.first().copied().filter(is_before) else {
             return self.fail_join();
         };
+        if scenario.ways.join_asks {
+            let purpose = Purpose::JoinHead {
+                behind: predecessor,
+            };
+            self.call(head, Request::GetState, purpose);
+        } else {
+            self.become_member(predecessor, successors);
+        }
+    }
+
+    /// The successors in the list of the node before this one. The node itself and those that it avoids
+    /// are left out, if lists are cleaned. If the node itself is alone there, it is that of a ring of two.
+    fn cleaned(&mut self, predecessor: u32, mut list: Vec<u32>) -> Vec<u32> {
+        if self.scenario.ways.clean_lists {
+            let me = self.node.me;
+            list.retain(|&other| other != me);
+            if list.is_empty() {
+                list.push(predecessor);
+            }
+            let avoid = &self.attempt().avoid;
+            list.retain(|other| !avoid.contains(other));
+        }
+        list
+    }
+
+    /// Becomes a member, with this predecessor and these successors.
+    pub fn become_member(&mut self, predecessor: u32, successors: Vec<u32>) {
+        let head = successors[0];
         self.node.predecessor = Some(predecessor);
         self.node.successors = successors;
         self.node.successors.truncate(self.scenario.list);

@@ -33,6 +33,7 @@ pub struct Report {
     again: u64,
     forgotten: u64,
     rescues: u64,
+    creates: u64,
     timeouts_sum: u64,
     /// Whether the losses are printed, as they are in the second and the extended profile.
     pub has_losses: bool,
@@ -56,6 +57,7 @@ impl Report {
             Line::Again { .. } => self.again += 1,
             Line::Forget { .. } => self.forgotten += 1,
             Line::Rescue { .. } => self.rescues += 1,
+            Line::Create => self.creates += 1,
             Line::Lookup { .. } => self.lookups += 1,
             Line::Found {
                 hops, timeouts, us, ..
@@ -125,6 +127,7 @@ impl Report {
                 ("again", self.again),
                 ("forgotten", self.forgotten),
                 ("rescues", self.rescues),
+                ("creates", self.creates),
                 ("timeouts-sum", self.timeouts_sum),
             ]);
         }

@@ -70,7 +70,7 @@ impl Turn<'_> {
     /// Crashes.
     fn crash(&mut self) {
         self.note(Line::Crash);
-        self.node.go_down();
+        self.go_down();
     }
 
     /// The timer to stabilize: asks the head of the successor list for its state.
@@ -203,7 +203,9 @@ impl Turn<'_> {
         }
         match call.purpose {
             Purpose::Lookup | Purpose::Owner => self.lookup_timed_out(number, asked),
-            Purpose::JoinStep | Purpose::JoinList => self.join_timed_out(asked),
+            Purpose::JoinStep | Purpose::JoinList | Purpose::JoinHead { .. } => {
+                self.join_timed_out(asked);
+            }
             Purpose::State => self.drop_asked(asked),
             Purpose::List => self.notify_head(),
             Purpose::Ping { notifier } => {
@@ -382,14 +384,16 @@ impl Turn<'_> {
         }
     }
 
-    /// The reply to a request for the state. If it is not of a lookup, it renews the successor list. A node between this one and
-    /// its successor is asked for its list.
+    /// The reply to a request for the state. It ends a join. If it is not of a lookup, it renews the
+    /// successor list. A node between this one and its successor is asked for its list.
     fn on_state_reply(&mut self, sender: u32, number: u64, predecessor: Option<u32>, list: &[u32]) {
         let Some(call) = self.answered(MessageKind::StateReply, sender, number) else {
             return;
         };
-        if call.purpose == Purpose::Owner {
-            return self.owner_answered(number, call.to, predecessor);
+        match call.purpose {
+            Purpose::Owner => return self.owner_answered(number, call.to, predecessor),
+            Purpose::JoinHead { behind } => self.become_member(behind, vec![call.to]),
+            _ => {}
         }
         self.node
             .renew_successors(call.to, list, self.scenario.list);

@@ -31,6 +31,9 @@ pub struct Ways {
     pub drop_silent: bool,
     pub skip_near: bool,
     pub random_start: bool,
+    pub clean_lists: bool,
+    pub join_asks: bool,
+    pub create_alone: bool,
 }
 
 /// How long a churn node is up, and then down.
@@ -54,7 +57,8 @@ pub struct Command {
 }
 
 /// All that a scenario and its latency file say. Nodes are numbered from 0. The rank of a node is
-/// its place in the order of the identifiers.
+/// its place in the order of the identifiers. `bootstraps` has the nodes that others try in turn to
+/// join through.
 pub struct Scenario {
     pub profile: Profile,
     pub loss_ppm: u32,
@@ -80,6 +84,7 @@ pub struct Scenario {
     pub idents: Vec<Ident>,
     pub initial: Vec<bool>,
     pub churns: Vec<bool>,
+    pub bootstraps: Vec<u32>,
     pub ranks: Vec<u32>,
     pub latencies: Latencies,
     pub commands: Vec<Command>,
@@ -131,6 +136,7 @@ impl Scenario {
             lookup_gap,
             initial: nodes.iter().map(|node| node.is_initial).collect(),
             churns: nodes.iter().map(|node| node.churns).collect(),
+            bootstraps: bootstraps_of(&nodes),
             names: nodes.into_iter().map(|node| node.name).collect(),
             ranks: ranks_of(&idents),
             idents,
@@ -153,6 +159,12 @@ impl Scenario {
     pub fn nodes(&self) -> impl Iterator<Item = u32> {
         0..self.names.len() as u32
     }
+}
+
+/// The numbers of the bootstrap nodes, in the order of the file.
+fn bootstraps_of(nodes: &[NodeRow]) -> Vec<u32> {
+    let rows = (0..).zip(nodes).filter(|(_, row)| row.is_bootstrap);
+    rows.map(|(node, _)| node).collect()
 }
 
 /// The rank of each node.
@@ -232,6 +244,7 @@ struct NodeRow {
     ident: Ident,
     is_initial: bool,
     churns: bool,
+    is_bootstrap: bool,
 }
 
 /// The words of the flat form that have not been read.
@@ -279,6 +292,9 @@ impl<'a> Words<'a> {
             drop_silent: self.flag(),
             skip_near: self.flag(),
             random_start: self.flag(),
+            clean_lists: self.flag(),
+            join_asks: self.flag(),
+            create_alone: self.flag(),
         }
     }
 
@@ -298,6 +314,7 @@ impl<'a> Words<'a> {
             ident: self.next(),
             is_initial: self.flag(),
             churns: self.flag(),
+            is_bootstrap: self.flag(),
         };
         (0..count).map(row).collect()
     }

@@ -24,6 +24,7 @@ pub enum Purpose {
     List,
     Ping { notifier: u32 },
     Check,
+    JoinHead { behind: u32 },
 }
 
 impl Purpose {
@@ -32,7 +33,7 @@ impl Purpose {
         match self {
             Purpose::Lookup | Purpose::JoinStep => MessageKind::StepReply,
             Purpose::JoinList | Purpose::List => MessageKind::ListReply,
-            Purpose::State | Purpose::Owner => MessageKind::StateReply,
+            Purpose::State | Purpose::Owner | Purpose::JoinHead { .. } => MessageKind::StateReply,
             Purpose::Ping { .. } | Purpose::Check => MessageKind::Pong,
         }
     }
@@ -100,12 +101,14 @@ impl Lookup {
     }
 }
 
-/// An attempt to join: its failures, its requests after the first, and the nodes that it avoids.
+/// An attempt to join: its failures, its requests after the first, the nodes that it avoids, and whether
+/// one of its requests was answered.
 #[derive(Default)]
 pub struct Attempt {
     pub failures: u32,
     pub steps: u32,
     pub avoid: Vec<u32>,
+    pub is_answered: bool,
 }
 
 /// What a node knows. `epoch` counts its lives. `via` is the node through which it joined last.
@@ -185,6 +188,20 @@ impl Node {
         self.successors.truncate(most);
     }
 
+    /// If the node has itself to join through, it takes the next bootstrap node, if there is one.
+    pub fn leave_own_via(&mut self, bootstraps: &[u32]) {
+        if self.via == Some(self.me) {
+            self.move_via(bootstraps);
+        }
+    }
+
+    /// Takes the next bootstrap node to join through, if there is another than the node itself.
+    pub fn move_via(&mut self, bootstraps: &[u32]) {
+        let others = || bootstraps.iter().filter(|&&other| other != self.me);
+        let next = others().find(|&&other| Some(other) > self.via);
+        self.via = next.or_else(|| others().next()).copied().or(self.via);
+    }
+
     /// Forgets the predecessor, the successors, the fingers, and all that was in progress.
     pub fn forget_ring(&mut self) {
         self.predecessor = None;
@@ -194,8 +211,14 @@ impl Node {
         self.lookups.clear();
     }
 
-    /// Goes down. The epoch, `via`, the place in the random stream and `count` are kept.
-    pub fn go_down(&mut self) {
+    /// Goes down. The epoch, `via`, the place in the random stream and `count` are kept. If the node has
+    /// itself to join through, it gets another one, if it knows one.
+    pub fn go_down(&mut self, bootstraps: &[u32]) {
+        self.leave_own_via(bootstraps);
+        if self.via == Some(self.me) {
+            let mut others = self.successors.iter().copied();
+            self.via = others.find(|&other| other != self.me).or(self.via);
+        }
         self.forget_ring();
         self.status = Status::Down;
         self.next_finger = 2;
@@ -203,7 +226,8 @@ impl Node {
     }
 }
 
-/// The states at the start: each initial node knows the whole ring, and the others are down.
+/// The states at the start: each initial node knows the whole ring, and the others are down. A single
+/// initial node is its own successor.
 pub fn first_states(scenario: &Scenario) -> Vec<Node> {
     let nodes = scenario.nodes();
     let mut nodes: Vec<Node> = nodes.map(|me| Node::never_up(me, scenario)).collect();
@@ -214,7 +238,8 @@ pub fn first_states(scenario: &Scenario) -> Vec<Node> {
     for (place, &me) in ring.iter().enumerate() {
         let node = &mut nodes[me as usize];
         enter_ring(scenario, node, &ring, place);
-        node.via = initial.iter().copied().find(|&other| other != me);
+        let mut known = scenario.bootstraps.iter().chain(&initial).copied();
+        node.via = known.find(|&other| other != me).or(Some(me));
     }
     nodes
 }
@@ -225,7 +250,8 @@ fn enter_ring(scenario: &Scenario, node: &mut Node, ring: &[u32], place: usize) 
     node.status = Status::Member;
     node.epoch = 1;
     node.predecessor = Some(from(ring.len() - 1));
-    node.successors = (1..=scenario.list).map(from).collect();
+    let others = scenario.list.min(ring.len() - 1).max(1);
+    node.successors = (1..=others).map(from).collect();
     let me = scenario.ident(node.me);
     let owner = |finger: u32| {
         let start = scenario.circle.finger_start(me, finger);

@@ -21,6 +21,7 @@ pub enum Line<'a> {
         predecessor: &'a str,
     },
     JoinFailed,
+    Create,
     Crash,
     Stranded {
         via: &'a str,
@@ -91,6 +92,7 @@ impl fmt::Display for Line<'_> {
             Line::Join { via } => write!(out, "join {via}"),
             Line::Member { predecessor } => write!(out, "member {predecessor}"),
             Line::JoinFailed => write!(out, "join-failed"),
+            Line::Create => write!(out, "create"),
             Line::Crash => write!(out, "crash"),
             Line::Stranded { via } => write!(out, "stranded {via}"),
             Line::Drop { kind, sender } => write!(out, "drop {kind} {sender}"),

@@ -157,7 +157,7 @@ impl<'a> Turn<'a> {
             Purpose::Lookup => self.node.lookups[self.node.lookup_of(call.number)].request(),
             Purpose::JoinStep => self.place_request(),
             Purpose::JoinList | Purpose::List => Request::GetList,
-            Purpose::State | Purpose::Owner => Request::GetState,
+            Purpose::State | Purpose::Owner | Purpose::JoinHead { .. } => Request::GetState,
             Purpose::Ping { .. } | Purpose::Check => Request::Ping,
         }
     }

@@ -16,13 +16,13 @@ examples/plain reads this form. The scenario and its latencies are checked as ch
 EPILOG = """\
 The flat form:
   profile, loss_ppm, spread_us, retries, join_pause_us, join_forever as 1 or 0, check_us, detail as 1 or 0
-  list_routes, goes_on and ask_owner as 1 or 0, lookup_timeouts, drop_silent, skip_near and random_start as 1 or 0
-  (in profiles 1 and 2 these are 0 0 0 8 0 0 0)
+  list_routes, goes_on and ask_owner as 1 or 0, lookup_timeouts, drop_silent, skip_near, random_start, clean_lists,
+  join_asks and create_alone as 1 or 0 (in profiles 1 and 2 these are 0 0 0 8 0 0 0 0 0 0)
   the jitters of stabilize_us, finger_us and check_us
   bits, list, seed, duration_us, timeout_us, audit_us, stabilize_us, finger_us, max_events, latency_us
   1 and life_min_us, life_max_us, down_min_us, down_max_us, or 0 if there is no [churn]
   1 and gap_min_us, gap_max_us, or 0 if there is no [lookups]
-  the number of nodes; for each its name, its identifier, initial and churn as 1 or 0
+  the number of nodes; for each its name, its identifier, initial, churn and bootstrap as 1 or 0
   the number of latency rows; for each its two nodes by number and its microseconds
   1 and for each node its x_us, y_us and height_us, or 0 if nodes have no coordinates
   the number of commands; for each its time, its node by number and `join VIA`, `crash` or `lookup KEY`
@@ -63,7 +63,7 @@ def lines_of(scenario: Scenario) -> Iterator[list[int | str]]:
     yield [0] if s.lookups is None else [1, s.lookups.gap_min_us, s.lookups.gap_max_us]
     yield [len(s.nodes)]
     for node in s.nodes:
-        yield [node.name, node.ident, int(node.initial), int(node.churn)]
+        yield [node.name, node.ident, int(node.initial), int(node.churn), int(node.bootstrap)]
     # Each pair is there in both orders.
     rows: list[list[int | str]] = [[a, b, micros] for (a, b), micros in s.latencies.items() if a < b]
     yield [len(rows)]

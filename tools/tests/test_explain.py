@@ -58,7 +58,8 @@ FAULTS = [
     ('node = "n0"', 'node = "N0"', "S9 UnknownNode command 1", 32, 8, 'did you mean "n0"?'),
     ("id = 1\ninitial = true", "id = 1", "S10 TooFewInitial", 3, 8, "write initial = true at 1 more node"),
     ("at_us = 100", "at_us = 200", "S11 TimeAfterEnd command 1", 30, 9, "duration_us = 200 stands at line 5"),
-    ('do = "lookup"', 'do = "join"\nvia = "n0"', "S13 SelfLink command 1", 32, 7, None),
+    ('do = "lookup"', 'do = "join"\nvia = "n0"', "S13 SelfLink command 1", 32, 7,
+     "profile 4 allows it, and the node makes a ring of its own then: write profile = 4"),
     ("window_us = 10", "window_us = 11", "S15 LatencyBelowWindow n0 n1", 7, 14,
      "raise it, or lower `window_us` (line 6)"),
 ]

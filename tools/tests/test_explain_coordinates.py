@@ -120,4 +120,4 @@ class ExplainLaterTest(TestCase):
                 f"duration_us = 9000 (9ms) is below check_us = 9001 ({told}), "
                 "join_pause_us = 9002 (no join is tried again)"
             )
-        assert spoken(SOUND.replace("profile = 1", "profile = 4\ncheck_us = 9000\njoin_pause_us = 0")) == []
+        assert spoken(SOUND.replace("profile = 1", "profile = 4\ncheck_us = 9000\njoin_pause_us = 9000")) == []

@@ -6,7 +6,8 @@ from typing import Any
 from unittest import TestCase
 
 from chordsim_tools.explain.world_traps import (
-    about, alone_traps, empty_from, finger_round, join_traps, mean_life, round_told, round_traps,
+    about, alone_traps, bootstrap_traps, empty_from, finger_round, join_traps, lone_maker_traps, mean_life, round_told,
+    round_traps, second_ring_traps,
 )
 from chordsim_tools.generate.command import main as generate
 from chordsim_tools.scenario.tables import parse_toml
@@ -37,7 +38,7 @@ def warned(arguments: str) -> list[str]:
 
 
 class RoundTest(TestCase):
-    """(bits - 1) times (finger_us + jitter_us / 2)."""
+    """(bits - 1) times (finger_us and half of its jitter), and less if near fingers are skipped."""
 
     def test_round(self) -> None:
         """With half the jitter, rounded up; without jitter_us it is 0."""
@@ -84,6 +85,10 @@ class RoundTest(TestCase):
         assert round_traps(churning) == [told + "the mean life of a node (40s)"]
         short = {**churning, "duration_us": 60_000_000}
         assert round_traps(short) == [told + "the duration (60s) and the mean life of a node (40s)"]
+        # In profile 4 the bits decide nothing: of three nodes three fingers are looked up, one each 1.05 s.
+        far: dict[str, Any] = {**quiet, "profile": 4, "duration_us": 3_000_000}
+        told = "finger_us = 1000000 with about 3 fingers in turn: each finger is refreshed about every 3.15s, which is "
+        assert round_traps(far) == [told + "longer than the duration (3s)"]
         # That no finger is refreshed at all is told by another trap.
         assert round_traps({**short, "duration_us": 900_000}) == []
 
@@ -92,13 +97,14 @@ class ChurnTrapsTest(TestCase):
     """Joins without an end, and rings that nobody can make again."""
 
     def test_joins(self) -> None:
-        """`join_forever` with a pause is none."""
-        assert join_traps({"join_forever": True})[0].startswith("join_forever = true without join_pause_us: ")
-        assert len(join_traps({"join_forever": True, "join_pause_us": 0})) == 1
-        assert join_traps({"join_forever": True, "join_pause_us": 1}) == []
-        assert join_traps({"join_forever": False}) == []
-        assert [line.split()[0] for line in warned("--profile 4 --join-forever")] == ["join_forever"]
-        assert warned("--profile 4 --join-forever --join-pause 1s") == []
+        """They have no end in profile 4 if no key says otherwise. With a pause, as by default, this is none."""
+        extended = {"profile": 4, "timeout_us": 10, "join_pause_us": 0}
+        assert join_traps(extended)[0].startswith("join_pause_us = 0 without join_forever = false: ")
+        assert len(join_traps({**extended, "join_forever": True})) == 1
+        assert join_traps({**extended, "join_forever": False}) == join_traps({**extended, "join_pause_us": 1}) == []
+        assert join_traps({"profile": 4, "timeout_us": 10}) == join_traps({"profile": 1, "timeout_us": 10}) == []
+        assert [line.split()[0] for line in warned("--profile 4 --join-pause 0")] == ["join_pause_us"]
+        assert warned("--profile 4") == warned("--profile 4 --join-pause 0 --no-join-forever") == []
 
     def test_all_churn(self) -> None:
         """Each of three is down a fifth of the time, all of them 0.8 %; of five 0.032 %, and one that stays is none."""
@@ -117,9 +123,78 @@ class ChurnTrapsTest(TestCase):
             "commands: no node is up from 30s on; then there is no ring, and no ring is ever made again"
         ]
 
+    def test_rings_that_nodes_make(self) -> None:
+        """Nobody is up from 30 s on. A node that joins through itself then makes a ring, and so may bootstrap nodes."""
+        gone = [command(25, "crash", 1), command(30, "crash", 0)]
+        own: dict[str, Any] = {**command(40, "join", 1), "via": "n1"}
+        assert len(alone_traps({**TOP, "node": nodes(2), "command": gone})) == 1
+        assert len(alone_traps({**TOP, "node": nodes(2), "command": [{**own, "via": "n0"}, *gone]})) == 1
+        top = {**TOP, "node": nodes(2), "command": [*gone, own]}
+        assert alone_traps(top) == second_ring_traps(top) == []
+        bootstrap: dict[str, Any] = {**nodes(1)[0], "bootstrap": True}
+        lone: dict[str, Any] = {**TOP, "node": [bootstrap, nodes(2)[1]], "command": gone}
+        assert len(alone_traps(lone)) == 1 and alone_traps({**lone, "create_alone": True}) == []
+        assert len(alone_traps({**lone, "node": nodes(2), "create_alone": True})) == 1
+
+    def test_no_ring(self) -> None:
+        """No node is initial, and none joins through itself."""
+        down: list[dict[str, Any]] = [{"name": "n0", "bootstrap": True}, {"name": "n1"}]
+        told = ["no node is initial, and none joins through itself: there is never a ring"]
+        moves: list[dict[str, Any]] = [{**command(5, "join", 0), "via": "n1"}]
+        top = {**TOP, "node": down, "command": moves}
+        assert alone_traps(top) == alone_traps({**top, "churn": CHURN}) == told
+        assert alone_traps({**top, "create_alone": True}) == []
+        assert alone_traps({**top, "command": [{**moves[0], "via": "n0"}]}) == []
+
+    def test_no_bootstrap_node(self) -> None:
+        """`create_alone` is for bootstrap nodes."""
+        told = "create_alone = true, and no node has bootstrap = true: only such nodes make rings, "
+        alone = {**TOP, "create_alone": True}
+        assert lone_maker_traps({**alone, "node": nodes(2)}) == [f"{told}so it changes nothing"]
+        assert lone_maker_traps({**alone, "node": [{**node, "bootstrap": True} for node in nodes(2)]}) == []
+        assert lone_maker_traps({**TOP, "node": nodes(2)}) == []
+
+    def test_bootstrap_nodes(self) -> None:
+        """All of them churn, or go by the commands and join through each other; not with `create_alone`."""
+        boots: list[dict[str, Any]] = [{**node, "bootstrap": True} for node in nodes(2)]
+        told = "then no join succeeds after a failure, not even theirs, unless create_alone = true"
+        churning = {**TOP, "node": [*({**boot, "churn": True} for boot in boots), nodes(1)[0]]}
+        assert bootstrap_traps(churning) == [
+            f"churn = true of all 2 bootstrap nodes: all may be down at once, and {told}"
+        ]
+        assert bootstrap_traps({**churning, "create_alone": True}) == []
+        assert bootstrap_traps({**TOP, "node": nodes(3, 3)}) == bootstrap_traps({**TOP, "node": boots}) == []
+        gone = [command(10, "crash", 0), command(20, "crash", 1)]
+        back: dict[str, Any] = {**command(30, "join", 0), "via": "n1"}
+        for moves in (gone, [*gone, back]):
+            wanted = [f"commands: no bootstrap node is up from 20s on; {told}"]
+            assert bootstrap_traps({**TOP, "node": boots, "command": moves}) == wanted
+        for via in ("n0", "n7"):
+            assert bootstrap_traps({**TOP, "node": boots, "command": [*gone, {**back, "via": via}]}) == []
+
+    def test_second_rings(self) -> None:
+        """n1 has crashed, and joins through itself while n0 is up. The first such join alone is told."""
+        own: dict[str, Any] = {**command(40, "join", 1), "via": "n1"}
+        moves = [command(25, "crash", 1), own, command(50, "crash", 1), {**own, "at_us": 60_000_000}]
+        assert second_ring_traps({**TOP, "node": nodes(2), "command": moves}) == [
+            "commands: n1 joins through itself at 40s, while others are up: it makes a second ring, and two rings "
+            "never meet"
+        ]
+        assert second_ring_traps({**TOP, "node": nodes(2), "command": [*moves[:1], {**own, "via": "n0"}]}) == []
+        assert second_ring_traps({**TOP, "node": nodes(2)}) == []
+        # A node that is up ignores the command.
+        assert second_ring_traps({**TOP, "node": nodes(2), "command": [own]}) == []
+
+    def test_two_rings_at_once(self) -> None:
+        """Nobody is up, and two nodes join through themselves at one time. One of them may join the other."""
+        down = [{**node, "initial": False} for node in nodes(2)]
+        own = [{**command(40, "join", node), "via": f"n{node}"} for node in (0, 1)]
+        assert len(second_ring_traps({**TOP, "node": down, "command": own})) == 1
+        assert second_ring_traps({**TOP, "node": down, "command": [{**own[0], "via": "n1"}, own[1]]}) == []
+
     def test_generate_and_explain_agree(self) -> None:
         """What generate warns of before the file is there is what its text has."""
-        words = "--nodes 6 --stay 0 --lifetime exp:3s --down exp:9s --bits 64 --profile 4 --join-forever --duration 60s"
+        words = "--nodes 6 --stay 0 --lifetime exp:3s --down exp:9s --bits 64 --profile 4 --join-pause 0 --duration 60s"
         words += " --no-skip-near"
         with tempfile.TemporaryDirectory() as folder:
             file = Path(folder) / "a.toml"

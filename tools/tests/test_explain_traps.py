@@ -95,6 +95,18 @@ class EventsTrapTest(TestCase):
             ]
             assert events_trap(Path("/none"), {**top, "max_events": 40_000}, b"") == []
 
+    def test_jitter_of_each_timer(self) -> None:
+        """A stabilization each 250 ms to 3.25 s: four of the longest are 13 s, and their mean is 1.75 s.
+
+        16 times 20 s times 8 / 1.75 s + 10 / 250 ms + 10 / 200 ms are 30263 events.
+        """
+        jitter = {"profile": 4, "stabilize_jitter_us": 3_000_000, "check_us": 0, "max_events": 20_000}
+        top = parse_toml(BASE.encode()) | jitter
+        with patch("chordsim_tools.explain.traps.events_until", side_effect=(10_000, 20_000)):
+            assert "its first 6500ms have 10000 and its first 13s 20000," in events_trap(Path("/none"), top, b"")[0]
+        with patch("chordsim_tools.explain.traps.events_until", side_effect=TimeoutExpired("chordsim", 20)):
+            assert "likely to need about 30,000 (by its timers alone: its" in events_trap(Path("/none"), top, b"")[0]
+
     def test_profile_that_allows_more(self) -> None:
         """3 s have 10,000,000 events and 6 s 20,000,000: 20 s need 66,666,666. Profiles 1 and 2 allow 50,000,000."""
         for profile, hint in ((1, "; profile 4 allows up to 100000000000"), (4, "")):
@@ -130,6 +142,7 @@ class OtherTrapsTest(TestCase):
             ("--churn-uniform 30..90s 5s..15s", "--churn-uniform 30..90s 5s..15s: 30 without"),
             ("--latency 60 --timeout 1s", "--latency 60: 60 without a unit"),
             ("--spread 1 --profile 2", "--spread 1: 1 without a unit is 1 microsecond; write 1ms, 1s or 1m, or 1us"),
+            ("--finger-jitter 50 --profile 4", "--finger-jitter 50: 50 without a unit is 50 microseconds; write 50ms,"),
             ("--timeout 39ms", "timeout_us = 39000 (39ms) is below the greatest round trip, 40000 (40ms)"),
             ("--profile 2 --spread 81ms", "timeout_us = 200000 (200ms) is below the greatest round trip, 202000"),
             ("--profile 4 --spread 81ms --retries 1", "timeout_us = 200000 (200ms) is below the greatest round trip,"),

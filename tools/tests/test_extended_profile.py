@@ -29,7 +29,7 @@ from chordsim_tools.reference.state import (
 from chordsim_tools.reference.turn import World
 from chordsim_tools.scenario.reading import read_scenario
 from tests.support.programs import ended
-from tests.support.worlds import EXAMPLES, LATER, RING, SWITCHED_OFF, switched_off
+from tests.support.worlds import EXAMPLES, LATER, RING, switched_off
 from tests.test_second_profile import AUDIT, CRASH, N3, PLAIN, fault, happen, many, ran
 
 LONGER = (("duration_us = 200", "duration_us = 400"), ("audit_us = 200", "audit_us = 400"))
@@ -246,9 +246,11 @@ class SendAgainTest(TestCase):
         assert (lines, made[0]) == (["again step n3"], (110, 5, 2, Step(3, 0, [])))
         happen(world, node, StepReply(3, Owner(1)), 4)
         lines, made = happen(world, node, Timeout(7), 2)
-        assert (lines, made[0], node.join) == (["again get-list n3"], (110, 9, 2, GetList(7)), Attempt())
+        assert (lines, made[0]) == (["again get-list n3"], (110, 9, 2, GetList(7)))
+        assert node.join == Attempt(is_answered=True)
         lines, made = happen(world, node, Timeout(7), 2)
-        assert (lines, made[0], node.join) == (["timeout n3"], (110, 11, 2, Step(11, 0, [])), Attempt(failures=1))
+        assert (lines, made[0]) == (["timeout n3"], (110, 11, 2, Step(11, 0, [])))
+        assert node.join == Attempt(failures=1, is_answered=True)
         happen(world, node, StepReply(11, Owner(1)), 4)
         assert happen(world, node, ListReply(13, [1, 2]), 4)[0] == ["member n3"]
 
@@ -280,8 +282,8 @@ class SendAgainTest(TestCase):
             name.write_text(extended("loss_ppm = 20387", "retries = 1"))
             status, out, _ = ended(main, str(name), "--report", "--messages")
             lines = out.splitlines()
-            assert (status, len(lines)) == (0, 29 + 9 + 9)
-            assert lines[24:30] == ["losses 1", "again 1", *(f"{word} 0" for word in LATER[2:]), "sent step 2"]
+            assert (status, len(lines)) == (0, 30 + 9 + 9)
+            assert lines[24:31] == ["losses 1", "again 1", *(f"{word} 0" for word in LATER[2:]), "sent step 2"]
             assert "sent step-reply 1" in lines and "lost step 1" in lines
 
 
@@ -409,7 +411,8 @@ class OwnDrawsTest(TestCase):
             text = (EXAMPLES / f"{name}.toml").read_text()
             lines, numbers = ran(text)
             for keys in ("", *ZEROS):
-                changed = text.replace("profile = 1", f"profile = 4{keys}\n{SWITCHED_OFF}", 1)
+                off = "\n".join(switched_off(*keys.split("\n")))
+                changed = text.replace("profile = 1", f"profile = 4{keys}\n{off}", 1)
                 later = dict.fromkeys(LATER, 0) | {"timeouts-sum": ran(changed)[1]["timeouts-sum"]}
                 assert ran(changed) == (lines, numbers | later), name
 

@@ -38,6 +38,8 @@ REFUSED = [
     ("--bits 65", "--bits: 3 to 64"),
     ("--initial 65", "--initial: 2 to 64"),
     ("--initial 1", "--initial: 2 to 64"),
+    ("--profile 4 --initial 0", "--initial: 1 to 64"),
+    ("--profile 4 --list 33", "--list: 1 to 32"),
     ("--nodes 4 --list 4", "--list: 1 to 3"),
     ("--list 17", "--list: 1 to 16"),
     ("--seed 9223372036854775808", "--seed: 0 to 9223372036854775807"),
@@ -62,6 +64,8 @@ REFUSED = [
     ("--profile 2 --retries 0", "--retries: only with --profile 4"),
     ("--join-pause 0", "--join-pause: only with --profile 4"),
     ("--profile 2 --join-forever", "--join-forever: only with --profile 4"),
+    ("--no-join-forever", "--no-join-forever: only with --profile 4"),
+    ("--profile 4 --join-forever --no-join-forever", "--no-join-forever: not with --join-forever"),
     ("--profile 2 --check 1s", "--check: only with --profile 4"),
     ("--profile 2 --detail", "--detail: only with --profile 4"),
     ("--profile 2 --no-list-routes", "--no-list-routes: only with --profile 4"),
@@ -69,6 +73,12 @@ REFUSED = [
     ("--no-skip-near", "--no-skip-near: only with --profile 4"),
     ("--profile 2 --no-ask-owner", "--no-ask-owner: only with --profile 4"),
     ("--profile 2 --no-random-start", "--no-random-start: only with --profile 4"),
+    ("--profile 2 --no-clean-lists", "--no-clean-lists: only with --profile 4"),
+    ("--no-join-asks", "--no-join-asks: only with --profile 4"),
+    ("--profile 2 --bootstrap 1", "--bootstrap: only with --profile 4"),
+    ("--profile 4 --nodes 5 --bootstrap 6", "--bootstrap: 0 to 5 (at most --nodes)"),
+    ("--profile 2 --create-alone", "--create-alone: only with --profile 4"),
+    ("--profile 4 --create-alone", "--create-alone: only with --bootstrap"),
     ("--profile 2 --finger-jitter 0", "--finger-jitter: only with --profile 4"),
     ("--profile 4 --check-jitter 1001s", "--check-jitter: a time of 0us to 1000s"),
     ("--no-goes-on", "--no-goes-on: only with --profile 4"),
@@ -230,6 +240,7 @@ class GenerateTest(TestCase):
         ring = tomllib.loads(text_of(arguments))
         wanted = [("retries", 0), ("join_pause_us", 5_000_000), ("join_forever", True), ("check_us", 1_000_000)]
         assert list(ring.items())[15:19] == wanted
+        assert tomllib.loads(text_of("--profile 4 --no-join-forever"))["join_forever"] is False
         plain = tomllib.loads(text_of("--profile 4 --check 0"))
         assert plain["check_us"] == 0 and "join_pause_us" not in plain and "join_forever" not in plain
         assert text_of(arguments).splitlines()[2].endswith("--profile 4 --join-pause 5s --join-forever --check 1s")
@@ -244,12 +255,26 @@ class GenerateTest(TestCase):
         """The keys that are given stand behind `detail`, in their order. An option with `no` makes a false."""
         switches = " ".join(f"--{name}" for name, _ in reversed(WAYS_OF_OPTIONS) if name.startswith("no-"))
         numbers = {"lookup-timeouts": 3, "check-jitter": 4, "finger-jitter": 5, "stabilize-jitter": 6}
-        given = " ".join(f"--{name} {number}" for name, number in numbers.items())
+        given = " ".join(f"--{name} {number}" for name, number in numbers.items()) + " --create-alone --bootstrap 1"
+        numbers["create-alone"] = True
         ring = tomllib.loads(text_of(f"--profile 4 {given} {switches} --detail"))
         wanted = [("detail", True), *((key, numbers.get(name, False)) for name, key in WAYS_OF_OPTIONS)]
         assert list(ring.items())[16 : 16 + len(wanted)] == wanted
         assert [key for _, key in WAYS_OF_OPTIONS] == [key.name for key in WAYS]
         assert made("--profile 4").ways == PUBLISHED
+
+    def test_one_initial_node(self) -> None:
+        """In profile 4 a ring may grow from one node, and a list has as many entries as there are others, up to 4."""
+        ring = made("--profile 4 --nodes 20 --initial 1")
+        assert ([node.initial for node in ring.nodes], ring.list) == ([True] + [False] * 19, 4)
+        assert len([one for one in ring.commands if one.do == "join"]) == 19
+        assert [made(f"--profile 4 --nodes {count}").list for count in (2, 5, 6)] == [1, 4, 4]
+
+    def test_bootstrap_nodes(self) -> None:
+        """They are the first ones. The others have no such key."""
+        nodes = tomllib.loads(text_of("--profile 4 --nodes 5 --bootstrap 2"))["node"]
+        assert [node.get("bootstrap") for node in nodes] == [True, True, None, None, None]
+        assert not any(node.bootstrap for node in made("--profile 4 --bootstrap 0").nodes)
 
     def test_coordinates(self) -> None:
         """Places of the square and heights of the span, both to their ends; the window is the two least heights."""

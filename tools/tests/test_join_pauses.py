@@ -52,7 +52,7 @@ class JoinPausesTest(TestCase):
         """The first attempt used the numbers 3 and 4. Rejoin is event 5, and then comes the step, which is event 6."""
         world, node = joining("join_pause_us = 70")
         assert happen(world, node, StepReply(3, Stuck()), 4) == ([], [(170, 5, 0, Rejoin(2))])
-        assert (node.status, node.join, node.calls) == (Status.JOINING, Attempt(failures=1), {})
+        assert (node.status, node.join, node.calls) == (Status.JOINING, Attempt(failures=1, is_answered=True), {})
         made = happen(world, node, Rejoin(2), 2)[1]
         assert made == [(110, 6, 2, Step(6, 0, [])), (140, 7, 0, Timeout(6))]
         # There is a call now, so that another Rejoin would be nothing.
@@ -68,9 +68,9 @@ class JoinPausesTest(TestCase):
         """n1 has not replied: after the pause n0 asks n3 for another node than n1."""
         world, node = joining("join_pause_us = 70")
         happen(world, node, StepReply(3, Next(1)), 4)
-        assert node.join == Attempt(steps=1)
+        assert node.join == Attempt(steps=1, is_answered=True)
         assert happen(world, node, Timeout(5), 2) == (["timeout n1"], [(170, 7, 0, Rejoin(2))])
-        assert node.join == Attempt(failures=1, avoid=[1])
+        assert node.join == Attempt(failures=1, avoid=[1], is_answered=True)
         assert happen(world, node, Rejoin(2), 2)[1][0] == (110, 8, 2, Step(8, 0, [1]))
 
     def test_rejoin_of_another_life(self) -> None:
@@ -105,7 +105,7 @@ class JoinPausesTest(TestCase):
         for changes in ((), SPANS):
             world, node = joining("join_pause_us = 70", "join_forever = true", changes=changes)
             fail(world, node, 7)
-            assert node.join == Attempt(failures=7)
+            assert node.join == Attempt(failures=7, is_answered=True)
             node.join.avoid.append(1)
             lines, made = happen(world, node, StepReply(next(iter(node.calls)), Stuck()), 4)
             assert (lines, [(made[0][0], made[0][3])]) == (["join-failed"], [(660, Rejoin(2))]) and len(made) == 1

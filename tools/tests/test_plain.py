@@ -20,7 +20,7 @@ SOURCE = EXAMPLES / "plain" / "main.rs"
 COMMAND = EXAMPLES / "plain" / "flatten"
 NAMES = (
     "ring", "churn64", "lossy64", "retries64", "half_crash", "join_storm", "slow_repair", "ninth_timeout", "join_stuck",
-    "check_predecessor", "deployed64", "coordinates64", "detail16",
+    "check_predecessor", "bootstrap_nodes", "deployed64", "coordinates64", "detail16",
 )
 # Of all profiles. Some have commands, some rows of latencies, and some more events than they allow.
 SEEDS = range(12)
@@ -28,15 +28,15 @@ SEEDS = range(12)
 EXTENDED_SEEDS = [seed for seed in range(60) if seed // 2 % 3 == 2]
 FLAT_RING = """\
 1 0 0 0 0 0 0 0
-0 0 0 8 0 0 0
+0 0 0 8 0 0 0 0 0 0
 0 0 0
 3 2 1 200 40 200 1000 1000 50000000 10
 0
 0
 3
-n0 0 1 0
-n1 1 1 0
-n3 3 1 0
+n0 0 1 0 0
+n1 1 1 0 0
+n3 3 1 0 0
 1
 0 2 12
 0
@@ -205,8 +205,14 @@ class FlattenTest(TestCase):
             ("n0", 1, "height_us = 9"), ("n1", 3, "height_us = 10"), ("n3", 5, "height_us = 8"),
         )]
         flat = flat_form(ring(*changes, ("window_us = 10", "window_us = 8"), ("height_us = 8", "")))
-        self.assertTrue(flat.startswith("4 0 0 1 70 1 90 1\n1 1 1 32 1 1 1\n0 7 0\n3 2 1"))
-        self.assertIn("\nn3 3 1 0\n0\n1\n1 2 9\n3 2 10\n5 2 0\n1\n100 0", flat)
+        self.assertTrue(flat.startswith("4 0 0 1 70 1 90 1\n1 1 1 32 1 1 1 1 1 0\n0 7 0\n3 2 1"))
+        self.assertIn("\nn3 3 1 0 0\n0\n1\n1 2 9\n3 2 10\n5 2 0\n1\n100 0", flat)
+
+    def test_bootstrap_nodes(self) -> None:
+        """The flat form of a bootstrap node, and of the key of those that make rings."""
+        flat = flat_form(ring(("profile = 1", "profile = 4\ncreate_alone = true"), ('"n1"', '"n1"\nbootstrap = true')))
+        self.assertIn("\n1 1 1 32 1 1 1 1 1 1\n", flat)
+        self.assertIn("\nn0 0 1 0 0\nn1 1 1 0 1\nn3 3 1 0 0\n", flat)
 
     def test_command(self) -> None:
         """The command writes the file, or says why a scenario is refused."""

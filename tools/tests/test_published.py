@@ -18,7 +18,7 @@ from chordsim_tools.reference.turn import World
 from chordsim_tools.scenario.reading import Ways, read_scenario
 from chordsim_tools.scenario.tables import WAYS
 from tests.support.rings import ProgramTest
-from tests.support.worlds import LATER, OFF, RING, fault
+from tests.support.worlds import LATER, OFF, OFF_WITH_TIMES, RING, fault
 from tests.test_extended_profile import SPANS, extended, world_of
 from tests.test_second_profile import happen
 
@@ -42,7 +42,7 @@ class Worked(NamedTuple):
 
     def text(self, has_rule: bool) -> str:
         """The scenario with the rule, or without it. No other rule of those published holds."""
-        keys = TOP | OFF | self.keys | ({} if has_rule else self.off)
+        keys = TOP | OFF_WITH_TIMES | self.keys | ({} if has_rule else self.off)
         return "".join(f"{key} = {value}\n" for key, value in keys.items()) + self.nodes + self.commands
 
 
@@ -347,10 +347,90 @@ RANDOM_START = Worked(
 n8 refreshes finger 7, whose start is 72, by n24. The finger 4 of n16 and 5 of n24 are their successors.
 """
 
+CLEAN_LISTS = Worked(
+    keys={"clean_lists": "true", "join_pause_us": "5000"},
+    off={"clean_lists": "false"},
+    nodes=ring(0, 50, 200),
+    commands=command(100, "crash", "n50") + command(110, "join", "n50", 'via = "n0"'),
+    trace=(
+        "100 n50 crash\n"
+        "110 n50 join n0\n"
+        "110 n50 ask step n0 call=5\n"
+        "120 n0 send step-reply n50\n"
+        "130 n50 ask get-list n0 call=7\n"
+        "140 n0 send list-reply n50\n"
+        "150 n50 member n0\n"
+        "2000 audit members=3 dead=0 ring=3 ordered=yes principals=3 sufficient=yes\n"
+    ),
+    other=(
+        "100 n50 crash\n"
+        "110 n50 join n0\n"
+        "110 n50 ask step n0 call=5\n"
+        "120 n0 send step-reply n50\n"
+        "130 n50 ask get-list n0 call=7\n"
+        "140 n0 send list-reply n50\n"
+        "2000 audit members=2 dead=0 ring=2 ordered=yes principals=2 sufficient=no\n"
+    ),
+)
+"""n0 has not noticed that n50 was down: its list is n50, n200, of which n50 takes n200. Otherwise the attempt fails."""
+JOIN_ASKS = Worked(
+    keys={"join_asks": "true", "clean_lists": "true"},
+    off={"join_asks": "false"},
+    nodes=ring(0, 40, 60, 200) + '[[node]]\nname = "n55"\nid = 55\n',
+    commands=command(50, "crash", "n60") + command(100, "join", "n55", 'via = "n0"'),
+    trace=(
+        "50 n60 crash\n"
+        "100 n55 join n0\n"
+        "100 n55 ask step n0 call=3\n"
+        "110 n0 send step-reply n55\n"
+        "120 n55 ask step n40 call=5\n"
+        "130 n40 send step-reply n55\n"
+        "140 n55 ask get-list n40 call=7\n"
+        "150 n40 send list-reply n55\n"
+        "160 n55 ask get-state n60 call=9\n"
+        "170 n60 drop get-state n55\n"
+        "210 n55 timeout n60\n"
+        "210 n55 ask step n0 call=11\n"
+        "220 n0 send step-reply n55\n"
+        "230 n55 ask step n40 call=13\n"
+        "240 n40 send step-reply n55\n"
+        "250 n55 ask get-list n40 call=15\n"
+        "260 n40 send list-reply n55\n"
+        "270 n55 ask get-state n200 call=17\n"
+        "280 n200 send state-reply n55\n"
+        "290 n55 member n40\n"
+        "290 n55 ask get-list n60 call=19\n"
+        "300 n60 drop get-list n55\n"
+        "340 n55 timeout n60\n"
+        "340 n55 send notify n200\n"
+        "350 n200 ask ping n60 call=4\n"
+        "360 n60 drop ping n200\n"
+        "400 n200 timeout n60\n"
+        "2000 audit members=4 dead=0 ring=3 ordered=yes principals=3 sufficient=yes\n"
+    ),
+    other=(
+        "50 n60 crash\n"
+        "100 n55 join n0\n"
+        "100 n55 ask step n0 call=3\n"
+        "110 n0 send step-reply n55\n"
+        "120 n55 ask step n40 call=5\n"
+        "130 n40 send step-reply n55\n"
+        "140 n55 ask get-list n40 call=7\n"
+        "150 n40 send list-reply n55\n"
+        "160 n55 member n40\n"
+        "2000 audit members=4 dead=0 ring=3 ordered=yes principals=3 sufficient=yes\n"
+    ),
+)
+"""n40 has the list n60, n200, and n60 is down. Its place found, n55 asks n60, and after the timeout it joins again.
+
+It leaves n60 out of the list of n40, and asks n200, which still has n60 as predecessor. So n55 asks n60 for its list.
+n40 knows nothing of n55, so that n55 is not on the ring yet. Without the rule it is a member with the list n60, n200.
+"""
+
 WORKED = {
     "list_routes": LIST_ROUTES, "goes_on": GOES_ON, "lookup_timeouts": LOOKUP_TIMEOUTS, "drop_silent": DROP_SILENT,
     "skip_near": SKIP_NEAR, "ask_owner": ASK_OWNER, "a newcomer": NEWCOMER,
-    "random_start": RANDOM_START,
+    "random_start": RANDOM_START, "clean_lists": CLEAN_LISTS, "join_asks": JOIN_ASKS,
 }
 
 
@@ -749,7 +829,7 @@ class ReportTest(TestCase):
         assert report.numbers(9)["rescues"] == 1
 
     def test_numbers_of_the_profiles(self) -> None:
-        """The extended profile has seven numbers after the first 24, and the others have none and one."""
+        """The extended profile has six numbers after the first 24, and the others have none and one."""
         for profile, later in ((1, ()), (2, LATER[:1]), (4, LATER)):
             assert list(Report(profile).numbers(0))[24:] == list(later)
 
@@ -760,13 +840,13 @@ class KeysTest(TestCase):
     def test_profiles(self) -> None:
         """They are keys of the top in profile 4 alone, in the order of docs/formats.md."""
         for key in WAYS:
-            line = f"{key.name} = {OFF.get(key.name, 0)}"
+            line = f"{key.name} = {(OFF | {'create_alone': 'false'}).get(key.name, 0)}"
             assert fault(RING.replace("profile = 1", f"profile = 4\n{line}")) == "accepted"
             assert fault(RING.replace("[[node]]", f"[[node]]\n{line}", 1)) == "S2 UnknownKey node 1"
             for profile in (1, 2, 3):
                 changed = RING.replace("profile = 1", f"profile = {profile}\n{line}")
                 assert fault(changed) == "S2 UnknownKey top"
-        assert [key.name for key in WAYS if not key.name.endswith("jitter_us")] == list(OFF)
+        assert [key.name for key in WAYS if not key.name.endswith("jitter_us")] == [*OFF, "create_alone"]
 
     def test_booleans(self) -> None:
         """Nothing but a boolean is accepted. Of several faults the first in the order of the keys is named."""
@@ -788,11 +868,12 @@ class KeysTest(TestCase):
         published = ways("profile = 4")
         assert published == Ways(
             list_routes=True, goes_on=True, ask_owner=True, lookup_timeouts=32, drop_silent=True, skip_near=True,
-            random_start=True,
+            random_start=True, clean_lists=True, join_asks=True,
         )
         assert ways("\n".join(["profile = 4", *(f"{key} = {value}" for key, value in OFF.items())])) == Ways()
         for name, value in OFF.items():
             changed = ways(f"profile = 4\n{name} = {value}")
+            assert not changed.create_alone
             assert {one for one in OFF if getattr(changed, one) != getattr(published, one)} == {name}
 
 

@@ -1,6 +1,6 @@
-"""A small form of examples/published: lookups just after many nodes have failed, and in rings that are just built.
+"""A small form of examples/published: lookups just after a failure, under churn, after repair, and in new rings.
 
-The settings are those of failure.toml and length.toml, with two seeds and a fifth of the lookups.
+The settings are those of failure.toml, churn.toml, repair.toml and length.toml, with two seeds and fewer lookups.
 """
 
 import hashlib
@@ -29,6 +29,12 @@ PUBLISHED = {0.0: (3.84, 0.0), 0.2: (4.22, 1.17), 0.4: (4.69, 3.23)}
 NOT_LEARNT = ("--no-drop-silent", "--lookup-timeouts", "64")
 """The setting of the published table: no lookup learns from another one, and none reaches a limit."""
 AS_BEFORE = ("--no-list-routes", "--no-goes-on", "--no-ask-owner")
+CHURN = {0.2: (3.81, 0.23, 5), 0.4: (4.06, 0.46, 15)}
+"""The published mean hops and timeouts, and failures of 10,000 lookups, by the rate of joins."""
+SHORT = ("--bits", "24")
+"""Where skip_near leaves about eleven fingers in the rotation of 1,000 nodes."""
+LONG = ("--bits", "20", "--no-skip-near")
+"""Nineteen fingers in the rotation."""
 
 
 class Counted(NamedTuple):
@@ -42,13 +48,17 @@ class Counted(NamedTuple):
 
 
 def arguments(study: str, *more: str) -> list[str]:
-    """The arguments of tools/generate of a study in the folder, and more."""
+    """The arguments of tools/generate of a study in the folder, and more, which take the place of the study's."""
     words: list[str] = tomllib.loads((FOLDER / study).read_text(encoding="utf-8"))["generate"]
+    for word in more:
+        if word.startswith("--") and word in words:
+            place = words.index(word)
+            del words[place : place + 2]
     return [*words, *more]
 
 
-def counted(words: list[str]) -> Counted:
-    """The lookups of all seeds, by the program."""
+def counted(words: list[str], warmup: int = SECOND) -> Counted:
+    """The lookups of all seeds that begin after the warm-up, by the program."""
     runs = program()
     ended = hops = timeouts = lost = wrong = 0
     for seed in SEEDS:
@@ -56,7 +66,7 @@ def counted(words: list[str]) -> Counted:
         with TemporaryDirectory() as folder:
             path = Path(folder) / "scenario.toml"
             path.write_text(text, encoding="utf-8")
-            task = Task("", text, None, 100 * SECOND, SECOND, 20 * SECOND, "")
+            task = Task("", text, None, 100 * SECOND, warmup, 20 * SECOND, "")
             numbers = result_of(task, runs, path, None)["numbers"]
         ended += numbers["judged-found"] + numbers["judged-lost"]
         hops += numbers["ended-hops"]
@@ -71,6 +81,13 @@ def after_failure(share: float, *more: str) -> Counted:
     """Lookups after a share of the nodes has failed. Without more arguments drop_silent is true."""
     crash = f"{max(100 * share, 0.01):g}%@1s"
     return counted(arguments("failure.toml", "--crash", crash, "--lookups", LOOKUPS[share], *more))
+
+
+@cache
+def under_churn(rate: float, *more: str) -> Counted:
+    """Lookups of half an hour while nodes join and crash at this rate, after ten minutes of it."""
+    words = ("--arrivals", f"{rate}/s", "--lifetime", f"exp:{996 / rate:.0f}s", "--duration", "2430s")
+    return counted(arguments("churn.toml", *words, *more), 600 * SECOND)
 
 
 class PublishedTablesTest(TestCase):
@@ -106,6 +123,35 @@ class PublishedTablesTest(TestCase):
         assert found.lost + found.wrong > found.ended // 10, found
         assert found.hops > 1.5 * other.hops, (found, other)
 
+    def test_churn(self) -> None:
+        """Hops within 0.2 of the published, no more failures, and fewer timeouts by a shorter rotation."""
+        for rate, (hops, timeouts, failures) in CHURN.items():
+            with self.subTest(rate=rate):
+                found = under_churn(rate, *SHORT)
+                assert found.ended > 3_300, found
+                assert abs(found.hops - hops) < 0.2, found
+                assert (found.lost + found.wrong) * 10_000 <= failures * found.ended, found
+                assert timeouts / 3 < found.timeouts < timeouts, found
+
+    def test_rotation(self) -> None:
+        """With nineteen fingers in the rotation timeouts are the published ones, within a fifth of them."""
+        hops, timeouts, failures = CHURN[0.4]
+        found = under_churn(0.4, *LONG)
+        assert abs(found.hops - hops) < 0.3 and abs(found.timeouts - timeouts) < timeouts / 5, found
+        assert (found.lost + found.wrong) * 10_000 <= failures * found.ended, found
+
+    def test_churn_without_the_rules(self) -> None:
+        """If owners are not asked, and newcomers do not ask successors, there are more failures than published."""
+        found = under_churn(0.4, *SHORT, "--no-ask-owner", "--no-join-asks")
+        assert (found.lost + found.wrong) * 10_000 > CHURN[0.4][2] * found.ended, found
+
+    def test_repair(self) -> None:
+        """Ten minutes after 40 % of the nodes have failed none is lost, all are right, and none meets a silent node."""
+        words = ("--list", "20", "--crash", "40%@60s", "--lookups", "0.01", "--duration", "980s", "--audit", "60s")
+        found = counted(arguments("repair.toml", *words), 660 * SECOND)
+        assert found.ended > 3_300, found
+        assert (found.timeouts, found.lost, found.wrong) == (0, 0, 0), found
+
     def test_path_length(self) -> None:
         """In rings that are just built, fingers alone need half of log2 N hops, less about a seventh of one."""
         for nodes, lookups in ((64, "0.03"), (512, "0.004")):
@@ -135,7 +181,7 @@ class PublishedPageTest(TestCase):
 
     def test_results(self) -> None:
         """They are those of their manifests, which name the study files as they are."""
-        for name in ("failure", "rules", "length", "circle"):
+        for name in ("failure", "rules", "churn", "churn_silent", "churn_rules", "repair", "length", "circle"):
             digests = json.loads((FOLDER / name / "manifest.json").read_text(encoding="utf-8"))["sha256"]
             for file in (FOLDER / f"{name}.toml", FOLDER / name / "runs.csv"):
                 assert hashlib.sha256(file.read_bytes()).hexdigest() == digests[file.name], file

@@ -48,7 +48,7 @@ def cases() -> Iterator[Case]:
 
 
 def expected(toml: str, csv: str) -> tuple[str, str | None]:
-    """The trace by the reference, and the report, or none where there are too many events."""
+    """The trace by the reference, and the report, or none if there are too many events."""
     simulation = Simulation(read_scenario(toml.encode(), csv.encode()))
     report = Report(simulation.scenario.profile)
     trace = []

@@ -279,7 +279,8 @@ SECOND: tuple[Change, ...] = (
 """The ring of three with one lookup in the second profile, one text replaced by another, and the result."""
 EXTENDED: tuple[Change, ...] = (
     ("seed = 1", "seed = 1\nloss_ppm = 0\nspread_us = 0\nretries = 0", GOOD),
-    ("list = 2", "list = 32", "S10 TooFewInitial"),
+    ("list = 2", "list = 32", GOOD),
+    ("initial = true", "initial = false", GOOD),
     ("list = 2", "list = 33", "S5 OutOfRange top list"),
     ("seed = 1", "seed = 1\nretries = 3", GOOD),
     ("seed = 1", "seed = 1\nretries = 4", "S5 OutOfRange top retries"),
@@ -303,6 +304,9 @@ EXTENDED: tuple[Change, ...] = (
     ("seed = 1", "seed = 1\ndrop_silent = 0", "S4 WrongType top drop_silent"),
     ("seed = 1", "seed = 1\nskip_near = 1\nlookup_timeouts = 65", "S4 WrongType top skip_near"),
     ("seed = 1", "seed = 1\nrandom_start = 1", "S4 WrongType top random_start"),
+    ("seed = 1", "seed = 1\nclean_lists = false\njoin_asks = false", GOOD),
+    ("seed = 1", "seed = 1\njoin_asks = 1\nclean_lists = 1", "S4 WrongType top clean_lists"),
+    ("profile = 4", "profile = 2\njoin_asks = true", "S2 UnknownKey top"),
     ("seed = 1", "seed = 1\nfinger_jitter_us = 1000000001", "S5 OutOfRange top finger_jitter_us"),
     ("seed = 1", "seed = 1\ncheck_jitter_us = -1\nstabilize_jitter_us = -1", "S5 OutOfRange top stabilize_jitter_us"),
     ("profile = 4", "profile = 2\ncheck_jitter_us = 0", "S2 UnknownKey top"),

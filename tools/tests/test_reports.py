@@ -8,8 +8,8 @@ from chordsim_tools.scenario.reading import read_scenario
 from tests.support.worlds import EXAMPLES
 
 QUICK = (
-    "ring", "check_predecessor", "half_crash", "join_storm", "churn64", "slow_repair", "lossy64", "retries64",
-    "deployed64", "coordinates64", "detail16",
+    "ring", "check_predecessor", "bootstrap_nodes", "half_crash", "join_storm", "churn64", "slow_repair", "lossy64",
+    "retries64", "deployed64", "coordinates64", "detail16",
 )
 
 

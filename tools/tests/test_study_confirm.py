@@ -132,6 +132,7 @@ class WorldOptionsTest(TestCase):
         """Lives, lookups, loss and nodes are the world's; lists, timers and retries are the protocol's."""
         for option in ("lifetime", "down", "nodes", "loss", "lookups", "churn-uniform", "stay", "coordinates", "group"):
             assert is_world(f"generate.--{option}", None), option
-        for option in ("list", "stabilize", "retries", "timeout", "bits", "join-pause"):
+        own = ("list", "stabilize", "retries", "timeout", "bits", "join-pause")
+        for option in (*own, "lookup-timeouts", "no-goes-on", "finger-jitter"):
             assert not is_world(f"generate.--{option}", None), option
         assert is_world("generate.--list", ["generate.--list"]) and not is_world("generate.--down", [])

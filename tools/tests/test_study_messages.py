@@ -15,8 +15,9 @@ from chordsim_tools.reference.report import Report
 from chordsim_tools.reference.simulation import Simulation
 from chordsim_tools.reference.state import Event
 from chordsim_tools.scenario.reading import Scenario, read_scenario
+from chordsim_tools.study.document import toml_text
 from chordsim_tools.study.estimates import GROUPS, MOST_ERROR, WITHIN, most_off
-from chordsim_tools.study.messages import Span, Traffic, exact, message_numbers
+from chordsim_tools.study.messages import OF_LOOKUPS, Span, Traffic, exact, message_numbers
 from chordsim_tools.study.repairs import Repairs
 from chordsim_tools.study.served import scope_of
 from chordsim_tools.study.task import events_before
@@ -54,6 +55,14 @@ class Watched(Simulation):
 
 def counted(text: str, warmup_us: int = 0, rows: bytes = b"") -> tuple[dict[str, int], dict[str, int]]:
     """The messages of each kind from a time on, as a study counts them and as the reference simulator makes them."""
+    numbers, made = numbers_of(text, warmup_us, rows)
+    return {kind: int(numbers[f"sent-{kind}"] or 0) for kind in MESSAGES}, made
+
+
+def numbers_of(
+    text: str, warmup_us: int = 0, rows: bytes = b""
+) -> tuple[dict[str, int | str | None], dict[str, int]]:
+    """What a row of runs.csv has of cost, and the messages of each kind as the reference simulator makes them."""
     scenario, top = read_scenario(text.encode(), rows), tomllib.loads(text)
     report = Report(scenario.profile)
     simulation = Watched(scenario, report, warmup_us)
@@ -70,8 +79,7 @@ def counted(text: str, warmup_us: int = 0, rows: bytes = b"") -> tuple[dict[str,
     repairs = Repairs(top, rows)
     begun = repairs.begun(reader.members, warmup_us, top["duration_us"])
     span = Span(top, simulation.events - before[0], reader.population, begun, repairs.skipped())
-    numbers = message_numbers(reader.traffic, span)
-    return {kind: int(numbers[f"sent-{kind}"] or 0) for kind in MESSAGES}, made
+    return message_numbers(reader.traffic, span), made
 
 
 def sent(simulation: Simulation, report: Report) -> dict[str, int]:
@@ -201,7 +209,7 @@ class StudyMessagesTest(TestCase):
 
     def test_names_that_are_words_of_detail(self) -> None:
         """Nodes that are called ask and send, and a part that begins before the warm-up."""
-        traffic = Traffic(scope_of({"duration_us": 100, "node": []}, 50, 10, 0))
+        traffic = Traffic(scope_of({"duration_us": 100, "node": [], "detail": True}, 50, 10, 0))
         part = (
             b"9 ask lookup 5\n9 send ask step ask call=3\n10 send timeout ask\n10 ask ask step send call=4\n"
             b"11 ask found 5 send hops=1 timeouts=0 us=2\n12 ask send notify ask\nevents 4\n"
@@ -214,15 +222,49 @@ class StudyMessagesTest(TestCase):
         """Six pieces of 15 us from 10 on. Read line by line or all at once, they have the same."""
         kinds = ["step", "ping"]
         lines = [f"{time} a ask {kinds[time % 2]} b call={time}\n".encode() for time in range(100)]
-        traffics = [Traffic(scope_of({"duration_us": 100, "node": []}, 50, 10, 0)) for _ in range(2)]
+        traffics = [Traffic(scope_of({"duration_us": 100, "node": [], "detail": True}, 50, 10, 0)) for _ in range(2)]
         assert [traffics[0].sift(line) for line in lines] == [b""] * 100 and traffics[1].sift(b"".join(lines)) == b""
         assert traffics[0].pieces == traffics[1].pieces and traffics[0].lines == traffics[1].lines
         assert [piece["ask step"] for piece in traffics[1].pieces] == [8, 7, 8, 7, 8, 7]
         assert traffics[1].lines["ask step"] == 45 and traffics[1].lines["ask ping"] == 45
 
+    def test_lookups_by_hand(self) -> None:
+        """A step to b; one to c, which is sent again and has no reply; one to b again; and one to d, the owner.
+
+        These are five requests, and three of four calls have a reply. A request of a finger is none of a lookup.
+        """
+        traffic = Traffic(scope_of({"duration_us": 300, "node": [], "detail": True}, 50, 0, 0))
+        of, of_finger = "key=5 since=100", "key=8 since=130"
+        lines = (
+            "100 a lookup 5", f"100 a ask step b call=1 {of}", f"120 a ask step c call=2 {of}",
+            f"130 a ask step b call=3 {of_finger}", "150 a again step c", f"150 a ask step c call=2 {of}",
+            "180 a timeout c", f"180 a ask step b call=4 {of}", f"200 a ask get-state d call=5 {of}",
+            "220 a found 5 d hops=1 timeouts=1 us=120", f"230 a ask step b call=6 {of}", "240 a ask get-state b call=7",
+        )
+        traffic.sift("".join(f"{line}\n" for line in lines).encode())
+        assert traffic.lines[OF_LOOKUPS] == 8
+        # Pieces of 50 us: from 100, 150 and 200 on.
+        assert [piece[OF_LOOKUPS] for piece in traffic.pieces] == [0, 0, 2, 2, 4, 0]
+        traffic.sift(f"250 e lookup 5\n250 e crash\n250 e ask step b call=9 {of.replace('100', '250')}\n".encode())
+        assert traffic.lines[OF_LOOKUPS] == 8
+
+    def test_run_of_lookups_alone(self) -> None:
+        """A fourth of the nodes crashes and nothing is repaired: all messages are of lookups, and none is upkeep.
+
+        Lookups begin from the crash on until 15 s, so that no crash and not the end cuts one off.
+        """
+        words = "--profile 4 --nodes 40 --crash 25%@1s --lookups 1 --lookup-gap none --stabilize 1000s --finger 1000s "
+        words += "--no-random-start --jitter 0 --duration 20s --retries 1 --detail"
+        top = tomllib.loads(ended(generate.main, *words.split())[1])
+        times = range(1_000_001, 15_000_000)
+        top["command"] = [one for one in top["command"] if one["do"] == "crash" or one["at_us"] in times]
+        numbers, made = numbers_of(toml_text(top))
+        assert numbers["messages"] == numbers["messages-lookups"] == sum(made.values()), (numbers, made)
+        assert made["step"] > made["step-reply"] and made["get-state"] > made["state-reply"] > 0, made
+
     def test_detail_after_a_warmup(self) -> None:
         """The lines from 10 on. A lost request has two lines, and another lost message has one."""
-        traffic = Traffic(scope_of({"duration_us": 100, "node": []}, 50, 10, 0))
+        traffic = Traffic(scope_of({"duration_us": 100, "node": [], "detail": True}, 50, 10, 0))
         for fields in map(str.split, (
             "9 a ask step b call=3", "10 a lose step b", "10 a ask step b call=3", "11 a again step b",
             "11 a ask step b call=3", "12 b send step-reply a", "13 b lose step-reply a", "14 b drop ping a",

@@ -220,6 +220,23 @@ class StudyRunTest(TestCase):
             text = (folder / "study" / "done" / "join_forever=false,seed=2.toml").read_text()
             assert "\njoin_forever = false\n" in text
 
+    def test_value_with_a_slash(self) -> None:
+        """A rate as 1/d can be varied. The files of such a run have a digest as their name."""
+        made = 'generate = ["--nodes", "16", "--duration", "20s"]'
+        rates = '"--arrivals" = ["0.00001/d", "0.00002/d"]'
+        study = STUDY.replace('base = "base.toml"', made).replace("list = [1, 2]", rates)
+        with study_folder(study) as folder:
+            status, _, told = called(folder)
+            assert status == 0, told
+            found = [row["generate.--arrivals"] for row in table(folder, "runs.csv")]
+            assert found == ["0.00001/d", "0.00001/d", "0.00002/d", "0.00002/d"]
+            names = [path.stem for path in (folder / "study" / "done").glob("*.json")]
+            assert len(names) == 4 and all(len(name) == 64 for name in names), names
+            assert called(folder)[0] == 0 and runs_called(folder) == 4
+            assert said("report", folder / "study")[0] == 0
+            page = (folder / "study" / "report.md").read_text()
+            assert sum(f"FOLDER/done/{name}.toml" in page for name in names) == 1
+
     def test_what_failed_is_told_and_what_was_done_is_kept(self) -> None:
         """The third run fails; the next call runs what is left, and the one after it nothing."""
         with study_folder() as folder:
@@ -386,7 +403,7 @@ class StudyRunTest(TestCase):
                 words = [str(chordsim), "run", "--scenario", str(folder / "one.toml"), "--serial"]
                 lines = subprocess.run(words, capture_output=True, text=True, check=True).stdout.splitlines()
                 report = dict(line.split(" ") for line in lines if not line[0].isdigit())
-                assert len(report) == 29 and {word: row[word] for word in report} == report
+                assert len(report) == 30 and {word: row[word] for word in report} == report
                 for column, word in (("again", "again"), ("forgotten", "forget")):
                     assert len([line for line in lines if line.split(" ")[2:3] == [word]]) == int(row[column])
                 assert (row["again"] == "0") == (row["retries"] == "0") and "0" not in (row["losses"], row["forgotten"])

@@ -198,6 +198,14 @@ class StudyTraceTest(TestCase):
         assert scope_of({"duration_us": 100, "join_forever": True}, 10, 0, 0).join_forever
         assert not scope_of({"duration_us": 100}, 10, 0, 0).join_forever
 
+    def test_nodes_that_make_rings(self) -> None:
+        """d is up, its timers run and it is a member from 100 on: 750 us of the others, and 150 us of d."""
+        for lines in (("100 d join d", "100 d create"), ("100 d join a", "100 d join-failed", "100 d create")):
+            one = reader(*lines)
+            numbers = one.numbers()
+            assert (numbers["up-us"], numbers["member-us"], sum(one.population.alive.sums)) == (900, 900, 900)
+            assert one.members.is_member("d")
+
     def test_scheduled_lookups(self) -> None:
         """A command to look up counts if its node is up, member or not."""
         lines = ("40 b stranded a", "50 b ignored lookup", "60 c crash", "70 c ignored lookup", "80 a lookup 5")

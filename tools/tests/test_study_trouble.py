@@ -7,6 +7,7 @@ from chordsim_tools.members import Members
 from chordsim_tools.reference.simulation import Simulation
 from chordsim_tools.reference.state import Event, Purpose, Status, Timeout
 from chordsim_tools.scenario.reading import read_scenario
+from chordsim_tools.study.asked import AskLines
 from chordsim_tools.study.page import page
 from chordsim_tools.study.trouble import Trouble
 from tests.support.studies import row, table_of, tables_of
@@ -20,6 +21,16 @@ def numbers_of(*lines: str, warmup_us: int = 0) -> list[int | str | None]:
     """What is counted in these lines; a, b and c are members, and a timeout takes 100 us."""
     trouble = Trouble(Members(IDENTS, ["a", "b", "c"]), {"timeout_us": 100}, warmup_us)
     for line in lines:
+        trouble.read(line)
+    return [trouble.numbers()[f"cost-{name}"] for name in NAMES]
+
+
+def with_detail(*lines: str) -> list[int | str | None]:
+    """The same of a run with detail."""
+    asked = AskLines()
+    trouble = Trouble(Members(IDENTS, ["a", "b", "c"]), {"timeout_us": 100}, 0, asked)
+    for line in lines:
+        asked.read(f"{line}\n".encode())
         trouble.read(line)
     return [trouble.numbers()[f"cost-{name}"] for name in NAMES]
 
@@ -58,30 +69,43 @@ class TroubleTest(TestCase):
         again = ("50 a lose get-state b", "150 a again get-state b", "160 b lose state-reply a", "250 a timeout b")
         assert numbers_of(*again) == [1, 1, 1, 1, 0, 0]
 
+    def test_owners(self) -> None:
+        """With detail a request to the owner of a key is known by its key: it removes no successor."""
+        lost, timeout = "50 a lose get-state b", "150 a timeout b"
+        assert with_detail(lost, "50 a ask get-state b call=7 key=5 since=40", timeout) == [1, 1, 0, 0, 0, 0]
+        assert with_detail(lost, "50 a ask get-state b call=7", timeout) == [1, 1, 1, 0, 0, 0]
+        assert with_detail(lost, "51 a ask get-state b call=7", "52 c ask step a call=3", timeout) == [1, 1, 0, 0, 0, 0]
+        assert with_detail("50 a ask get-state b call=7", "60 b lose state-reply a", timeout) == [1, 1, 1, 0, 0, 0]
+
     def test_as_the_reference_simulator_removes_them(self) -> None:
         """A tenth of the messages lost: the members that leave lists, with and without requests sent again.
 
         The rules of Chord as published are switched off: a member leaves a list only if it was asked for its state.
+        With detail it is the same if lookups ask the owner for its state too.
         """
         text = (EXAMPLES / "lossy64.toml").read_text().replace("duration_us = 120000000", "duration_us = 20000000")
         text = text.replace("loss_ppm = 20000", "loss_ppm = 100000").replace("profile = 2", "profile = 4")
         counts = []
-        for retries in (0, 1):
-            changed = text.replace("profile = 4", f"profile = 4\nretries = {retries}\n{SWITCHED_OFF}")
+        asks_owner = "detail = true\n" + SWITCHED_OFF.replace("ask_owner = false", "ask_owner = true")
+        for retries, more in ((0, SWITCHED_OFF), (1, SWITCHED_OFF), (0, asks_owner)):
+            changed = text.replace("profile = 4", f"profile = 4\nretries = {retries}\n{more}")
             scenario, top = read_scenario(changed.encode(), b""), tomllib.loads(changed)
             idents = {node.name: node.ident for node in scenario.nodes}
             members = Members(idents, [node.name for node in scenario.nodes if node.initial])
-            trouble, simulation = Trouble(members, top, 0), Removing(scenario)
+            asked = AskLines() if scenario.detail else None
+            trouble, simulation = Trouble(members, top, 0, asked), Removing(scenario)
             for line in simulation.lines():
                 _, name, word, *_ = line.split(" ")
                 if word == "member":
                     members.add(name)
                 elif word in ("crash", "stranded"):
                     members.remove(name)
+                if asked is not None:
+                    asked.read(f"{line}\n".encode())
                 trouble.read(line)
             assert trouble.removed == simulation.removed
             counts.append(simulation.removed)
-        assert counts[0] > 3 * counts[1] > 0
+        assert counts[0] > 3 * counts[1] > 0 and counts[2] > 0
 
     def test_table(self) -> None:
         """A third table, for each member and hour: the rows have 1,000 seconds of members.

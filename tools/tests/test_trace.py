@@ -173,6 +173,37 @@ class Nodes(TestCase):
         for line in ("10 a join-failed\n", "10 d join-failed\n"):
             self.assertRaises(Refused, run_of_text, line, forever)
 
+    def test_rings_that_nodes_make(self) -> None:
+        """d joins through itself, and b makes a ring when it is stranded. They are members, and counted."""
+        text = "".join(line + "\n" for line in (
+            "10 d join d", "10 d create", "20 b stranded b", "20 b create", "30 d crash", audit(500, 3), audit(1000, 3),
+        ))
+        run = run_of_text(text, SCENARIO.replace("profile = 1", "profile = 4"))
+        facts = summary(run)
+        self.assertEqual((facts["creates"], facts["joins"]["done"], facts["stranded"]["done"]), (2, 1, 1))
+        self.assertIn("rings made", "".join(summary_text(facts)))
+        self.assertEqual([run.history.lines.text(at) for at in range(2)], text.splitlines()[:2])
+        lives = [[(life.begin, life.end) for life in lives] for lives in run.history.lives]
+        self.assertEqual(lives, [[(0, None)], [(0, None)], [(0, None)], [(10, 30)]])
+        self.assertEqual(run_of_text(text + "creates 2\n").report, {"creates": 2})
+        self.assertRaisesRegex(Refused, "has `creates 1`, and the trace 2", run_of_text, text + "creates 1\n")
+        for line in ("10 d create", "10 a create", "10 d create d"):
+            self.assertRaises(Refused, run_of, line)
+        self.assertIsNone(facts_of("10 d join a")["creates"])
+
+    def test_rings_after_eight_failures(self) -> None:
+        """d has not failed, and is up all the time, also where joins end by failures."""
+        lines = ("10 d join a", "50 d join-failed", "50 d create", "70 d crash", audit(500, 3), audit(1000, 3))
+        text = "".join(line + "\n" for line in lines)
+        for forever in ("true", "false"):
+            run = run_of_text(text, SCENARIO.replace("profile = 1", f"profile = 4\njoin_forever = {forever}"))
+            joins = summary(run)["joins"]
+            self.assertEqual((joins["done"], joins["failed"], joins["times_us"]["p50"]), (1, 0, 40))
+            self.assertEqual([(life.begin, life.end) for life in run.history.lives[3]], [(10, 70)])
+        late = text.replace("50 d create", "60 d create")
+        ends = SCENARIO.replace("profile = 1", "profile = 4\njoin_forever = false")
+        self.assertRaisesRegex(Refused, "line 3 .*the node was down", run_of_text, late, ends)
+
     def test_forgotten_predecessors(self) -> None:
         """They are counted in the extended profile, and compared with the report. A line names one node."""
         text = "50 c timeout b\n50 c forget b\n" + "".join(audit(time, 3) + "\n" for time in (500, 1000))

@@ -96,11 +96,17 @@ class Commands(TestCase):
         self.assertIsNone(json.loads(self.trace("--json"))["report_of_lines"])
 
     def test_cut_trace_of_the_extended_profile(self) -> None:
-        """The three numbers that it has more."""
+        """The six numbers that it has more."""
         self.write("a.toml", SCENARIO.replace("profile = 1", "profile = 4"))
-        self.write("a.trace", "10 a lose step b\n50 a again step b\n90 a timeout b\n90 a forget b\n")
+        self.write("a.trace", "10 a lookup 5\n10 a lose step b\n50 a again step b\n90 a timeout b\n90 a forget b\n"
+                   "90 a rescue c\n100 a found 5 c hops=1 timeouts=1 us=90\n")
+        out = self.trace()
         self.assertIn("\n  losses          1\n  again           1, requests sent again\n"
-                      "  forgotten       1, predecessors that did not reply to a check\n", self.trace())
+                      "  forgotten       1, predecessors that did not reply to a check\n"
+                      "  rescues         1, members that took a finger as successor\n"
+                      "  creates         0, nodes that made a ring of their own\n"
+                      "  timeouts-sum    1 (1.00 a lookup), timeouts of found lookups\n", out)
+        self.assertRegex(out, r"\nrescues +1; members whose list had nobody else left took a finger\n")
 
     def test_tables(self) -> None:
         """By steps, by node, and the worst lookups."""
@@ -131,7 +137,7 @@ class Commands(TestCase):
         ):
             self.assertIn(line, out)
         self.assertIn("its asker crashed before it ended", self.trace("--lookup", "2"))
-        self.assertIn("it was lost after 0 answers and 9 timeouts", self.trace("--lookup", "3"))
+        self.assertIn("it was lost after 0 hops and 9 timeouts", self.trace("--lookup", "3"))
 
     def test_detail(self) -> None:
         """The summary has a table of messages behind it. The stories are printed one behind the other."""
@@ -143,9 +149,10 @@ class Commands(TestCase):
         self.assertRegex(kinds, r"\nall +6 +3 +2 +2 +0\n$")
         out = self.trace("--removed", "a", "--join", "a")
         self.assertTrue(out.startswith("a is stranded, and joins again at 0.00017 s, and still joins"))
-        self.assertIn("open when the trace ends\n\nsuccessors that a has removed because they did not reply: 2\n", out)
+        removed = "successors that a has removed because they did not send their state: 2"
+        self.assertIn(f"open when the trace ends\n\n{removed}\n", out)
         facts = json.loads(self.trace("--json", "--removed", "a"))
-        self.assertEqual(facts["removed"][0], "successors that a has removed because they did not reply: 2")
+        self.assertEqual(facts["removed"][0], removed)
         self.assertEqual(facts["messages"]["get-state"], {"made": 4, "lost": 2, "again": 2, "drops": 1, "late": 0})
 
     def test_json(self) -> None:

@@ -276,6 +276,29 @@ class Joins(TestCase):
         ])
         self.assertEqual(join_story(run, "d@10us"), story)
 
+    def test_first_successor(self) -> None:
+        """The successor that d has found is silent; the request is sent again, and lost. d tries again, and asks c."""
+        asks = (
+            "110 d ask get-state b call=11", "120 b drop get-state d",
+            "150 d again get-state b", "150 d lose get-state b", "150 d ask get-state b call=11",
+            "190 d timeout b", "230 d ask step a call=16", "240 a send step-reply d",
+            "250 d ask get-list a call=18", "260 a send list-reply d",
+            "270 d ask get-state c call=20", "280 c send state-reply d", "290 d member a", "290 d send notify c",
+        )
+        run = run_of("5 b crash", *JOIN[:-1], *asks)
+        told, calls = parted(join_story(run, "d")[2:])
+        self.assertEqual(told[-1], "  290 d member a")
+        self.assertIn("  150 d lose get-state b", told)
+        self.assertEqual(calls[3], "call 11, get-state to b, sent 2 times: dropped, lost; timeout after 0.00008 s")
+        self.assertEqual(calls[-1], "call 20, get-state to c, sent once: replied; reply after 0.00002 s")
+        # A node that joins has no successor that it could remove.
+        self.assertEqual(
+            removal_story(run, "d"), ["successors that d has removed because they did not send their state: 0"])
+        plain = [line for line in ("5 b crash", *JOIN[:-1], *asks) if line.split()[2] not in ("ask", "send", "drop")]
+        story = join_story(run_of(*plain, scenario=DETAIL.replace("detail = true", "detail = false")), "d")
+        self.assertEqual([line.split("  ")[-1] for line in story[2:-2]], [
+            "d join a", "d again step c", "d again get-state b", "d lose get-state b", "d timeout b", "d member a"])
+
     def test_pause(self) -> None:
         """c says after 20 that it knows nobody, or names a wrong list. After the pause of 70 d asks a again."""
         lines = ("10 d join a", "10 d ask step a call=3", "20 a send step-reply d", "100 d ask step a call=6",
@@ -322,7 +345,7 @@ class Removals(TestCase):
         """b is down, and the second request to it is lost. c is a member, whose request and reply are lost."""
         story = removal_story(run_of(*REMOVAL), "a")
         self.assertEqual([line for line in story if not line.startswith((" ", "|"))], [
-            "successors that a has removed because they did not reply: 2",
+            "successors that a has removed because they did not send their state: 2",
             "",
             "at 0.00009 s: b, which was down then (0.000015 s  b crash)",
             "call 4, get-state to b, sent 2 times: dropped, lost; timeout after 0.00008 s",
@@ -344,7 +367,7 @@ class Removals(TestCase):
 
     def test_none(self) -> None:
         """Timeouts of lookups remove nobody, and none does that of an owner that a lookup asks for its state."""
-        none = ["successors that a has removed because they did not reply: 0"]
+        none = ["successors that a has removed because they did not send their state: 0"]
         self.assertEqual(removal_story(run_of(*LOOKUP[:14], "190 d drop step a"), "a"), none)
         lines = [line.replace("step-reply", "state-reply").replace("step", "get-state") for line in LOOKUP[:14]]
         self.assertEqual(removal_story(run_of(*lines, "190 d drop get-state a"), "a"), none)

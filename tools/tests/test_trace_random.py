@@ -23,7 +23,7 @@ def right_answers(scenario: Scenario, text: str) -> tuple[int, int]:
     for fields in (line.split(" ") for line in text.splitlines() if " audit " not in line):
         time, members = int(fields[0]), states[-1][1]
         match fields[2]:
-            case "member":
+            case "member" | "create":
                 states.append((time, members | {fields[1]}))
             case "crash" | "stranded":
                 states.append((time, members - {fields[1]}))

@@ -66,6 +66,8 @@ pub enum Line {
     Rescue {
         finger: u32,
     },
+    /// A node makes a ring of its own.
+    Create,
     /// With detail: a request that this node sends for another purpose than a lookup, under the
     /// number of its call.
     Ask {

@@ -1,125 +1,25 @@
 -- The states that a run starts with meet the invariant.
-use Rattle.std.proofs.Common.{
-  ◌≡◌,
-  ⊎_elim,
-  ℕ,
-  zero,
-  suc,
-  ◌+◌,
-  ◌-◌,
-  ◌<◌,
-  ◌≤◌,
-  Bool,
-  true,
-  false,
-  cond,
-  List,
-  [],
-  ◌∷◌,
-  map,
-  length,
-  refl,
-  sym,
-  ap,
-  ◌∙◌,
-  subst,
-  arith,
-}
-use Rattle.std.specs.Prelude.{◌==◌, ◌^◌, Some, IfSome, IsSome, count_by, filter, find, nat_le, nat_lt, not, option_map, slice_get, unwrap_or}
+use Rattle.std.proofs.Common.{◌≡◌, ⊎_elim, ℕ, zero, suc, ◌-◌, ◌<◌, ◌≤◌, Bool, true, false, cond, List, [], ◌∷◌, map, length, refl, ap, subst, arith}
+use Rattle.std.specs.Prelude.{◌^◌, Option, Some, None, IfSome, find, nat_le, slice_get, take, unwrap_or}
+use Rattle.std.specs.Option.{option_or}
 use Rattle.std.specs.List.{All, Contains, range_with_len}
-use Rattle.std.proofs.lemmas.Bool.{ne_eqb}
-use Rattle.std.proofs.lemmas.Bool.Decides.{nat_tests}
 use Rattle.std.proofs.lemmas.List.{length-take}
 use Rattle.std.proofs.lemmas.List.FromFn.{length-map-range_with_len}
-use Rattle.std.proofs.lemmas.List.Elements.{All-take}
-use Rattle.std.proofs.lemmas.List.Sums.{length-filter}
+use Rattle.std.proofs.lemmas.List.Elements.{All-cons, All-take}
 use Rattle.chord_event.proofs.Members.{contains_none, contains_here, contains_there, contains_cons, All_from}
 use Rattle.chord_node.specs.declared.state.Status.TheVariants as status
 use Rattle.chord_node.specs.Invariant.{IsNodeState}
-use Rattle.chord_node.specs.Ring.{clockwise, finger, first_member, initial_state, never_up, others, put_by, sorted_by, way}
-use Rattle.chord_node.proofs.Rings.{clockwise-known, other-known, range-apart, filter-apart, timers-few}
+use Rattle.chord_node.specs.Ring.{clockwise, finger, first_member, first_met, first_via, initial_state, never_up, or_itself, others, way}
+use Rattle.chord_node.specs.Bootstraps.{first_bootstrap}
+use Rattle.chord_node.proofs.Found.{first_known}
+use Rattle.chord_node.proofs.Rings.{clockwise-known, other-known, timers-few}
 use Rattle.chord_node.proofs.RotationStart.{first_within}
-use Rattle.chord_node.proofs.Sorting.{AreApart}
 use Rattle.chord_ops.proofs.KeptRules.{no_calls, no_lookups, none_of}
 use Rattle.chord_scenario.specs.declared.scenario.Scenario.{Scenario}
-use Rattle.chord_scenario.specs.declared.setting.Node.{Node}
 use Rattle.chord_scenario.specs.Range.{IsInRange}
-use Rattle.chord_scenario.specs.Start.{initial_nodes, most_timers, timers}
+use Rattle.chord_scenario.specs.Start.{most_timers, timers}
 use Rattle.chord_scenario.specs.World.{is_initial, node_count}
 use Rattle.chord_machine.specs.Sound.{IsStateOf}
-
--- How many nodes there are at the start
-
-count_passing : (xs : List Node) (test : ℕ → Bool) (k : ℕ) → ((i : ℕ) → i < length xs
-    → test (k + i) ≡ unwrap_or (option_map (λ (n : Node). n.initial) (slice_get xs i)) false)
-    → length (filter (λ (n : Node). n.initial) xs) ≡ length (filter test (range_with_len k (length xs)))
-count_passing [] test k h = refl
-count_passing (x ∷ xs) test k h =
-    let first : k + 0 ≡ k = omega arith in
-    let here : test k ≡ x.initial = ap test (sym first) ∙ h 0 (omega arith) in
-    let next : (i : ℕ) → k + suc i ≡ k + 1 + i = λ i. omega arith in
-    go x.initial here (count_passing xs test (k + 1) (λ i l. ap test (sym (next i)) ∙ h (suc i) (omega (arith, l))))
-  where
-    passing : List Node
-    passing = filter (λ (n : Node). n.initial) xs
-
-    rest_of : List ℕ
-    rest_of = filter test (range_with_len (k + 1) (length xs))
-
-    go : (b : Bool) → test k ≡ b → length passing ≡ length rest_of → length (cond b (x ∷ passing) passing) ≡ length (cond (test k) (k ∷ rest_of) rest_of)
-    go true e rest = rw e (ap suc rest)
-    go false e rest = rw e rest
-
-pub initial-many : (sc : Scenario) → count_by (λ (n : Node). n.initial) sc.nodes ≡ length (initial_nodes sc)
-unfolding initial_nodes is_initial
-initial-many sc = sym (length-filter (λ (n : Node). n.initial) sc.nodes)
-    ∙ count_passing sc.nodes (is_initial sc) 0 (λ i l. let first : 0 + i ≡ i = omega arith in ap (is_initial sc) first)
-
--- without one element, at most one is missing
-kept_all : (p : ℕ → Bool) (xs : List ℕ) → ((x : ℕ) → Contains xs x → p x ≡ true) → length (filter p xs) ≡ length xs
-kept_all p [] h = refl
-kept_all p (x ∷ xs) h = rw (h x (contains_here x xs)) (ap suc (kept_all p xs (λ y c. h y (contains_there y x xs c))))
-
-all_but_one : (n : ℕ) (xs : List ℕ) → AreApart (λ x. x) xs → length xs ≤ length (filter (λ x. not (x == n)) xs) + 1
-all_but_one n [] apart = omega arith
-all_but_one n (x ∷ xs) apart = go (x == n) refl (all_but_one n xs apart.1)
-  where
-    go : (b : Bool) → (x == n) ≡ b → length xs ≤ length (filter (λ y. not (y == n)) xs) + 1
-        → length (x ∷ xs) ≤ length (cond (not b) (x ∷ filter (λ y. not (y == n)) xs) (filter (λ y. not (y == n)) xs)) + 1
-    go true e rest =
-        let same : x ≡ n = grind (arith, nat_tests) in
-        let whole : length (filter (λ y. not (y == n)) xs) ≡ length xs = kept_all (λ y. not (y == n)) xs
-        (λ y c. ap not (ne_eqb y n (λ q. apart.0 y c (same ∙ sym q)))) in
-        omega (arith, whole)
-    go false e rest = omega (arith, rest)
-
-others-many : (sc : Scenario) (n : ℕ) → IsInRange sc → sc.list ≤ length (others sc n)
-unfolding others initial_nodes
-others-many sc n ranges =
-    let all = initial-many sc in
-    omega (
-      arith,
-      all_but_one n (initial_nodes sc) (filter-apart (λ x. x) (is_initial sc) (range_with_len 0 (node_count sc))
-          (range-apart 0 (node_count sc))),
-      all,
-      ranges.nodes.initial,
-    )
-
-length-put_by : (measure : ℕ → ℕ) (x : ℕ) (ys : List ℕ) → length (put_by measure x ys) ≡ suc (length ys)
-length-put_by measure x [] = refl
-length-put_by measure x (y ∷ ys) = go (nat_lt (measure x) (measure y)) (length-put_by measure x ys)
-  where
-    go : (b : Bool) → length (put_by measure x ys) ≡ suc (length ys) → length (cond b (x ∷ (y ∷ ys)) (y ∷ put_by measure x ys)) ≡ suc (length (y ∷ ys))
-    go true rest = refl
-    go false rest = ap suc rest
-
-length-sorted_by : (measure : ℕ → ℕ) (xs : List ℕ) → length (sorted_by measure xs) ≡ length xs
-length-sorted_by measure [] = refl
-length-sorted_by measure (x ∷ xs) = length-put_by measure x (sorted_by measure xs) ∙ ap suc (length-sorted_by measure xs)
-
-clockwise-many : (sc : Scenario) (n : ℕ) → IsInRange sc → sc.list ≤ length (clockwise sc n)
-unfolding clockwise
-clockwise-many sc n ranges = omega (arith, length-sorted_by (way sc n) (others sc n), others-many sc n ranges)
 
 -- What the first states name is there
 
@@ -127,11 +27,6 @@ got : (P : ℕ → Type 0) (xs : List ℕ) (i : ℕ) → ((x : ℕ) → Contains
 got P [] i h = tt
 got P (x ∷ xs) zero h = h x (contains_here x xs)
 got P (x ∷ xs) (suc i) h = got P xs i (λ y c. h y (contains_there y x xs c))
-
-is_there : (xs : List ℕ) (i : ℕ) → i < length xs → IsSome (slice_get xs i)
-is_there [] i l = absurd (omega arith)
-is_there (x ∷ xs) zero l = refl
-is_there (x ∷ xs) (suc i) l = is_there xs i (omega (arith, l))
 
 found_or : (P : ℕ → Type 0) (test : ℕ → Bool) (xs : List ℕ) (n : ℕ) → P n → ((x : ℕ) → Contains xs x → P x) → P (unwrap_or (find test xs) n)
 found_or P test [] n here h = here
@@ -148,29 +43,61 @@ mapped P f xs h = All_from P (map f xs) (λ y c. go xs y c)
     go [] y c = absurd (contains_none y c)
     go (x ∷ xs) y c = ⊎_elim (λ e. subst P e (h x)) (λ r. go xs y r) (contains_cons y (f x) (map f xs) c)
 
+-- what is got, or node n itself
+got_or : (P : ℕ → Type 0) (xs : List ℕ) (i n : ℕ) → P n → ((x : ℕ) → Contains xs x → P x) → P (unwrap_or (slice_get xs i) n)
+got_or P [] i n own h = own
+got_or P (x ∷ xs) zero n own h = h x (contains_here x xs)
+got_or P (x ∷ xs) (suc i) n own h = got_or P xs i n own (λ y c. h y (contains_there y x xs c))
+
+abbrev Known : Scenario → ℕ → Type 0
+Known sc x = x < node_count sc
+
+via_is_known : (sc : Scenario) (n : ℕ) → IsInRange sc → n < node_count sc → first_via sc n < node_count sc
+via_is_known sc n ranges known =
+    by (first_bootstrap sc n) (slice_get (others sc n) 0) (first_known sc n ranges) (got (Known sc) (others sc n) 0 (other-known sc n))
+  where
+    by : (one other : Option ℕ) → IfSome one (Known sc) → IfSome other (Known sc) → unwrap_or (option_or one other) n < node_count sc
+    by (Some x) other h rest = h
+    by None (Some x) h rest = rest
+    by None None h rest = known
+
+-- a list or the node itself: at least one of the scenario's nodes, and no more than before
+record IsList (sc : Scenario) (xs : List ℕ) : Type 0 where
+  all : All (λ x. x < node_count sc) xs
+  some : 1 ≤ length xs
+  few : length xs ≤ sc.list
+
+or_itself-fits : (sc : Scenario) (n : ℕ) (xs : List ℕ) → IsInRange sc → n < node_count sc → All (λ x. x < node_count sc) xs → length xs ≤ sc.list
+    → IsList sc (or_itself n xs)
+or_itself-fits sc n [] ranges known all few = record {
+  all = All-cons (λ x. x < node_count sc) n [] known (none_of (λ x. x < node_count sc));
+  some = omega arith;
+  few = ranges.numbers.list_least;
+}
+or_itself-fits sc n (x ∷ xs) ranges known all few = record { all = all; some = omega arith; few = few }
+
 member-sound : (sc : Scenario) (n : ℕ) → IsInRange sc → n < node_count sc → IsNodeState sc (first_member sc n)
 unfolding first_member
 member-sound sc n ranges known =
-    let Known : ℕ → Type 0 = λ x. x < node_count sc in
-    let long : sc.list ≤ length (clockwise sc n) = clockwise-many sc n ranges in
-    let some = ranges.numbers.list_least in
-    let taken = length-take sc.list (clockwise sc n) in
+    let list = or_itself-fits sc n (take sc.list (clockwise sc n)) ranges known
+    (All-take (Known sc) sc.list (clockwise sc n) (All_from (Known sc) (clockwise sc n) (clockwise-known sc n)))
+    (omega (arith, length-take sc.list (clockwise sc n))) in
     let few = timers-few sc n in
     record {
       me = known;
       epoch = omega (arith, few.0);
-      next_finger = first_within sc n (slice_get (clockwise sc n) 0) ranges;
+      next_finger = first_within sc n (Some (first_met sc n)) ranges;
       neighbours = record {
-        via_known = got Known (others sc n) 0 (other-known sc n);
-        prdc_known = got Known (clockwise sc n) (length (clockwise sc n) - 1) (clockwise-known sc n);
-        succ_known = All-take Known sc.list (clockwise sc n) (All_from Known (clockwise sc n) (clockwise-known sc n));
-        fingers_known = mapped Known (finger sc n) (range_with_len 2 (sc.bits - 1))
-            (λ i. found_or Known (λ x. nat_le (2 ^ (i - 1)) (way sc n x)) (clockwise sc n) n known (clockwise-known sc n));
-        list = omega (arith, taken);
+        via_known = via_is_known sc n ranges known;
+        prdc_known = got_or (Known sc) (clockwise sc n) (length (clockwise sc n) - 1) n known (clockwise-known sc n);
+        succ_known = list.all;
+        fingers_known = mapped (Known sc) (finger sc n) (range_with_len 2 (sc.bits - 1))
+            (λ i. found_or (Known sc) (λ x. nat_le (2 ^ (i - 1)) (way sc n x)) (clockwise sc n) n known (clockwise-known sc n));
+        list = list.few;
       };
       status = record {
-        has_successor = omega (arith, taken, long, some);
-        has_via = is_there (others sc n) 0 (omega (arith, others-many sc n ranges, some));
+        has_successor = list.some;
+        has_via = refl;
         has_fingers = omega (arith, length-map-range_with_len (finger sc n) 2 (sc.bits - 1), ranges.numbers.bits_least);
       };
       attempt = tt;

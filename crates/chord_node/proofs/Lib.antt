@@ -1,6 +1,9 @@
+pub mod Found
 pub mod FingerStarts
+pub mod NearFingers
 pub mod Rings
 pub mod Rotations
 pub mod RotationStart
 pub mod Rounds
 pub mod Sorting
+pub mod Tried

@@ -1,44 +1,16 @@
 -- The nodes of a ring at the start, in the order in which they are met.
-use Rattle.std.proofs.Common.{
-  ◌≡◌,
-  ⊎_elim,
-  ℕ,
-  zero,
-  suc,
-  ◌+◌,
-  ◌<◌,
-  ◌≤◌,
-  Bool,
-  true,
-  false,
-  cond,
-  List,
-  [],
-  ◌∷◌,
-  ◌++◌,
-  map,
-  length,
-  get_or,
-  refl,
-  sym,
-  ap,
-  ◌∙◌,
-  subst,
-  arith,
-  add-one,
-}
+use Rattle.std.proofs.Common.{◌≡◌, ⊎_elim, ℕ, zero, suc, ◌+◌, ◌<◌, ◌≤◌, Bool, true, false, cond, List, [], ◌∷◌, ◌++◌, map, length, get_or, refl, sym, ap, ◌∙◌, subst, arith}
 use Rattle.std.specs.Prelude.{◌==◌, ◌-◌, Option, Some, None}
 use Rattle.std.proofs.lemmas.List.{map-append}
-use Rattle.std.proofs.Common.{append-nil}
 use Rattle.std.specs.List.{AllByRecursion, Contains, IsDistinct, filter, filter_map, range_with_len}
 use Rattle.std.proofs.lemmas.Bool.Decides.{nat_tests}
 use Rattle.std.proofs.lemmas.Map.Keys.{IsDistinct-IsPermutation, IsDistinct-tail, apart_from_distinct}
 use Rattle.std.proofs.lemmas.Bool.{ne_eqb}
 use Rattle.std.specs.List.Sorted.{IsNonDecreasingBy, IsPermutation}
-use Rattle.std.proofs.lemmas.List.Elements.{filter-append}
 use Rattle.std.proofs.lemmas.List.Sorted.{Contains-permutation, IsPermutation-sym, IsPermutation-map}
 use Rattle.chord_circle.proofs.Distance.{distance-injective}
 use Rattle.chord_event.proofs.Members.{contains_none, contains_here, contains_there, contains_cons, filter_contains}
+use Rattle.chord_scenario.proofs.Ranges.{range-more}
 use Rattle.chord_scenario.specs.declared.scenario.Scenario.{Scenario}
 use Rattle.chord_scenario.specs.Range.{IsInRange}
 use Rattle.chord_scenario.specs.Start.{initial_nodes, most_timers, timer_table, timers}
@@ -49,29 +21,6 @@ use Rattle.chord_node.specs.Ring.{clockwise, finger, others, sorted_by, way}
 use Rattle.chord_node.proofs.Sorting.{AreApart, IsAscending, same_ascending, sorted_by-ascends, sorted_by-contains, sorted_by-has}
 
 -- ranges
-
-pub range-more : (a n : ℕ) → range_with_len a (n + 1) ≡ range_with_len a n ++ (a + n) ∷ []
-range-more a n = rw add-one (go a n)
-  where
-    go : (a n : ℕ) → range_with_len a (suc n) ≡ range_with_len a n ++ (a + n) ∷ []
-    go a zero = let e : a + 0 ≡ a = omega arith in ap (λ (k : ℕ). k ∷ []) (sym e)
-    go a (suc n) = let e : a + 1 + n ≡ a + suc n = omega arith in ap (λ (ks : List ℕ). a ∷ ks)
-        (go (a + 1) n ∙ ap (λ (k : ℕ). range_with_len (a + 1) n ++ k ∷ []) e)
-
-pub filter-range_more : (p : ℕ → Bool) (n : ℕ) → filter p (range_with_len 0 (n + 1)) ≡ filter p (range_with_len 0 n) ++ cond (p n) (n ∷ []) []
-filter-range_more p n =
-    let e : 0 + n ≡ n = omega arith in
-    ap (filter p) (range-more 0 n ∙ ap (λ (k : ℕ). range_with_len 0 n ++ k ∷ []) e) ∙ filter-append p (range_with_len 0 n) (n ∷ [])
-
-pub filter-range_taken : (p : ℕ → Bool) (n : ℕ) (done : List ℕ) → p n ≡ true → done ≡ filter p (range_with_len 0 n)
-    → done ++ n ∷ [] ≡ filter p (range_with_len 0 (n + 1))
-filter-range_taken p n done holds h = (λ i. h i ++ n ∷ []) ∙ sym (filter-range_more p n
-    ∙ ap (λ (b : Bool). filter p (range_with_len 0 n) ++ cond b (n ∷ []) []) holds)
-
-pub filter-range_passed : (p : ℕ → Bool) (n : ℕ) (done : List ℕ) → p n ≡ false → done ≡ filter p (range_with_len 0 n)
-    → done ≡ filter p (range_with_len 0 (n + 1))
-filter-range_passed p n done fails h = h ∙ sym (filter-range_more p n ∙ ap (λ (b : Bool). filter p (range_with_len 0 n) ++ cond b (n ∷ []) []) fails
-    ∙ append-nil (filter p (range_with_len 0 n)))
 
 pub range-contains : (a n x : ℕ) → Contains (range_with_len a n) x → (a ≤ x) × (x < a + n)
 range-contains a zero x c = absurd (contains_none x c)

@@ -2,7 +2,7 @@
 use Rattle.std.proofs.Common.{◌≡◌, ℕ, ◌+◌, ◌-◌, ◌<◌, ◌≤◌, ◌&&◌, Bool, true, false, List, [], ◌∷◌, Option, Some, None, nat_le, refl, arith}
 use Rattle.std.proofs.lemmas.Bool.Decides.{nat_tests}
 use Rattle.std.specs.List.{Contains}
-use Rattle.std.specs.Prelude.{IfSome, slice_get, if◌then◌else◌}
+use Rattle.std.specs.Prelude.{slice_get, unwrap_or, if◌then◌else◌}
 use Rattle.chord_circle.proofs.Digits.{beyond_within}
 use Rattle.chord_scenario.specs.declared.scenario.Scenario.{Scenario}
 use Rattle.chord_scenario.proofs.FirstFingers.{finger_below}
@@ -10,7 +10,7 @@ use Rattle.chord_scenario.specs.Draws.{finger_number}
 use Rattle.chord_scenario.specs.Range.{IsInRange}
 use Rattle.chord_event.proofs.Members.{contains_here}
 use Rattle.chord_scenario.specs.World.{ident_of, node_count}
-use Rattle.chord_node.specs.Ring.{clockwise}
+use Rattle.chord_node.specs.Ring.{clockwise, first_met}
 use Rattle.chord_node.proofs.Rings.{clockwise-known}
 use Rattle.chord_node.specs.Rotation.{first_beyond, first_looked_up, rotation_start}
 
@@ -52,9 +52,9 @@ first_within sc n head ranges = by sc.rules.random_start (nat_le start sc.bits) 
         (omega (arith, is.least), omega (arith, below))
 
 -- the first member that is met is the scenario's
-pub first-known : (sc : Scenario) (n : ℕ) → IfSome (slice_get (clockwise sc n) 0) (λ x. x < node_count sc)
-first-known sc n = by (clockwise sc n) (clockwise-known sc n)
+pub first_met-known : (sc : Scenario) (n : ℕ) → n < node_count sc → first_met sc n < node_count sc
+first_met-known sc n own = by (clockwise sc n) (clockwise-known sc n)
   where
-    by : (xs : List ℕ) → ((x : ℕ) → Contains xs x → x < node_count sc) → IfSome (slice_get xs 0) (λ x. x < node_count sc)
-    by [] known = tt
+    by : (xs : List ℕ) → ((x : ℕ) → Contains xs x → x < node_count sc) → unwrap_or (slice_get xs 0) n < node_count sc
+    by [] known = own
     by (x ∷ xs) known = known x (contains_here x xs)

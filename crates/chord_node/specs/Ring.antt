@@ -1,10 +1,12 @@
 -- The states that a run starts with: the nodes that are members at the start know the ring, all others are down.
-use Rattle.std.specs.Prelude.{ℕ, ◌==◌, ◌-◌, ◌^◌, not, nat_le, nat_lt, List, [], ◌∷◌, None, filter, find, length, map, slice_get, take, unwrap_or, if◌then◌else◌}
+use Rattle.std.specs.Prelude.{ℕ, ◌==◌, ◌-◌, ◌^◌, not, nat_le, nat_lt, List, [], ◌∷◌, None, Some, filter, find, length, map, slice_get, take, unwrap_or, if◌then◌else◌}
 use Rattle.std.specs.List.{range_with_len}
+use Rattle.std.specs.Option.{option_or}
 use Rattle.chord_circle.specs.Circle.{distance}
 use Rattle.chord_scenario.specs.declared.scenario.Scenario.{Scenario}
 use Rattle.chord_scenario.specs.Start.{initial_nodes, timers}
 use Rattle.chord_scenario.specs.World.{ident_of, is_initial, node_count}
+use Rattle.chord_node.specs.Bootstraps.{first_bootstrap}
 use Rattle.chord_node.specs.Rotation.{first_looked_up}
 use Rattle.chord_node.specs.declared.state.NodeState.{NodeState}
 use Rattle.chord_node.specs.declared.state.Status.TheVariants as status
@@ -38,17 +40,34 @@ first_at sc n least met = unwrap_or (find (λ x. nat_le least (way sc n x)) met)
 abbrev pub finger : Scenario → (n i : ℕ) → ℕ
 finger sc n i = first_at sc n (2 ^ (i - 1)) (clockwise sc n)
 
+-- the node through which a member of the ring at the start would join: the first bootstrap node, or else the first other
+-- member, or else itself
+abbrev pub first_via : Scenario → (n : ℕ) → ℕ
+first_via sc n = unwrap_or (option_or (first_bootstrap sc n) (slice_get (others sc n) 0)) n
+
+-- the first of the nodes that are met clockwise, and the last one: node n itself if it is the only member
+abbrev pub first_met : Scenario → (n : ℕ) → ℕ
+first_met sc n = unwrap_or (slice_get (clockwise sc n) 0) n
+
+abbrev pub last_met : Scenario → (n : ℕ) → ℕ
+last_met sc n = unwrap_or (slice_get (clockwise sc n) (length (clockwise sc n) - 1)) n
+
+-- a list, or one of node n alone if that is empty
+abbrev pub or_itself : (n : ℕ) → List ℕ → List ℕ
+or_itself n [] = n ∷ []
+or_itself n xs = xs
+
 -- a member of the ring at the start: its timers are set, and it knows its neighbours and fingers
 unfoldable pub first_member : Scenario → (n : ℕ) → NodeState
 first_member sc n = record {
   me = n;
   status = status.Member;
   epoch = 1;
-  via = slice_get (others sc n) 0;
-  prdc = slice_get (clockwise sc n) (length (clockwise sc n) - 1);
-  succ = take sc.list (clockwise sc n);
+  via = Some (first_via sc n);
+  prdc = Some (last_met sc n);
+  succ = or_itself n (take sc.list (clockwise sc n));
   fingers = map (finger sc n) (range_with_len 2 (sc.bits - 1));
-  next_finger = first_looked_up sc n (slice_get (clockwise sc n) 0);
+  next_finger = first_looked_up sc n (Some (first_met sc n));
   calls = [];
   lookups = [];
   join = None;

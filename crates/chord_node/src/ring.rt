@@ -1,12 +1,14 @@
 //! The states of the nodes at the start of a run.
-ghost use Rattle.std.specs.Prelude.{◌≡◌, ℕ, true, ◌==◌, ◌+◌, ◌-◌, ◌^◌, ◌<◌, ◌≤◌, not, find, length, map, slice_get, take, All, IfOk, OnOk};
+ghost use Rattle.std.specs.Prelude.{◌≡◌, ℕ, true, unwrap_or, ◌+◌, ◌-◌, ◌^◌, ◌<◌, ◌≤◌, length, map, slice_get, take, All, IfOk, OnOk};
 ghost use Rattle.std.specs.List.{range_with_len, AllWithin};
 ghost use Rattle.std.specs.List.Sorted.{IsNonDecreasingBy, IsPermutation};
 ghost use Rattle.chord_scenario.specs.Start.{initial_nodes, timers};
 ghost use Rattle.chord_scenario.specs.World.{ident_of, is_initial, node_count};
 ghost use Rattle.chord_node.specs.Places.{placed, ring, successor, two_rounds};
-ghost use Rattle.chord_node.specs.Ring.{clockwise, finger, first_member, initial_ring, initial_state};
+ghost use Rattle.chord_node.specs.Ring.{clockwise, finger, first_member, first_via, initial_ring, initial_state, or_itself};
 
+use crate::bootstraps::first_bootstrap;
+use crate::lists::{first_other, push_if_empty};
 use crate::rotation::first_looked_up;
 use crate::state::{NodeState, Status};
 use chord_circle::Raw;
@@ -111,11 +113,16 @@ fn successor(scenario: &Scenario, rounds: &[Place], start: Raw) -> u32
     rounds[count_before(scenario, rounds, start)].node
 }
 
-/// The first of the nodes that is not this one.
-fn other_node(nodes: &[u32], node: u32) -> Option<u32>
-    ensures { result ≡ find (λ x. not (x == node)) nodes.now }
+/// The node through which a member would join: the first bootstrap node, or else the first other
+/// member, or else itself.
+fn first_via(scenario: &Scenario, nodes: &[u32], node: u32) -> u32
+    requires { nodes.now ≡ initial_nodes scenario.now }
+    ensures { result ≡ first_via scenario.now node }
 {
-    nodes.iter().copied().find(|other| *other != node)
+    match first_bootstrap(scenario, node) {
+        Some(via) => via,
+        None => first_other(nodes, node).unwrap_or(node),
+    }
 }
 
 /// The nodes, without their identifiers.
@@ -129,24 +136,33 @@ fn nodes_of(alloc: Global, places: &[Place]) -> Result<Listed<u32>, Memory>
     Ok(nodes)
 }
 
-/// The node that is met first.
-fn first_node(met: &[Place]) -> Option<u32>
-    ensures { result ≡ slice_get (map (λ p. p.node) met.now) 0 }
+/// The node that is met first, and the node itself if it meets nobody.
+fn first_node(met: &[Place], node: u32) -> u32
+    ensures { result ≡ unwrap_or (slice_get (map (λ p. p.node) met.now) 0) node }
 {
     match met.first() {
-        Some(place) => Some(place.node),
-        None => None,
+        Some(place) => place.node,
+        None => node,
     }
 }
 
-/// The node that is met last.
-fn last_node(met: &[Place]) -> Option<u32>
-    ensures { result ≡ slice_get (map (λ p. p.node) met.now) (length (map (λ p. p.node) met.now) - 1) }
+/// The node that is met last, and the node itself if it meets nobody.
+fn last_node(met: &[Place], node: u32) -> u32
+    ensures { result ≡ unwrap_or (slice_get (map (λ p. p.node) met.now) (length (map (λ p. p.node) met.now) - 1)) node }
 {
     match met.last() {
-        Some(place) => Some(place.node),
-        None => None,
+        Some(place) => place.node,
+        None => node,
     }
+}
+
+/// The nodes, or the node itself if there are none.
+fn nodes_or_itself(alloc: Global, places: &[Place], node: u32) -> Result<Listed<u32>, Memory>
+    ensures { IfOk result (λ nodes. nodes ≡ or_itself node (map (λ p. p.node) places.now)) }
+{
+    let mut nodes = nodes_of(alloc, places)?;
+    push_if_empty(&mut nodes, node)?;
+    Ok(nodes)
 }
 
 /// The fingers of a member from the second on.
@@ -213,11 +229,11 @@ fn first_member(
         me: node,
         status: Status::Member,
         epoch: 1,
-        via: other_node(nodes, node),
-        prdc: last_node(met),
-        succ: nodes_of(alloc, &met[..most])?,
+        via: Some(first_via(scenario, nodes, node)),
+        prdc: Some(last_node(met, node)),
+        succ: nodes_or_itself(alloc, &met[..most], node)?,
         fingers: fingers(alloc, scenario, rounds, node)?,
-        next_finger: first_looked_up(scenario, node, first_node(met)),
+        next_finger: first_looked_up(scenario, node, Some(first_node(met, node))),
         calls: Listed::new(alloc),
         lookups: Listed::new(alloc),
         join: None,

@@ -16,7 +16,7 @@ use Rattle.chord_node.specs.Invariant.{
   AreMatched,
   IsCall,
   IsPurposeOf,
-  NamesNotifier,
+  NamesKnown,
   asking,
   calls_for,
   is_for_join,
@@ -78,7 +78,7 @@ calls_again sc status count more number calls call again found le own same_to sa
           All-push (IsCall sc) (rest number calls) again others.each
           (record {
             to = omega (arith, is.to, same_to);
-            notifier = subst (NamesNotifier sc) (sym same_purpose) is.notifier;
+            named = subst (NamesKnown sc) (sym same_purpose) is.named;
           });
       numbers = All-push (λ (c : Call). c.number ≤ more) (rest number calls) again others.numbers (omega (arith, own, is_number, old_number, le));
       distinct =

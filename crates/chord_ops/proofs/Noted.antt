@@ -41,6 +41,7 @@ pub record Knows (sc : Scenario) (me : ℕ) (via prdc : Option ℕ) (succ finger
   pub prdc_known : IfSome prdc (λ node. node < node_count sc)
   pub succ_known : AllNodes sc succ
   pub fingers_known : AllNodes sc fingers
+  pub bootstraps : AllNodes sc sc.bootstraps
 
 abbrev pub KnowsNodes : Scenario → NodeState → Type 0
 KnowsNodes sc s = Knows sc s.me s.via s.prdc s.succ s.fingers

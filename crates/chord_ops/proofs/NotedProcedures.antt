@@ -31,6 +31,7 @@ use Rattle.chord_ops.specs.Procedures.{
   lookup_request,
   lookup_resumed,
   past,
+  created,
   gone_down,
   lookup_failed,
   lookup_finished,
@@ -39,18 +40,23 @@ use Rattle.chord_ops.specs.Procedures.{
   for_attempt,
   fresh_lookup,
   fresh_attempt,
+  is_founder,
+  join_begun,
   join_ended,
+  join_given_up,
   join_failed,
   join_paused,
   join_retried,
   row_armed,
   rows_armed,
   lost_line,
+  other_via,
   own_step,
   rise_armed,
   risen,
   stranded,
   stranded_lines,
+  via_moved,
   traffic_armed,
   came_up,
   user_lookup,
@@ -65,6 +71,7 @@ use Rattle.chord_ops.specs.Search.{NamesNode, step_answer}
 use Rattle.chord_ops.specs.Turns.{called, noted, timer_made}
 use Rattle.chord_ops.proofs.Growing.{known}
 use Rattle.chord_ops.proofs.Found.{at_index_known}
+use Rattle.chord_ops.proofs.Vias.{moved_known, other_known}
 use Rattle.chord_ops.proofs.KeptTurns.{last_known, step_answer_names}
 use Rattle.chord_ops.proofs.Noted.{
   HasNoted,
@@ -220,14 +227,27 @@ noted_with_lookup sc P n number step turn noted all h =
 
 -- Joins
 
+-- a ring of one leaves a line
+noted_created : (sc : Scenario) (n : ℕ) (turn : Turn) → HasNoted sc n turn → HasNoted sc (n + 1) (created sc turn)
+unfolding created
+noted_created sc n turn h = noted_line sc n line.Create turn (no_node sc) h
+
+noted_join_begun : (sc : Scenario) (n : ℕ) (avoid : List ℕ) (via : ℕ) (turn : Turn) → via < node_count sc → HasNoted sc n turn
+    → HasNoted sc (n + 1) (join_begun sc avoid via turn)
+unfolding join_begun
+noted_join_begun sc n avoid via turn at h =
+    noted_if sc (n + 1) (via == turn.state.me) _ _
+    (noted_created sc n turn h)
+    (noted_called sc n via (own_step sc avoid turn.state) purpose.JoinStep turn at h)
+
 pub noted_came_up : (sc : Scenario) (n via : ℕ) (turn : Turn) → via < node_count sc → HasNoted sc n turn → HasNoted sc (n + 1 + 1) (came_up sc via turn)
 unfolding came_up
 noted_came_up sc n via turn at h =
     let up : Turn = record (noted (line.Join via) turn) { state = risen via turn.state } in
-    noted_called sc (n + 1) via (own_step sc [] turn.state) purpose.JoinStep (armed sc up) at
+    noted_join_begun sc (n + 1) [] via (armed sc up) at
     (noted_armed sc (n + 1) up (noted_line sc n (line.Join via) turn (one_node sc via at) h))
 
-pub noted_gone_down : (sc : Scenario) (n : ℕ) (turn : Turn) → HasNoted sc n turn → HasNoted sc n (gone_down turn)
+pub noted_gone_down : (sc : Scenario) (n : ℕ) (turn : Turn) → HasNoted sc n turn → HasNoted sc n (gone_down sc turn)
 noted_gone_down sc n turn h = notes_cleared sc n turn.lines turn.state.lookups h
 
 pub noted_join_retried : (sc : Scenario) (n : ℕ) (attempt : Attempt) (turn : Turn) → KnowsNodes sc turn.state → HasNoted sc n turn
@@ -236,7 +256,7 @@ unfolding join_retried
 noted_join_retried sc n attempt turn knows h =
     let kept : Turn = with_attempt (record attempt { steps = 0 }) turn in
     noted_when_some sc (n + 1) (λ via. via < node_count sc) turn.state.via _ kept knows.via_known (one_more sc n h)
-    (λ via at. noted_called sc n via (own_step sc attempt.avoid turn.state) purpose.JoinStep kept at h)
+    (λ via at. noted_join_begun sc n attempt.avoid via kept at h)
 
 noted_join_paused : (sc : Scenario) (n pause : ℕ) (attempt : Attempt) (turn : Turn) → KnowsNodes sc turn.state → HasNoted sc n turn
     → HasNoted sc (n + 1) (join_paused sc pause attempt turn)
@@ -244,22 +264,37 @@ unfolding join_paused
 noted_join_paused sc n pause attempt turn knows h =
     noted_if sc (n + 1) (pause == 0) _ _ (noted_join_retried sc n attempt turn knows h) (one_more sc n h)
 
-noted_join_ended : (sc : Scenario) (n : ℕ) (turn : Turn) → KnowsNodes sc turn.state → HasNoted sc n turn → HasNoted sc (n + 1 + 1) (join_ended sc turn)
+noted_join_given_up : (sc : Scenario) (n : ℕ) (turn : Turn) → KnowsNodes sc turn.state → HasNoted sc n turn → HasNoted sc (n + 1) (join_given_up sc turn)
+unfolding join_given_up
+noted_join_given_up sc n turn knows h =
+    noted_if sc (n + 1) sc.join_forever _ _
+    (noted_join_paused sc n ((most_failures + 1) * sc.join_pause) fresh_attempt turn knows h)
+    (one_more sc n (noted_rise_armed sc n (gone_down sc turn) (noted_gone_down sc n turn h)))
+
+noted_join_ended : (sc : Scenario) (n : ℕ) (attempt : Attempt) (turn : Turn) → KnowsNodes sc turn.state → HasNoted sc n turn
+    → HasNoted sc (n + 1 + 1) (join_ended sc attempt turn)
 unfolding join_ended
-noted_join_ended sc n turn knows h =
+noted_join_ended sc n attempt turn knows h =
     let ended : HasNoted sc (n + 1) (noted line.JoinFailed turn) = noted_line sc n line.JoinFailed turn (no_node sc) h in
-    noted_if sc (n + 1 + 1) sc.join_forever _ _
-    (noted_join_paused sc (n + 1) ((most_failures + 1) * sc.join_pause) fresh_attempt (noted line.JoinFailed turn) knows ended)
-    (one_more sc (n + 1) (noted_rise_armed sc (n + 1) (gone_down (noted line.JoinFailed turn))
-    (noted_gone_down sc (n + 1) (noted line.JoinFailed turn) ended)))
+    noted_if sc (n + 1 + 1) (is_founder sc turn.state.me attempt) _ _
+    (noted_created sc (n + 1) (noted line.JoinFailed turn) ended)
+    (noted_join_given_up sc (n + 1) (noted line.JoinFailed turn) knows ended)
 
 pub noted_join_failed : (sc : Scenario) (n : ℕ) (attempt : Attempt) (turn : Turn) → KnowsNodes sc turn.state → HasNoted sc n turn
     → HasNoted sc (n + 1 + 1) (join_failed sc attempt turn)
 unfolding join_failed
 noted_join_failed sc n attempt turn knows h =
+    let moved : KnowsNodes sc (via_moved sc turn).state = record {
+      own = knows.own;
+      via_known = moved_known sc knows.bootstraps turn.state.me turn.state.via knows.via_known;
+      prdc_known = knows.prdc_known;
+      succ_known = knows.succ_known;
+      fingers_known = knows.fingers_known;
+      bootstraps = knows.bootstraps;
+    } in
     noted_if sc (n + 1 + 1) (nat_lt attempt.failures most_failures) _ _
-    (one_more sc (n + 1) (noted_join_paused sc n sc.join_pause (record attempt { failures = attempt.failures + 1 }) turn knows h))
-    (noted_join_ended sc n turn knows h)
+    (one_more sc (n + 1) (noted_join_paused sc n sc.join_pause (record attempt { failures = attempt.failures + 1 }) (via_moved sc turn) moved h))
+    (noted_join_ended sc n attempt (via_moved sc turn) moved h)
 
 -- the step with the attempt to join, which was taken out
 pub noted_for_attempt : (sc : Scenario) (n : ℕ) (step : Attempt → Turn → Turn) (turn : Turn)
@@ -271,21 +306,24 @@ noted_for_attempt sc n step turn noted h =
     (two_more sc n h) (λ attempt _. noted attempt)
 
 -- each abandoned lookup leaves its line
-pub noted_stranded : (sc : Scenario) (n via : ℕ) (turn : Turn) → via < node_count sc → HasNoted sc n turn → HasNoted sc (n + 1 + 1) (stranded sc via turn)
+pub noted_stranded : (sc : Scenario) (n via : ℕ) (turn : Turn) → via < node_count sc → KnowsNodes sc turn.state → HasNoted sc n turn
+    → HasNoted sc (n + 1 + 1) (stranded sc via turn)
 unfolding stranded
-noted_stranded sc n via turn at h =
-    let left : Turn = record turn { state = alone turn.state; lines = turn.lines ++ stranded_lines via turn.time turn.state.lookups } in
-    noted_called sc (n + 1) via (own_step sc [] turn.state) purpose.JoinStep left at
+noted_stranded sc n via turn at knows h =
+    let next : ℕ = other_via sc turn.state.me via in
+    let known : next < node_count sc = other_known sc knows.bootstraps turn.state.me via at in
+    let left : Turn = record turn { state = alone next turn.state; lines = turn.lines ++ stranded_lines next turn.time turn.state.lookups } in
+    noted_join_begun sc (n + 1) [] next left known
     (record {
       named =
           All-append (IsLineOf sc) turn.lines _ h.named
-          (All-cons (IsLineOf sc) (line.Stranded via) (filter_map (lost_line turn.time) turn.state.lookups)
-          (one_node sc via at) (all_lost sc turn.time turn.state.lookups));
+          (All-cons (IsLineOf sc) (line.Stranded next) (filter_map (lost_line turn.time) turn.state.lookups)
+          (one_node sc next known) (all_lost sc turn.time turn.state.lookups));
       few =
           omega (
             arith,
             h.few,
-            length-append turn.lines (line.Stranded via ∷ filter_map (lost_line turn.time) turn.state.lookups),
+            length-append turn.lines (line.Stranded next ∷ filter_map (lost_line turn.time) turn.state.lookups),
             few_lost turn.time turn.state.lookups,
           );
     })

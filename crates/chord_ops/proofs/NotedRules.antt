@@ -1,6 +1,6 @@
 -- Each row of the rule table leaves lines of the scenario's nodes, and no more than a block has room for.
 use Rattle.std.proofs.Common.{◌==◌, ℕ, ◌+◌, ◌-◌, ◌<◌, ◌≤◌, ◌&&◌, ◌||◌, not, List, [], ◌∷◌, ◌++◌, drop, length, map, max, nat_lt, replicate, Option, Some, None, refl, arith, ap}
-use Rattle.std.proofs.lemmas.List.Elements.{All-append, All-cons, All-drop, All-replicate, All-take}
+use Rattle.std.proofs.lemmas.List.Elements.{All-append, All-cons, All-drop, All-head, All-replicate, All-take}
 use Rattle.std.proofs.lemmas.List.Filters.{length-filter_both}
 use Rattle.std.proofs.lemmas.List.Sums.{length-filter}
 use Rattle.std.specs.List.{All}
@@ -24,7 +24,7 @@ use Rattle.chord_node.specs.declared.state.Lookup.{Lookup}
 use Rattle.chord_node.specs.declared.state.NodeState.{NodeState}
 use Rattle.chord_node.specs.declared.state.Purpose.{Purpose}
 use Rattle.chord_node.specs.declared.state.Purpose.TheVariants as purpose
-use Rattle.chord_node.specs.Invariant.{AllNodes, AreLookups, IsCall, IsNodeState, is_user}
+use Rattle.chord_node.specs.Invariant.{AllNodes, AreLookups, IsCall, IsNodeState, NamesKnown, is_user}
 use Rattle.chord_scenario.specs.Blocks.{IsBlockOf, IsLineOf, most_lines}
 use Rattle.chord_node.specs.Limits.{most_steps}
 use Rattle.chord_scenario.specs.Range.{IsInRange}
@@ -70,7 +70,11 @@ use Rattle.chord_ops.specs.Rules.{
   join_list_answered,
   join_list_taken,
   join_timed_out,
+  cleaned,
+  head_met,
+  heard,
   joined,
+  place_found,
   key_words,
   life_end,
   list_answered,
@@ -132,6 +136,7 @@ use Rattle.chord_ops.proofs.Answered.{IfSome-answered_call}
 use Rattle.chord_ops.proofs.Found.{IfSome-find}
 use Rattle.chord_ops.proofs.Growing.{known}
 use Rattle.chord_ops.proofs.Dropped.{list_known, put_known, rescuer_known}
+use Rattle.chord_ops.proofs.KeptJoins.{cleaned_known}
 use Rattle.chord_ops.proofs.KeptRules.{arrived_last, first_known, none_of}
 use Rattle.chord_ops.proofs.Noted.{
   AreNotes,
@@ -180,7 +185,7 @@ noted_cmd_join sc n via turn at h =
     (one_more sc (n + 1) (noted_line sc n (line.Ignored command.Join) turn (no_node sc) h))
     (noted_came_up sc n via turn at h)
 
-noted_cmd_crash : (sc : Scenario) (n : ℕ) (turn : Turn) → HasNoted sc n turn → HasNoted sc (n + 1) (cmd_crash turn)
+noted_cmd_crash : (sc : Scenario) (n : ℕ) (turn : Turn) → HasNoted sc n turn → HasNoted sc (n + 1) (cmd_crash sc turn)
 unfolding cmd_crash
 noted_cmd_crash sc n turn h =
     noted_if sc (n + 1) (is_down turn.state) _ _
@@ -259,6 +264,7 @@ knows_near_covered sc first turn knows = by (head turn.state) (first_known sc tu
           All-append (λ x. x < node_count sc) (replicate (first - 2) node) (drop (first - 2) turn.state.fingers)
           (All-replicate (λ x. x < node_count sc) (first - 2) node known)
           (All-drop (λ x. x < node_count sc) (first - 2) turn.state.fingers knows.fingers_known);
+      bootstraps = knows.bootstraps;
     }
 
 noted_near_covered : (sc : Scenario) (n first : ℕ) (turn : Turn) → HasNoted sc n turn → HasNoted sc n (near_covered first turn)
@@ -303,7 +309,7 @@ unfolding life_end
 noted_life_end sc n epoch turn h =
     noted_if sc (n + 1) (is_void epoch turn.state || not (is_churn_node sc turn.state.me)) turn _
     (one_more sc n h)
-    (noted_rise_armed sc (n + 1) (gone_down (noted line.Crash turn))
+    (noted_rise_armed sc (n + 1) (gone_down sc (noted line.Crash turn))
     (noted_gone_down sc (n + 1) (noted line.Crash turn) (noted_line sc n line.Crash turn (no_node sc) h)))
 
 -- Timeouts
@@ -324,23 +330,32 @@ noted_join_timed_out sc n silent turn knows h =
     noted_for_attempt sc n _ turn
     (λ attempt. noted_join_failed sc n (avoiding silent turn.state attempt) (without_attempt turn) knows h) h
 
-noted_head_asked : (sc : Scenario) (n : ℕ) (first : Option ℕ) (turn : Turn) → IfSome turn.state.via (λ via. via < node_count sc)
+noted_head_asked : (sc : Scenario) (n : ℕ) (first : Option ℕ) (turn : Turn) → KnowsNodes sc turn.state
     → IfSome first (λ node. node < node_count sc) → HasNoted sc n turn → HasNoted sc (n + 1 + 1) (head_asked sc first turn)
-noted_head_asked sc n None turn via_known at h =
-    noted_when_some sc (n + 1 + 1) (λ via. via < node_count sc) turn.state.via (stranded sc) turn via_known
+noted_head_asked sc n None turn knows at h =
+    noted_when_some sc (n + 1 + 1) (λ via. via < node_count sc) turn.state.via (stranded sc) turn knows.via_known
     (two_more sc n h)
-    (λ via known. noted_stranded sc n via turn known h)
-noted_head_asked sc n (Some first) turn via_known at h =
+    (λ via known. noted_stranded sc n via turn known knows h)
+noted_head_asked sc n (Some first) turn knows at h =
     one_more sc (n + 1) (noted_called sc n first request.GetState purpose.State turn at h)
 
 noted_state_timed_out : (sc : Scenario) (n : ℕ) (turn : Turn) → KnowsNodes sc turn.state → HasNoted sc n turn
     → HasNoted sc (n + 1 + 1) (state_timed_out sc turn)
 unfolding state_timed_out
 noted_state_timed_out sc n turn knows h =
+    let others : AllNodes sc (drop 1 turn.state.succ) = All-drop (λ node. node < node_count sc) 1 turn.state.succ knows.succ_known in
     noted_if sc (n + 1 + 1) sc.rules.drop_silent _ _
-    (noted_head_asked sc n (head turn.state) turn knows.via_known (first_known sc turn.state.succ knows.succ_known) h)
-    (noted_head_asked sc n (head (without_head turn).state) (without_head turn) knows.via_known
-    (first_known sc (drop 1 turn.state.succ) (All-drop (λ node. node < node_count sc) 1 turn.state.succ knows.succ_known)) h)
+    (noted_head_asked sc n (head turn.state) turn knows (first_known sc turn.state.succ knows.succ_known) h)
+    (noted_head_asked sc n (head (without_head turn).state) (without_head turn)
+    (record {
+      own = knows.own;
+      via_known = knows.via_known;
+      prdc_known = knows.prdc_known;
+      succ_known = others;
+      fingers_known = knows.fingers_known;
+      bootstraps = knows.bootstraps;
+    })
+    (first_known sc (drop 1 turn.state.succ) others) h)
 
 noted_head_notified : (sc : Scenario) (n : ℕ) (turn : Turn) → KnowsNodes sc turn.state → HasNoted sc n turn → HasNoted sc (n + 1) (head_notified sc turn)
 unfolding head_notified
@@ -371,6 +386,7 @@ noted_timed_out sc n number silent purpose.Lookup turn at lasts knows h = noted_
 noted_timed_out sc n number silent purpose.Owner turn at lasts knows h = noted_timeout_of_lookup sc n number silent turn lasts knows h
 noted_timed_out sc n number silent purpose.JoinStep turn at lasts knows h = noted_join_timed_out sc n silent turn knows h
 noted_timed_out sc n number silent purpose.JoinList turn at lasts knows h = noted_join_timed_out sc n silent turn knows h
+noted_timed_out sc n number silent (purpose.JoinHead behind) turn at lasts knows h = noted_join_timed_out sc n silent turn knows h
 noted_timed_out sc n number silent purpose.State turn at lasts knows h = noted_state_timed_out sc n turn knows h
 noted_timed_out sc n number silent purpose.List turn at lasts knows h =
     one_more sc (n + 1) (noted_head_notified sc n turn knows h)
@@ -401,7 +417,7 @@ noted_dropped_by : (sc : Scenario) (n silent : ℕ) (step : Turn → Turn) (o : 
     → HasNoted sc (n + 1 + 1) (dropped_by sc silent step o turn)
 noted_dropped_by sc n silent step None turn at knows h noted =
     noted_when_some sc (n + 1 + 1) (λ via. via < node_count sc) turn.state.via (stranded sc) turn knows.via_known (two_more sc n h)
-    (λ via known. noted_stranded sc n via turn known h)
+    (λ via known. noted_stranded sc n via turn known knows h)
 noted_dropped_by sc n silent step (Some first) turn at knows h noted =
     noted (map (λ x. if x == silent then first else x) turn.state.fingers) (put_known sc silent first turn.state.fingers at knows.fingers_known)
 
@@ -422,6 +438,7 @@ noted_dropped sc n silent step turn knows h noted =
       prdc_known = knows.prdc_known;
       succ_known = list;
       fingers_known = knows.fingers_known;
+      bootstraps = knows.bootstraps;
     })
     lines
     (λ fingers known. noted (list_after sc silent turn.state) fingers (turn.lines ++ rescue_lines (rescuer sc silent turn.state)) list known lines)
@@ -437,7 +454,7 @@ noted_call_given_up sc n number call turn at lasts knows h =
     (λ succ fingers lines list own notes.
     noted_timed_out sc (n + 1 + 1) number call.to call.purpose
     (without_call number (record mid { state = record mid.state { succ = succ; fingers = fingers }; lines = lines })) at lasts
-    (record { own = knows.own; via_known = knows.via_known; prdc_known = knows.prdc_known; succ_known = list; fingers_known = own })
+    (record { own = knows.own; via_known = knows.via_known; prdc_known = knows.prdc_known; succ_known = list; fingers_known = own; bootstraps = knows.bootstraps })
     notes))
     (one_more sc (n + 1 + 1 + 1) (noted_timed_out sc (n + 1) number call.to call.purpose (without_call number mid) at lasts knows timed))
 
@@ -543,8 +560,8 @@ noted_join_answered : (sc : Scenario) (n to : ℕ) (a : Answer) (turn : Turn) �
     → HasNoted sc n turn → HasNoted sc (n + 1 + 1) (join_answered sc to a turn)
 unfolding join_answered
 noted_join_answered sc n to a turn at names knows h =
-    noted_for_attempt sc n (join_followed sc to a) turn
-    (λ attempt. noted_join_followed sc n to a attempt (without_attempt turn) at names knows h) h
+    noted_for_attempt sc n (λ attempt. join_followed sc to a (heard attempt)) turn
+    (λ attempt. noted_join_followed sc n to a (heard attempt) (without_attempt turn) at names knows h) h
 
 noted_lookup_answered : (sc : Scenario) (n from : ℕ) (a : Answer) (place : ℕ) (lookup : Lookup) (turn : Turn) → from < node_count sc → NamesNode sc a
     → HasLast sc lookup → KnowsNodes sc turn.state → HasNoted sc n turn → HasNoted sc (n + 1 + 1) (lookup_answered sc from a place lookup turn)
@@ -592,6 +609,7 @@ knows_successors_taken sc to list turn at all knows =
       prdc_known = knows.prdc_known;
       succ_known = All-take (λ node. node < node_count sc) sc.list (to ∷ list) (All-cons (λ node. node < node_count sc) to list at all);
       fingers_known = knows.fingers_known;
+      bootstraps = knows.bootstraps;
     }
 
 noted_predecessor_told : (sc : Scenario) (n prdc : ℕ) (list : List ℕ) (call : Call) (turn : Turn) → prdc < node_count sc → AllNodes sc list
@@ -611,15 +629,35 @@ noted_state_answered sc n None list call turn at all to_known knows h =
     noted_head_notified sc n (successors_taken sc call.to list turn) (knows_successors_taken sc call.to list turn to_known all knows) h
 noted_state_answered sc n (Some prdc) list call turn at all to_known knows h = noted_predecessor_told sc n prdc list call turn at all to_known knows h
 
+-- the first successor of a joining node has replied
+noted_head_met : (sc : Scenario) (n behind : ℕ) (prdc : Option ℕ) (list : List ℕ) (call : Call) (turn : Turn)
+    → IfSome prdc (λ node. node < node_count sc) → AllNodes sc list → call.to < node_count sc → behind < node_count sc → KnowsNodes sc turn.state
+    → HasNoted sc n turn → HasNoted sc (n + 1 + 1) (head_met sc behind prdc list call turn)
+unfolding head_met
+noted_head_met sc n behind prdc list call turn at all to_known behind_known knows h =
+    let Known : ℕ → Type 0 = λ node. node < node_count sc in
+    noted_state_answered sc (n + 1) prdc list call (joined sc behind call.to (call.to ∷ []) turn) at all to_known
+    (record {
+      own = knows.own;
+      via_known = knows.via_known;
+      prdc_known = behind_known;
+      succ_known = All-take Known sc.list (call.to ∷ []) (All-cons Known call.to [] to_known (none_of Known));
+      fingers_known = All-replicate Known (sc.bits - 1) call.to to_known;
+      bootstraps = knows.bootstraps;
+    })
+    (noted_line sc n (line.Member behind) turn (one_node sc behind behind_known) h)
+
 noted_state_answered_for : (sc : Scenario) (n : ℕ) (prdc : Option ℕ) (list : List ℕ) (call : Call) (wanted : Purpose) (turn : Turn)
-    → IfSome prdc (λ node. node < node_count sc) → AllNodes sc list → call.to < node_count sc → All (HasLast sc) turn.state.lookups
+    → IfSome prdc (λ node. node < node_count sc) → AllNodes sc list → call.to < node_count sc → NamesKnown sc wanted → All (HasLast sc) turn.state.lookups
     → KnowsNodes sc turn.state → HasNoted sc n turn → HasNoted sc (n + 1 + 1) (state_answered_for sc prdc list call wanted turn)
-noted_state_answered_for sc n prdc list call purpose.State turn at all to_known lasts knows h =
+noted_state_answered_for sc n prdc list call purpose.State turn at all to_known named lasts knows h =
     one_more sc (n + 1) (noted_state_answered sc n prdc list call turn at all to_known knows h)
-noted_state_answered_for sc n prdc list call purpose.Owner turn at all to_known lasts knows h =
+noted_state_answered_for sc n prdc list call purpose.Owner turn at all to_known named lasts knows h =
     noted_with_lookup sc (HasLast sc) n call.number (owner_answered sc call.to prdc) turn
     (λ place lookup last g. noted_owner_answered sc n call.to prdc place lookup (without_lookup place turn) to_known at g) lasts h
-noted_state_answered_for sc n prdc list call _ turn at all to_known lasts knows h = two_more sc n h
+noted_state_answered_for sc n prdc list call (purpose.JoinHead behind) turn at all to_known behind_known lasts knows h =
+    noted_head_met sc n behind prdc list call turn at all to_known behind_known knows h
+noted_state_answered_for sc n prdc list call _ turn at all to_known named lasts knows h = two_more sc n h
 
 noted_state_replied : (sc : Scenario) (n sender number : ℕ) (prdc : Option ℕ) (list : List ℕ) (turn : Turn) → sender < node_count sc
     → IfSome prdc (λ node. node < node_count sc)
@@ -629,7 +667,7 @@ unfolding state_replied
 noted_state_replied sc n sender number prdc list turn at prdc_known all is knows h =
     noted_replied sc (n + 1) kind.StateReply sender (λ call. state_answered_for sc prdc list call call.purpose) (answered_call kind.StateReply number turn.state) turn
     at (call_answered sc kind.StateReply number turn.state is) (one_more sc n h)
-    (λ call out. noted_state_answered_for sc n prdc list call call.purpose (without_call call.number turn) prdc_known all out.to
+    (λ call out. noted_state_answered_for sc n prdc list call call.purpose (without_call call.number turn) prdc_known all out.to out.named
     (lasts_known sc turn.state is) knows h)
 
 noted_list_answered : (sc : Scenario) (n to : ℕ) (list : List ℕ) (turn : Turn) → to < node_count sc → AllNodes sc list → KnowsNodes sc turn.state
@@ -638,26 +676,36 @@ unfolding list_answered
 noted_list_answered sc n to list turn at all knows h =
     noted_head_notified sc n (successors_taken sc to list turn) (knows_successors_taken sc to list turn at all knows) h
 
-noted_join_list_taken : (sc : Scenario) (n to : ℕ) (list : List ℕ) (attempt : Attempt) (turn : Turn) → to < node_count sc → KnowsNodes sc turn.state
+noted_place_found : (sc : Scenario) (n behind first : ℕ) (list : List ℕ) (attempt : Attempt) (turn : Turn) → behind < node_count sc → first < node_count sc
+    → HasNoted sc n turn → HasNoted sc (n + 1) (place_found sc behind first list attempt turn)
+unfolding place_found
+noted_place_found sc n behind first list attempt turn at known h =
+    noted_if sc (n + 1) sc.rules.join_asks _ _
+    (noted_called sc n first request.GetState (purpose.JoinHead behind) (with_attempt attempt turn) known h)
+    (noted_line sc n (line.Member behind) turn (one_node sc behind at) h)
+
+noted_join_list_taken : (sc : Scenario) (n to : ℕ) (list : List ℕ) (attempt : Attempt) (turn : Turn) → to < node_count sc → AllNodes sc list → KnowsNodes sc turn.state
     → HasNoted sc n turn → HasNoted sc (n + 1 + 1) (join_list_taken sc to list attempt turn)
 unfolding join_list_taken
-noted_join_list_taken sc n to [] attempt turn at knows h = noted_join_failed sc n attempt turn knows h
-noted_join_list_taken sc n to (first ∷ rest) attempt turn at knows h =
-    noted_if sc (n + 1 + 1) (between sc.bits (ident_of sc to) (ident_of sc turn.state.me) (ident_of sc first)) (joined sc to first (first ∷ rest) turn) _
-    (one_more sc (n + 1) (noted_line sc n (line.Member to) turn (one_node sc to at) h))
+noted_join_list_taken sc n to [] attempt turn at all knows h = noted_join_failed sc n attempt turn knows h
+noted_join_list_taken sc n to (first ∷ rest) attempt turn at all knows h =
+    noted_if sc (n + 1 + 1) (between sc.bits (ident_of sc to) (ident_of sc turn.state.me) (ident_of sc first)) _ _
+    (one_more sc (n + 1) (noted_place_found sc n to first (first ∷ rest) attempt turn at (All-head (λ node. node < node_count sc) first rest all) h))
     (noted_join_failed sc n attempt turn knows h)
 
-noted_join_list_answered : (sc : Scenario) (n to : ℕ) (list : List ℕ) (turn : Turn) → to < node_count sc → KnowsNodes sc turn.state → HasNoted sc n turn
+noted_join_list_answered : (sc : Scenario) (n to : ℕ) (list : List ℕ) (turn : Turn) → to < node_count sc → AllNodes sc list → KnowsNodes sc turn.state → HasNoted sc n turn
     → HasNoted sc (n + 1 + 1) (join_list_answered sc to list turn)
 unfolding join_list_answered
-noted_join_list_answered sc n to list turn at knows h =
-    noted_for_attempt sc n (join_list_taken sc to list) turn
-    (λ attempt. noted_join_list_taken sc n to list attempt (without_attempt turn) at knows h) h
+noted_join_list_answered sc n to list turn at all knows h =
+    noted_for_attempt sc n (λ attempt. join_list_taken sc to (cleaned sc turn.state.me to attempt.avoid list) (heard attempt)) turn
+    (λ attempt. noted_join_list_taken sc n to (cleaned sc turn.state.me to attempt.avoid list) (heard attempt) (without_attempt turn) at
+    (cleaned_known sc turn.state.me to attempt.avoid list at all) knows h)
+    h
 
 noted_list_answered_for : (sc : Scenario) (n : ℕ) (list : List ℕ) (to : ℕ) (wanted : Purpose) (turn : Turn) → to < node_count sc → AllNodes sc list
     → KnowsNodes sc turn.state → HasNoted sc n turn → HasNoted sc (n + 1 + 1) (list_answered_for sc list to wanted turn)
 noted_list_answered_for sc n list to purpose.List turn at all knows h = one_more sc (n + 1) (noted_list_answered sc n to list turn at all knows h)
-noted_list_answered_for sc n list to purpose.JoinList turn at all knows h = noted_join_list_answered sc n to list turn at knows h
+noted_list_answered_for sc n list to purpose.JoinList turn at all knows h = noted_join_list_answered sc n to list turn at all knows h
 noted_list_answered_for sc n list to _ turn at all knows h = two_more sc n h
 
 noted_list_replied : (sc : Scenario) (n sender number : ℕ) (list : List ℕ) (turn : Turn) → sender < node_count sc → AllNodes sc list
@@ -733,9 +781,9 @@ lookups_few sc fingers lookups h =
     )
 
 -- what an event leaves by the rules
-noted_acts : (sc : Scenario) (s : NodeState) (e : Event Body) → IsNodeState sc s → IsSoundEvent sc e
+noted_acts : (sc : Scenario) (s : NodeState) (e : Event Body) → IsInRange sc → IsNodeState sc s → IsSoundEvent sc e
     → HasNoted sc (61 + 1 + 1 + 1 + 1) (acted sc (e.key.origin - 2) e.body (opening s e))
-noted_acts sc s e h is =
+noted_acts sc s e ranges h is =
     noted_acted sc 61 (e.key.origin - 2) e.body (opening s e) (omega (arith, is.origin, h.me)) is.body h
     (record {
       own = h.me;
@@ -743,6 +791,7 @@ noted_acts sc s e h is =
       prdc_known = h.neighbours.prdc_known;
       succ_known = h.neighbours.succ_known;
       fingers_known = h.neighbours.fingers_known;
+      bootstraps = ranges.nodes.bootstraps;
     })
     (record { named = none_of (IsLineOf sc); few = omega (arith, lookups_few sc (length s.fingers) s.lookups h.lookups) })
 
@@ -754,7 +803,7 @@ noted_effect sc s e ranges h is =
     let done : Turn = acted sc (e.key.origin - 2) e.body turn in
     let g : Grows sc most_made most_drawn turn done = grows_acted sc (e.key.origin - 2) e.body turn ranges in
     let few : length done.events ≤ most_made = omega (arith, ap length g.appended, g.at_most) in
-    noted_detailed sc (61 + 1 + 1 + 1 + 1) done few (kept_acts sc s e ranges h is) (noted_acts sc s e h is)
+    noted_detailed sc (61 + 1 + 1 + 1 + 1) done few (kept_acts sc s e ranges h is) (noted_acts sc s e ranges h is)
 
 pub block_known : (sc : Scenario) (s : NodeState) (e : Event Body) → IsInRange sc → IsNodeState sc s → IsSoundEvent sc e → IsBlockOf sc (block_of sc s e)
 block_known sc s e ranges h is = record { target = is.target; lines = (noted_effect sc s e ranges h is).named }

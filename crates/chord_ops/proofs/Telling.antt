@@ -43,6 +43,7 @@ request_known sc s call purpose.Lookup at = seek_known sc kind.Step call (find (
 request_known sc s call purpose.Owner at = seek_known sc kind.GetState call (find (λ (lookup : Lookup). lookup.call == call.number) s.lookups) at
 request_known sc s call purpose.JoinStep at = one_node sc call.to at
 request_known sc s call purpose.JoinList at = one_node sc call.to at
+request_known sc s call (purpose.JoinHead behind) at = one_node sc call.to at
 request_known sc s call purpose.State at = one_node sc call.to at
 request_known sc s call purpose.List at = one_node sc call.to at
 request_known sc s call purpose.Check at = one_node sc call.to at

@@ -28,6 +28,7 @@ request_line s call purpose.Owner = seek_line s kind.GetState call
 request_line s call purpose.JoinStep = Some (line.Ask kind.Step call.to call.number)
 request_line s call purpose.JoinList = Some (line.Ask kind.GetList call.to call.number)
 request_line s call purpose.State = Some (line.Ask kind.GetState call.to call.number)
+request_line s call (purpose.JoinHead behind) = Some (line.Ask kind.GetState call.to call.number)
 request_line s call purpose.List = Some (line.Ask kind.GetList call.to call.number)
 request_line s call purpose.Check = Some (line.Ask kind.Ping call.to call.number)
 request_line s call (purpose.Ping notifier) = Some (line.Ask kind.Ping call.to call.number)

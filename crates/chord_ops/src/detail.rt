@@ -39,7 +39,7 @@ fn request_line(state: &NodeState, call: Call) -> Option<Line>
         Purpose::Owner => return seek_line(state, MessageKind::GetState, call),
         Purpose::JoinStep => MessageKind::Step,
         Purpose::JoinList | Purpose::List => MessageKind::GetList,
-        Purpose::State => MessageKind::GetState,
+        Purpose::State | Purpose::JoinHead { .. } => MessageKind::GetState,
         Purpose::Check | Purpose::Ping { .. } => MessageKind::Ping,
     };
     Some(Line::Ask {

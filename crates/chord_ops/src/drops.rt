@@ -57,7 +57,7 @@ fn has_other(nodes: &[u32], me: u32) -> bool
 }
 
 /// Takes a node out of a list, at all its places.
-fn remove_node(nodes: &mut Listed<u32>, node: u32)
+pub fn remove_node(nodes: &mut Listed<u32>, node: u32)
     ensures { nodes.new ≡ others_left node nodes.old }
 {
     nodes.retain(|other| *other != node);

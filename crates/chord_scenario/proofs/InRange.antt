@@ -1,10 +1,10 @@
 -- A scenario of a file without faults is in range.
-use Rattle.std.proofs.Common.{◌≡◌, ◌∙◌, sym, ℕ, ◌<◌, ◌≤◌, ◌^◌, List, [], ◌∷◌, length, map, get_or, ◌==◌, Option, None, arith, refl, eq-eqb}
+use Rattle.std.proofs.Common.{◌≡◌, ◌∙◌, sym, ℕ, ◌<◌, ◌≤◌, ◌^◌, List, [], ◌∷◌, length, map, get_or, ◌==◌, false, Option, None, arith, refl, eq-eqb}
 use Rattle.std.specs.List.{All, AllByRecursion}
 use Rattle.std.proofs.lemmas.Bool.{false≢true}
 use Rattle.std.proofs.lemmas.List.Elements.{All-from_recursion, All-get_or}
 use Rattle.std.proofs.lemmas.List.{get_or-map}
-use Rattle.std.proofs.lemmas.List.Sums.{count_by-le-length}
+use Rattle.std.proofs.lemmas.Bool.Decides.{nat_tests}
 use native.Mathlib.Decide.{dec_lt}
 use Rattle.toml.specs.Data.{Members}
 use Rattle.chord_scenario.specs.declared.fault.ScenarioFault.{ScenarioFault}
@@ -20,17 +20,19 @@ use Rattle.chord_scenario.specs.Range.{IsCommandOf, IsInRange}
 use Rattle.chord_scenario.specs.Rows.{Row}
 use Rattle.chord_scenario.specs.Search.{first_repeat}
 use Rattle.chord_scenario.specs.Sections.{sections}
-use Rattle.chord_scenario.specs.Settings.{coordinates_of}
+use Rattle.chord_scenario.specs.Settings.{bootstraps_of, coordinates_of, is_bootstrap}
 use Rattle.chord_scenario.specs.Setup.{Setup}
 use Rattle.chord_scenario.specs.Values.{number_at}
 use Rattle.chord_scenario.specs.World.{node_count, ident_of}
+use Rattle.chord_scenario.proofs.BootstrapFacts.{bootstraps_ascend, no_bootstraps}
 use Rattle.chord_scenario.proofs.CoordinateFacts.{coordinates_fit}
 use Rattle.chord_scenario.proofs.DistinctNames.{or_none}
 use Rattle.chord_scenario.proofs.FirstRepeat.{mapped_none}
 use Rattle.chord_scenario.proofs.LatencyFacts.{first_of, latencies_fit}
+use Rattle.chord_scenario.proofs.Ranges.{filter-range_below}
 use Rattle.chord_scenario.proofs.NodeFacts.{no_repeat, enough_initial, a_node_churns, commands_fit}
 use Rattle.chord_scenario.proofs.SoundSections.{IsSound, sound_sections, holds_in_file}
-use Rattle.chord_scenario.proofs.TopFacts.{profile_known, profile_small, bits_fit, numbers_fit, churn_there, churn_in_range, lookups_in_range, few_nodes, few_commands}
+use Rattle.chord_scenario.proofs.TopFacts.{profile_known, profile_small, bits_fit, numbers_fit, churn_there, churn_in_range, lookups_in_range, few_nodes, few_commands, two_nodes}
 
 -- no question finds a fault
 answers_none : (qs : List (Option ScenarioFault)) → first_answer qs ≡ None → AllByRecursion (λ q. q ≡ None) qs
@@ -41,7 +43,7 @@ answers_none (q ∷ qs) h = let (here, rest) = or_none q (first_answer qs) h in 
 record IsFaultless (top : Members) (rows : List Row) : Type 0 where
   names : same_name (nodes_in top) ≡ None
   idents : same_id (nodes_in top) ≡ None
-  initial : too_few_initial (number_at key.List top) (nodes_in top) ≡ None
+  initial : too_few_initial (number_at key.Profile top == 4) (number_at key.List top) (nodes_in top) ≡ None
   in_time : time_after_end (number_at key.DurationUs top) (sections top) ≡ None
   good_rows : bad_latency_row rows ≡ None
   far : below_window (number_at key.WindowUs top) (number_at key.LatencyUs top) (nodes_in top) (coordinates_of (sections top)) rows ≡ None
@@ -103,6 +105,15 @@ idents_on_circle sc all i hi =
     let d = first_of sc.nodes i hi in
     rw (get_or-map (λ n. n.ident) sc.nodes i d 0 hi) (All-get_or (λ n. n.ident < 2 ^ sc.bits) sc.nodes i d hi all)
 
+-- the first two profiles are not the extended one
+not_four : (n : ℕ) → n ≤ 2 → (n == 4) ≡ false
+not_four n early = grind (arith, nat_tests)
+
+-- a bootstrap node is a node
+bootstraps_known : (nodes : List Node) → All (λ i. i < length nodes) (bootstraps_of nodes)
+unfolding bootstraps_of
+bootstraps_known nodes = filter-range_below (is_bootstrap nodes) (length nodes)
+
 module _ (profile : ℕ) (top : Members) (rows : List Row) (cells : List ℕ) (is_profile : profile ≡ number_at key.Profile top)
     (keys : first_answer (key_questions profile (number_at key.Bits top) (sections top)) ≡ None)
     (own : first_answer (node_questions (sections top) (nodes_in top)) ≡ None)
@@ -120,8 +131,7 @@ module _ (profile : ℕ) (top : Members) (rows : List Row) (cells : List ℕ) (i
       let none = faultless top rows own late in
       let numbers = numbers_fit profile bits needs top sound.top is_profile (nodes_in top) (commands_in top) cells in
       let coordinates = coordinates_fit profile bits needs sc bits (sections top) refl refl (sound_sections profile bits (sections top) keys) in
-      let initial = enough_initial sc.list sc.nodes none.initial in
-      let enough : 2 ≤ node_count sc = omega (arith, initial, count_by-le-length (λ n. n.initial) sc.nodes, numbers.list_least) in
+      let enough : 2 ≤ node_count sc = two_nodes profile bits needs top sound.top bits in
       record {
         numbers = numbers;
         nodes = record {
@@ -129,7 +139,11 @@ module _ (profile : ℕ) (top : Members) (rows : List Row) (cells : List ℕ) (i
           greatest = few_nodes profile bits needs top sound.top bits;
           on_circle = idents_on_circle sc on_circle;
           apart = idents_apart sc none.idents;
-          initial = initial;
+          bootstraps = bootstraps_known sc.nodes;
+          in_order = bootstraps_ascend sc.nodes;
+          no_bootstraps = λ early. no_bootstraps profile bits needs (not_four profile (omega (arith, early, is_profile))) bits (sections top)
+              (sound_sections profile bits (sections top) keys);
+          initial = λ early. enough_initial (sc.profile == 4) sc.list sc.nodes (not_four sc.profile early) none.initial;
         };
         latencies = latencies_fit sc rows has none.good_rows none.names none.far numbers.window.least numbers.latency.least numbers.latency.greatest coordinates;
         coordinates = coordinates;

@@ -22,10 +22,12 @@ pub mod WindowCheckLemmas
 pub mod Questions
 pub mod Scenarios
 pub mod Squares
+pub mod Ranges
 pub mod SoundSections
 pub mod Entries
 pub mod TopFacts
 pub mod NodeFacts
+pub mod BootstrapFacts
 pub mod CoordinateFacts
 pub mod LatencyFacts
 pub mod InRange

@@ -135,9 +135,11 @@ module _ {A : Type 0} (alike : A → A → Bool) where
 
 -- Members at the start
 
-pub enough_initial : (list : ℕ) (nodes : List Node) → too_few_initial list nodes ≡ None → list + 1 ≤ count_by (λ n. n.initial) nodes
+pub enough_initial : (extended : Bool) (list : ℕ) (nodes : List Node) → extended ≡ false → too_few_initial extended list nodes ≡ None
+    → list + 1 ≤ count_by (λ n. n.initial) nodes
 unfolding too_few_initial
-enough_initial list nodes h =
+enough_initial true list nodes is h = absurd (false≢true (sym is))
+enough_initial false list nodes is h =
     elim (cases_Bool (nat_lt (count_by (λ n. n.initial) nodes) (list + 1))) [
       | inl few ↦ absurd (cc (rw few at h))
       | inr enough ↦ grind (arith, nat_tests)

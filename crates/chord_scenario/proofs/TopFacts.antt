@@ -32,9 +32,10 @@ use Rattle.std.proofs.Common.{
   inl,
   inr,
   arith,
+  if◌then◌else◌,
   length-append,
 }
-use Rattle.std.specs.Option.{option_map_or, option_and_then, is_some}
+use Rattle.std.specs.Option.{option_map_or, option_and_then, is_some, unwrap_or}
 use Rattle.std.specs.List.{AllByRecursion}
 use Rattle.std.proofs.lemmas.Bool.{cases_Bool, and_parts, eqb-true, false≢true, leb-true}
 use Rattle.std.proofs.lemmas.Bool.Decides.{nat_tests}
@@ -53,10 +54,10 @@ use Rattle.chord_scenario.specs.declared.key.Group.TheVariants.{Nodes, Commands}
 use Rattle.chord_scenario.specs.declared.setting.Command.{Command}
 use Rattle.chord_scenario.specs.declared.setting.Node.{Node}
 use Rattle.chord_scenario.specs.FileKeys.{key_name, required, optional}
-use Rattle.chord_scenario.specs.KeyFaults.{is_listed}
-use Rattle.chord_scenario.specs.Values.{data_at, number_at, truth_at, has_type, is_within, item_count, is_profile, is_in_range}
+use Rattle.chord_scenario.specs.KeyFaults.{is_listed, is_out_of_range}
+use Rattle.chord_scenario.specs.Values.{agrees, are_tables, as_whole, data_at, number_at, truth_at, truth_or, has_type, is_within, item_count, is_profile, is_in_range}
 use Rattle.chord_scenario.specs.Sections.{Section, place_in, table_at, tables_among, tables_of, sections}
-use Rattle.chord_scenario.specs.Settings.{number_or, is_node, is_command, node_of, nodes_of, command_of, commands_of, churn_of, jitters_of, lookups_of, rules_of}
+use Rattle.chord_scenario.specs.Settings.{number_or, check_of, is_node, is_command, join_pause_of, node_of, nodes_of, command_of, commands_of, churn_of, jitters_of, lookups_of, rules_of}
 use Rattle.chord_scenario.specs.Accepted.{setup_with}
 use Rattle.chord_scenario.specs.Range.{AreJitters, IsSpan, IsChurn, IsInterval, NumbersInRange, first_rules, most_events}
 use Rattle.chord_scenario.proofs.SoundSections.{IsSound, Fits, HoldsInFile}
@@ -163,26 +164,39 @@ module _ (profile bits : ℕ) (needs : Needs) (top : Members) (s : IsSound profi
         | inr is ↦ unlisted_default s key.Retries 0 (rw (not_extended, is) refl)
       ])
 
-  pause_fits : IsOwnOfExtended 1000000000 (number_or 0 key.JoinPauseUs top)
+  -- a number that the extended profile alone has, with another one of the file as its default there
+  extended_or : (k : FileKey) (most given : ℕ) → given ≤ most → (profile == 4 ≡ true → Lists s (optional k (Whole 0 most)))
+      → (profile == 4 ≡ false → (profile == 2 ≡ true) ⊎ (profile == 2 ≡ false) → number_or 0 k top ≡ 0)
+      → (extended : Bool) → profile == 4 ≡ extended → IsOwnOfExtended most (number_or (if extended then given else 0) k top)
+  extended_or k most given fits listed unlisted true is = record {
+    within = (optional_fits s k 0 most given (listed is) (record { low = omega arith; high = fits })).high;
+    absent = λ early. let four : profile ≡ 4 = eqb-true profile 4 is in absurd (omega (arith, early, four));
+  }
+  extended_or k most given fits listed unlisted false is =
+      let zero = unlisted is (cases_Bool (profile == 2)) in record { within = omega (arith, zero); absent = λ early. zero }
+
+  pause_fits : (extended : Bool) → profile == 4 ≡ extended → IsOwnOfExtended 1000000000 (join_pause_of extended top)
   pause_fits =
-      extended_number key.JoinPauseUs 1000000000 (λ extended. rw extended refl) (λ not_extended second. elim second [
+      extended_or key.JoinPauseUs 1000000000 (number_at key.TimeoutUs top) (required_fits s key.TimeoutUs 1 1000000000 (in_each profile refl refl refl)).high
+      (λ extended. rw extended refl) (λ not_extended second. elim second [
         | inl is ↦ unlisted_default s key.JoinPauseUs 0 (rw (not_extended, is) refl)
         | inr is ↦ unlisted_default s key.JoinPauseUs 0 (rw (not_extended, is) refl)
       ])
 
-  check_fits : IsOwnOfExtended 1000000000 (number_or 0 key.CheckUs top)
+  check_fits : (extended : Bool) → profile == 4 ≡ extended → IsOwnOfExtended 1000000000 (check_of extended top)
   check_fits =
-      extended_number key.CheckUs 1000000000 (λ extended. rw extended refl) (λ not_extended second. elim second [
+      extended_or key.CheckUs 1000000000 (number_at key.StabilizeUs top) (required_fits s key.StabilizeUs 1 1000000000 (in_each profile refl refl refl)).high
+      (λ extended. rw extended refl) (λ not_extended second. elim second [
         | inl is ↦ unlisted_default s key.CheckUs 0 (rw (not_extended, is) refl)
         | inr is ↦ unlisted_default s key.CheckUs 0 (rw (not_extended, is) refl)
       ])
 
-  gives_up : profile ≤ 2 → truth_at key.JoinForever top ≡ false
-  gives_up early =
-      elim (profile_cases profile) [
-        | inl extended ↦ let is : profile ≡ 4 = eqb-true profile 4 extended in absurd (omega (arith, early, is))
-        | inr (inl is) ↦ unlisted_false s key.JoinForever (rw (is.not_extended, is.second) refl)
-        | inr (inr is) ↦ unlisted_false s key.JoinForever (rw (is.not_extended, is.not_second) refl)
+  gives_up : (extended : Bool) → profile == 4 ≡ extended → profile ≤ 2 → truth_or extended key.JoinForever top ≡ false
+  gives_up true is early = let four : profile ≡ 4 = eqb-true profile 4 is in absurd (omega (arith, early, four))
+  gives_up false is early =
+      elim (cases_Bool (profile == 2)) [
+        | inl second ↦ unlisted_false s key.JoinForever (rw (is, second) refl)
+        | inr other ↦ unlisted_false s key.JoinForever (rw (is, other) refl)
       ]
 
   tells_nothing : profile ≤ 2 → truth_at key.Detail top ≡ false
@@ -217,6 +231,9 @@ module _ (profile bits : ℕ) (needs : Needs) (top : Members) (s : IsSound profi
           unlisted_false s key.DropSilent (rw (is, second) refl),
           unlisted_false s key.SkipNear (rw (is, second) refl),
           unlisted_false s key.RandomStart (rw (is, second) refl),
+          unlisted_false s key.CleanLists (rw (is, second) refl),
+          unlisted_false s key.JoinAsks (rw (is, second) refl),
+          unlisted_false s key.CreateAlone (rw (is, second) refl),
         ) refl
         | inr other ↦ rw (
           unlisted_false s key.ListRoutes (rw (is, other) refl),
@@ -226,6 +243,9 @@ module _ (profile bits : ℕ) (needs : Needs) (top : Members) (s : IsSound profi
           unlisted_false s key.DropSilent (rw (is, other) refl),
           unlisted_false s key.SkipNear (rw (is, other) refl),
           unlisted_false s key.RandomStart (rw (is, other) refl),
+          unlisted_false s key.CleanLists (rw (is, other) refl),
+          unlisted_false s key.JoinAsks (rw (is, other) refl),
+          unlisted_false s key.CreateAlone (rw (is, other) refl),
         ) refl
       ]
 
@@ -283,39 +303,42 @@ module _ (profile bits : ℕ) (needs : Needs) (top : Members) (s : IsSound profi
 
   pub numbers_fit : profile ≡ number_at key.Profile top → (nodes : List Node) (commands : List Command) (latencies : List ℕ)
       → NumbersInRange (setup_with top nodes commands latencies)
-  numbers_fit named nodes commands latencies = record {
-    bits_least = bits_fit.low;
-    bits_greatest = bits_fit.high;
-    list_least = list_fits.low;
-    list_greatest = list_fits.high;
-    duration_least = duration_fits.low;
-    duration_greatest = duration_fits.high;
-    window = interval (required_fits s key.WindowUs 1 1000000000 (in_each profile refl refl refl));
-    latency = interval (required_fits s key.LatencyUs 1 1000000000 (in_each profile refl refl refl));
-    timeout = interval (required_fits s key.TimeoutUs 1 1000000000 (in_each profile refl refl refl));
-    audit = interval (required_fits s key.AuditUs 1 1000000000 (in_each profile refl refl refl));
-    audits = audits_fit;
-    stabilize = interval (required_fits s key.StabilizeUs 1 1000000000 (in_each profile refl refl refl));
-    finger = interval (required_fits s key.FingerUs 1 1000000000 (in_each profile refl refl refl));
-    jitter = jitter_fits.high;
-    max_events_least = max_events_fits.low;
-    max_events_greatest = max_events_fits.high;
-    loss = loss_fits;
-    spread = spread_fits;
-    retries = retries_fit.within;
-    join_pause = pause_fits.within;
-    check = check_fits.within;
-    known = profile_known;
-    lossless = λ is_first. no_loss (named ∙ is_first);
-    asked_once = λ early. retries_fit.absent (omega (arith, named, early));
-    joined_at_once = λ early. (pause_fits.absent (omega (arith, named, early)), gives_up (omega (arith, named, early)));
-    unchecked = λ early. check_fits.absent (omega (arith, named, early));
-    undetailed = λ early. tells_nothing (omega (arith, named, early));
-    lookup_timeouts = rules_fit (number_at key.Profile top == 4) (ap (λ n. n == 4) named);
-    unpublished = λ early. rules_absent (number_at key.Profile top == 4) (ap (λ n. n == 4) named) (omega (arith, named, early));
-    jitters = jitters_fit;
-    one_jitter = λ early. one_jitter (omega (arith, named, early));
-  }
+  numbers_fit named nodes commands latencies =
+      let extended = number_at key.Profile top == 4 in
+      let is_extended : profile == 4 ≡ extended = ap (λ n. n == 4) named in
+      record {
+        bits_least = bits_fit.low;
+        bits_greatest = bits_fit.high;
+        list_least = list_fits.low;
+        list_greatest = list_fits.high;
+        duration_least = duration_fits.low;
+        duration_greatest = duration_fits.high;
+        window = interval (required_fits s key.WindowUs 1 1000000000 (in_each profile refl refl refl));
+        latency = interval (required_fits s key.LatencyUs 1 1000000000 (in_each profile refl refl refl));
+        timeout = interval (required_fits s key.TimeoutUs 1 1000000000 (in_each profile refl refl refl));
+        audit = interval (required_fits s key.AuditUs 1 1000000000 (in_each profile refl refl refl));
+        audits = audits_fit;
+        stabilize = interval (required_fits s key.StabilizeUs 1 1000000000 (in_each profile refl refl refl));
+        finger = interval (required_fits s key.FingerUs 1 1000000000 (in_each profile refl refl refl));
+        jitter = jitter_fits.high;
+        max_events_least = max_events_fits.low;
+        max_events_greatest = max_events_fits.high;
+        loss = loss_fits;
+        spread = spread_fits;
+        retries = retries_fit.within;
+        join_pause = (pause_fits extended is_extended).within;
+        check = (check_fits extended is_extended).within;
+        known = profile_known;
+        lossless = λ is_first. no_loss (named ∙ is_first);
+        asked_once = λ early. retries_fit.absent (omega (arith, named, early));
+        joined_at_once = λ early. ((pause_fits extended is_extended).absent (omega (arith, named, early)), gives_up extended is_extended (omega (arith, named, early)));
+        unchecked = λ early. (check_fits extended is_extended).absent (omega (arith, named, early));
+        undetailed = λ early. tells_nothing (omega (arith, named, early));
+        lookup_timeouts = rules_fit extended is_extended;
+        unpublished = λ early. rules_absent extended is_extended (omega (arith, named, early));
+        jitters = jitters_fit;
+        one_jitter = λ early. one_jitter (omega (arith, named, early));
+      }
 
   -- the file has a churn table if a node churns
   pub churn_there : needs.churn ≡ true → IsSome (churn_of top)
@@ -467,6 +490,39 @@ module _ (test : Place → Bool) where
       kept true e = refl
       kept false e = absurd (false≢true (sym e))
 
+  -- the tables of an array of tables, if the test lets their places pass
+  chosen-all_among : (g : Group) → ((n : ℕ) → test (place_in g n) ≡ true) → (n : ℕ) (ds : Items) → are_tables ds ≡ true
+      → item_count ds ≤ length (chosen (tables_among g n ds))
+  chosen-all_among g own n no_items typed = omega arith
+  chosen-all_among g own n (item (string s) ds) typed = absurd (false≢true typed)
+  chosen-all_among g own n (item (integer z) ds) typed = absurd (false≢true typed)
+  chosen-all_among g own n (item (float x) ds) typed = absurd (false≢true typed)
+  chosen-all_among g own n (item (boolean b) ds) typed = absurd (false≢true typed)
+  chosen-all_among g own n (item (datetime t) ds) typed = absurd (false≢true typed)
+  chosen-all_among g own n (item (array es) ds) typed = absurd (false≢true typed)
+  chosen-all_among g own n (item (table ms) ds) typed = rw (own n) (omega (arith, chosen-all_among g own (n + 1) ds typed))
+
+  -- an array of tables has no fewer than its least number
+  chosen-least_of : (g : Group) → ((n : ℕ) → test (place_in g n) ≡ true) → (bits least greatest : ℕ) (agrees : Data → Bool) (d : Data)
+      → has_type (Tables least greatest) d ≡ true → not (is_in_range bits (Tables least greatest) d && agrees d) ≡ false
+      → least ≤ length (chosen (tables_of g (Some d)))
+  unfolding is_in_range has_type
+  chosen-least_of g own bits least greatest agrees (string s) typed h = absurd (false≢true typed)
+  chosen-least_of g own bits least greatest agrees (integer z) typed h = absurd (false≢true typed)
+  chosen-least_of g own bits least greatest agrees (float x) typed h = absurd (false≢true typed)
+  chosen-least_of g own bits least greatest agrees (boolean b) typed h = absurd (false≢true typed)
+  chosen-least_of g own bits least greatest agrees (datetime t) typed h = absurd (false≢true typed)
+  chosen-least_of g own bits least greatest agrees (table ms) typed h = absurd (false≢true typed)
+  chosen-least_of g own bits least greatest agrees (array ds) typed h =
+      let (fits, agree) = and_parts (is_within least greatest (item_count ds)) (agrees (array ds))
+      (kept (is_within least greatest (item_count ds) && agrees (array ds)) h) in
+      let (low, high) = and_parts (nat_le least (item_count ds)) (nat_le (item_count ds) greatest) fits in
+      omega (arith, chosen-all_among g own 1 ds typed, leb-true least (item_count ds) low)
+    where
+      kept : (b : Bool) → not b ≡ false → b ≡ true
+      kept true e = refl
+      kept false e = absurd (false≢true (sym e))
+
   chosen-sections : (top : Members) → test place.Top ≡ false → test place.Churn ≡ false → test place.Lookups ≡ false
       → length (chosen (sections top)) ≡ length (chosen (tables_of Nodes (data_at key.Node top))) + length
       (chosen (tables_of Commands (data_at key.Command top)))
@@ -500,6 +556,27 @@ module _ (profile bits : ℕ) (needs : Needs) (top : Members) (s : IsSound profi
     where
       most_nodes : (most : ℕ) → Lists s (required key.Node (Tables 2 most)) → length (filter (λ s. is_node s.at) (tables_of Nodes (data_at key.Node top))) ≤ most
       most_nodes most is = chosen-most_of is_node Nodes bits 2 most _ (data_at key.Node top) (not_out s (required key.Node (Tables 2 most)) is)
+
+  nodes_there : 2 ≤ length (filter (λ s. is_node s.at) (tables_of Nodes (data_at key.Node top)))
+  nodes_there =
+      elim (profile_cases profile) [
+        | inl extended ↦ least_nodes 65536 (rw extended refl)
+        | inr (inl is) ↦ least_nodes 4096 (rw (is.not_extended, is.second) refl)
+        | inr (inr is) ↦ least_nodes 512 (rw (is.not_extended, is.not_second) refl)
+      ]
+    where
+      least_nodes : (most : ℕ) → Lists s (required key.Node (Tables 2 most)) → 2 ≤ length (filter (λ s. is_node s.at) (tables_of Nodes (data_at key.Node top)))
+      least_nodes most is =
+          let e = required key.Node (Tables 2 most) in
+          let (d, there, typed) = has_typed s e is refl in
+          let out : is_out_of_range bits (record { at = place.Top; members = top }) e ≡ false = not_out s e is in
+          rw there (chosen-least_of is_node Nodes (λ n. refl) bits 2 most (λ d. agrees top key.Node (unwrap_or (as_whole d) 0)) d typed (rw there at out))
+
+  pub two_nodes : (circle : ℕ) → 2 ≤ length (nodes_of circle (sections top))
+  unfolding nodes_of
+  two_nodes circle =
+      let ss = filter (λ s. is_node s.at) (sections top) in
+      omega (arith, length-map ss (λ s. node_of circle s.members), chosen-sections is_node top refl refl refl, nodes_there)
 
   pub few_nodes : (circle : ℕ) → length (nodes_of circle (sections top)) ≤ 65536
   unfolding nodes_of

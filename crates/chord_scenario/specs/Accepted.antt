@@ -9,9 +9,9 @@ use Rattle.chord_scenario.specs.Distances.{latency_by_coordinates}
 use Rattle.chord_scenario.specs.Faults.{latency_by_rows, document, scenario_fault}
 use Rattle.chord_scenario.specs.Rows.{Row, rows_of}
 use Rattle.chord_scenario.specs.Sections.{sections}
-use Rattle.chord_scenario.specs.Settings.{number_or, nodes_of, commands_of, coordinates_of, churn_of, jitters_of, lookups_of, rules_of}
+use Rattle.chord_scenario.specs.Settings.{number_or, nodes_of, bootstraps_of, check_of, commands_of, coordinates_of, churn_of, jitters_of, join_pause_of, lookups_of, rules_of}
 use Rattle.chord_scenario.specs.Setup.{Setup}
-use Rattle.chord_scenario.specs.Values.{number_at, truth_at}
+use Rattle.chord_scenario.specs.Values.{number_at, truth_at, truth_or}
 use Rattle.chord_scenario.specs.World.{latency}
 
 -- what the numbers and spans of a table set, or their defaults, with these nodes, commands and latencies
@@ -33,15 +33,16 @@ setup_with top nodes commands latencies = record {
   loss = number_or 0 key.LossPpm top;
   spread = number_or 0 key.SpreadUs top;
   retries = number_or 0 key.Retries top;
-  join_pause = number_or 0 key.JoinPauseUs top;
-  join_forever = truth_at key.JoinForever top;
-  check = number_or 0 key.CheckUs top;
+  join_pause = join_pause_of (number_at key.Profile top == 4) top;
+  join_forever = truth_or (number_at key.Profile top == 4) key.JoinForever top;
+  check = check_of (number_at key.Profile top == 4) top;
   detail = truth_at key.Detail top;
   rules = rules_of (number_at key.Profile top == 4) top;
   jitters = jitters_of top;
   churn = churn_of top;
   lookups = lookups_of top;
   nodes = nodes;
+  bootstraps = bootstraps_of nodes;
   commands = commands;
   latencies = latencies;
   coordinates = coordinates_of (sections top);

@@ -25,6 +25,7 @@ key_purpose = 6
 abbrev pub message_purpose : ℕ
 message_purpose = 7
 
+-- 8 is the purpose of the timer of checks
 abbrev pub finger_purpose : ℕ
 finger_purpose = 9
 

@@ -93,9 +93,10 @@ unfoldable pub unknown_node : List Node → List Section → List Row → Option
 unknown_node nodes ss rows =
     option_or (section_fault UnknownNode (command_names_unknown nodes) ss) (row_fault UnknownNode (row_names_unknown nodes) rows)
 
--- fewer initial nodes than a successor list with its owner
-unfoldable pub too_few_initial : ℕ → List Node → Option ScenarioFault
-too_few_initial list nodes = if nat_lt (count_by (λ x. x.initial) nodes) (list + 1) then Some TooFewInitial else None
+-- fewer initial nodes than a successor list with its owner; in the extended profile a ring may begin with any number
+unfoldable pub too_few_initial : (extended : Bool) → ℕ → List Node → Option ScenarioFault
+too_few_initial extended list nodes =
+    if not extended && nat_lt (count_by (λ x. x.initial) nodes) (list + 1) then Some TooFewInitial else None
 
 -- a command after the end
 unfoldable pub time_after_end : ℕ → List Section → Option ScenarioFault
@@ -104,7 +105,7 @@ time_after_end duration ss = section_fault TimeAfterEnd (λ s. is_command s.at &
 unfoldable pub bad_latency_row : List Row → Option ScenarioFault
 bad_latency_row rows = row_fault BadLatencyRow is_bad_row rows
 
--- a join through the node itself, or a row that names one node twice
+-- a join through the node itself, which in the extended profile makes a ring, or a row that names one node twice
 abbrev pub joins_itself : Section → Bool
 joins_itself s =
     is_command s.at && is_join (operation_at s.members)
@@ -113,8 +114,9 @@ joins_itself s =
 abbrev pub row_joins_itself : Row → Bool
 row_joins_itself r = option_map_or (λ l. bytes_eq l.first l.second) (link_of r) false
 
-unfoldable pub self_link : List Section → List Row → Option ScenarioFault
-self_link ss rows = option_or (section_fault SelfLink joins_itself ss) (row_fault SelfLink row_joins_itself rows)
+unfoldable pub self_link : (extended : Bool) → List Section → List Row → Option ScenarioFault
+self_link extended ss rows =
+    option_or (if extended then None else section_fault SelfLink joins_itself ss) (row_fault SelfLink row_joins_itself rows)
 
 -- a row names the pair of an earlier one
 unfoldable pub same_link_twice : List Row → Option ScenarioFault
@@ -183,10 +185,10 @@ questions top rows =
     ∷ same_name nodes
     ∷ same_id nodes
     ∷ unknown_node nodes ss rows
-    ∷ too_few_initial (number_at key.List top) nodes
+    ∷ too_few_initial (profile == 4) (number_at key.List top) nodes
     ∷ time_after_end (number_at key.DurationUs top) ss
     ∷ bad_latency_row rows
-    ∷ self_link ss rows
+    ∷ self_link (profile == 4) ss rows
     ∷ same_link_twice rows
     ∷ below_window (number_at key.WindowUs top) (number_at key.LatencyUs top) nodes (coordinates_of ss) rows
     ∷ rows_and_coordinates (coordinates_of ss) rows

@@ -41,6 +41,9 @@ key_name key.RandomStart = codes "random_start"
 key_name key.StabilizeJitterUs = codes "stabilize_jitter_us"
 key_name key.FingerJitterUs = codes "finger_jitter_us"
 key_name key.CheckJitterUs = codes "check_jitter_us"
+key_name key.CleanLists = codes "clean_lists"
+key_name key.JoinAsks = codes "join_asks"
+key_name key.CreateAlone = codes "create_alone"
 key_name key.Churn = codes "churn"
 key_name key.Lookups = codes "lookups"
 key_name key.Node = codes "node"
@@ -54,6 +57,7 @@ key_name key.GapMaxUs = codes "gap_max_us"
 key_name key.Name = codes "name"
 key_name key.Id = codes "id"
 key_name key.Initial = codes "initial"
+key_name key.Bootstrap = codes "bootstrap"
 key_name key.XUs = codes "x_us"
 key_name key.YUs = codes "y_us"
 key_name key.HeightUs = codes "height_us"
@@ -118,6 +122,9 @@ extended_keys =
     ∷ optional key.StabilizeJitterUs (Whole 0 1000000000)
     ∷ optional key.FingerJitterUs (Whole 0 1000000000)
     ∷ optional key.CheckJitterUs (Whole 0 1000000000)
+    ∷ optional key.CleanLists Boolean
+    ∷ optional key.JoinAsks Boolean
+    ∷ optional key.CreateAlone Boolean
     ∷ []
 
 abbrev pub top_keys : (profile : ℕ) → List Entry
@@ -159,7 +166,7 @@ node_keys profile =
     ∷ optional key.Id (Identifier (most_digits profile))
     ∷ optional key.Initial Boolean
     ∷ optional key.Churn Boolean
-    ∷ (if profile == 4 then coordinate_keys else [])
+    ∷ (if profile == 4 then optional key.Bootstrap Boolean ∷ coordinate_keys else [])
 
 abbrev pub command_keys : (profile : ℕ) → List Entry
 command_keys profile =

@@ -1,5 +1,5 @@
 -- The questions of faults in the groups that the reader asks together; in this order they are all of them.
-use Rattle.std.specs.Prelude.{ℕ, List, [], ◌∷◌, ◌++◌, Option}
+use Rattle.std.specs.Prelude.{ℕ, ◌==◌, Bool, List, [], ◌∷◌, ◌++◌, Option}
 use Rattle.toml.specs.Data.{Members}
 use Rattle.chord_scenario.specs.declared.key.FileKey.TheVariants as key
 use Rattle.chord_scenario.specs.declared.setting.Coordinates.{Coordinates}
@@ -33,13 +33,13 @@ abbrev pub node_questions : List Section → List Node → List (Option Scenario
 node_questions ss nodes = bad_name ss ∷ same_name nodes ∷ same_id nodes ∷ []
 
 -- of the commands and rows, each for itself
-abbrev pub link_questions : ℕ → ℕ → List Section → List Node → List Row → List (Option ScenarioFault)
-link_questions list duration ss nodes rows =
+abbrev pub link_questions : (extended : Bool) → ℕ → ℕ → List Section → List Node → List Row → List (Option ScenarioFault)
+link_questions extended list duration ss nodes rows =
     unknown_node nodes ss rows
-    ∷ too_few_initial list nodes
+    ∷ too_few_initial extended list nodes
     ∷ time_after_end duration ss
     ∷ bad_latency_row rows
-    ∷ self_link ss rows
+    ∷ self_link extended ss rows
     ∷ []
 
 -- of the pairs that rows or coordinates link
@@ -50,5 +50,5 @@ pair_questions window default nodes coordinates rows =
 -- of all that links nodes
 abbrev pub late_questions : Members → List Section → List Node → List Row → List (Option ScenarioFault)
 late_questions top ss nodes rows =
-    link_questions (number_at key.List top) (number_at key.DurationUs top) ss nodes rows
+    link_questions (number_at key.Profile top == 4) (number_at key.List top) (number_at key.DurationUs top) ss nodes rows
     ++ pair_questions (number_at key.WindowUs top) (number_at key.LatencyUs top) nodes (coordinates_of ss) rows

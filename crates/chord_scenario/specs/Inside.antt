@@ -31,6 +31,7 @@ setup_of s = record {
   churn = s.churn;
   lookups = s.lookups;
   nodes = s.nodes.items;
+  bootstraps = s.bootstraps.items;
   commands = s.commands.items;
   latencies = square_or_zeros (length s.nodes.items) s.latencies.items;
   coordinates = s.coordinates.items;

@@ -2,6 +2,7 @@
 -- tighter ones of the others.
 use Rattle.std.specs.Prelude.{ℕ, ◌≡◌, ◌≢◌, ◌⊎◌, ◌+◌, ◌*◌, ◌<◌, ◌≤◌, ◌^◌, true, false, [], length, count_by, IfSome, IsSome}
 use Rattle.std.specs.List.{All}
+use Rattle.std.specs.List.Sorted.{IsStrictlyIncreasing}
 use Rattle.chord_scenario.specs.declared.setting.Action.{Action}
 use Rattle.chord_scenario.specs.declared.setting.Action.TheVariants as action
 use Rattle.chord_scenario.specs.declared.setting.Churn.{Churn}
@@ -59,6 +60,9 @@ first_rules = record {
   drop_silent = false;
   skip_near = false;
   random_start = false;
+  clean_lists = false;
+  join_asks = false;
+  create_alone = false;
 }
 
 -- timers come later than their periods by at most 1,000 seconds
@@ -103,13 +107,17 @@ pub record NumbersInRange (sc : Setup) : Type 0 where
   pub jitters : AreJitters sc.jitters
   pub one_jitter : sc.profile ≤ 2 → sc.jitters ≡ record { stabilize = sc.jitter; finger = sc.jitter; check = sc.jitter }
 
--- no two nodes are at one place of the circle
+-- no two nodes are at one place of the circle; bootstrap nodes are in the order of the file, and are of the extended
+-- profile alone
 pub record NodesInRange (sc : Setup) : Type 0 where
   pub least : 2 ≤ node_count sc
   pub greatest : node_count sc ≤ 65536
   pub on_circle : (i : ℕ) → i < node_count sc → ident_of sc i < 2 ^ sc.bits
   pub apart : (i j : ℕ) → i < node_count sc → j < node_count sc → ident_of sc i ≡ ident_of sc j → i ≡ j
-  pub initial : sc.list + 1 ≤ count_by (λ n. n.initial) sc.nodes
+  pub bootstraps : All (λ i. i < node_count sc) sc.bootstraps
+  pub in_order : IsStrictlyIncreasing sc.bootstraps
+  pub no_bootstraps : sc.profile ≤ 2 → sc.bootstraps ≡ []
+  pub initial : sc.profile ≤ 2 → sc.list + 1 ≤ count_by (λ n. n.initial) sc.nodes
 
 -- messages take time, the same in both directions, and between different nodes at least a window
 pub record LatenciesInRange (sc : Setup) : Type 0 where

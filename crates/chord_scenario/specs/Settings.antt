@@ -22,9 +22,11 @@ use Rattle.std.specs.Prelude.{
   option_map,
   option_and_then,
   unwrap_or,
+  length,
+  slice_get,
   if◌then◌else◌,
 }
-use Rattle.std.specs.List.{list_any}
+use Rattle.std.specs.List.{list_any, range_with_len}
 use Rattle.chord_circle.specs.Names.{ident_of_name}
 use Rattle.toml.specs.Data.{Members, as_table}
 use Rattle.chord_scenario.specs.declared.key.Place.{Place}
@@ -59,7 +61,20 @@ rules_of extended top = record {
   drop_silent = truth_or extended key.DropSilent top;
   skip_near = truth_or extended key.SkipNear top;
   random_start = truth_or extended key.RandomStart top;
+  clean_lists = truth_or extended key.CleanLists top;
+  join_asks = truth_or extended key.JoinAsks top;
+  create_alone = truth_at key.CreateAlone top;
 }
+
+-- how long a node waits between its attempts to join: in the extended profile as long as for a reply, if the file does not
+-- say otherwise
+abbrev pub join_pause_of : (extended : Bool) → Members → ℕ
+join_pause_of extended top = number_or (if extended then number_at key.TimeoutUs top else 0) key.JoinPauseUs top
+
+-- the time from one check of a predecessor to the next: in the extended profile that from one stabilization to the next, if
+-- the file does not say otherwise
+abbrev pub check_of : (extended : Bool) → Members → ℕ
+check_of extended top = number_or (if extended then number_at key.StabilizeUs top else 0) key.CheckUs top
 
 -- how much later than its period each timer may come: by a jitter of its own, or by that of all
 unfoldable pub jitters_of : Members → Jitters
@@ -87,7 +102,16 @@ node_of bits ms = record {
   ident = unwrap_or (identifier_at bits key.Id ms) (ident_of_name bits (name_at key.Name ms));
   initial = truth_at key.Initial ms;
   churn = truth_at key.Churn ms;
+  bootstrap = truth_at key.Bootstrap ms;
 }
+
+-- whether the node of this number is a bootstrap node
+abbrev pub is_bootstrap : List Node → ℕ → Bool
+is_bootstrap nodes i = unwrap_or (option_map (λ n. n.bootstrap) (slice_get nodes i)) false
+
+-- the bootstrap nodes, in the order of the file
+unfoldable pub bootstraps_of : List Node → List ℕ
+bootstraps_of nodes = filter (is_bootstrap nodes) (range_with_len 0 (length nodes))
 
 abbrev pub is_node : Place → Bool
 is_node (place.Node n) = true

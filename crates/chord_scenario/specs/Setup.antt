@@ -45,6 +45,8 @@ pub record Setup : Type 0 where
   pub churn : Option Churn
   pub lookups : Option Span
   pub nodes : List Node
+  -- the bootstrap nodes, those that joining nodes try in turn
+  pub bootstraps : List ℕ
   pub commands : List Command
   -- for each node in turn its latency to each node, and 0 if no row names the two
   pub latencies : List ℕ

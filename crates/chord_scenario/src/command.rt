@@ -6,7 +6,7 @@ ghost use Rattle.chord_scenario.specs.declared.key.FileKey.TheVariants as key;
 ghost use Rattle.chord_scenario.specs.Values.{data_at, number_at, truth_or};
 ghost use Rattle.toml.specs.View.{table_view};
 ghost use Rattle.chord_scenario.specs.Sections.{section_of};
-ghost use Rattle.chord_scenario.specs.Settings.{identifier_at, node_at, action_of, commands_of, number_or, span_of, churn_of, jitters_of, lookups_of, rules_of};
+ghost use Rattle.chord_scenario.specs.Settings.{identifier_at, node_at, action_of, commands_of, number_or, span_of, check_of, churn_of, jitters_of, join_pause_of, lookups_of, rules_of};
 
 use crate::key::{FileKey, Place};
 use crate::names::Names;
@@ -15,7 +15,7 @@ use crate::operation::{Operation, operation_at};
 use crate::scenario::EXTENDED_PROFILE;
 use crate::section::PlacedTable;
 use crate::setting::{Action, Churn, Command, Jitters, Rules, Span};
-use crate::value::{number_at, truth_or, value_at, whole};
+use crate::value::{number_at, truth_at, truth_or, value_at, whole};
 use chord_circle::{Circle, Ident};
 use std::alloc::{AllocError, Global};
 use toml::Table;
@@ -123,7 +123,36 @@ pub(crate) fn rules_of(table: &Table, extended: bool) -> Rules
         drop_silent: truth_or(table, FileKey::DropSilent, extended),
         skip_near: truth_or(table, FileKey::SkipNear, extended),
         random_start: truth_or(table, FileKey::RandomStart, extended),
+        clean_lists: truth_or(table, FileKey::CleanLists, extended),
+        join_asks: truth_or(table, FileKey::JoinAsks, extended),
+        create_alone: truth_at(table, FileKey::CreateAlone),
     }
+}
+
+/// How long a node waits between its attempts to join, in microseconds: in the extended profile as
+/// long as for a reply, if the file does not say otherwise.
+pub(crate) fn join_pause_of(table: &Table, extended: bool) -> u64
+    ensures { result ≡ join_pause_of extended (table_view table.now) }
+{
+    let default = if extended {
+        number_at(table, FileKey::TimeoutUs)
+    } else {
+        0
+    };
+    number_or(table, FileKey::JoinPauseUs, default)
+}
+
+/// The time from one check of a predecessor to the next in microseconds: in the extended profile
+/// that from one stabilization to the next, if the file does not say otherwise.
+pub(crate) fn check_of(table: &Table, extended: bool) -> u64
+    ensures { result ≡ check_of extended (table_view table.now) }
+{
+    let default = if extended {
+        number_at(table, FileKey::StabilizeUs)
+    } else {
+        0
+    };
+    number_or(table, FileKey::CheckUs, default)
 }
 
 /// How much later than its period each timer may come.

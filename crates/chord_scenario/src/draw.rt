@@ -16,6 +16,7 @@ pub const KEY_PURPOSE: u32 = 6;
 const MESSAGE_PURPOSE: u32 = 7;
 
 /// The purpose of the words that decide which finger a node looks up first, in the extended profile.
+/// It is 9, since 8 is that of the timer of checks.
 const FINGER_PURPOSE: u32 = 9;
 
 /// Who draws and when: the node, how many words of its stream it has drawn, and the time in

@@ -64,6 +64,9 @@ pub enum FileKey {
     StabilizeJitterUs,
     FingerJitterUs,
     CheckJitterUs,
+    CleanLists,
+    JoinAsks,
+    CreateAlone,
     Churn,
     Lookups,
     Node,
@@ -77,6 +80,7 @@ pub enum FileKey {
     Name,
     Id,
     Initial,
+    Bootstrap,
     XUs,
     YUs,
     HeightUs,
@@ -87,7 +91,7 @@ pub enum FileKey {
 }
 
 /// The keys as the file writes them, in the order of `FileKey`.
-static KEY_NAMES: [&str; 50] = [
+static KEY_NAMES: [&str; 54] = [
     "profile",
     "bits",
     "list",
@@ -118,6 +122,9 @@ static KEY_NAMES: [&str; 50] = [
     "stabilize_jitter_us",
     "finger_jitter_us",
     "check_jitter_us",
+    "clean_lists",
+    "join_asks",
+    "create_alone",
     "churn",
     "lookups",
     "node",
@@ -131,6 +138,7 @@ static KEY_NAMES: [&str; 50] = [
     "name",
     "id",
     "initial",
+    "bootstrap",
     "x_us",
     "y_us",
     "height_us",
@@ -328,6 +336,12 @@ const FINGER_JITTER: Entry = Entry(FileKey::FingerJitterUs, LATER, Presence::Opt
 
 const CHECK_JITTER: Entry = Entry(FileKey::CheckJitterUs, LATER, Presence::Optional);
 
+const CLEAN_LISTS: Entry = Entry(FileKey::CleanLists, Form::Boolean, Presence::Optional);
+
+const JOIN_ASKS: Entry = Entry(FileKey::JoinAsks, Form::Boolean, Presence::Optional);
+
+const CREATE_ALONE: Entry = Entry(FileKey::CreateAlone, Form::Boolean, Presence::Optional);
+
 const CHURN: Entry = Entry(FileKey::Churn, Form::Table, Presence::ForChurn);
 
 const LOOKUPS: Entry = Entry(FileKey::Lookups, Form::Table, Presence::Optional);
@@ -358,7 +372,7 @@ static NETWORK_TOP_KEYS: [Entry; 19] = [
 ];
 
 /// The keys at top in the extended profile.
-static EXTENDED_TOP_KEYS: [Entry; 34] = [
+static EXTENDED_TOP_KEYS: [Entry; 37] = [
     PROFILE,
     WIDE_BITS,
     LONG_LIST,
@@ -389,6 +403,9 @@ static EXTENDED_TOP_KEYS: [Entry; 34] = [
     STABILIZE_JITTER,
     FINGER_JITTER,
     CHECK_JITTER,
+    CLEAN_LISTS,
+    JOIN_ASKS,
+    CREATE_ALONE,
     CHURN,
     LOOKUPS,
     MOST_NODES,
@@ -423,6 +440,8 @@ const INITIAL: Entry = Entry(FileKey::Initial, Form::Boolean, Presence::Optional
 
 const CHURNS: Entry = Entry(FileKey::Churn, Form::Boolean, Presence::Optional);
 
+const BOOTSTRAP: Entry = Entry(FileKey::Bootstrap, Form::Boolean, Presence::Optional);
+
 /// The keys of a node in the first profile.
 static NODE_KEYS: [Entry; 4] = [NAME, ID, INITIAL, CHURNS];
 
@@ -443,7 +462,7 @@ const HEIGHT: Entry = Entry(
 );
 
 /// The keys of a node in the extended profile.
-static PLACED_NODE_KEYS: [Entry; 7] = [NAME, LONG_ID, INITIAL, CHURNS, X, Y, HEIGHT];
+static PLACED_NODE_KEYS: [Entry; 8] = [NAME, LONG_ID, INITIAL, CHURNS, BOOTSTRAP, X, Y, HEIGHT];
 
 const AT: Entry = Entry(
     FileKey::AtUs,

@@ -166,11 +166,19 @@ fn self_link_in_rows(rows: &[Option<RowLink>]) -> Option<ScenarioFault>
     None
 }
 
-/// The first command, or else row, that links a node with itself.
+/// The first command, or else row, that links a node with itself. In the extended profile a join
+/// through the node itself makes a ring.
 #[tactic(auto, unfolding(crate::specs::Faults::self_link))]
-pub(crate) fn self_link(tables: &[PlacedTable<'_>], rows: &Rows<'_>) -> Option<ScenarioFault>
-    ensures { result ≡ self_link (map section_of tables.now) (rows_of rows.now.text.now) }
+pub(crate) fn self_link(
+    extended: bool,
+    tables: &[PlacedTable<'_>],
+    rows: &Rows<'_>,
+) -> Option<ScenarioFault>
+    ensures { result ≡ self_link extended (map section_of tables.now) (rows_of rows.now.text.now) }
 {
+    if extended {
+        return self_link_in_rows(&rows.links);
+    }
     match self_link_in_commands(tables) {
         Some(fault) => Some(fault),
         None => self_link_in_rows(&rows.links),

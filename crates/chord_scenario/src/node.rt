@@ -1,10 +1,10 @@
 //! The nodes of a scenario file.
-ghost use Rattle.std.specs.Prelude.{◌≡◌, ◌<◌, ◌^◌, IfOk, IfSome, map, option_and_then};
+ghost use Rattle.std.specs.Prelude.{◌≡◌, ◌<◌, ◌≤◌, ◌^◌, IfOk, IfSome, length, map, option_and_then};
 ghost use Rattle.std.specs.List.{All};
 ghost use Rattle.chord_scenario.specs.Values.{data_at, identifier_of};
 ghost use Rattle.toml.specs.View.{table_view};
 ghost use Rattle.chord_scenario.specs.Sections.{section_of};
-ghost use Rattle.chord_scenario.specs.Settings.{coordinates_at, coordinates_of, identifier_at, name_at, node_of, nodes_of};
+ghost use Rattle.chord_scenario.specs.Settings.{bootstraps_of, coordinates_at, coordinates_of, identifier_at, name_at, node_of, nodes_of};
 
 use crate::key::{FileKey, Place};
 use crate::keys_check::has_placed_node;
@@ -63,6 +63,7 @@ fn node(alloc: Global, circle: Circle, table: &Table) -> Result<Node, AllocError
         ident,
         initial: truth_at(table, FileKey::Initial),
         churn: truth_at(table, FileKey::Churn),
+        bootstrap: truth_at(table, FileKey::Bootstrap),
     })
 }
 
@@ -95,6 +96,21 @@ pub(crate) fn coordinates(
         }
     }
     Ok(coordinates)
+}
+
+/// The bootstrap nodes, in the order of the file.
+#[tactic(auto, unfolding(crate::specs::Settings::bootstraps_of))]
+pub(crate) fn bootstraps(alloc: Global, nodes: &[Node]) -> Result<Vec<u32>, AllocError>
+    requires { length nodes.now ≤ 65536 }
+    ensures { IfOk result (λ v. v.items ≡ bootstraps_of nodes.now) }
+{
+    let mut bootstraps = Vec::new(alloc);
+    for node in 0..nodes.len() as u32 {
+        if nodes[node as usize].bootstrap {
+            bootstraps.push(node)?;
+        }
+    }
+    Ok(bootstraps)
 }
 
 /// The nodes of a file, in order.

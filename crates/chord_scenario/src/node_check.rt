@@ -130,12 +130,13 @@ fn initial_count(nodes: &[Node]) -> usize
     nodes.iter().filter(|node| node.initial).count()
 }
 
-/// Whether fewer nodes begin as members than a successor list of this length has with its owner.
+/// The fault if fewer nodes begin as members than a successor list of this length has with its
+/// owner. In the extended profile a ring may begin with any number.
 #[tactic(auto, unfolding(crate::specs::Faults::too_few_initial))]
-pub(crate) fn too_few_initial(list: u64, nodes: &[Node]) -> Option<ScenarioFault>
-    ensures { result ≡ too_few_initial list nodes.now }
+pub(crate) fn too_few_initial(extended: bool, list: u64, nodes: &[Node]) -> Option<ScenarioFault>
+    ensures { result ≡ too_few_initial extended list nodes.now }
 {
-    if initial_count(nodes) as u64 <= list {
+    if !extended && initial_count(nodes) as u64 <= list {
         Some(ScenarioFault::TooFewInitial)
     } else {
         None

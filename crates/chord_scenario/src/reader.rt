@@ -1,12 +1,12 @@
 //! Reading a scenario from its two texts.
-ghost use Rattle.std.specs.Prelude.{◌≡◌, ◌⊎◌, Some, None, IfOk, IfErr, map, length, ◌≤◌};
+ghost use Rattle.std.specs.Prelude.{◌≡◌, ◌==◌, ◌⊎◌, Some, None, IfOk, IfErr, map, length, ◌≤◌};
 ghost use Rattle.chord_scenario.specs.declared.key.FileKey.TheVariants as key;
 ghost use Rattle.chord_scenario.specs.Values.{number_at};
 ghost use Rattle.toml.specs.View.{table_view};
 ghost use Rattle.chord_scenario.specs.Rows.{rows_of};
 ghost use Rattle.chord_scenario.specs.Sections.{section_of, sections};
 ghost use Rattle.chord_scenario.specs.Latencies.{HasLatencies, square_or_zeros};
-ghost use Rattle.chord_scenario.specs.Settings.{commands_of, coordinates_of};
+ghost use Rattle.chord_scenario.specs.Settings.{bootstraps_of, commands_of, coordinates_of};
 ghost use Rattle.chord_scenario.specs.Faults.{first_answer, same_name, row_names_unknown, bad_latency_row, file_fault, scenario_fault};
 ghost use Rattle.chord_scenario.specs.Groups.{key_questions, node_questions, link_questions, pair_questions, late_questions};
 ghost use Rattle.chord_scenario.specs.declared.fault.ScenarioFault.TheVariants.{UnknownNode};
@@ -15,7 +15,8 @@ ghost use Rattle.chord_scenario.specs.Range.{IsInRange};
 ghost use Rattle.chord_scenario.specs.Accepted.{setup_with, IsSetupOf, Accepts};
 
 use crate::command::{
-    churn_of, commands, is_extended, jitters_of, lookups_of, number_or, rules_of, small_number_at,
+    check_of, churn_of, commands, is_extended, jitters_of, join_pause_of, lookups_of, number_or,
+    rules_of, small_number_at,
 };
 use crate::document::document;
 use crate::fault::ScenarioFault;
@@ -24,13 +25,13 @@ use crate::keys_check::{missing_key, out_of_range, unknown_key, wrong_type};
 use crate::latency::latencies;
 use crate::link_check::{bad_latency_row, self_link, time_after_end, unknown_node};
 use crate::names::Names;
-use crate::node::{coordinates, nodes};
+use crate::node::{bootstraps, coordinates, nodes};
 use crate::node_check::{bad_name, same_id, same_name, too_few_initial};
 use crate::row::Rows;
 use crate::scenario::Scenario;
 use crate::section::{PlacedTable, tables_in};
 use crate::setting::{Command, Coordinates, Node};
-use crate::value::{number_at, truth_at};
+use crate::value::{number_at, truth_at, truth_or};
 use crate::window_check::{below_window, rows_and_coordinates};
 use chord_circle::Circle;
 use std::alloc::{AllocError, Global};
@@ -71,17 +72,18 @@ fn node_fault(
 
 /// The first fault of commands and rows, each for itself.
 fn link_fault(
+    extended: bool,
     list: u64,
     duration: u64,
     tables: &[PlacedTable<'_>],
     rows: &Rows<'_>,
 ) -> Option<ScenarioFault>
-    ensures { result ≡ first_answer (link_questions list duration (map section_of tables.now) rows.now.names.nodes.now (rows_of rows.now.text.now)) }
+    ensures { result ≡ first_answer (link_questions extended list duration (map section_of tables.now) rows.now.names.nodes.now (rows_of rows.now.text.now)) }
 {
     if let Some(fault) = unknown_node(tables, rows) {
         return Some(fault);
     }
-    if let Some(fault) = too_few_initial(list, rows.names.nodes) {
+    if let Some(fault) = too_few_initial(extended, list, rows.names.nodes) {
         return Some(fault);
     }
     if let Some(fault) = time_after_end(duration, tables) {
@@ -90,7 +92,7 @@ fn link_fault(
     if let Some(fault) = bad_latency_row(rows) {
         return Some(fault);
     }
-    self_link(tables, rows)
+    self_link(extended, tables, rows)
 }
 
 /// The rows of a text, or the first fault of commands and rows, each for itself.
@@ -103,13 +105,13 @@ fn checked_rows<'a>(
 ) -> Result<Rows<'a>, ScenarioFault>
     ensures nodes { IfOk result (λ rows. rows.names.nodes.now ≡ names.entry.nodes.now) }
     ensures text { IfOk result (λ rows. rows.text.now ≡ csv.entry.now) }
-    ensures sound { IfOk result (λ _. first_answer (link_questions (number_at key.List (table_view top.now)) (number_at key.DurationUs (table_view top.now)) (map section_of tables.now) names.entry.nodes.now (rows_of csv.entry.now)) ≡ None) }
-    ensures refused { IfErr result (λ e. (e ≡ ScenarioFault.Memory) ⊎ (first_answer (link_questions (number_at key.List (table_view top.now)) (number_at key.DurationUs (table_view top.now)) (map section_of tables.now) names.entry.nodes.now (rows_of csv.entry.now)) ≡ Some e)) }
+    ensures sound { IfOk result (λ _. first_answer (link_questions (number_at key.Profile (table_view top.now) == 4) (number_at key.List (table_view top.now)) (number_at key.DurationUs (table_view top.now)) (map section_of tables.now) names.entry.nodes.now (rows_of csv.entry.now)) ≡ None) }
+    ensures refused { IfErr result (λ e. (e ≡ ScenarioFault.Memory) ⊎ (first_answer (link_questions (number_at key.Profile (table_view top.now) == 4) (number_at key.List (table_view top.now)) (number_at key.DurationUs (table_view top.now)) (map section_of tables.now) names.entry.nodes.now (rows_of csv.entry.now)) ≡ Some e)) }
 {
     let rows = Rows::read(alloc, names, csv)?;
     let list = number_at(top, FileKey::List);
     let duration = number_at(top, FileKey::DurationUs);
-    match link_fault(list, duration, tables, &rows) {
+    match link_fault(is_extended(top), list, duration, tables, &rows) {
         Some(fault) => Err(fault),
         None => Ok(rows),
     }
@@ -244,17 +246,26 @@ fn scenario_of(alloc: Global, top: &Table, csv: &[u8]) -> Result<Scenario, Scena
     let nodes = nodes(alloc, circle, tables)?;
     let names = checked_names(alloc, tables, nodes.as_slice())?;
     let linked = link_nodes(alloc, circle, top, tables, names, csv)?;
-    Ok(assembled(circle, top, nodes, linked))
+    let bootstraps = bootstraps(alloc, nodes.as_slice())?;
+    Ok(assembled(circle, top, nodes, bootstraps, linked))
 }
 
 /// The scenario of a table, its nodes, and what links them.
-fn assembled(circle: Circle, top: &Table, nodes: Vec<Node>, linked: Linked) -> Scenario
+fn assembled(
+    circle: Circle,
+    top: &Table,
+    nodes: Vec<Node>,
+    bootstraps: Vec<u32>,
+    linked: Linked,
+) -> Scenario
     requires circle { circle ≡ number_at key.Bits (table_view top.now) }
     requires profile { number_at key.Profile (table_view top.now) ≤ 4 }
     requires coordinates { linked.distances.coordinates.items ≡ coordinates_of (sections (table_view top.now)) }
+    requires bootstraps { bootstraps.items ≡ bootstraps_of nodes.items }
     requires in_range { IsInRange (setup_with (table_view top.now) nodes.items linked.commands.items (square_or_zeros (length nodes.items) linked.distances.cells.items)) }
     ensures { result ≡ setup_with (table_view top.now) nodes.items linked.commands.items (square_or_zeros (length nodes.items) linked.distances.cells.items) }
 {
+    let extended = is_extended(top);
     Scenario {
         profile: small_number_at(top, FileKey::Profile),
         circle,
@@ -272,15 +283,16 @@ fn assembled(circle: Circle, top: &Table, nodes: Vec<Node>, linked: Linked) -> S
         loss: number_or(top, FileKey::LossPpm, 0),
         spread: number_or(top, FileKey::SpreadUs, 0),
         retries: number_or(top, FileKey::Retries, 0),
-        join_pause: number_or(top, FileKey::JoinPauseUs, 0),
-        join_forever: truth_at(top, FileKey::JoinForever),
-        check: number_or(top, FileKey::CheckUs, 0),
+        join_pause: join_pause_of(top, extended),
+        join_forever: truth_or(top, FileKey::JoinForever, extended),
+        check: check_of(top, extended),
         detail: truth_at(top, FileKey::Detail),
-        rules: rules_of(top, is_extended(top)),
+        rules: rules_of(top, extended),
         jitters: jitters_of(top),
         churn: churn_of(top),
         lookups: lookups_of(top),
         nodes,
+        bootstraps,
         commands: linked.commands,
         latencies: linked.distances.cells,
         coordinates: linked.distances.coordinates,

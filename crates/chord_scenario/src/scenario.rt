@@ -40,6 +40,7 @@ pub struct Scenario {
     pub(crate) churn: Option<Churn>,
     pub(crate) lookups: Option<Span>,
     pub(crate) nodes: Vec<Node>,
+    pub(crate) bootstraps: Vec<u32>,
     pub(crate) commands: Vec<Command>,
     /// For each node in turn its latency to each node, and 0 if no row names the two. Empty if
     /// there are no rows.
@@ -297,6 +298,14 @@ impl Scenario {
         ensures { result ≡ is_churn_node self.now node }
     {
         self.nodes[node as usize].churn
+    }
+
+    /// The bootstrap nodes, those that joining nodes try in turn, in the order of the file: none in
+    /// the first two profiles.
+    pub fn bootstraps(&self) -> &[u32]
+        ensures { result.now ≡ self.now.bootstraps }
+    {
+        self.bootstraps.as_slice()
     }
 
     /// The number of commands, as the length of their list.

@@ -4,14 +4,16 @@
 use crate::name::Name;
 use chord_circle::Ident;
 
-/// A node: its name, its place on the circle, whether it is a member of the ring at the start, and
-/// whether it crashes and rises by itself.
+/// A node: its name, its place on the circle, whether it is a member of the ring at the start,
+/// whether it crashes and rises by itself, and whether it is a bootstrap node, one of those that
+/// joining nodes try in turn.
 #[derive(Drop)]
 pub struct Node {
     pub name: Name,
     pub ident: Ident,
     pub initial: bool,
     pub churn: bool,
+    pub bootstrap: bool,
 }
 
 /// The coordinates of a node in microseconds: its place in the plane, and what its own link adds to
@@ -54,6 +56,12 @@ pub struct Rules {
     pub skip_near: bool,
     /// The first delays of a node's timers, and the finger that it looks up first, are drawn.
     pub random_start: bool,
+    /// A joining node leaves itself and its nodes to avoid out of the list that it gets.
+    pub clean_lists: bool,
+    /// A joining node becomes a member when its first successor has replied.
+    pub join_asks: bool,
+    /// A bootstrap node whose join fails because nobody replies makes a ring of its own.
+    pub create_alone: bool,
 }
 
 /// How much later than its period each timer may come, in microseconds.

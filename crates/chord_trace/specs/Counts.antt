@@ -18,6 +18,7 @@ use Rattle.chord_trace.specs.Kinds.{
   is_again,
   is_forgotten,
   is_rescue,
+  is_create,
 }
 use Rattle.chord_trace.specs.declared.line_counts.LineCounts.{LineCounts}
 
@@ -40,6 +41,7 @@ counts_in lines = record {
   again = count_by is_again lines;
   forgotten = count_by is_forgotten lines;
   rescues = count_by is_rescue lines;
+  creates = count_by is_create lines;
 }
 
 -- two counts added, kind by kind
@@ -61,6 +63,7 @@ plus a b = record {
   again = a.again + b.again;
   forgotten = a.forgotten + b.forgotten;
   rescues = a.rescues + b.rescues;
+  creates = a.creates + b.creates;
 }
 
 -- no count is above the limit
@@ -81,3 +84,4 @@ pub record AreWithin (limit : ℕ) (c : LineCounts) : Type 0 where
   pub again : c.again ≤ limit
   pub forgotten : c.forgotten ≤ limit
   pub rescues : c.rescues ≤ limit
+  pub creates : c.creates ≤ limit

@@ -48,6 +48,10 @@ abbrev pub is_rescue : Line → Bool
 is_rescue (line.Rescue finger) = true
 is_rescue _ = false
 
+abbrev pub is_create : Line → Bool
+is_create line.Create = true
+is_create _ = false
+
 abbrev pub is_lookup : Line → Bool
 is_lookup (line.Lookup key) = true
 is_lookup _ = false

@@ -1,5 +1,5 @@
 -- The text of a report.
-use Rattle.std.specs.Prelude.{ℕ, ◌==◌, Bool, List, [], ◌∷◌, ◌++◌, codes, decimal, nat_lt, if◌then◌else◌}
+use Rattle.std.specs.Prelude.{ℕ, ◌==◌, List, [], ◌∷◌, ◌++◌, codes, decimal, nat_lt, if◌then◌else◌}
 use Rattle.std.specs.List.{flat_map}
 use Rattle.chord_trace.specs.declared.report.Report.{Report}
 
@@ -17,21 +17,24 @@ numbers_of r =
     ∷ (codes "audits", r.audits.audits) ∷ (codes "ringless", r.audits.ringless)
     ∷ (codes "unordered", r.audits.unordered) ∷ (codes "insufficient", r.audits.insufficient) ∷ []
 
--- a name and its number, if the report has this number
-abbrev pub number_if : (has : Bool) → (name : List ℕ) → (number : ℕ) → List (List ℕ × ℕ)
-number_if has name number = if has then (name, number) ∷ [] else []
+-- those of a network that loses messages
+abbrev pub network_numbers_of : Report → List (List ℕ × ℕ)
+network_numbers_of r = (codes "losses", r.lines.losses) ∷ []
+
+-- those of the extended profile
+abbrev pub extended_numbers_of : Report → List (List ℕ × ℕ)
+extended_numbers_of r =
+    (codes "again", r.lines.again) ∷ (codes "forgotten", r.lines.forgotten) ∷ (codes "rescues", r.lines.rescues)
+    ∷ (codes "creates", r.lines.creates) ∷ (codes "timeouts-sum", r.timeouts_sum) ∷ []
 
 -- a line for each name and its number
 abbrev pub number_text : List (List ℕ × ℕ) → List ℕ
 number_text = flat_map (λ p. p.0 ++ codes " " ++ decimal p.1 ++ codes "\n")
 
 -- the text of a report, a line for each of its numbers: the first profile has no losses, and only the extended one has
--- requests that are sent again, predecessors that are forgotten, fingers that rescue and a sum of timeouts
+-- its own numbers
 abbrev pub report_text : Report → List ℕ
 report_text r =
     number_text (numbers_of r)
-    ++ number_text (number_if (nat_lt 1 r.profile) (codes "losses") r.lines.losses)
-    ++ number_text (number_if (r.profile == 4) (codes "again") r.lines.again)
-    ++ number_text (number_if (r.profile == 4) (codes "forgotten") r.lines.forgotten)
-    ++ number_text (number_if (r.profile == 4) (codes "rescues") r.lines.rescues)
-    ++ number_text (number_if (r.profile == 4) (codes "timeouts-sum") r.timeouts_sum)
+    ++ number_text (if nat_lt 1 r.profile then network_numbers_of r else [])
+    ++ number_text (if r.profile == 4 then extended_numbers_of r else [])

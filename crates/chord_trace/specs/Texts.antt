@@ -50,6 +50,7 @@ line_words sc (line.Lose kind receiver) = message_words sc (codes "lose") kind r
 line_words sc (line.Again kind receiver) = message_words sc (codes "again") kind receiver
 line_words sc (line.Forget predecessor) = codes "forget " ++ name_of sc predecessor
 line_words sc (line.Rescue finger) = codes "rescue " ++ name_of sc finger
+line_words sc line.Create = codes "create"
 line_words sc (line.Ask kind receiver call) = message_words sc (codes "ask") kind receiver ++ codes " call=" ++ decimal call
 line_words sc (line.Seek kind receiver call key since) =
     message_words sc (codes "ask") kind receiver

@@ -90,6 +90,7 @@ fn push_words(text: &mut String, scenario: &Scenario, line: Line) -> Result<(), 
         Line::Timeout { silent } => push_node(text, scenario, "timeout ", silent),
         Line::Forget { predecessor } => push_node(text, scenario, "forget ", predecessor),
         Line::Rescue { finger } => push_node(text, scenario, "rescue ", finger),
+        Line::Create => text.push_str("create"),
         Line::Ask {
             kind,
             receiver,

@@ -7,8 +7,8 @@ use chord_event::Line;
 use std::alloc::{AllocError, Global};
 use std::collections::BTreeMap;
 
-/// A lookup that was found: how many nodes it was at, how many requests timed out, and how long it
-/// took in microseconds.
+/// A lookup that was found: how many of its requests other nodes answered (a node that was asked
+/// again counts once), how many timed out, and how long it took in microseconds.
 #[derive(Clone, Copy, Drop)]
 pub(crate) struct Found {
     pub hops: u32,

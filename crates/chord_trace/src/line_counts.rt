@@ -24,6 +24,8 @@ pub struct LineCounts {
     pub forgotten: u64,
     /// Fingers that were taken as successors. Only the extended profile has them.
     pub rescues: u64,
+    /// Rings that nodes made of their own. Only the extended profile has them.
+    pub creates: u64,
 }
 
 impl LineCounts {
@@ -64,6 +66,7 @@ impl LineCounts {
             again: self.again + other.again,
             forgotten: self.forgotten + other.forgotten,
             rescues: self.rescues + other.rescues,
+            creates: self.creates + other.creates,
         }
     }
 
@@ -90,6 +93,7 @@ impl LineCounts {
             Line::Again { .. } => self.again += 1,
             Line::Forget { .. } => self.forgotten += 1,
             Line::Rescue { .. } => self.rescues += 1,
+            Line::Create => self.creates += 1,
         }
     }
 }

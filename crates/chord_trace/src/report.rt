@@ -1,9 +1,9 @@
 //! The report of a run.
-ghost use Rattle.std.specs.Prelude.{◌≡◌, ◌⊎◌, ℕ, ◌++◌, false, List, map, OnOk, IfErr, string_bytes};
+ghost use Rattle.std.specs.Prelude.{◌≡◌, ◌⊎◌, ℕ, ◌++◌, false, [], if◌then◌else◌, List, map, OnOk, IfErr, string_bytes};
 ghost use Rattle.std.specs.Io.KnownBytes.{Appends};
 ghost use Rattle.std.specs.List.Sorted.{IsPermutation};
 ghost use Rattle.chord_trace.specs.Report.{IsReportOf};
-ghost use Rattle.chord_trace.specs.ReportText.{numbers_of, number_if, number_text, report_text};
+ghost use Rattle.chord_trace.specs.ReportText.{extended_numbers_of, network_numbers_of, numbers_of, number_text, report_text};
 ghost use Rattle.chord_trace.specs.Watched.{wrapped, has_failed};
 ghost use Rattle.chord_trace.specs.Writing.{AppendsFront, is_write};
 ghost use Rattle.chord_trace.specs.declared.piece.Piece.{Piece};
@@ -56,38 +56,15 @@ impl Report {
         ensures { OnOk result (string_bytes text.new ≡ string_bytes text.old ++ report_text self.now) }
     {
         push_numbers(text, &self.numbers())?;
-        push_if(
-            text,
-            self.profile > 1,
-            "losses",
-            u128::from(self.lines.losses),
-        )?;
+        push_if(text, self.profile > 1, &self.network_numbers())?;
         push_if(
             text,
             self.profile == EXTENDED_PROFILE,
-            "again",
-            u128::from(self.lines.again),
-        )?;
-        push_if(
-            text,
-            self.profile == EXTENDED_PROFILE,
-            "forgotten",
-            u128::from(self.lines.forgotten),
-        )?;
-        push_if(
-            text,
-            self.profile == EXTENDED_PROFILE,
-            "rescues",
-            u128::from(self.lines.rescues),
-        )?;
-        push_if(
-            text,
-            self.profile == EXTENDED_PROFILE,
-            "timeouts-sum",
-            self.timeouts_sum,
+            &self.extended_numbers(),
         )
     }
 
+    /// The numbers that every profile has.
     fn numbers(&self) -> [(&'static str, u128); 24]
         ensures { map (λ p. (p.0.now, p.1)) result ≡ numbers_of self.now }
     {
@@ -118,14 +95,34 @@ impl Report {
             ("insufficient", u128::from(self.audits.insufficient)),
         ]
     }
+
+    /// The numbers of a network that loses messages.
+    fn network_numbers(&self) -> [(&'static str, u128); 1]
+        ensures { map (λ p. (p.0.now, p.1)) result ≡ network_numbers_of self.now }
+    {
+        [("losses", u128::from(self.lines.losses))]
+    }
+
+    /// The numbers of the extended profile.
+    fn extended_numbers(&self) -> [(&'static str, u128); 5]
+        ensures { map (λ p. (p.0.now, p.1)) result ≡ extended_numbers_of self.now }
+    {
+        [
+            ("again", u128::from(self.lines.again)),
+            ("forgotten", u128::from(self.lines.forgotten)),
+            ("rescues", u128::from(self.lines.rescues)),
+            ("creates", u128::from(self.lines.creates)),
+            ("timeouts-sum", self.timeouts_sum),
+        ]
+    }
 }
 
-/// Adds a number that not every profile has.
-fn push_if(text: &mut String, has: bool, word: &str, number: u128) -> Result<(), AllocError>
-    ensures { OnOk result (string_bytes text.new ≡ string_bytes text.old ++ number_text (number_if has word.now number)) }
+/// Adds numbers that not every profile has.
+fn push_if(text: &mut String, has: bool, numbers: &[(&str, u128)]) -> Result<(), AllocError>
+    ensures { OnOk result (string_bytes text.new ≡ string_bytes text.old ++ number_text (if has then map (λ p. (p.0.now, p.1)) numbers.now else [])) }
 {
     if has {
-        push_numbers(text, &[(word, number)])
+        push_numbers(text, numbers)
     } else {
         Ok(())
     }

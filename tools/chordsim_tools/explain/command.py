@@ -36,14 +36,15 @@ called unexplained. That can be for these reasons, since Python's tomllib reads 
 Without the program the first line is that of this tool.
 
 Of files that are accepted, the second line says how often each finger is refreshed: in (bits - 1) times (finger_us +
-jitter_us / 2) a node refreshes each of its fingers once. In profile 4, unless skip_near = false, these are only those
-that the first successor does not cover: of N nodes about 1 + log2 N. A section "accepted, but:" names traps, and the status stays
-0: a timeout below the greatest round trip, a duration below the periods, a round of fingers that takes longer than the
-run or a mean life, joins that go on for ever without a pause, a time at which no node is up (no ring is ever made
-again), and a `max_events` below what the run is likely to need. This last one is estimated if the timers alone come
-near to it: the program runs the scenario's first seconds (six, or four periods) and half of them, and the events of the
-second half are taken for the rest of the duration. If such a run takes longer than twenty seconds, the estimate is that
-of the timers alone."""
+half of its jitter) a node refreshes each of its fingers once. In profile 4, unless skip_near = false, it looks up only
+those that the first successor does not cover. Of N nodes these are about 1 + log2 N, and that many are in place of
+(bits - 1). A section "accepted, but:" names traps, and the status stays 0: a timeout below the greatest round trip, a
+duration below the periods, a round of fingers that takes longer than the run or a mean life, joins that go on for ever
+without a pause, a time at which no node is up (no ring is ever made again), a join that makes a second ring, bootstrap
+nodes that are all down at once, and a `max_events` below what the run is likely to need. This last one is estimated if
+the timers alone come near to it: the program runs the scenario's first seconds (six, or four periods) and half of them,
+and the events of the second half are taken for the rest of the duration. If such a run takes longer than twenty
+seconds, the estimate is that of the timers alone."""
 EXAMPLES = """\
 examples:
   tools/explain world.toml                     all faults of a scenario

@@ -12,6 +12,8 @@ from chordsim_tools.explain.world_traps import world_traps
 from chordsim_tools.known import known
 from chordsim_tools.quantities import time_text
 from chordsim_tools.scenario import coordinates
+from chordsim_tools.scenario.defaults import check_us, is_extended
+from chordsim_tools.scenario.reading import jitters_of
 from chordsim_tools.scenario.tables import EXTENDED, PROFILES, rows_of
 from chordsim_tools.study.document import toml_text
 
@@ -71,7 +73,7 @@ def timeout_trap(timeout: int, greatest: int, retries: int = 0) -> list[str]:
 def duration_traps(top: dict[str, Any]) -> list[str]:
     """A duration that is below the periods."""
     duration = top["duration_us"]
-    drawn = DRAWN if top["profile"] == 4 and top.get("random_start") is not False else {}
+    drawn = DRAWN if is_extended(top) and top.get("random_start") is not False else {}
     short = [(key, drawn.get(key, what)) for key, what in PERIODS if duration < top.get(key, 0)]
     if not short:
         return []
@@ -85,8 +87,10 @@ def timer_events(top: dict[str, Any]) -> float:
     gap = (lookups.get("gap_min_us", 0) + lookups.get("gap_max_us", 0)) / 2
     nodes = len(top["node"])
     way = 2 + 2 * math.log2(nodes)
-    rate = 8 / top["stabilize_us"] + way / top["finger_us"] + (way / gap if gap else 0)
-    rate += 4 / top["check_us"] if top.get("check_us") else 0
+    jitters = jitters_of(top)
+    rate = 8 / (top["stabilize_us"] + jitters.stabilize_us / 2) + way / (top["finger_us"] + jitters.finger_us / 2)
+    rate += way / gap if gap else 0
+    rate += 4 / (check_us(top) + jitters.check_us / 2) if check_us(top) else 0
     return float(nodes * top["duration_us"] * rate + (way + 4) * len(top.get("command", [])))
 
 
@@ -107,8 +111,9 @@ def events_needed(program: Path, top: dict[str, Any], latency: bytes) -> Need | 
     """What a run needs, by two runs of its first seconds, or by its timers if these take too long.
 
     Nothing if the timers alone come nowhere near to the limit, or if the run itself is not longer than such a run."""
-    duration = int(top["duration_us"])
-    span = max(LEAST_SPAN, ENOUGH_PERIODS * (max(top["stabilize_us"], top["finger_us"]) + top.get("jitter_us", 0)))
+    duration, jitters = int(top["duration_us"]), jitters_of(top)
+    longest = max(top["stabilize_us"] + jitters.stabilize_us, top["finger_us"] + jitters.finger_us)
+    span = max(LEAST_SPAN, ENOUGH_PERIODS * longest)
     if MARGIN * timer_events(top) < most_events(top) or span >= duration:
         return None
     # A run begins quietly, so that the second half of what is tried stands for the rest.

@@ -163,6 +163,7 @@ def too_few_initial(_: Fault, files: Files) -> Parts:
         likely = [f"there are only {len(files.document.nodes)} nodes: write more"]
     if count >= 2:
         likely.append(f"or list = {count - 1}")
+    likely.append("profile 4 allows any number of initial nodes: write profile = 4")
     found = f"list = {entries}, and {count} node{' is' if count == 1 else 's are'} initial"
     return "too few nodes are members at the start", found, f"list + 1 = {entries + 1} initial nodes or more", likely
 
@@ -192,7 +193,8 @@ def self_link(fault: Fault, files: Files) -> Parts:
         row = files.row(fault.place)
         return "the row names one node twice", shown(",".join(row.fields)), "two different nodes", []
     _, _, written, _ = value_and_key(fault, files)
-    return "a node joins through itself", written, "the name of another node than `node`", []
+    likely = ["profile 4 allows it, and the node makes a ring of its own then: write profile = 4"]
+    return "a node joins through itself", written, "the name of another node than `node`", likely
 
 
 def same_link(fault: Fault, files: Files) -> Parts:

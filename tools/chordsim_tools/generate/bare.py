@@ -15,6 +15,7 @@ LIMITS = {
     **dict.fromkeys(("duration", "audit", "stabilize", "finger", "churn-uniform", "lifetime", "down", "arrive"), LONG),
     **dict.fromkeys(("lookup-gap", "timeout", "join-pause", "check", "crash", "back"), LONG),
     **dict.fromkeys(("window", "latency", "jitter", "spread", "coordinates"), SHORT),
+    **dict.fromkeys(("stabilize-jitter", "finger-jitter", "check-jitter"), SHORT),
 }
 """The options of tools/generate that are times, or have times in them."""
 

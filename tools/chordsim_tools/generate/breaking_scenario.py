@@ -6,7 +6,9 @@ At times a node is told to look up more keys at once than it may.
 
 from random import Random
 
-from chordsim_tools.generate.random_scenario import distinct, jitters_of, ways_of
+from chordsim_tools.generate.random_scenario import (
+    JOINS, WAYS, distinct, jitters_of, ways_of, with_bootstraps, with_few_initial, with_own_joins,
+)
 
 
 def breaking_scenario(seed: int) -> str:
@@ -18,19 +20,32 @@ def breaking_scenario(seed: int) -> str:
     duration = dice.randint(3000, 6000)
     idents = dice.sample(range(2**bits), nodes) if bits < 20 else distinct(dice, 2**bits, nodes)
     initial = set(dice.sample(range(nodes), dice.randint(entries + 1, nodes)))
-    top = settings(dice, bits, entries, duration) | ways_of(dice) | jitters_of(dice)
+    top = settings(dice, bits, entries, duration) | ways_of(dice, WAYS) | jitters_of(dice)
     share = dice.choice([0, 0.3, 0.8])
-    text = "".join(f"{key} = {value}\n" for key, value in top.items()) + tables(dice)
-    for place, ident in enumerate(idents):
-        text += f'[[node]]\nname = "n{place}"\nid = "{ident:x}"\n'
-        text += "initial = true\n" * (place in initial) + "churn = true\n" * (dice.random() < share)
+    rest = tables(dice)
+    node_tables = [node_table(dice, place, ident, place in initial, share) for place, ident in enumerate(idents)]
+    commands = commands_of(dice, idents, entries, duration, 2**bits)
+    # Joins are drawn last, so that a seed gives the same ring, crashes and lookups with and without their rules.
+    top |= ways_of(dice, JOINS)
+    rest += "".join(with_few_initial(dice, with_bootstraps(dice, node_tables))) + with_own_joins(dice, commands)
+    return "".join(f"{key} = {value}\n" for key, value in top.items()) + rest
+
+
+def commands_of(dice: Random, idents: list[int], entries: int, duration: int, size: int) -> str:
+    """The commands: neighbours crash and come back, and nodes look up."""
+    nodes, text = len(idents), ""
     ring = sorted(range(nodes), key=lambda place: idents[place])
-    for _ in range(dice.choice([1, 2, 3])):
-        text += gap(dice, ring, entries, duration)
+    text += "".join(gap(dice, ring, entries, duration) for _ in range(dice.choice([1, 2, 3])))
     for _ in range(dice.choice([0, 10, 30])):
-        text += lookup(dice, dice.randrange(duration), dice.randrange(nodes), 2**bits)
+        text += lookup(dice, dice.randrange(duration), dice.randrange(nodes), size)
     time, busy = dice.randrange(duration), dice.randrange(nodes)
-    return text + "".join(lookup(dice, time, busy, 2**bits) for _ in range(dice.choice([0, 0, 70])))
+    return text + "".join(lookup(dice, time, busy, size) for _ in range(dice.choice([0, 0, 70])))
+
+
+def node_table(dice: Random, place: int, ident: int, is_initial: bool, share: float) -> str:
+    """The table of a node, which churns by itself with this probability."""
+    text = f'[[node]]\nname = "n{place}"\nid = "{ident:x}"\n' + "initial = true\n" * is_initial
+    return text + "churn = true\n" * (dice.random() < share)
 
 
 def settings(dice: Random, bits: int, entries: int, duration: int) -> dict[str, int | str]:

@@ -106,9 +106,12 @@ def initial_nodes(plan: Plan, lives: list[list[Life]]) -> set[int]:
 
 
 def check_initial(plan: Plan, lives: list[list[Life]]) -> None:
-    """Refuses a start with fewer members than the program takes."""
+    """Refuses a start with fewer members than the program takes, or with none."""
     count = len(initial_nodes(plan, lives))
-    if count <= plan.top["list"]:
+    if plan.top["profile"] == 4:
+        if count == 0:
+            raise Failure(2, "--stationary: no node is up at the start; more --nodes, or more that --stay")
+    elif count <= plan.top["list"]:
         least = plan.top["list"] + 1
         option, more = "--stationary", "more --nodes, more that --stay, or a shorter --list"
         if plan.is_traced:

@@ -72,8 +72,9 @@ examples:
   tools/generate --initial 8 --arrive 5s..5055ms --duration 1m  a storm of joins
   tools/generate --profile 2 --loss 20000 --spread 5ms          two messages of a hundred are lost, the others late
   tools/generate --profile 4 --loss 20000 --retries 2           the same loss, and requests that are sent again
-  tools/generate --profile 4 --lifetime exp:10m --join-pause 5s --join-forever --check 1s
-                                                                joins that do not end, and checks of predecessors
+  tools/generate --profile 4 --lifetime exp:10m --join-pause 5s --no-join-forever --check 0
+                                                                joins that end, and no checks of predecessors
+  tools/generate --profile 4 --no-goes-on --lookup-timeouts 8   lookups begin again at their node after each silent one
   tools/generate --profile 4 --nodes 4096 --coordinates king --timeout 1s
   tools/generate --lookups 0.5 --keys zipf:0.9:1000 --seed 3
   tools/generate --random 7 --links links.csv -o any.toml

@@ -39,7 +39,7 @@ def first_hosts(options: Options, profile: int, bits: int) -> list[Host]:
     """The nodes that the scenario begins with: the hosts of a churn trace, or those of no group and of each group."""
     room = room_of(profile, bits)
     if options.has("churn-trace"):
-        return traced_hosts(options, room)
+        return traced_hosts(options, room, least_initial(profile))
     groups = groups_of(options)
     grouped = sum(group.nodes for group in groups)
     if grouped > room:
@@ -63,7 +63,12 @@ def beyond(profile: int, bits: int) -> str:
     return f", and a scenario has at most {most} in profile {profile}{later(profile)}, and 2^{bits} (by --bits)"
 
 
-def traced_hosts(options: Options, room: int) -> list[Host]:
+def least_initial(profile: int) -> int:
+    """How many nodes a ring begins with at least."""
+    return 1 if profile == 4 else 2
+
+
+def traced_hosts(options: Options, room: int, least: int) -> list[Host]:
     """The hosts of a churn trace."""
     file: str = options.get("churn-trace", "")
     hosts = read_sessions(file)
@@ -71,8 +76,8 @@ def traced_hosts(options: Options, room: int) -> list[Host]:
         options.refuse("churn-trace", f"{file} has {len(hosts)} hosts, and there is room for {room} nodes, by "
                        "--profile and --bits")
     initial = sum(host.sessions is not None and host.sessions[0][0] == 0 for host in hosts)
-    if initial < 2:
-        told = f"{initial} of the hosts of {file} are up at 0s, and a ring begins with 2 or more"
+    if initial < least:
+        told = f"{initial} of the hosts of {file} are up at 0s, and a ring begins with {least} or more"
         options.refuse("churn-trace", told)
     return hosts
 

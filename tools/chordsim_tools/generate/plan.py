@@ -10,7 +10,7 @@ from chordsim_tools.generate.equilibrium import mean_of
 from chordsim_tools.generate.hosts import Host, Span
 from chordsim_tools.generate.lookups import keys_of, lookups_of
 from chordsim_tools.generate.nodes import (
-    check_trace, default_duration, first_hosts, groups_of, has_lives, newcomers, room_of,
+    check_trace, default_duration, first_hosts, groups_of, has_lives, least_initial, newcomers, room_of,
 )
 from chordsim_tools.generate.outages import Outage
 from chordsim_tools.generate.top import network_of, top_of
@@ -29,8 +29,8 @@ LIVES = "exp:MEAN, pareto:ALPHA:MIN or uniform:MIN..MAX, times 1us to 1000000s, 
 class Plan:
     """A scenario to be made: the keys of its top table, its nodes, and what happens to them.
 
-    The nodes below `initial` begin as members, unless the start is drawn or a churn trace says it. The nodes have
-    coordinates, or the list is empty.
+    The nodes below `initial` begin as members, unless the start is drawn or a churn trace says it. Those below
+    `bootstraps` are bootstrap nodes. The nodes have coordinates, or the list is empty.
     """
 
     top: dict[str, int]
@@ -48,6 +48,7 @@ class Plan:
     outages: tuple[Outage, ...] = ()
     back: Span | None = None
     are_names: bool = False
+    bootstraps: int = 0
     notes: tuple[str, ...] = ()
 
     @property
@@ -69,11 +70,11 @@ def check(args: Namespace, parser: Parser) -> Plan:
     check_trace(options)
     first = first_hosts(options, profile, bits)
     up_first = sum(host.sessions is None or host.sessions[0][0] == 0 for host in first)
-    initial = options.whole("initial", up_first, 2, len(first), " (at most --nodes)")
+    initial = options.whole("initial", up_first, least_initial(profile), len(first), " (at most --nodes)")
     duration = options.get("duration", default_duration(first))
     hosts = (*first, *newcomers(options, len(first), room_of(profile, bits), duration))
     places = coordinates_of(options, profile, hosts)
-    top = top_of(options, (profile, bits, initial, duration), places) | network_of(options, profile)
+    top = top_of(options, profile, (bits, duration, initial, len(first)), places) | network_of(options, profile)
     check_companions(options, initial < len(first))
     return Plan(
         top=top,
@@ -91,6 +92,7 @@ def check(args: Namespace, parser: Parser) -> Plan:
         outages=outages_of(options, hosts, duration),
         back=options.get("back", None),
         are_names=options.get("ids", "random") == "names",
+        bootstraps=bootstraps_of(options, profile, len(first)),
         notes=notes_of(options),
     )
 
@@ -110,6 +112,14 @@ def outages_of(options: Options, hosts: tuple[Host, ...], duration: int) -> tupl
             there = ", ".join(sorted(names - {""})) or "none: name some by --group"
             options.refuse("crash", f"no group {outage.value.group!r}; the groups are {there}")
     return tuple(outage.value for outage in given)
+
+
+def bootstraps_of(options: Options, profile: int, nodes: int) -> int:
+    """How many nodes are bootstrap nodes."""
+    options.only_with("bootstrap", profile == 4, "--profile 4")
+    count = options.whole("bootstrap", 0, 0, nodes, " (at most --nodes)")
+    options.only_with("create-alone", count > 0, "--bootstrap, whose nodes alone make rings")
+    return count
 
 
 def notes_of(options: Options) -> tuple[str, ...]:

@@ -1,5 +1,6 @@
 """Random scenarios and latency files, the same for the same seed."""
 
+import re
 from random import Random
 
 WIDE = [3, 4, 5, 6, 8, 32, 33, 64, 65, 96, 97, 127, 128]
@@ -14,6 +15,8 @@ WAYS = (
 """The rules of Chord as published, with the values that keep to it and those that do not.
 
 A later one is drawn after the earlier ones, so that these stay as they were."""
+JOINS = (("clean_lists", *FALSE), ("join_asks", *FALSE), ("create_alone", "false", ("true",)))
+"""Those of joins, which are drawn after all else."""
 
 
 def scenario_files(seed: int) -> tuple[str, str]:
@@ -48,7 +51,9 @@ def scenario_files(seed: int) -> tuple[str, str]:
             links = ""
         if seed // 6 % 3 == 0:
             top["detail"] = "true"
-        top |= ways_of(dice) | jitters_of(dice)
+        top |= ways_of(dice, WAYS) | jitters_of(dice) | ways_of(dice, JOINS)
+        node_tables = with_few_initial(dice, with_bootstraps(dice, node_tables))
+        commands = with_own_joins(dice, commands)
     head = "".join(f"{key} = {value}\n" for key, value in top.items())
     return head + rest + "".join(node_tables) + commands, links
 
@@ -104,11 +109,11 @@ def patience_of(dice: Random) -> dict[str, int | str]:
     return {key: value for key, value in keys.items() if dice.random() < 0.75}
 
 
-def ways_of(dice: Random) -> dict[str, int | str]:
+def ways_of(dice: Random, ways: tuple[tuple[str, str, tuple[str, ...]], ...]) -> dict[str, int | str]:
     """Rules of Chord as published that are switched off: none of them, some or all. Some others are switched on."""
     share = dice.choice([0, 0.2, 0.5, 1])
     keys: dict[str, int | str] = {}
-    for name, published, others in WAYS:
+    for name, published, others in ways:
         is_off, is_written, other = dice.random() < share, dice.random() < 0.3, dice.choice(others)
         if is_off or is_written:
             keys[name] = other if is_off else published
@@ -119,6 +124,31 @@ def jitters_of(dice: Random) -> dict[str, int | str]:
     """A jitter of some timers that is not that of the others."""
     keys: dict[str, int | str] = {f"{word}_jitter_us": dice.randint(0, 60) for word in ("stabilize", "finger", "check")}
     return {key: value for key, value in keys.items() if dice.random() < 0.3}
+
+
+def with_bootstraps(dice: Random, node_tables: list[str]) -> list[str]:
+    """The tables of the nodes, of which none, some or all are bootstrap nodes."""
+    share = dice.choice([0, 0.2, 0.5, 1])
+    return [table + "bootstrap = true\n" * (dice.random() < share) for table in node_tables]
+
+
+def with_few_initial(dice: Random, node_tables: list[str]) -> list[str]:
+    """The tables of the nodes, of which some scenarios have no more than a few initial ones, or none."""
+    most = dice.choice([len(node_tables)] * 6 + [0, 1, 2])
+    initial = [place for place, table in enumerate(node_tables) if "initial" in table]
+    gone = set(initial) - set(dice.sample(initial, min(most, len(initial))))
+    return [
+        table.replace("initial = true\n", "") if place in gone else table for place, table in enumerate(node_tables)
+    ]
+
+
+def with_own_joins(dice: Random, commands: str) -> str:
+    """The commands, of which none, some or all joins are through the node itself."""
+    share = dice.choice([0, 0, 0.2, 1])
+    return re.sub(
+        r'(node = "(n\d+)"\n)via = "n\d+"',
+        lambda found: f'{found[1]}via = "{found[2]}"' if dice.random() < share else found[0], commands,
+    )
 
 
 def coordinates(dice: Random, window: int) -> str:

@@ -40,7 +40,10 @@ def text_of(plan: Plan, made: Made, arguments: list[str]) -> str:
 def document_of(plan: Plan, made: Made) -> dict[str, Any]:
     """As much of the scenario as its traps depend on, as the file has it."""
     nodes = [
-        {"name": node, "initial": node in made.initial, "churn": plan.churn is not None and node >= plan.stay}
+        {
+            "name": node, "initial": node in made.initial, "churn": plan.churn is not None and node >= plan.stay,
+            "bootstrap": node < plan.bootstraps,
+        }
         for node in range(plan.nodes)
     ]
     moves = [
@@ -99,6 +102,8 @@ def node_table(plan: Plan, node: int, idents: dict[int, int], is_initial: bool) 
         lines.append("initial = true")
     if plan.churn is not None and node >= plan.stay:
         lines.append("churn = true")
+    if node < plan.bootstraps:
+        lines.append("bootstrap = true")
     if plan.places:
         lines += [f"{key} = {value}" for key, value in asdict(plan.places[node]).items()]
     return "[[node]]\n" + "\n".join(lines) + "\n"

@@ -141,7 +141,14 @@ class Procedures(Turn):
     # 8.6 Down
 
     def down(self) -> None:
-        """The status becomes Down; all but me, epoch, via, place and count is emptied; next_finger becomes 2."""
+        """The status becomes Down; all but me, epoch, via, place and count is emptied; next_finger becomes 2.
+
+        Before that, a node whose via is itself gets another one if it knows one.
+        """
+        if self.n.via == self.n.me:
+            self.move_via()
+        if self.n.via == self.n.me:
+            self.n.via = next((x for x in self.n.succ if x != self.n.me), self.n.me)
         self.n.status = Status.DOWN
         self.n.prdc = None
         self.n.succ = []
@@ -162,7 +169,22 @@ class Procedures(Turn):
         self.n.next_finger = 2
         self.n.join = Attempt()
         self.arm()
-        self.call_join_step(v)
+        self.try_to_join()
+
+    def try_to_join(self) -> None:
+        """Try, also again."""
+        if self.n.via == self.n.me:
+            self.create()
+        else:
+            self.call_join_step(known(self.n.via))
+
+    def create(self) -> None:
+        """Create: n is alone in a ring."""
+        self.line("create")
+        self.n.status = Status.MEMBER
+        self.n.succ = [self.n.me]
+        self.n.fingers = dict.fromkeys(range(2, self.world.circle.bits + 1), self.n.me)
+        self.n.join = None
 
     def call_join_step(self, p: int) -> None:
         """Calls Step with n's own identifier and the attempt's nodes to avoid to p, for JoinStep."""
@@ -173,11 +195,15 @@ class Procedures(Turn):
         scenario = self.world.scenario
         attempt = known(self.n.join)
         attempt.failures += 1
+        self.move_via()
         if attempt.failures < JOIN_FAILURES:
             attempt.steps = 0
             self.pause(scenario.join_pause_us)
             return
         self.line("join-failed")
+        if self.ways.create_alone and self.n.me in self.world.bootstraps and not attempt.is_answered:
+            self.create()
+            return
         if scenario.join_forever:
             self.n.join = Attempt()
             self.pause(PAUSES_AFTER_A_JOIN * scenario.join_pause_us)
@@ -186,16 +212,43 @@ class Procedures(Turn):
         if self.is_churn():
             self.set_rise()
 
+    def move_via(self) -> None:
+        """The via moves on to the next bootstrap node other than n, if there is one."""
+        others = [x for x in self.world.bootstraps if x != self.n.me]
+        if others:
+            self.n.via = next((x for x in others if x > known(self.n.via)), others[0])
+
     def pause(self, d: int) -> None:
         """Pause of d microseconds."""
         if d == 0:
-            self.try_again()
+            self.try_to_join()
         else:
             self.set_timer(d, Rejoin(self.n.epoch))
 
-    def try_again(self) -> None:
-        """Try again."""
-        self.call_join_step(known(self.n.via))
+    def cleaned(self, entries: list[int], p: int) -> list[int]:
+        """What a joining node takes of the list of p: neither itself nor nodes to avoid; p if n alone is there."""
+        if not self.ways.clean_lists:
+            return entries
+        others = [x for x in entries if x != self.n.me] or [p]
+        return [x for x in others if x not in known(self.n.join).avoid]
+
+    def find_place(self, p: int, entries: list[int]) -> None:
+        """If n is between p and the first of these entries of p's list it becomes a member, or asks that one first."""
+        if not entries or not self.world.between(p, self.n.me, entries[0]):
+            self.join_failure()
+        elif self.ways.join_asks:
+            self.call(GetState, entries[0], Purpose.JOIN_HEAD, behind=p)
+        else:
+            self.become_member(p, entries)
+
+    def become_member(self, p: int, entries: list[int]) -> None:
+        """Become a member behind p with this list."""
+        self.n.prdc = p
+        self.n.succ = self.cut(entries)
+        self.n.fingers = dict.fromkeys(range(2, self.world.circle.bits + 1), entries[0])
+        self.n.status = Status.MEMBER
+        self.n.join = None
+        self.line(f"member {self.name(p)}")
 
     def set_rise(self) -> None:
         """Sets Rise for n after a time drawn from the span down_min_us to down_max_us."""
@@ -205,6 +258,8 @@ class Procedures(Turn):
 
     def strand(self) -> None:
         """Strand."""
+        if self.n.via == self.n.me:
+            self.move_via()
         self.line(f"stranded {self.name(known(self.n.via))}")
         for lookup in self.n.lookups:
             if lookup.finger is None:
@@ -216,7 +271,7 @@ class Procedures(Turn):
         self.n.fingers = {}
         self.n.status = Status.JOINING
         self.n.join = Attempt()
-        self.call_join_step(known(self.n.via))
+        self.try_to_join()
 
     # 8.8 Silent nodes
 

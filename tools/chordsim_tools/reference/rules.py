@@ -114,7 +114,7 @@ class Rules(Procedures):
         if body.epoch != self.n.epoch or self.n.status != Status.JOINING or self.n.calls:
             pass
         else:
-            self.try_again()
+            self.try_to_join()
 
     def timeout(self, body: Timeout) -> None:
         """Timeout, with the number of a call."""
@@ -135,7 +135,7 @@ class Rules(Procedures):
         match call.purpose:
             case Purpose.LOOKUP | Purpose.OWNER:
                 self.timeout_of_lookup(call)
-            case Purpose.JOIN_STEP | Purpose.JOIN_LIST:
+            case Purpose.JOIN_STEP | Purpose.JOIN_LIST | Purpose.JOIN_HEAD:
                 if call.asked != self.n.via:
                     known(self.n.join).avoid.append(call.asked)
                 self.join_failure()
@@ -218,6 +218,7 @@ class Rules(Procedures):
         if call.purpose == Purpose.LOOKUP:
             self.lookup_answered(self.lookup_of(call), call.asked, body.answer)
             return
+        known(self.n.join).is_answered = True
         match body.answer:
             case Owner():
                 self.call(GetList, call.asked, Purpose.JOIN_LIST)
@@ -233,6 +234,8 @@ class Rules(Procedures):
         if call.purpose == Purpose.OWNER:
             self.owner_answered(self.lookup_of(call), p, body.prdc)
             return
+        if call.purpose == Purpose.JOIN_HEAD:
+            self.become_member(known(call.behind), [p])
         self.n.succ = self.cut([p, *body.succ])
         if body.prdc is not None and self.world.between(self.n.me, body.prdc, p):
             self.call(GetList, body.prdc, Purpose.LIST)
@@ -245,15 +248,9 @@ class Rules(Procedures):
         if call.purpose == Purpose.LIST:
             self.n.succ = self.cut([p, *body.succ])
             self.send(self.n.succ[0], Notify())
-        elif body.succ and self.world.between(p, self.n.me, body.succ[0]):
-            self.n.prdc = p
-            self.n.succ = self.cut(body.succ)
-            self.n.fingers = {i: body.succ[0] for i in range(2, self.world.circle.bits + 1)}
-            self.n.status = Status.MEMBER
-            self.n.join = None
-            self.line(f"member {self.name(p)}")
         else:
-            self.join_failure()
+            known(self.n.join).is_answered = True
+            self.find_place(p, self.cleaned(body.succ, p))
 
     def pong(self, body: Pong, call: Call) -> None:
         """Pong. Nothing more."""

@@ -89,7 +89,7 @@ def initial_states(world: World) -> list[Node]:
     places = sorted(node_at)
     for i in initial:
         make_initial(world, nodes[i], node_at, places)
-        nodes[i].via = initial[1] if i == initial[0] else initial[0]
+        nodes[i].via = next((x for x in [*world.bootstraps, *initial] if x != i), i)
     return nodes
 
 
@@ -101,7 +101,8 @@ def make_initial(world: World, node: Node, node_at: dict[int, int], places: list
     node.status = Status.MEMBER
     node.epoch = 1
     node.prdc = node_at[places[here - 1]]
-    node.succ = [node_at[places[(here + i) % len(places)]] for i in range(1, world.scenario.list + 1)]
+    others = min(world.scenario.list, max(1, len(places) - 1))
+    node.succ = [node_at[places[(here + i) % len(places)]] for i in range(1, others + 1)]
     for i in range(2, circle.bits + 1):
         node.fingers[i] = node_at[circle.first_from(circle.finger_start(me, i), places)]
     node.next_finger = 2

@@ -24,6 +24,7 @@ class Purpose(Enum):
     LIST = "List"
     PING = "Ping"
     CHECK = "Check"
+    JOIN_HEAD = "JoinHead"
 
 
 class Drawn(IntEnum):
@@ -48,6 +49,7 @@ class Call:
     asked: int
     purpose: Purpose
     because: int | None = None  # for a Ping: the node that caused it
+    behind: int | None = None  # for a JoinHead: the node that will be the predecessor
     again: int = 0  # how often it was sent again
 
 
@@ -73,6 +75,7 @@ class Attempt:
     failures: int = 0
     steps: int = 0
     avoid: list[int] = field(default_factory=list)
+    is_answered: bool = False
 
 
 @dataclass(slots=True)
@@ -302,6 +305,7 @@ ASKS_FOR: dict[Purpose, type] = {
     Purpose.LIST: ListReply,
     Purpose.PING: Pong,
     Purpose.CHECK: Pong,
+    Purpose.JOIN_HEAD: StateReply,
 }
 """The kind of reply that a call asked for."""
 
@@ -314,6 +318,7 @@ REQUEST_OF: dict[Purpose, type] = {
     Purpose.LIST: GetList,
     Purpose.PING: Ping,
     Purpose.CHECK: Ping,
+    Purpose.JOIN_HEAD: GetState,
 }
 """The kind of request that a call is made with."""
 

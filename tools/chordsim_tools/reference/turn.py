@@ -24,6 +24,7 @@ class World:
         self.names = [node.name for node in scenario.nodes]
         self.streams = [Stream(scenario.seed, i) for i in range(len(scenario.nodes))]
         self.own_streams: dict[int, Stream] = {}
+        self.bootstraps = [i for i, node in enumerate(scenario.nodes) if node.bootstrap]
         self.lookup_steps = LOOKUP_STEPS + STEPS_A_TIMEOUT * scenario.ways.lookup_timeouts
 
     def own_stream(self, node: int, what: Drawn) -> Stream:
@@ -127,12 +128,15 @@ class Turn:
 
     # 8.1 Call
 
-    def call(self, request: type, p: int, purpose: Purpose, *rest: object, because: int | None = None) -> int:
+    def call(
+        self, request: type, p: int, purpose: Purpose, *rest: object, because: int | None = None,
+        behind: int | None = None,
+    ) -> int:
         """Calls a request to p for a purpose; gives the number of the call: that of the request, lost or not."""
         number = self.n.count + 1
         self.send(p, request(number, *rest))
         self.set_timer(self.world.scenario.timeout_us, Timeout(number))
-        self.n.calls[number] = Call(number, p, purpose, because)
+        self.n.calls[number] = Call(number, p, purpose, because, behind)
         return number
 
     def send_again(self, call: Call) -> None:

@@ -10,7 +10,7 @@ from typing import Any
 from chordsim_tools.known import known
 from chordsim_tools.reference.circle import Circle
 from chordsim_tools.scenario.tables import (
-    BILLION, COORDINATES, Key, Place, Row, has_type, is_in_own_range, places_of, profile_of, value_of_id,
+    BILLION, COORDINATES, EXTENDED, Key, Place, Row, has_type, is_in_own_range, places_of, profile_of, value_of_id,
 )
 
 
@@ -203,7 +203,9 @@ def unknown_nodes(document: Document) -> Iterator[Fault]:
 
 
 def too_few_initial(document: Document) -> Iterator[Fault]:
-    """S10."""
+    """S10. In the extended profile a ring may begin with any number of nodes, or with none."""
+    if document.profile is EXTENDED:
+        return
     entries = document.top.usable("list")
     certain = all(has_type(node.table.get("initial", False), "boolean") for node in document.nodes)
     if document.has_nodes and entries is not None and certain:
@@ -237,8 +239,8 @@ def bad_rows(document: Document) -> Iterator[Fault]:
 
 
 def self_links(document: Document) -> Iterator[Fault]:
-    """S13."""
-    for command in document.commands:
+    """S13. In the extended profile a node may join through itself."""
+    for command in document.commands if document.profile is not EXTENDED else []:
         via = command.usable("via")
         if command.table.get("do") == "join" and via is not None and via == command.usable("node"):
             yield Fault("S13 SelfLink", command.name, command.name, "via")

@@ -6,6 +6,7 @@ from typing import Any
 from chordsim_tools.cli import Refused
 from chordsim_tools.known import known
 from chordsim_tools.scenario.coordinates import Coordinates, coordinates_of
+from chordsim_tools.scenario.defaults import check_us, is_extended, join_pause_us, joins_forever
 from chordsim_tools.scenario.faults import Document, faults_of
 from chordsim_tools.scenario.tables import parse_toml, rows_of, value_of_id
 
@@ -18,6 +19,7 @@ class NodeSpec:
     ident: int
     initial: bool
     churn: bool
+    bootstrap: bool
     coordinates: Coordinates | None
 
 
@@ -70,11 +72,14 @@ class Ways:
     drop_silent: bool = False
     skip_near: bool = False
     random_start: bool = False
+    clean_lists: bool = False
+    join_asks: bool = False
+    create_alone: bool = False
 
 
 PUBLISHED = Ways(
     list_routes=True, goes_on=True, ask_owner=True, lookup_timeouts=32, drop_silent=True, skip_near=True,
-    random_start=True,
+    random_start=True, clean_lists=True, join_asks=True,
 )
 """What the keys are in the extended profile if they are not given."""
 
@@ -146,9 +151,9 @@ def whole_scenario(document: Document) -> Scenario:
         loss_ppm=top.get("loss_ppm", 0),
         spread_us=top.get("spread_us", 0),
         retries=top.get("retries", 0),
-        join_pause_us=top.get("join_pause_us", 0),
-        join_forever=top.get("join_forever", False),
-        check_us=top.get("check_us", 0),
+        join_pause_us=join_pause_us(top),
+        join_forever=joins_forever(top),
+        check_us=check_us(top),
         detail=top.get("detail", False),
         ways=ways_of(top),
         churn=Churn(**top["churn"]) if "churn" in top else None,
@@ -167,7 +172,7 @@ def jitters_of(top: dict[str, Any]) -> Jitters:
 
 def ways_of(top: dict[str, Any]) -> Ways:
     """The rules of Chord as published: all of them in the extended profile but those that its keys switch off."""
-    if top["profile"] != 4:
+    if not is_extended(top):
         return Ways()
     return replace(PUBLISHED, **{key.name: top[key.name] for key in fields(Ways) if key.name in top})
 
@@ -175,7 +180,9 @@ def ways_of(top: dict[str, Any]) -> Ways:
 def node_of(table: dict[str, Any], ident: int) -> NodeSpec:
     """A node with this identifier."""
     is_initial, is_churning = table.get("initial", False), table.get("churn", False)
-    return NodeSpec(table["name"], ident, is_initial, is_churning, coordinates_of(table))
+    return NodeSpec(
+        table["name"], ident, is_initial, is_churning, table.get("bootstrap", False), coordinates_of(table)
+    )
 
 
 def command_of(table: dict[str, Any], numbers: dict[str, int]) -> Command:

@@ -111,6 +111,9 @@ WAYS = [
     Key("stabilize_jitter_us", "integer", 0, BILLION, required=False),
     Key("finger_jitter_us", "integer", 0, BILLION, required=False),
     Key("check_jitter_us", "integer", 0, BILLION, required=False),
+    Key("clean_lists", "boolean", required=False),
+    Key("join_asks", "boolean", required=False),
+    Key("create_alone", "boolean", required=False),
 ]
 """Further keys of its top: the rules of Chord as published, each of which can be switched off or changed."""
 COORDINATES = [
@@ -118,6 +121,8 @@ COORDINATES = [
     Key("y_us", "integer", 0, 500_000_000, required=False),
     Key("height_us", "integer", 0, 100_000_000, required=False),
 ]
+"""The keys of a node's coordinates."""
+OF_NODES = [Key("bootstrap", "boolean", required=False), *COORDINATES]
 """The keys of a node that the extended profile alone has."""
 CHURN = [Key(f"{word}_us", "integer", 1, BILLION) for word in ("life_min", "life_max", "down_min", "down_max")]
 LOOKUPS = [Key(f"{word}_us", "integer", 1, BILLION) for word in ("gap_min", "gap_max")]
@@ -139,14 +144,14 @@ def top_keys(bits: int, entries: int, nodes: int, events: int, network: list[Key
     ]
 
 
-def node_keys(digits: int, coordinates: list[Key]) -> list[Key]:
-    """The keys of a node, whose identifier has at most this number of hexadecimal digits, and its coordinates."""
+def node_keys(digits: int, further: list[Key]) -> list[Key]:
+    """The keys of a node, whose identifier has at most this number of hexadecimal digits, and further ones."""
     return [
         Key("name", "text"),
         Key("id", "id", 1, digits, required=False),
         Key("initial", "boolean", required=False),
         Key("churn", "boolean", required=False),
-        *coordinates,
+        *further,
     ]
 
 
@@ -164,13 +169,13 @@ def command_keys(digits: int) -> list[Key]:
 class Profile:
     """The keys of all tables in a profile: `tables` has them by the kind of the table."""
 
-    def __init__(self, top: list[Key], digits: int, coordinates: list[Key]) -> None:
-        """The profile with these keys at the top, these digits of an identifier, and these keys of coordinates."""
+    def __init__(self, top: list[Key], digits: int, of_nodes: list[Key]) -> None:
+        """The profile with these keys at the top, these digits of an identifier, and these further keys of a node."""
         self.tables = {
             "top": top,
             "churn": CHURN,
             "lookups": LOOKUPS,
-            "node": node_keys(digits, coordinates),
+            "node": node_keys(digits, of_nodes),
             "command": command_keys(digits),
         }
 
@@ -182,7 +187,7 @@ class Profile:
 FIRST = Profile(top_keys(64, 16, 512, 50_000_000, []), 16, [])
 SECOND = Profile(top_keys(128, 16, 4096, 50_000_000, NETWORK), 32, [])
 EXTENDED = Profile(
-    top_keys(128, 32, 65_536, 100_000_000_000, [*NETWORK, *PATIENCE, *WAYS]), 32, COORDINATES
+    top_keys(128, 32, 65_536, 100_000_000_000, [*NETWORK, *PATIENCE, *WAYS]), 32, OF_NODES
 )
 PROFILES = {1: FIRST, 2: SECOND, 4: EXTENDED}
 

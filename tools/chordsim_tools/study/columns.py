@@ -120,7 +120,6 @@ class Column:
             return (1e-6, f"{label}, s") if greatest >= 1e7 else (1e-3, f"{label}, ms")
         return 1, label
 
-
     def cost_label(self) -> str:
         """The label of the cost, which says if it is estimated."""
         if not {"messages", "cost-member-us"} <= self.there:

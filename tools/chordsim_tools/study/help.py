@@ -100,7 +100,7 @@ Runs `chordsim run --serial` for each setting and seed and writes into FOLDER:
                                   member for dead, and of these such that remove it from a successor list; requests sent
                                   again; members stranded, joins failed
                  messages, sent-STEP ...       messages in that time: counted in profile 4 (messages-counted is 1), and
-                                  estimated in profiles 1 and 2 (docs/studies.md)
+                                  estimated in profiles 1 and 2 (docs/studies.md); messages-lookups, those of lookups
                  scenario-list, scenario-bits    `list` and `bits` of the run; bytes: the messages by [sizes]
                  outage.right ... the same numbers of a span with the name outage
   series.csv     one line a run and step of window_us: lookups begun, answers found, right ones, members at its end; and

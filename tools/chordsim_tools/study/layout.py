@@ -1,6 +1,7 @@
 """Chooses what of the varied keys goes where in a plot."""
 
 from chordsim_tools.cli import Refused
+from chordsim_tools.generate.top import WAYS
 from chordsim_tools.study.keys import OF_GENERATE
 from chordsim_tools.study.looks import Layout, Values
 from chordsim_tools.study.numbers import Summary, groups, setting_label
@@ -10,7 +11,7 @@ WORLD = ("profile", "duration_us", "latency_us", "loss_ppm", "spread_us", "laten
 """Keys that no designer chooses: these are worlds, as churn and lookups are, if the study file has no `world`."""
 PROTOCOL = (
     "bits", "list", "window", "timeout", "audit", "stabilize", "finger", "jitter", "max-events", "retries",
-    "join-pause", "join-forever", "check", "detail", "via", "ids",
+    "join-pause", "join-forever", "no-join-forever", "check", "detail", "via", "ids", "bootstrap", *dict(WAYS),
 )
 """The options of tools/generate that somebody chooses. All others, as lives and nodes, describe the world."""
 Worlds = dict[str, list[Summary]]

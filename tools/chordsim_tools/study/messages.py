@@ -10,13 +10,16 @@ from dataclasses import dataclass
 from typing import Any
 
 from chordsim_tools.messages import MESSAGES, REPLIES, REQUESTS, messages_made
+from chordsim_tools.study.asked import AskLines
 from chordsim_tools.study.pieces import COLUMN, cell_of
 from chordsim_tools.study.served import PIECES, Population, Scope
 
 ENDS = ("crash", "join-failed")
 """The words of lines after which a node is down, in the profiles whose messages are estimated."""
-DETAIL = re.compile(rb"^\d+ [^ \n]+ (?:ask|send) [^\n]*\n", re.MULTILINE)
+ASKS, SENDS = (re.compile(rb"^\d+ [^ \n]+ %b [^\n]*\n" % word, re.MULTILINE) for word in (b"ask", b"send"))
 """Lines of detail."""
+OF_LOOKUPS = "of lookups"
+"""The word for the messages of users' lookups in a run with detail, among those of its lines."""
 MADE = (*(f"ask {kind}" for kind in REQUESTS), *(f"send {kind}" for kind in MESSAGES if kind not in REQUESTS))
 """What lines of detail say was made."""
 
@@ -37,7 +40,8 @@ class Traffic:
         self.lines: Counter[str] = Counter()
         self.hops = self.timeouts = 0
         self.pieces: list[Counter[str]] = [Counter() for _ in range(PIECES)]
-        """What lines say was made in each piece of the judged span, and the hops and timeouts of lookups that ended."""
+        """What lines say was made in each piece of the judged span."""
+        self.asked = AskLines()
 
     def read(self, time: int, fields: list[str]) -> None:
         """Takes a line that is not of an audit."""
@@ -48,29 +52,30 @@ class Traffic:
             hops, timeouts = (int(field.partition("=")[2]) for field in fields[-3:-1])
             self.hops += hops
             self.timeouts += timeouts
-            self.add_to_piece(time, "hops", hops)
-            self.add_to_piece(time, "timeouts", timeouts)
         if word in ("drop", "lose", "late", "ask", "send"):
             word = f"{word} {fields[3]}"
-            self.add_to_piece(time, word, 1)
-        self.lines[word] += 1
+        self.add(word, time, 1)
 
-    def add_to_piece(self, time: int, word: str, count: int) -> None:
-        """Counts so many more in the piece of a time, if it is judged."""
+    def add(self, word: str, time: int, count: int) -> None:
+        """Counts so many more from `warmup_us` on, and in the piece of their time, if it is judged."""
+        if time < self.scope.warmup_us:
+            return
+        self.lines[word] += count
         piece = self.scope.piece(time)
         if piece is not None:
             self.pieces[piece][word] += count
 
     def sift(self, part: bytes) -> bytes:
         """Counts the lines of detail in whole lines of a trace, and leaves the others. A run has millions of them."""
-        if DETAIL.search(part) is None:
+        if not self.scope.has_detail:
             return part
-        for time, counted in self.parted(part):
-            for made in MADE if time >= self.scope.warmup_us else ():
-                count = counted.count(f" {made} ".encode())
-                self.lines[made] += count
-                self.add_to_piece(time, made, count)
-        return DETAIL.sub(b"", part)
+        for time, lines in self.parted(part):
+            for made in MADE:
+                self.add(made, time, lines.count(f" {made} ".encode()))
+        rest = SENDS.sub(b"", part)
+        for time, lines in self.parted(rest):
+            self.add(OF_LOOKUPS, time, self.asked.read(lines))
+        return ASKS.sub(b"", rest)
 
     def parted(self, part: bytes) -> Iterator[tuple[int, bytes]]:
         """These lines, parted if a piece of the judged span begins or ends among them, each part with its first time.
@@ -99,11 +104,9 @@ class Traffic:
         """How often a living successor is removed. A later stabilization finds it again, and asks for its list."""
         return self.sum_of("lose", ("get-state", "state-reply", "get-list", "list-reply"))
 
-    def lookups(self, retries: int) -> int:
-        """Messages of the lookups that ended: a request and a reply for each hop, and all requests of each timeout.
-
-        No line says whose requests were sent again and then answered: these are left out."""
-        return 2 * self.hops + (1 + retries) * self.timeouts
+    def lookups(self) -> int:
+        """Messages of the lookups that ended, in a run without detail: two for each hop, and one for each timeout."""
+        return 2 * self.hops + self.timeouts
 
 
 @dataclass(frozen=True)
@@ -192,11 +195,11 @@ def exact(traffic: Traffic) -> dict[str, int]:
     return {kind: messages_made(kind, traffic.lines) for kind in MESSAGES}
 
 
-def in_pieces(traffic: Traffic, retries: int) -> dict[str, list[int]]:
+def in_pieces(traffic: Traffic) -> dict[str, list[int]]:
     """The messages of a run with detail in each piece of the judged span, by the columns of runs.csv."""
     found = {f"sent-{kind}": [messages_made(kind, piece) for piece in traffic.pieces] for kind in MESSAGES}
     totals = [sum(counts) for counts in zip(*found.values(), strict=True)]
-    lookups = [2 * piece["hops"] + (1 + retries) * piece["timeouts"] for piece in traffic.pieces]
+    lookups = [piece[OF_LOOKUPS] for piece in traffic.pieces]
     return {"messages": totals, "messages-lookups": list(map(min, lookups, totals)), **found}
 
 
@@ -204,14 +207,14 @@ def message_numbers(traffic: Traffic, span: Span) -> dict[str, int | str | None]
     """What a row of runs.csv has of cost, from `warmup_us` to the end."""
     is_counted = bool(span.top.get("detail"))
     kinds = exact(traffic) if is_counted else estimate(traffic, span)
-    retries = span.top.get("retries", 0)
+    lookups = traffic.lines[OF_LOOKUPS] if is_counted else traffic.lookups()
     # An estimate is of the whole span: how many events there were in a piece is not known.
-    pieces = {word: cell_of(counts) if is_counted else None for word, counts in in_pieces(traffic, retries).items()}
+    pieces = {word: cell_of(counts) if is_counted else None for word, counts in in_pieces(traffic).items()}
     return {
         "cost-events": span.events,
         "messages": sum(kinds.values()),
         "messages-counted": int(is_counted),
-        "messages-lookups": min(traffic.lookups(retries), sum(kinds.values())),
+        "messages-lookups": min(lookups, sum(kinds.values())),
         **{f"sent-{kind}": count for kind, count in kinds.items()},
         **{f"{COLUMN}{word}": cell for word, cell in pieces.items()},
     }

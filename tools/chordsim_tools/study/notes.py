@@ -48,7 +48,11 @@ NOTES = {
         f"{ERROR} at most, as far as it was tried against the reference simulator, if the ring is kept for 40 timeouts "
         f"and 30 periods ({OLDER} in tables of older tools, which have estimates in profile 4 too). ± says nothing of "
         "this error. Goals and comparisons allow for it.",
-    "upkeep": "**upkeep**: the messages that are no steps of lookups. It is off by as many as messages are.",
+    "upkeep":
+        "**upkeep**: the messages that are not of lookups. In profile 4 the requests of lookups are counted, those to "
+        "owners and those that were sent again with them, and for each call without a timeout one reply. So upkeep "
+        "has replies that were lost or late. In profiles 1 and 2 a lookup has two messages a hop and one a timeout, "
+        "and upkeep is off by as many as messages are. Refreshes of fingers are upkeep.",
     "events": "**events**: all events of the run. They are counted.",
     "bytes":
         "**bytes**: the messages of each kind times their size in `[sizes]`. If messages are estimated, each kind has "

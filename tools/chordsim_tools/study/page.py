@@ -9,6 +9,7 @@ from chordsim_tools.study.goal import goal_again
 from chordsim_tools.study.head import head
 from chordsim_tools.study.layout import of_each_world
 from chordsim_tools.study.numbers import Summary, summaries
+from chordsim_tools.study.plan import file_stem
 from chordsim_tools.study.plot_files import NO_PLOTS
 from chordsim_tools.study.settings_tables import settings_tables
 from chordsim_tools.study.tables import Tables
@@ -48,7 +49,7 @@ def commands(tables: Tables) -> str:
     """The commands that make the same again."""
     manifest = tables.manifest
     setting = ",".join(f"{key}={values[0]}" for key, values in manifest["vary"].items())
-    stem = ",".join(filter(None, (setting, f"seed={manifest['seeds'][0]}")))
+    stem = file_stem(",".join(filter(None, (setting, f"seed={manifest['seeds'][0]}"))))
     latency = f" --latency {manifest['latency']}" if manifest["latency"] else ""
     if manifest["latency_arguments"] is not None:
         latency = f" --latency FOLDER/done/{stem}.csv"

@@ -39,7 +39,7 @@ class Pieces:
     def read(self, line: str) -> None:
         """Takes one line."""
         fields = line.split(" ")
-        if fields[2] in ("member", "crash", "stranded"):
+        if fields[2] in ("member", "create", "crash", "stranded"):
             self.member_time.change(int(fields[0]), len(self.members.places) - self.member_time.count)
         elif fields[2] in ("found", "lost"):
             self.end(int(fields[0]), fields)

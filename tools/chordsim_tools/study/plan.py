@@ -7,7 +7,7 @@ from typing import Any
 
 from chordsim_tools.cli import Refused
 from chordsim_tools.explain.hints import close_to
-from chordsim_tools.files import read_input
+from chordsim_tools.files import read_input, sum_of
 from chordsim_tools.quantities import time_of, time_text
 from chordsim_tools.scenario.tables import PROFILES
 from chordsim_tools.study.goal import Goal, Precision, goal_of, precision_of
@@ -95,6 +95,11 @@ def told(key: str, value: Value | str) -> str:
 def label(setting: Setting) -> str:
     """A setting as messages name it."""
     return ", ".join(told(key, value) for key, value in setting) or "base"
+
+
+def file_stem(words: str) -> str:
+    """The name of a run's files, without an ending: its words, or their digest if they are too long or have a slash."""
+    return words if len(words) <= 200 and "/" not in words else sum_of(words)
 
 
 def read_study(path: Path) -> Study:

@@ -16,7 +16,7 @@ from chordsim_tools.study.curves import write_results
 from chordsim_tools.study.dask_runs import run_by_dask
 from chordsim_tools.study.interval import LEAST_SEEDS
 from chordsim_tools.study.load import Load
-from chordsim_tools.study.plan import Setting, Study, label
+from chordsim_tools.study.plan import Setting, Study, file_stem, label
 from chordsim_tools.study.pool import work_all
 from chordsim_tools.study.precise import more_seeds, numberless
 from chordsim_tools.study.program import Program
@@ -226,19 +226,14 @@ def runs_of(study: Study, done: Path, program_sum: str) -> list[Run]:
             made_of = json.dumps([text, latency_sum, program_sum, *study.times(), *spans, READING])
             name = f"{label(setting)}, seed={seed}"
             task = Task(name, text, latency, *study.times(), sum_of(made_of), spans)
-            runs.append(Run(study, setting, seed, done / file_stem(setting, seed), task))
+            stem = file_stem(",".join(f"{key}={value}" for key, value in (*setting, ("seed", seed))))
+            runs.append(Run(study, setting, seed, done / stem, task))
     return runs
 
 
 def files_of(study: Study, setting: Setting, seed: int) -> tuple[str, bytes | None]:
     """The scenario and the latencies of a setting and a seed."""
     return scenario_of(study, setting, seed), latency_of(study, setting, seed)
-
-
-def file_stem(setting: Setting, seed: int) -> str:
-    """The name of a run's files, without an ending."""
-    name = ",".join(f"{key}={value}" for key, value in (*setting, ("seed", seed)))
-    return name if len(name) <= 200 else sum_of(name)
 
 
 def check_settings(runs: list[Run], program: Path) -> None:

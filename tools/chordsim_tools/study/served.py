@@ -7,6 +7,8 @@ from collections.abc import Iterable
 from dataclasses import dataclass, replace
 from typing import Any
 
+from chordsim_tools.scenario.defaults import joins_forever
+
 PIECES = 6
 """A page looks at so many pieces of the judged span to see whether it is steady."""
 
@@ -21,6 +23,7 @@ class Scope:
     cooldown_us: int = 0
     gap_us: float | None = None
     join_forever: bool = False
+    has_detail: bool = False
 
     def end(self) -> int:
         """The end of the span of the judged lookups."""
@@ -55,7 +58,9 @@ def scope_of(top: dict[str, Any], window_us: int, warmup_us: int, cooldown_us: i
     """The scope of a run of a scenario."""
     lookups = top.get("lookups")
     gap = (lookups["gap_min_us"] + lookups["gap_max_us"]) / 2 if isinstance(lookups, dict) else None
-    return Scope(top["duration_us"], window_us, warmup_us, cooldown_us, gap, top.get("join_forever") is True)
+    return Scope(
+        top["duration_us"], window_us, warmup_us, cooldown_us, gap, joins_forever(top), top.get("detail") is True
+    )
 
 
 class Integral:
@@ -94,7 +99,9 @@ class Population:
             case "join":
                 set_state(self.is_up, self.up, time, name, True)
                 set_state(self.is_alive, self.alive, time, name, True)
-            case "member":
+            case "member" | "create":
+                # A node that makes a ring after the eighth failure has not gone.
+                set_state(self.is_alive, self.alive, time, name, True)
                 set_state(self.is_member, self.members, time, name, True)
             case "stranded":
                 set_state(self.is_member, self.members, time, name, False)

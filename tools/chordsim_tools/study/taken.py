@@ -31,10 +31,11 @@ NOTES = (
     "the node had only just joined.",
     "**removed as successors**: of these, stabilizations whose last request or its reply was lost. The nearest "
     "successor left the list though it was a member. In all other cases a lookup, a join or a ping went on without the "
-    "node.",
+    "node. With `drop_silent` of profile 4 the node left list and fingers there too, if it was among them; no line "
+    "says so.",
     "**requests sent again**: each time that a request was sent again (`retries`).",
-    "**members stranded**: members whose successor list ran empty. Of rings that were lost it is the mean for each "
-    "run, with the least and the greatest.",
+    "**members stranded**: members whose successor list ran empty. With `drop_silent` a finger takes its place, if "
+    "there is one. Of rings that were lost it is the mean for each run, with the least and the greatest.",
     "**joins failed**: times that a join had failed eight times, of rings that were lost as members stranded.",
 )
 

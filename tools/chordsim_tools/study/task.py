@@ -10,7 +10,7 @@ from chordsim_tools.cli import Failure
 from chordsim_tools.members import Members
 from chordsim_tools.study.curves import Curves
 from chordsim_tools.study.document import toml_text
-from chordsim_tools.study.messages import Span, message_numbers
+from chordsim_tools.study.messages import Span, message_numbers, time_of
 from chordsim_tools.study.pieces import Pieces
 from chordsim_tools.study.program import Program
 from chordsim_tools.study.repairs import Repairs
@@ -40,7 +40,8 @@ def readers_of(task: Task, top: dict[str, Any], idents: dict[str, int]) -> tuple
     curves = Curves(top["duration_us"], task.window_us, task.warmup_us, task.cooldown_us)
     spans = {name: scope.within(begin, end) for name, begin, end in task.spans}
     reader = TraceReader(Members(idents, initial), scope, spans)
-    return reader, curves, Trouble(reader.members, top, task.warmup_us)
+    asked = reader.traffic.asked if scope.has_detail else None
+    return reader, curves, Trouble(reader.members, top, task.warmup_us, asked)
 
 
 def events_before(top: dict[str, Any], time: int, program: Path, latency: Path | None) -> int:
@@ -71,7 +72,12 @@ def result_of(task: Task, program: Path, scenario: Path, latency: Path | None) -
         trouble.read(line)
         pieces.read(line)
 
-    report = caller.run(read, reader.traffic.sift)
+    def sift(part: bytes) -> bytes:
+        """The lines of detail are counted many at once, and the others are left."""
+        reader.traffic.asked.forget(time_of(part) - top["timeout_us"])
+        return reader.traffic.sift(part)
+
+    report = caller.run(read, sift)
     if (reader.all_lookups, reader.all_found) != (report.get("lookups"), report.get("found")):
         raise Failure(3, "the report does not count the lines of the trace")
     numbers = reader.numbers()

@@ -48,7 +48,7 @@ class TraceReader:
                 self.lost(time, fields)
             case "busy":
                 self.refuse(time, fields[1])
-            case "join" | "member" | "crash" | "stranded" | "join-failed" | "ignored":
+            case "join" | "member" | "create" | "crash" | "stranded" | "join-failed" | "ignored":
                 self.move(time, fields)
 
     def lookup(self, time: int, name: str) -> None:
@@ -90,7 +90,7 @@ class TraceReader:
             self.over_time.now().refused += self.population.is_up.get(name, False)
         for view in self.views:
             view.move(time, fields)
-        if word == "member":
+        if word in ("member", "create"):
             self.members.add(name, time)
         elif word in ("crash", "stranded"):
             self.members.remove(name, time)

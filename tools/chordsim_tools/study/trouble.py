@@ -4,6 +4,7 @@ from collections import Counter
 from typing import Any
 
 from chordsim_tools.members import Members
+from chordsim_tools.study.asked import AskLines
 
 WORDS = ("timeout", "again", "stranded", "join-failed")
 STATES = ("get-state", "state-reply")
@@ -12,14 +13,17 @@ STATES = ("get-state", "state-reply")
 class Trouble:
     """Counts from `warmup_us` to the end. Each line is read here after the members have changed by it."""
 
-    def __init__(self, members: Members, top: dict[str, Any], warmup_us: int) -> None:
-        """No lines yet; the members are those of a reader of the same trace."""
+    def __init__(self, members: Members, top: dict[str, Any], warmup_us: int, asked: AskLines | None = None) -> None:
+        """No lines yet; members and, with detail, lines `ask` are those of a reader of the same trace.
+
+        Lines `ask` are read before the others, and keep the stabilizations of a timeout."""
         self.members = members
         self.timeout_us = int(top["timeout_us"])
         self.warmup_us = warmup_us
         self.lines: Counter[str] = Counter()
         self.of_members = self.removed = 0
         self.states_lost: dict[tuple[str, str], int] = {}
+        self.asked = asked
 
     def read(self, line: str) -> None:
         """Takes one line."""
@@ -34,11 +38,15 @@ class Trouble:
                 self.taken_for_dead(time, (name, fields[3]))
 
     def taken_for_dead(self, time: int, pair: tuple[str, str]) -> None:
-        """A member is taken for dead. It leaves a list if it was asked for its state and that or the reply was lost."""
-        lost_at = self.states_lost.pop(pair, None)
+        """A member is taken for dead. It leaves a list if it was asked for its state and that or the reply was lost.
+
+        With detail it is known whether it was asked as a successor, and not as the owner of a key."""
+        called = time - self.timeout_us
+        was_successor = self.asked is None or self.asked.has_stabilized(*pair, called)
+        lost_at = self.states_lost.pop(pair, None) if was_successor else None
         if time >= self.warmup_us:
             self.of_members += 1
-            self.removed += lost_at is not None and lost_at >= time - self.timeout_us
+            self.removed += lost_at is not None and lost_at >= called
 
     def numbers(self) -> dict[str, int | str | None]:
         """What a row of runs.csv has of it."""

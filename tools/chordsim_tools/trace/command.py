@@ -63,7 +63,7 @@ def parsed(arguments: list[str]) -> Namespace:
     parser.add_argument("--node", metavar="NAME", help="all lines of a node, and those that name it")
     parser.add_argument("--lookup", metavar="N|NODE@TIME", help="one lookup: the N-th, or by its asker and begin")
     parser.add_argument("--join", metavar="NODE[@TIME]", help="one join of a node; by its begin if there are more")
-    parser.add_argument("--removed", metavar="NODE", help="each successor that a node has removed, and why")
+    parser.add_argument("--removed", metavar="NODE", help="each successor that did not send a node its state, and why")
     parser.add_argument("--lookups", metavar="FILE", help="write a table of all lookups into FILE (CSV)")
     parser.add_argument("--html", metavar="FILE", help="write a page for a browser into FILE")
     parser.add_argument("--groups", metavar="FILE", help="groups of nodes for the page: rows NODE,GROUP (by names)")

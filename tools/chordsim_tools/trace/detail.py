@@ -7,7 +7,7 @@ from chordsim_tools.messages import REPLIES
 from chordsim_tools.quantities import time_of
 from chordsim_tools.trace.history import Join
 from chordsim_tools.trace.lines import (
-    CHANGES, CODES, CRASH, FOUND, JOIN, JOIN_FAILED, LOOKUP, LOST, MEMBER, STRANDED, TIMEOUT, Lookup,
+    CHANGES, CODES, COMES_IN, CRASH, FOUND, JOIN, JOIN_FAILED, LOOKUP, LOST, STRANDED, TIMEOUT, Lookup,
 )
 from chordsim_tools.trace.reading import Run
 from chordsim_tools.trace.requests import Call, calls_of
@@ -16,8 +16,10 @@ from chordsim_tools.trace.wording import counted, seconds, timed
 JOINED = {
     "done": "is a member", "failed": "gives up", "crash": "crashes", "open": "still joins when the trace ends",
 }
-ENDS = {"done": MEMBER, "failed": JOIN_FAILED, "crash": CRASH}
-OF_JOINS = frozenset(CODES[f"{word} {kind}"] for word in ("again", "lose") for kind in ("step", "get-list"))
+ENDS = {"done": COMES_IN, "failed": {JOIN_FAILED}, "crash": {CRASH}}
+OF_JOINS = frozenset(
+    CODES[f"{word} {kind}"] for word in ("again", "lose") for kind in ("step", "get-list", "get-state")
+)
 """Lines of messages that a node which joins makes: these are all of its join."""
 SENDS = frozenset(CODES[f"send {kind}"] for kind in REPLIES.values())
 
@@ -145,7 +147,7 @@ def join_story(run: Run, spec: str) -> list[str]:
     last = len(lines.times)
     if join.end is not None:
         last = next(at for at in range(begin + 1, last)
-                    if lines.nodes[at] == join.node and lines.kinds[at] == ENDS[join.outcome])
+                    if lines.nodes[at] == join.node and lines.kinds[at] in ENDS[join.outcome])
     wanted = CHANGES | OF_JOINS | {TIMEOUT}
     own = [at for at in range(begin, min(last + 1, len(lines.times)))
            if lines.nodes[at] == join.node and lines.kinds[at] in wanted]
@@ -163,8 +165,8 @@ def removal_story(run: Run, name: str) -> list[str]:
     calls = [
         call for call in calls_of(run, run.history.numbers[name]) if call.kind == "get-state" and call.key is None
     ]
-    silent = [(call, call.timeout) for call in calls if call.timeout is not None]
-    told = [f"successors that {name} has removed because they did not reply: {counted(len(silent))}"]
+    silent = [(call, call.timeout) for call in calls if call.timeout is not None and is_of_member(run, call)]
+    told = [f"successors that {name} has removed because they did not send their state: {counted(len(silent))}"]
     for call, at in silent:
         asked = run.history.names[call.asked]
         told += [
@@ -174,6 +176,12 @@ def removal_story(run: Run, name: str) -> list[str]:
             call_words(run, call, None, ""),
         ]
     return told
+
+
+def is_of_member(run: Run, call: Call) -> bool:
+    """Whether a node is a member when it makes a call. One that joins asks the first successor that it gets."""
+    change = last_change(run, call.node, call.sendings[0].at)
+    return change is None or run.history.lines.kinds[change] in COMES_IN
 
 
 def what_follows(run: Run, timeout: int) -> list[int]:
@@ -194,11 +202,17 @@ def what_follows(run: Run, timeout: int) -> list[int]:
 
 def status_then(run: Run, node: int, before: int) -> str:
     """What a node was before a line, and since when."""
+    lines, at = run.history.lines, last_change(run, node, before)
+    if at is None:
+        return f"{'a member' if run.history.scenario.nodes[node].initial else 'down'} then, as at the start"
+    is_joining = lines.kinds[at] in (JOIN, STRANDED) or (
+        lines.kinds[at] == JOIN_FAILED and run.history.scenario.join_forever)
+    word = "a member" if lines.kinds[at] in COMES_IN else "joining" if is_joining else "down"
+    return f"{word} then ({timed(lines.text(at)).strip()})"
+
+
+def last_change(run: Run, node: int, before: int) -> int | None:
+    """The place of the last line before this one that changed what a node is, if there is one."""
     lines = run.history.lines
-    for at in range(before - 1, -1, -1):
-        if lines.nodes[at] == node and lines.kinds[at] in CHANGES:
-            is_joining = lines.kinds[at] in (JOIN, STRANDED) or (
-                lines.kinds[at] == JOIN_FAILED and run.history.scenario.join_forever)
-            word = "a member" if lines.kinds[at] == MEMBER else "joining" if is_joining else "down"
-            return f"{word} then ({timed(lines.text(at)).strip()})"
-    return f"{'a member' if run.history.scenario.nodes[node].initial else 'down'} then, as at the start"
+    places = range(before - 1, -1, -1)
+    return next((at for at in places if lines.nodes[at] == node and lines.kinds[at] in CHANGES), None)

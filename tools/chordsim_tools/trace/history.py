@@ -107,7 +107,7 @@ class History:
         """A line that changes what a node is."""
         if CODES[kind] not in CHANGES:
             raise ValueError(f"{kind} needs more words")
-        alone = kind in ("crash", "join-failed")
+        alone = kind in ("crash", "join-failed", "create")
         self.keep(time, node, kind, fields, 3 if alone else 4, NOBODY if alone else None)
         name = self.names[node]
         match kind:
@@ -117,6 +117,9 @@ class History:
             case "member":
                 self.members.add(name, time)
                 self.ends_to_join(time, node, "done", MEMBER)
+            case "create":
+                self.members.add(name, time)
+                self.creates(time, node)
             case "stranded":
                 self.members.remove(name, time)
                 self.begins_to_join(time, node, STRANDED)
@@ -154,6 +157,14 @@ class History:
             return
         self.ends_to_join(time, node, "failed", DOWN)
         self.lives[node][-1].end = time
+
+    def creates(self, time: int, node: int) -> None:
+        """A node makes a ring: it joins through itself, or has just failed for the eighth time, which ends no join."""
+        last = next((join for join in reversed(self.joins) if join.node == node), None)
+        if self.status[node] == DOWN and last is not None and (last.end, last.outcome) == (time, "failed"):
+            self.status[node], self.joining[node] = JOINING, last
+            self.lives[node][-1].end = None
+        self.ends_to_join(time, node, "done", MEMBER)
 
     def asker_crashes(self, time: int, node: int) -> None:
         """The lookups of a node are cut off."""

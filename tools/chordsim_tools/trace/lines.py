@@ -14,7 +14,7 @@ KINDS = (
     *PLAIN,
     *(f"{word} {message}" for word in ("drop", "late", "lose") for message in MESSAGES),
     *(f"again {message}" for message in REQUESTS),
-    "forget", "rescue",
+    "forget", "rescue", "create",
     *(f"ask {message}" for message in REQUESTS),
     *(f"send {message}" for message in MESSAGES[4:]),
 )
@@ -23,7 +23,10 @@ CODES = {kind: code for code, kind in enumerate(KINDS)}
 JOIN, MEMBER, JOIN_FAILED, CRASH, STRANDED, TIMEOUT, LOOKUP, FOUND, LOST, BUSY = range(10)
 AUDIT = CODES["audit"]
 ASKS = frozenset(CODES[f"ask {message}"] for message in REQUESTS)
-CHANGES = frozenset((JOIN, MEMBER, JOIN_FAILED, CRASH, STRANDED))
+CREATE = CODES["create"]
+COMES_IN = frozenset((MEMBER, CREATE))
+"""The kinds of lines that make a node a member."""
+CHANGES = frozenset((JOIN, JOIN_FAILED, CRASH, STRANDED)) | COMES_IN
 """The kinds of lines that change what a node is."""
 NOBODY = -1
 

@@ -93,7 +93,7 @@ def answer_story(run: Run, one: Lookup) -> Iterator[str]:
     """Whether the answer was right, and what the node that it names was doing."""
     if one.outcome != "found" or one.end is None:
         yield {
-            "lost": f"it was lost after {one.hops} answers and {one.timeouts} timeouts",
+            "lost": f"it was lost after {one.hops} hops and {one.timeouts} timeouts",
             "crash": "its asker crashed before it ended",
             "end": "it had not ended when the trace did",
         }[one.outcome]

@@ -47,6 +47,7 @@ def summary(run: Run) -> Facts:
         "again": lines["again"] if history.scenario.profile == 4 else None,
         "forgotten": lines["forget"] if history.scenario.profile == 4 else None,
         "rescues": lines["rescue"] if history.scenario.profile == 4 else None,
+        "creates": lines["create"] if history.scenario.profile == 4 else None,
         "messages": message_counts(run),
         "report": dict(run.report) or None,
         "report_of_lines": None if run.is_whole else report_of_lines(run),

@@ -5,7 +5,7 @@ from typing import Any
 from chordsim_tools.cli import Failure
 from chordsim_tools.quantities import time_text
 from chordsim_tools.study.survival import Times
-from chordsim_tools.trace.lines import CRASH, MEMBER, NOBODY, TIMEOUT, Lookup
+from chordsim_tools.trace.lines import COMES_IN, CRASH, NOBODY, TIMEOUT, Lookup
 from chordsim_tools.trace.reading import Run
 from chordsim_tools.trace.wording import counted, seconds, share, table
 
@@ -32,8 +32,8 @@ def step_rows(run: Run, width: int) -> Rows:
             row[one.outcome] += 1
             row["right"] += one.is_right
     lines = run.history.lines
-    for word, kind in (("timeouts", TIMEOUT), ("crashes", CRASH), ("joined", MEMBER)):
-        for time in lines.of_kind(kind):
+    for word, kinds in (("timeouts", [TIMEOUT]), ("crashes", [CRASH]), ("joined", COMES_IN)):
+        for time in lines.of_kind(*kinds):
             rows[time // width][word] += 1
     members = run.history.members
     for row, times in zip(rows, step_times(run, width, count), strict=True):

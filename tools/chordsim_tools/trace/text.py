@@ -95,6 +95,8 @@ def join_text(facts: Facts) -> Iterator[str]:
         yield line("predecessors forgotten", counted(facts["forgotten"]))
     if facts["rescues"]:
         yield line("rescues", counted(facts["rescues"]), "members whose list had nobody else left took a finger")
+    if facts["creates"]:
+        yield line("rings made", counted(facts["creates"]), "by nodes that joined through themselves or had no answer")
     yield line("crashes", counted(facts["crashes"]))
     for key, head in (("joins", "joins begun"), ("stranded", "stranded, join again")):
         joins = facts[key]
@@ -140,7 +142,8 @@ MEANS = {
     "members": "joins that succeeded", "join-failed": "times that a join had failed eight times",
     "drops": "messages that were not handled", "late": "replies for which no call was out",
     "again": "requests sent again", "forgotten": "predecessors that did not reply to a check",
-    "rescues": "members that took a finger as successor", "timeouts-sum": "timeouts of found lookups",
+    "rescues": "members that took a finger as successor", "creates": "nodes that made a ring of their own",
+    "timeouts-sum": "timeouts of found lookups",
     "hops-greatest": "most hops of a found lookup", "us-least": "least time of a found lookup",
     "us-median": "median time of found lookups", "us-greatest": "greatest time of a found lookup",
     "unordered": "audits whose ring is out of order", "ringless": "audits without a ring",
@@ -161,9 +164,9 @@ def report_text(head: str, report: dict[str, int]) -> Iterator[str]:
     of["insufficient"] = "audits"
     for word, number in report.items():
         told = seconds(number) if word.startswith("us-") else counted(number)
-        if word in ("hops-sum", "us-sum") and report.get("found"):
+        if word in ("hops-sum", "us-sum", "timeouts-sum") and report.get("found"):
             mean = number / report["found"]
-            told += f" ({mean:.2f} a lookup)" if word == "hops-sum" else f" ({mean / 1e6:.4f} s a lookup)"
+            told += f" ({mean / 1e6:.4f} s a lookup)" if word == "us-sum" else f" ({mean:.2f} a lookup)"
         if word in of and of[word] in report:
             told += f" ({share(number, report[of[word]])} of {of[word]})"
         yield f"  {word:16}{told}" + (f", {MEANS[word]}" if word in MEANS else "")

@@ -24,11 +24,13 @@ PATIENCE = (
     "list_routes = false", "list_routes = 1", "goes_on = true", "goes_on = 0", "lookup_timeouts = 64",
     "lookup_timeouts = 65", "lookup_timeouts = false", "drop_silent = true", 'drop_silent = "yes"', "skip_near = false",
     "skip_near = 2", "ask_owner = true", "ask_owner = []", "random_start = false", "random_start = -1",
-    "finger_jitter_us = 5", "check_jitter_us = 1_000_000_001", 'stabilize_jitter_us = "5us"',
+    "finger_jitter_us = 5", "check_jitter_us = 1_000_000_001", 'stabilize_jitter_us = "5us"', "clean_lists = false",
+    "clean_lists = 0", "join_asks = true", 'join_asks = "no"', "create_alone = true", "create_alone = 1",
 )
 """Further lines of the top in the extended profile."""
 PLACES = (
     "x_us = 5", "y_us = 5", "height_us = 5", "x_us = 500_000_001", "height_us = 100_000_001", "y_us = -1", "x_us = 0.0",
+    "bootstrap = true", "bootstrap = 1",
 )
 """Further lines of its nodes."""
 FIELDS = ("n0", "n9", "", " n1", "0", "12", "0012", "+5", "1.5", "99999999999", "1000000001", '"n2"', "n3")

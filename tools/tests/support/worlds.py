@@ -11,19 +11,33 @@ EXAMPLES = Path(__file__).resolve().parents[3] / "examples"
 RING = (EXAMPLES / "ring.toml").read_text()
 OFF = {
     "list_routes": "false", "goes_on": "false", "ask_owner": "false", "lookup_timeouts": "8", "drop_silent": "false",
-    "skip_near": "false", "random_start": "false",
+    "skip_near": "false", "random_start": "false", "clean_lists": "false", "join_asks": "false",
 }
 """The keys of the rules of Chord as published, each with the value that switches its rule off."""
-SWITCHED_OFF = "".join(f"{key} = {value}\n" for key, value in OFF.items())
+OFF_WITH_TIMES = OFF | {"join_pause_us": "0", "join_forever": "false", "check_us": "0"}
+"""These, and the keys without which joins pause and go on and predecessors are checked."""
+JOIN_RULES = ("clean_lists", "join_asks")
+"""Those of them that are of joins."""
+
+
+def of_joins() -> dict[str, str]:
+    """The keys that switch off the rules of joins, and the pauses, the joins without an end and the checks."""
+    return {key: value for key, value in OFF_WITH_TIMES.items() if key not in OFF or key in JOIN_RULES}
+
+
+SWITCHED_OFF = "".join(f"{key} = {value}\n" for key, value in OFF_WITH_TIMES.items())
 """These as lines."""
-LATER = ("losses", "again", "forgotten", "rescues", "timeouts-sum")
+LATER = ("losses", "again", "forgotten", "rescues", "creates", "timeouts-sum")
 """The numbers of the report that the extended profile has after the first 24."""
 
 
 def switched_off(*lines: str) -> list[str]:
-    """The lines that switch off the rules of Chord as published whose keys these lines do not have."""
+    """The lines that switch off the rules of Chord as published whose keys these lines do not have.
+
+    So do pauses between joins, joins without an end, and checks.
+    """
     given = {line.split(" = ")[0] for line in lines}
-    return [f"{key} = {value}" for key, value in OFF.items() if key not in given]
+    return [f"{key} = {value}" for key, value in OFF_WITH_TIMES.items() if key not in given]
 
 
 def ring(*changes: tuple[str, str], rows: str = "") -> Scenario:

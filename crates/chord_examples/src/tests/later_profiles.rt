@@ -22,7 +22,8 @@ fn in_profile<T: Abort + AllocGlobal>(rt: &T, profile: &str, example: &Example) 
 /// The extended profile without the rules of published Chord.
 const FIRST_RULES: &str =
     "profile = 4\nlist_routes = false\ngoes_on = false\nask_owner = false\nlookup_timeouts = 8\n\
-    drop_silent = false\nskip_near = false\nrandom_start = false";
+    drop_silent = false\nskip_near = false\nrandom_start = false\nclean_lists = false\n\
+    join_asks = false\njoin_pause_us = 0\njoin_forever = false\ncheck_us = 0";
 
 /// The timeouts of a lookup, by its line of a trace.
 fn timeouts_of(line: &str) -> u64 {
@@ -60,7 +61,7 @@ fn have_no_loss<T: Abort + AllocGlobal + Threads + Wait + Sync>(rt: &T, group: &
         let last = value_of(
             rt,
             format!(in rt.alloc();
-                "losses 0\nagain 0\nforgotten 0\nrescues 0\ntimeouts-sum {}\n",
+                "losses 0\nagain 0\nforgotten 0\nrescues 0\ncreates 0\ntimeouts-sum {}\n",
                 timeouts_in(example.trace)
             ),
         );

@@ -28,7 +28,7 @@ const CODE = Object.fromEntries(run.kinds.map((kind, code) => [kind, code]));
 const DOWN = 0, JOINING = 1, MEMBER = 2, STRANDED = 3;
 const STATUS_WORDS = ["down", "joining", "member", "stranded, joins again"];
 const CHANGES = new Map([[CODE.join, JOINING], [CODE.member, MEMBER], [CODE["join-failed"], DOWN], [CODE.crash, DOWN],
-  [CODE.stranded, STRANDED]]);
+  [CODE.stranded, STRANDED], [CODE.create, MEMBER]]);
 // A node whose join goes on after failures stays as it is.
 if (run.joinForever) CHANGES.delete(CODE["join-failed"]);
 const OUTCOMES = ["found", "lost", "cut off by a crash", "cut off by the end"];

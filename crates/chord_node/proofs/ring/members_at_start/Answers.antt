@@ -2,7 +2,7 @@ use Rattle.std.proofs.Common.{◌≡◌, ◌∙◌, ℕ, ap, sym, filter, arith}
 use Rattle.std.specs.List.{range_with_len}
 use Rattle.chord_scenario.specs.Start.{initial_nodes}
 use Rattle.chord_scenario.specs.World.{is_initial, node_count}
-use Rattle.chord_node.proofs.Rings.{filter-range_taken, filter-range_passed}
+use Rattle.chord_scenario.proofs.Ranges.{filter-range_taken, filter-range_passed}
 use Rattle.chord_node.proofs.ring.members_at_start.Goals as goal
 use Rattle.chord_node.proofs.ring.members_at_start.Goals.{then-initial+in_ok-push, else-initial}
 

@@ -1,7 +1,9 @@
 use Rattle.std.proofs.Common.{Bool, ap, sym, subst, length, ◌∙◌}
 use Rattle.chord_scenario.specs.Latencies.{square_or_zeros}
 use Rattle.chord_scenario.specs.Range.{IsInRange}
-use Rattle.chord_scenario.specs.Settings.{rules_of}
+use Rattle.chord_scenario.specs.declared.key.FileKey.TheVariants as key
+use Rattle.chord_scenario.specs.Settings.{check_of, join_pause_of, rules_of}
+use Rattle.chord_scenario.specs.Values.{truth_or}
 use Rattle.toml.specs.View.{table_view}
 use Rattle.chord_scenario.proofs.reader.assembled.Goals as goal
 
@@ -23,15 +25,16 @@ returns c = λ i. record {
   loss = c.number_or-3.ensures i;
   spread = c.number_or-4.ensures i;
   retries = c.number_or-5.ensures i;
-  join_pause = c.number_or-6.ensures i;
-  join_forever = c.truth_at.ensures i;
-  check = c.number_or-7.ensures i;
-  detail = c.truth_at-2.ensures i;
-  rules = (c.rules_of.ensures ∙ ap (λ (b : Bool). rules_of b (table_view c.args.top.now)) c.is_extended.ensures) i;
+  join_pause = (c.join_pause_of.ensures ∙ ap (λ (b : Bool). join_pause_of b (table_view c.args.top.now)) c.is_extended-extended.ensures) i;
+  join_forever = (c.truth_or.ensures ∙ ap (λ (b : Bool). truth_or b key.JoinForever (table_view c.args.top.now)) c.is_extended-extended.ensures) i;
+  check = (c.check_of.ensures ∙ ap (λ (b : Bool). check_of b (table_view c.args.top.now)) c.is_extended-extended.ensures) i;
+  detail = c.truth_at.ensures i;
+  rules = (c.rules_of.ensures ∙ ap (λ (b : Bool). rules_of b (table_view c.args.top.now)) c.is_extended-extended.ensures) i;
   jitters = c.jitters_of.ensures i;
   churn = c.churn_of.ensures i;
   lookups = c.lookups_of.ensures i;
   nodes = c.args.nodes.items;
+  bootstraps = c.requires.bootstraps i;
   commands = c.args.linked.commands.items;
   latencies = square_or_zeros (length c.args.nodes.items) c.args.linked.distances.cells.items;
   coordinates = c.requires.coordinates i;

@@ -1,4 +1,5 @@
 use Rattle.std.proofs.Common.{◌≡◌, ◌∙◌, ◌⊎◌, ap, inl, inr, List, map, rules, Option, Some, None}
+use Rattle.std.specs.Prelude.{◌==◌}
 use Rattle.std.specs.Option.{option_or}
 use Rattle.toml.specs.Data.{Members}
 use Rattle.toml.specs.View.{table_view}
@@ -17,7 +18,7 @@ use Rattle.chord_scenario.proofs.reader.link_nodes.Goals as goal
 
 module _ (top : Members) (ss : List Section) (nodes : List Node) (rows : List Row) where
   abbrev links : List (Option ScenarioFault)
-  links = link_questions (number_at key.List top) (number_at key.DurationUs top) ss nodes rows
+  links = link_questions (number_at key.Profile top == 4) (number_at key.List top) (number_at key.DurationUs top) ss nodes rows
 
   abbrev pairs : List (Option ScenarioFault)
   pairs = pair_questions (number_at key.WindowUs top) (number_at key.LatencyUs top) nodes (coordinates_of ss) rows
@@ -38,7 +39,7 @@ module _ (top : Members) (ss : List Section) (nodes : List Node) (rows : List Ro
 pub checked_distances-requires-clause-known : goal.checked_distances-requires-clause-known
 checked_distances-requires-clause-known c =
     let top = table_view c.args.top.now in
-    rw (c.in_ok-rows.ensures.nodes, c.in_ok-rows.ensures.text) (link_questions-known (number_at key.List top) (number_at key.DurationUs top)
+    rw (c.in_ok-rows.ensures.nodes, c.in_ok-rows.ensures.text) (link_questions-known (number_at key.Profile top == 4) (number_at key.List top) (number_at key.DurationUs top)
     (map section_of c.args.tables.now) c.args.names.nodes.now (rows_of c.args.csv.now) c.in_ok-rows.ensures.sound)
 
 pub returns-in_err-rows-clause-refused : goal.returns-in_err-rows-clause-refused
@@ -68,13 +69,13 @@ checked_distances-requires-clause-distinct c = rw c.in_ok-rows.ensures.nodes c.r
 pub checked_distances-requires-clause-good : goal.checked_distances-requires-clause-good
 checked_distances-requires-clause-good c =
     let top = table_view c.args.top.now in
-    rw c.in_ok-rows.ensures.text (link_questions-good (number_at key.List top) (number_at key.DurationUs top) (map section_of c.args.tables.now)
+    rw c.in_ok-rows.ensures.text (link_questions-good (number_at key.Profile top == 4) (number_at key.List top) (number_at key.DurationUs top) (map section_of c.args.tables.now)
     c.args.names.nodes.now (rows_of c.args.csv.now) c.in_ok-rows.ensures.sound)
 
 pub returns-clause-good : goal.returns-clause-good
 returns-clause-good c =
     let top = table_view c.args.top.now in
-    link_questions-good (number_at key.List top) (number_at key.DurationUs top) (map section_of c.args.tables.now)
+    link_questions-good (number_at key.Profile top == 4) (number_at key.List top) (number_at key.DurationUs top) (map section_of c.args.tables.now)
     c.args.names.nodes.now (rows_of c.args.csv.now) c.in_ok-rows.ensures.sound
 
 pub returns-clause-commands : goal.returns-clause-commands

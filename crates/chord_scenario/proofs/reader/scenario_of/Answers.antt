@@ -186,3 +186,11 @@ returns-clause-sound c =
     let asked = nodes_sound top ss c.as_slice.result.now tables (c.as_slice.ensures.value ∙ own) c.in_ok-names.ensures.sound in
     let lent = c.in_ok-names.ensures.nodes ∙ c.as_slice.ensures.value ∙ own in
     after_nodes top rows c.in_ok-circle.ensures.sound asked ∙ late_sound top ss c.in_ok-names.names.nodes.now rows tables lent c.in_ok-linked.ensures.sound
+
+pub bootstraps-requires : goal.bootstraps-requires
+bootstraps-requires c =
+    let top = table_view c.args.top.now in
+    let tables = ap (map section_of) c.as_slice-tables.ensures.value ∙ c.in_ok-placed.ensures in
+    let own = own_nodes top c.in_ok-circle.circle (map section_of c.as_slice-tables.result.now) c.in_ok-nodes.nodes.items c.in_ok-circle.ensures.value
+    tables c.in_ok-nodes.ensures.value in
+    rw (c.as_slice-2.ensures.value, own) (fit top c.in_ok-circle.ensures.sound).nodes
