@@ -28,7 +28,17 @@ RULES = {
     ("true", "true", "true", "8"): "`lookup_timeouts = 8`",
     ("false", "false", "false", "8"): "all four",
 }
+CHURN_RULES = {
+    "list_routes": ("true", "false"), "goes_on": ("true", "false"), "ask_owner": ("true", "false"),
+    "lookup_timeouts": ("32", "8"), "drop_silent": ("true", "false"), "skip_near": ("true", "false"),
+    "random_start": ("true", "false"), "clean_lists": ("true", "false"), "join_asks": ("true", "false"),
+    "check_us": ("15000000", "0"),
+}
+"""The rules of churn_rules.toml: as they are in profile 4, and switched back."""
 CRASH, NODES, LIST = "generate.--crash", "generate.--nodes", "generate.--list"
+RATE, BITS = "generate.--arrivals", "generate.--bits"
+SILENT = "20, `drop_silent = false`"
+"""The third setting under churn, beside those of 24 and 20 bits."""
 AS_ARTICLE, NOT_ASKED, LIMITED, DEFAULTS = "false, 64, true", "false, 64, false", "false, 32, true", "true, 32, true"
 """Settings of drop_silent, lookup_timeouts and ask_owner."""
 
@@ -44,15 +54,31 @@ def published(figure: str) -> dict[float, float]:
     return {float(row["at"]): float(row["value"]) for row in table("published.csv") if row["figure"] == figure}
 
 
-def mean(rows: Sequence[Row], number: str) -> Interval:
+def mean(rows: Sequence[Row], number: str, span: str = "") -> Interval:
     """The mean of hops or timeouts of a lookup that came to an end, over the seeds."""
-    ended = [int(row["judged-found"]) + int(row["judged-lost"]) for row in rows]
-    return interval([int(row[f"ended-{number}"]) / count for row, count in zip(rows, ended, strict=True)])
+    ended = [int(row[f"{span}judged-found"]) + int(row[f"{span}judged-lost"]) for row in rows]
+    return interval([int(row[f"{span}ended-{number}"]) / count for row, count in zip(rows, ended, strict=True)])
 
 
 def total(rows: Iterable[Row], number: str) -> int:
     """The sum of a column."""
     return sum(int(row[number]) for row in rows)
+
+
+def failures(rows: Sequence[Row]) -> Interval:
+    """How many of 10,000 lookups are lost or name a wrong node, over the seeds."""
+    return interval([10_000 * (lost + wrong) / ended for lost, wrong, ended in (bad([row]) for row in rows)])
+
+
+def told_failures(rows: Sequence[Row]) -> str:
+    """The same in words: without an interval if there is no failure at all."""
+    return told(failures(rows), 1) if sum(bad(rows)[:2]) else "0"
+
+
+def told_range(values: Sequence[float], form: str = "g") -> str:
+    """The least and the greatest of some values, or the one that all have."""
+    least, most = f"{min(values):{form}}", f"{max(values):{form}}"
+    return least if least == most else f"{least} to {most}"
 
 
 def told(one: Interval, digits: int = 3) -> str:
@@ -78,11 +104,11 @@ def failure() -> dict[tuple[str, float], list[Row]]:
     return found
 
 
-def bad(rows: Iterable[Row]) -> tuple[int, int, int]:
+def bad(rows: Iterable[Row], span: str = "") -> tuple[int, int, int]:
     """How many lookups were lost, how many named a wrong node, and how many came to an end."""
     found = list(rows)
-    lost, answered = total(found, "judged-lost"), total(found, "judged-found")
-    return lost, answered - total(found, "right"), lost + answered
+    lost, answered = total(found, f"{span}judged-lost"), total(found, f"{span}judged-found")
+    return lost, answered - total(found, f"{span}right"), lost + answered
 
 
 def print_failure() -> None:
@@ -192,6 +218,109 @@ def print_distribution() -> None:
             [*rows, ["mean", *(told(mean(one, "hops"), 3) for one in runs), "6"]])
 
 
+def churn() -> dict[str, dict[float, list[Row]]]:
+    """The runs under churn, by setting and by the rate of joins."""
+    found: dict[str, dict[float, list[Row]]] = defaultdict(lambda: defaultdict(list))
+    for row in table("churn/runs.csv") + table("churn_silent/runs.csv"):
+        found[row.get(BITS, SILENT)][float(row[RATE].removesuffix("/s"))].append(row)
+    return found
+
+
+def print_churn() -> None:
+    """The tables of lookups under churn, for each setting; where lookups failed; and how the rings were."""
+    hops, timeouts = published("hops under churn"), published("timeouts under churn")
+    failed = published("failures of 10,000 under churn")
+    each, rings = [], []
+    for bits, by_rate in churn().items():
+        rows = []
+        for rate, runs in by_rate.items():
+            lost, wrong, ended = bad(runs)
+            seeds = [mean([row], "timeouts").mean or 0 for row in runs]
+            rows.append([
+                f"{rate:g}", f"{hops[rate]:.2f}", told(mean(runs, "hops"), 2), f"{timeouts[rate]:.2f}",
+                told(mean(runs, "timeouts"), 3), told_range(seeds, ".3f"), f"{failed[rate]:g}", told_failures(runs),
+                lost, wrong, f"{ended:,}",
+            ])
+            each.append([bits, f"{rate:g}", total(runs, "wrong-down"), total(runs, "wrong-newcomer"),
+                         total(runs, "right-defensible") - total(runs, "right"), lost,
+                         ", ".join(str(sum(bad([row])[:2])) for row in runs)])
+            members = interval([float(row["mean-members"]) for row in runs])
+            rings.append([bits, f"{rate:g}",
+                          *(f"{total(runs, number):,}" for number in ("members", "crashes", "join-failed")),
+                          told(members, 0), f"{total(runs, 'judged-audits'):,}",
+                          *(total(runs, number) for number in ("torn-rings", "stranded", "rescues"))])
+        columns("R | hops: published | hops | timeouts: published | timeouts | of each seed "
+                "| failures of 10,000: published | failures of 10,000 | lost | wrong | lookups", rows)
+    columns("bits | R | names a node that has crashed | misses a newcomer | of both: right while the lookup ran | lost "
+            "| failures of each seed", each)
+    columns("bits | R | joins | crashes | failed joins | members | audits | torn | stranded | rescues", rings)
+
+
+def print_churn_rules() -> None:
+    """What each rule is worth under churn."""
+    found: dict[tuple[str, ...], list[Row]] = defaultdict(list)
+    for row in table("churn_rules/runs.csv"):
+        found[tuple(key for key, (ours, _) in CHURN_RULES.items() if row[key] != ours)].append(row)
+    rows = []
+    for keys, runs in found.items():
+        words = "none" if not keys else "all ten" if len(keys) == len(CHURN_RULES) else (
+            f"`{keys[0]} = {CHURN_RULES[keys[0]][1]}`")
+        lost, _, ended = bad(runs)
+        time = interval([int(row["ended-us"]) / 1000 / bad([row])[2] for row in runs])
+        rows.append([words, told(mean(runs, "hops"), 2), told(mean(runs, "timeouts"), 3), told(time, 0),
+                     total(runs, "wrong-down"), total(runs, "wrong-newcomer"), lost, told_failures(runs),
+                     total(runs, "torn-rings"), total(runs, "stranded"), total(runs, "join-failed"), f"{ended:,}"])
+    columns("switched back | hops | timeouts | time, ms | names a node that has crashed | misses a newcomer | lost "
+            "| failures of 10,000 | torn audits | stranded | failed joins | lookups", rows)
+
+
+def share_of(row: Row) -> float:
+    """The share that crashes in a run of repair.toml."""
+    return float(row[CRASH].partition("%")[0]) / 100
+
+
+def repair() -> dict[tuple[str, float], list[Row]]:
+    """The runs of repair.toml, by list and by the share that crashes."""
+    found: dict[tuple[str, float], list[Row]] = defaultdict(list)
+    for row in table("repair/runs.csv"):
+        found[row["list"], share_of(row)].append(row)
+    return found
+
+
+def without_whole_ring(row: Row) -> int:
+    """At how many audits after the failure, one each second, not all members were in one ring."""
+    return int(row["judged-audits"]) - int(row["whole-rings"])
+
+
+def print_repair() -> None:
+    """Lookups in the first ten minutes after a failure and in the next fifteen, and how long the ring was not whole."""
+    last: dict[tuple[str, float], list[float]] = defaultdict(list)
+    for row in table("repair/last.csv"):
+        last[row["list"], share_of(row)].append(int(row["last-timeout-us"]) / 1e6 - 60)
+    lookups, rings = [], []
+    for (entries, share), runs in repair().items():
+        cells: list[object] = [entries, f"{share:g}"]
+        for span in ("repair.", "after."):
+            lost, wrong, ended = bad(runs, span)
+            timeouts = told(mean(runs, "timeouts", span), 3) if total(runs, f"{span}ended-timeouts") else "0"
+            cells += [told(mean(runs, "hops", span), 2), timeouts, lost, wrong]
+            if span == "repair.":
+                each = [sum(bad([row], span)[:2]) for row in runs]
+                cells.append(", ".join(map(str, each)) if any(each) else "0")
+            cells.append(f"{ended:,}")
+        lookups.append(cells)
+        away = [without_whole_ring(row) for row in runs]
+        whole = sum(int(row["whole-rings"]) > 0 for row in runs)
+        rings.append([entries, f"{share:g}", total(runs, "rescues"), total(runs, "stranded"),
+                      told_range([int(row["ringless"]) for row in runs]), total(runs, "unordered"),
+                      f"{whole} of {len(runs)}", ", ".join(map(str, away)) if any(away) else "0",
+                      told_range(last[entries, share])])
+    columns("list | p | first ten minutes: hops | timeouts | lost | wrong | failures of each seed | lookups "
+            "| then: hops | timeouts | lost | wrong | lookups", lookups)
+    columns("list | p | rescues | stranded | audits without a ring | out of order | seeds with a whole ring at the end "
+            "| seconds without a whole ring, each seed | last timeout, s", rings)
+
+
 def draw_points(axes: Any, found: dict[float, Interval], look: str, label: str) -> None:
     """Means with the bars of their intervals."""
     halves = [one.half or 0 for one in found.values()]
@@ -249,31 +378,101 @@ def draw_length(pyplot: Any) -> None:
     figure.savefig(FOLDER / "length.png", dpi=110)
 
 
+def draw_churn(pyplot: Any) -> None:
+    """Hops, timeouts and failures by the rate of joins and crashes."""
+    figure, places = pyplot.subplots(1, 3, figsize=(13, 4.2), layout="constrained")
+    labels = {"24": ("C0.-", "24 bits, skip_near"), "20": ("C1.--", "20 bits, 19 fingers in turn"),
+              SILENT: ("C2.:", "the same, drop_silent = false")}
+    for axes, number in zip(places, ("hops", "timeouts", "failures"), strict=True):
+        for bits, by_rate in churn().items():
+            look, words = labels[bits]
+            means = {
+                rate: failures(runs) if number == "failures" else mean(runs, number) for rate, runs in by_rate.items()
+            }
+            draw_points(axes, means, look, f"chordsim, {words}")
+        named = "failures of 10,000" if number == "failures" else number
+        draw_published(axes, published(f"{named} under churn"), "published (ToN 2003, Table III)")
+        label = "lookups lost or wrong, of 10,000" if number == "failures" else f"mean {number} of a lookup"
+        axes.set(xlabel="joins, and as many departures, a second", ylabel=label)
+        axes.set_ylim(0, 1.25 * axes.get_ylim()[1])
+        axes.grid(alpha=0.3)
+        axes.legend(fontsize=8, loc="lower right" if number == "hops" else "upper left")
+    figure.suptitle("Lookups under churn: about 1,000 nodes, lists of 20, bars: 95% intervals of ten seeds")
+    figure.savefig(FOLDER / "churn.png", dpi=110)
+
+
+def draw_repair(pyplot: Any) -> None:
+    """The share of failed lookups after repair, and how long the ring was not whole, by the share that crashes."""
+    figure, (left, right) = pyplot.subplots(1, 2, figsize=(10, 4.2), layout="constrained")
+    by_list: dict[str, dict[float, list[Row]]] = defaultdict(dict)
+    for (entries, share), runs in repair().items():
+        by_list[entries][share] = runs
+    for (entries, by_share), look in zip(by_list.items(), ("C0.-", "C1.--"), strict=True):
+        means = {}
+        for share, runs in by_share.items():
+            counts = [bad([row], "after.") for row in runs]
+            means[share] = interval([(lost + wrong) / ended for lost, wrong, ended in counts])
+            right.plot([share] * len(runs), [without_whole_ring(row) for row in runs], look[:3], alpha=0.6,
+                       label=f"chordsim, lists of {entries}: each seed" if share == 0.5 else None)
+        draw_points(left, means, look, f"chordsim, lists of {entries}: lost or wrong")
+    draw_published(left, published("failed lookups after repair"), "published: the key was lost (SIGCOMM 2001)")
+    left.set(ylabel="share of lookups that fail after repair", ylim=(-0.02, 0.6))
+    right.set(ylabel="seconds until all members are in one ring", ylim=(-50, 1700))
+    right.axhline(1530, color="black", linewidth=0.8, linestyle=":", label="the end of the run")
+    for axes in (left, right):
+        axes.set(xlabel="share of the nodes that has failed")
+        axes.grid(alpha=0.3)
+        axes.legend(fontsize=8, loc="upper left")
+    figure.suptitle("After a simultaneous failure: 1,000 nodes, stabilization each 30 s, ten seeds")
+    figure.savefig(FOLDER / "repair.png", dpi=110)
+
+
 def print_tables() -> None:
     """All tables."""
     print_failure()
     print_rules()
+    print_churn()
+    print_churn_rules()
+    print_repair()
     print_length()
     print_distribution()
+
+
+def keep(name: str, rows: Sequence[Row]) -> None:
+    """Writes a table."""
+    with open(FOLDER / name, "w", encoding="utf-8", newline="") as file:
+        writer = csv.DictWriter(file, list(rows[0]), lineterminator="\n")
+        writer.writeheader()
+        writer.writerows(rows)
 
 
 def keep_hops() -> None:
     """Keeps the lines of hops of the studies' cdf.csv, which are large."""
     for study in ("length", "circle"):
         if (FOLDER / study / "cdf.csv").exists():
-            rows = [row for row in table(f"{study}/cdf.csv") if row.pop("number") == "hops"]
-            with open(FOLDER / study / "hops.csv", "w", encoding="utf-8", newline="") as file:
-                writer = csv.DictWriter(file, list(rows[0]), lineterminator="\n")
-                writer.writeheader()
-                writer.writerows(rows)
+            keep(f"{study}/hops.csv", [row for row in table(f"{study}/cdf.csv") if row.pop("number") == "hops"])
+
+
+def keep_last() -> None:
+    """Keeps the end of the last second with a timeout of each run of repair.toml; steps.csv is large."""
+    if (FOLDER / "repair/steps.csv").exists():
+        last: dict[tuple[str, ...], Row] = {}
+        for row in table("repair/steps.csv"):
+            if int(row["timeouts"]):
+                keys = {key: row[key] for key in ("list", CRASH, "seed")}
+                last[tuple(keys.values())] = {**keys, "last-timeout-us": str(int(row["from_us"]) + 1_000_000)}
+        keep("repair/last.csv", list(last.values()))
 
 
 def main() -> None:
     """All tables and plots."""
     keep_hops()
+    keep_last()
     print_tables()
     pyplot = importlib.import_module("matplotlib.pyplot")
     draw_failure(pyplot)
+    draw_churn(pyplot)
+    draw_repair(pyplot)
     draw_length(pyplot)
 
 
