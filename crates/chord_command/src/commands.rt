@@ -7,7 +7,7 @@ use clap::{Arg, ArgAction, Command, value_parser};
 use std::alloc::{AllocError, Global};
 
 /// The version that `--version` prints. CHANGELOG.md says what is in it.
-const VERSION: &str = "0.1.0";
+const VERSION: &str = "0.2.0";
 
 /// The whole command line, which writes the texts for `--help` and `--version`, and refuses arguments that name
 /// no command.
