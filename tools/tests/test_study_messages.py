@@ -17,10 +17,10 @@ from chordsim_tools.reference.state import Event
 from chordsim_tools.scenario.reading import Scenario, read_scenario
 from chordsim_tools.study.document import toml_text
 from chordsim_tools.study.estimates import GROUPS, MOST_ERROR, WITHIN, most_off
-from chordsim_tools.study.messages import OF_LOOKUPS, Span, Traffic, exact, message_numbers
-from chordsim_tools.study.repairs import Repairs
+from chordsim_tools.study.messages import OF_LOOKUPS, Traffic, exact, message_numbers
+from chordsim_tools.study.repairs import latencies_of
 from chordsim_tools.study.served import scope_of
-from chordsim_tools.study.task import events_before
+from chordsim_tools.study.task import events_before, span_of
 from chordsim_tools.study.trace import TraceReader
 from tests.support.programs import ended, program
 from tests.support.worlds import EXAMPLES
@@ -76,9 +76,7 @@ def numbers_of(
     reader.numbers()
     before = known(simulation.before)
     made = {kind: count - before[1][kind] for kind, count in sent(simulation, report).items()}
-    repairs = Repairs(top, rows)
-    begun = repairs.begun(reader.members, warmup_us, top["duration_us"])
-    span = Span(top, simulation.events - before[0], reader.population, begun, repairs.skipped())
+    span = span_of(top, simulation.events - before[0], reader, latencies_of(top, rows))
     return message_numbers(reader.traffic, span), made
 
 

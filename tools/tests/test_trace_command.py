@@ -112,7 +112,8 @@ class Commands(TestCase):
         """By steps, by node, and the worst lookups."""
         out = self.trace("--over-time", "500us", "--per-node", "--worst", "2")
         self.assertRegex(out, r"\n0 s +3 +1 +0 +1 +1 +3 +1 +1 +0.00 % +0.00003 s +- +-\n0.0005 s +0 ")
-        self.assertRegex(out, r"\nb +1 +0 +0 +0 +0 +1 +1 +0.00007 s +-\n")
+        self.assertRegex(out, r"\nb +1 +0 +0 +0 +0 +0 +1 +1 +0.00007 s +-\n")
+        self.assertRegex(out, r"\na +2 +1 +0 +1 +1 ")
         self.assertRegex(out, r"\n3 +a@0.00008s +0.0001 s +0 +9 +- +- +0 +lost\n")
         self.assertRegex(out, r"\n1 +a@0.00002s .* +1 +defensible, misses a member\n")
 

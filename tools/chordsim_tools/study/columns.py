@@ -25,6 +25,7 @@ COST = "cost"
 GREATER_IS_BETTER = {"right-of-begun", "right-of-found", "found-of-begun", "served", "whole-of-audits", "right"}
 WORDS = {f"all-us-p{share}": f"lookup time, p{share}" for share in ("50", "90", "99", "99.9")}
 WORDS |= {f"us-p{share}": f"time of the found ones, p{share}" for share in ("50", "90", "99")}
+WORDS |= {f"stretch-p{share}": f"stretch of a lookup, p{share}" for share in ("10", "50", "90")}
 
 
 class Column:

@@ -12,22 +12,31 @@ from statistics import NormalDist
 from typing import Any
 
 from chordsim_tools.members import Members
+from chordsim_tools.scenario.coordinates import coordinates_of
 from chordsim_tools.scenario.tables import rows_of
 
+Latency = Callable[[str, str], int]
+"""The latency from one node to another, by their names."""
 PARTS = 9
 """A spread of latencies is taken as so many values that are equally likely."""
 
 
-def latencies_of(top: dict[str, Any], rows: bytes) -> Callable[[str, str], int]:
+def latencies_of(top: dict[str, Any], rows: bytes) -> Latency:
     """The latency of two nodes, without the spread."""
     found: dict[tuple[str, str], int] = {}
     for row in rows_of(rows):
         first, second, micros = row.fields
         found[first, second] = found[second, first] = int(micros)
+    places = {node["name"]: coordinates_of(node) for node in top["node"]}
 
     def latency(first: str, second: str) -> int:
-        """That of a pair."""
-        return 1 if first == second else found.get((first, second), int(top["latency_us"]))
+        """That of a pair. All nodes have coordinates, or none has."""
+        here, there = places[first], places[second]
+        if first == second:
+            return 1
+        if here is None or there is None:
+            return found.get((first, second), int(top["latency_us"]))
+        return here.latency_to(there)
 
     return latency
 
@@ -75,10 +84,10 @@ class Period:
 class Repairs:
     """The stabilizations of a run without messages that are lost or dropped."""
 
-    def __init__(self, top: dict[str, Any], rows: bytes) -> None:
+    def __init__(self, top: dict[str, Any], latency: Latency) -> None:
         """Those of a scenario with these latencies."""
         self.period = Period(int(top["stabilize_us"]), int(top.get("jitter_us", 0)))
-        self.latency = latencies_of(top, rows)
+        self.latency = latency
         self.spreads = spreads(int(top.get("spread_us", 0)))
         self.timeout = int(top["timeout_us"])
         self.places = {node["name"]: place for place, node in enumerate(top["node"])}

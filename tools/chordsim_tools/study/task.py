@@ -8,12 +8,13 @@ from typing import Any
 
 from chordsim_tools.cli import Failure
 from chordsim_tools.members import Members
+from chordsim_tools.study.answers import Answers
 from chordsim_tools.study.curves import Curves
 from chordsim_tools.study.document import toml_text
 from chordsim_tools.study.messages import Span, message_numbers, time_of
 from chordsim_tools.study.pieces import Pieces
 from chordsim_tools.study.program import Program
-from chordsim_tools.study.repairs import Repairs
+from chordsim_tools.study.repairs import Latency, Repairs, latencies_of
 from chordsim_tools.study.served import scope_of
 from chordsim_tools.study.trace import TraceReader
 from chordsim_tools.study.trouble import Trouble
@@ -57,13 +58,24 @@ def events_before(top: dict[str, Any], time: int, program: Path, latency: Path |
         return Program(program, scenario, latency).run(lambda _: None)["events"]
 
 
+def span_of(top: dict[str, Any], events: int, reader: TraceReader, latency: Latency) -> Span:
+    """What messages are counted or estimated from. An estimate alone needs to know how many stabilizations begin."""
+    if reader.scope.has_detail:
+        return Span(top, events, reader.population)
+    repairs = Repairs(top, latency)
+    begun = repairs.begun(reader.members, reader.scope.warmup_us, top["duration_us"])
+    return Span(top, events, reader.population, begun, repairs.skipped())
+
+
 def result_of(task: Task, program: Path, scenario: Path, latency: Path | None) -> dict[str, Any]:
     """Runs the program with the task's two files, and gives the result as `done/` keeps it."""
     caller = Program(program, scenario, latency)
     top = tomllib.loads(task.scenario)
     idents = caller.idents([node["name"] for node in top["node"]])
     reader, curves, trouble = readers_of(task, top, idents)
+    latency_us = latencies_of(top, task.latency or b"")
     pieces = Pieces(reader.scope, reader.members)
+    answers = Answers(reader.scope, reader.members, latency_us)
 
     def read(line: str) -> None:
         """Each reader takes a line."""
@@ -71,6 +83,7 @@ def result_of(task: Task, program: Path, scenario: Path, latency: Path | None) -
         curves.read(line)
         trouble.read(line)
         pieces.read(line)
+        answers.read(line)
 
     def sift(part: bytes) -> bytes:
         """The lines of detail are counted many at once, and the others are left."""
@@ -82,15 +95,13 @@ def result_of(task: Task, program: Path, scenario: Path, latency: Path | None) -
         raise Failure(3, "the report does not count the lines of the trace")
     numbers = reader.numbers()
     events = report["events"] - events_before(top, task.warmup_us, program, latency)
-    repairs = Repairs(top, task.latency or b"")
-    begun = repairs.begun(reader.members, task.warmup_us, top["duration_us"])
-    span = Span(top, events, reader.population, begun, repairs.skipped())
+    span = span_of(top, events, reader, latency_us)
     return {
         "made_of": task.made_of,
         "report": report,
         "numbers": {
             **numbers, **message_numbers(reader.traffic, span), **trouble.numbers(),
-            **pieces.numbers(),
+            **pieces.numbers(), **answers.numbers(),
             "scenario-list": top["list"], "scenario-bits": top["bits"],
         },
         "curves": {**curves.numbers(), "tail": reader.judged.times.tail()},

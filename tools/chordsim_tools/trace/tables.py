@@ -80,7 +80,7 @@ def node_rows(run: Run) -> Rows:
     rows: Rows = []
     for name, lives in zip(history.names, history.lives, strict=True):
         up = sum((run.reached if life.end is None else life.end) - life.begin for life in lives)
-        row = dict.fromkeys(("lookups", "found", "right", "lost", "timeouts_met", "timeouts_on_it"), 0)
+        row = dict.fromkeys(("lookups", "found", "right", "lost", "named", "timeouts_met", "timeouts_on_it"), 0)
         rows.append({"node": name, **row, "lives": len(lives), "up_us": up})
     for one in history.lines.lookups:
         row = rows[one.node]
@@ -88,6 +88,8 @@ def node_rows(run: Run) -> Rows:
         row["found"] += one.outcome == "found"
         row["lost"] += one.outcome == "lost"
         row["right"] += one.is_right
+        if one.owner != NOBODY:
+            rows[one.owner]["named"] += 1
     lines = history.lines
     for node, kind, other in zip(lines.nodes, lines.kinds, lines.others, strict=True):
         if kind == TIMEOUT:
@@ -98,7 +100,7 @@ def node_rows(run: Run) -> Rows:
 
 def node_table(rows: Rows) -> list[str]:
     """The same for readers."""
-    words = ("lookups", "found", "right", "lost", "timeouts_met", "timeouts_on_it", "lives")
+    words = ("lookups", "found", "right", "lost", "named", "timeouts_met", "timeouts_on_it", "lives")
     cells = [
         [row["node"], *(counted(row[word]) for word in words), seconds(row["up_us"]), share(row["right"], row["found"])]
         for row in rows
