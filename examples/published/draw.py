@@ -37,6 +37,14 @@ CHURN_RULES = {
 """The rules of churn_rules.toml: as they are in profile 4, and switched back."""
 CRASH, NODES, LIST = "generate.--crash", "generate.--nodes", "generate.--list"
 RATE, BITS = "generate.--arrivals", "generate.--bits"
+LOADS = {
+    "owned-p1": "first percentile of keys of a node beside the mean",
+    "owned-p99": "99th percentile of keys of a node beside the mean",
+    "owned-most": "greatest number of keys of a node beside the mean",
+}
+"""Columns of load.toml, with the published figures that they are beside."""
+STRETCHES = (10, 50, 90)
+"""The percentiles of stretch.toml."""
 SILENT = "20, `drop_silent = false`"
 """The third setting under churn, beside those of 24 and 20 bits."""
 AS_ARTICLE, NOT_ASKED, LIMITED, DEFAULTS = "false, 64, true", "false, 64, false", "false, 32, true", "true, 32, true"
@@ -321,6 +329,59 @@ def print_repair() -> None:
             "| seconds without a whole ring, each seed | last timeout, s", rings)
 
 
+def loads() -> dict[float, list[Row]]:
+    """The runs of load.toml, by the mean number of keys of a node, in ascending order."""
+    found: dict[str, list[Row]] = defaultdict(list)
+    for row in table("load/runs.csv"):
+        found[row["generate.--lookup-gap"]].append(row)
+    by_mean = {(interval(list(map(keys_of, runs))).mean or 0): runs for runs in found.values()}
+    return dict(sorted(by_mean.items()))
+
+
+def keys_of(row: Row) -> float:
+    """The mean number of keys of a node, in a ring of 10,000."""
+    return int(row["judged-found"]) / 10_000
+
+
+def beside_mean(rows: Sequence[Row], number: str) -> Interval:
+    """A number of keys beside the mean one, over the seeds."""
+    return interval([int(row[number]) / keys_of(row) for row in rows])
+
+
+def print_load() -> None:
+    """How evenly keys are shared among nodes."""
+    rows = []
+    for keys, runs in loads().items():
+        lost, wrong, ended = bad(runs)
+        near = {number: published(figure).get(5e5) if round(keys) == 50 else None for number, figure in LOADS.items()}
+        cells = [f"{keys:.1f}"]
+        for number in LOADS:
+            cells += ["" if near[number] is None else f"{near[number]:g}", told(beside_mean(runs, number), 2)]
+        rows.append([*cells, f"{ended:,}", lost + wrong])
+    columns("keys of a node: mean | 1st percentile: published | 1st percentile | 99th: published | 99th "
+            "| greatest: published | greatest | keys, all seeds | wrong or lost", rows)
+
+
+def stretches() -> dict[tuple[str, str], list[Row]]:
+    """The runs of stretch.toml, by list and by whether the owner is asked."""
+    found: dict[tuple[str, str], list[Row]] = defaultdict(list)
+    for row in table("stretch/runs.csv"):
+        found[row["list"], row["ask_owner"]].append(row)
+    return found
+
+
+def print_stretch() -> None:
+    """How long lookups take beside a round trip to the owner."""
+    points = published("stretch of iterative lookups by percentile")
+    rows: list[list[object]] = [["published", "", *(f"{points[share]:g}" for share in STRETCHES), "", "", ""]]
+    for (entries, asked), runs in stretches().items():
+        lost, wrong, ended = bad(runs)
+        cells = [told(interval([float(row[f"stretch-p{share}"]) for row in runs]), 2) for share in STRETCHES]
+        rows.append([entries, "yes" if asked == "true" else "no", *cells, told(mean(runs, "hops"), 2), f"{ended:,}",
+                     lost + wrong])
+    columns("list | owner asked | 10th percentile | median | 90th percentile | hops | lookups | wrong or lost", rows)
+
+
 def draw_points(axes: Any, found: dict[float, Interval], look: str, label: str) -> None:
     """Means with the bars of their intervals."""
     halves = [one.half or 0 for one in found.values()]
@@ -427,6 +488,29 @@ def draw_repair(pyplot: Any) -> None:
     figure.savefig(FOLDER / "repair.png", dpi=110)
 
 
+def draw_load(pyplot: Any) -> None:
+    """How evenly keys are shared, and how long lookups take beside a round trip."""
+    figure, (left, right) = pyplot.subplots(1, 2, figsize=(10, 4.2), layout="constrained")
+    words = {"owned-p1": "1st percentile", "owned-p99": "99th percentile", "owned-most": "greatest"}
+    for (number, named), look in zip(words.items(), ("C0.-", "C1.--", "C2.:"), strict=True):
+        draw_points(left, {keys: beside_mean(runs, number) for keys, runs in loads().items()}, look, f"chordsim, {named}")
+    near = [next(iter(published(figure).values())) for figure in LOADS.values()]
+    left.plot([50] * len(near), near, "o", mfc="none", mec="black", markersize=9, label="published (SIGCOMM 2001)")
+    left.set(xlabel="keys of a node, mean; 10,000 nodes", ylabel="keys of a node beside the mean", ylim=(-0.5, 14))
+    looks = {"1": "C0", "32": "C1"}, {"false": ".--", "true": ".-"}
+    for (entries, asked), runs in stretches().items():
+        means = {float(share): interval([float(row[f"stretch-p{share}"]) for row in runs]) for share in STRETCHES}
+        label = f"chordsim, lists of {entries}, owner {'asked' if asked == 'true' else 'not asked'}"
+        draw_points(right, means, looks[0][entries] + looks[1][asked], label)
+    draw_published(right, published("stretch of iterative lookups by percentile"), "published, iterative (ToN 2003)")
+    right.set(xlabel="percentile of the lookups; 65,536 nodes", ylabel="time beside a round trip to the owner")
+    for axes in (left, right):
+        axes.grid(alpha=0.3)
+        axes.legend(fontsize=8, loc="upper left")
+    figure.suptitle("Load balance (ten seeds) and stretch (five seeds), bars: 95% intervals")
+    figure.savefig(FOLDER / "load.png", dpi=110)
+
+
 def print_tables() -> None:
     """All tables."""
     print_failure()
@@ -436,6 +520,8 @@ def print_tables() -> None:
     print_repair()
     print_length()
     print_distribution()
+    print_load()
+    print_stretch()
 
 
 def keep(name: str, rows: Sequence[Row]) -> None:
@@ -474,6 +560,7 @@ def main() -> None:
     draw_churn(pyplot)
     draw_repair(pyplot)
     draw_length(pyplot)
+    draw_load(pyplot)
 
 
 if __name__ == "__main__":

@@ -72,7 +72,7 @@ class PlotNumbersTest(TestCase):
 
     def test_how_many_seeds_a_hollow_point_has(self) -> None:
         """Of three, one of which lost its ring."""
-        rows = [row(list=1, seed=seed, ringless=int(seed == 3)) for seed in (1, 2, 3)]
+        rows = [row(list=1, seed=seed, **{"lost-at-us": 5 if seed == 3 else ""}) for seed in (1, 2, 3)]
         found = point_of(Column("right-of-begun", tables_of(rows, vary={"list": [1]})), rows, 100)
         assert found is not None and found.is_hollow and found.told == "2 of 3"
 
@@ -103,7 +103,7 @@ class PlotNumbersTest(TestCase):
             "outage.right-defensible": 88, "outage.member-us": 9, "outage.up-us": 10,
         }
         rows = [
-            row(list=1, seed=seed, ringless=int(seed == 6), **cells,
+            row(list=1, seed=seed, **cells, **{"lost-at-us": 5 if seed == 6 else ""},
                 **{"outage.right": 80 + seed, "outage.all-us-p99": 1_000_000 * seed}) for seed in range(1, 7)
         ]
         tables = tables_of(rows, vary={"list": [1]}, spans={"outage": [0, 1]})
@@ -118,9 +118,10 @@ class PlotNumbersTest(TestCase):
 
     def test_bars_are_those_of_the_page(self) -> None:
         """Served has bars by betting, also if a ring was lost; a share of 100 % in all seeds has one too."""
-        for ringless, right in ((0, 940), (0, 900), (1, 900)):
-            rows = [row(list=1, seed=seed, right=right - seed * (right < 940), ringless=ringless * (seed == 1),
-                        **{"judged-found": 940, "judged-lost": 0}) for seed in range(1, 9)]
+        for lost_at, right in (("", 940), ("", 900), (5, 900)):
+            rows = [row(list=1, seed=seed, right=right - seed * (right < 940),
+                        **{"judged-found": 940, "judged-lost": 0, "lost-at-us": lost_at if seed == 1 else ""})
+                    for seed in range(1, 9)]
             tables = tables_of(rows, vary={"list": [1]})
             [one] = summaries(tables)
             for name, number in (("served", "served"), ("right-of-begun", "right_of_begun")):

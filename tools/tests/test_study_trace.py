@@ -122,6 +122,19 @@ class StudyTraceTest(TestCase):
         assert [numbers[word] for word in ("judged-audits", "whole-rings", "torn-rings")] == [5, 1, 3]
         assert numbers["mean-members"] == "2.600"
 
+    def test_lost_ring(self) -> None:
+        """Of a run of 250 us: audits without a ring to the end, from 225 us on at the latest."""
+        for rings, lost_at in (
+            ({100: 3, 200: 3}, None), ({100: 0, 150: 0, 200: 3}, None), ({100: 3, 226: 0, 240: 0}, None),
+            ({100: 0, 150: 3, 200: 0, 240: 0}, 200), ({225: 0}, 225), ({50: 0, 240: 0}, 50),
+        ):
+            lines = [
+                f"{time} audit members=3 dead=0 ring={ring} ordered=yes principals=3 sufficient=no"
+                for time, ring in rings.items()
+            ]
+            with self.subTest(rings=rings):
+                self.assertEqual(reader(*lines).numbers()["lost-at-us"], lost_at)
+
     def test_right_in_two_ways(self) -> None:
         """d joins one microsecond before the answer: strictly wrong, but right while the lookup ran."""
         begun, late = "30 a lookup 35", "50 a found 35 a hops=1 timeouts=0 us=20"

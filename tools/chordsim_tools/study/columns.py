@@ -171,5 +171,5 @@ def plain(cell: str) -> float | None:
 
 
 def ring_lost(rows: list[Cells]) -> bool:
-    """Whether a run of these has an audit that finds no ring."""
-    return any(cells.get("ringless", "0") != "0" for cells in rows)
+    """Whether a run of these has lost its ring."""
+    return any(cells.get("lost-at-us") for cells in rows)

@@ -137,8 +137,8 @@ def take_of(number: str) -> Callable[[Cells], float | None]:
 
 
 def is_kept(cells: Cells) -> bool:
-    """Whether every audit of a run found a ring."""
-    return cells["ringless"] == "0"
+    """Whether a run has kept its ring to the end."""
+    return not cells["lost-at-us"]
 
 
 def are_counted(rows: list[Cells]) -> bool:

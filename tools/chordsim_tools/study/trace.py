@@ -27,7 +27,7 @@ class TraceReader:
         self.all_lookups = self.all_found = 0
         self.audit_members: list[int] = []
         self.whole = self.torn = 0
-        self.lost_at: int | None = None
+        self.ringless_since: int | None = None
         self.stranded_at: int | None = None
 
     def read(self, line: str) -> None:
@@ -100,14 +100,21 @@ class TraceReader:
     def audit(self, time: int, fields: list[str]) -> None:
         """An audit: TIME audit members=M dead=D ring=R ordered=yes|no ..."""
         facts = dict(word.split("=") for word in fields[2:])
-        if facts["ring"] == "0" and self.lost_at is None:
-            self.lost_at = time
+        if facts["ring"] != "0":
+            self.ringless_since = None
+        elif self.ringless_since is None:
+            self.ringless_since = time
         if time <= self.scope.warmup_us:
             return
         ordered = facts["ordered"] == "yes"
         self.audit_members.append(int(facts["members"]))
         self.whole += ordered and facts["ring"] == facts["members"] != "0"
         self.torn += not ordered or facts["ring"] == "0" or facts["dead"] != "0"
+
+    def lost_at(self) -> int | None:
+        """The first of the audits without a ring that the run ends with, if they go over its last tenth or more."""
+        since, latest = self.ringless_since, self.scope.duration_us - self.scope.duration_us // 10
+        return since if since is not None and since <= latest else None
 
     def numbers(self) -> Numbers:
         """What a row of runs.csv has beside the report. Call it once, at the end of the trace."""
@@ -121,7 +128,7 @@ class TraceReader:
             "mean-members": f"{sum(self.audit_members) / audits:.3f}" if audits else None,
             "whole-rings": self.whole,
             "torn-rings": self.torn,
-            "lost-at-us": self.lost_at,
+            "lost-at-us": self.lost_at(),
             "stranded-at-us": self.stranded_at,
             **self.view.wanted_numbers(),
             **self.view.half_numbers(),

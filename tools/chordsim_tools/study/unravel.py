@@ -49,7 +49,7 @@ def setting_told(one: Summary) -> str:
 
 
 def is_before_the_loss(cells: Cells) -> bool:
-    """Whether a member was stranded before an audit found no ring."""
+    """Whether a member was stranded before the ring was lost."""
     return bool(cells.get("stranded-at-us")) and int(cells["stranded-at-us"]) <= int(cells["lost-at-us"])
 
 
