@@ -115,9 +115,9 @@ AGAIN = ("group", "crash")
 """Those that may be given several times."""
 
 
-def parser_of() -> Parser:
-    """The parser of the arguments."""
-    parser = Parser(PROG, HELP, EPILOG, strict=True)
+def parser_of(made_by: type[Parser] = Parser) -> Parser:
+    """The parser of the arguments, of this class."""
+    parser = made_by(PROG, HELP, EPILOG, strict=True)
     for name, metavar, kind, told in OPTIONS:
         meaning = told.replace("%", "%%")
         if not callable(kind):

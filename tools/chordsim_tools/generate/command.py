@@ -1,6 +1,7 @@
 """The command tools/generate."""
 
 from argparse import Namespace
+from collections.abc import Sequence
 from dataclasses import replace
 from pathlib import Path
 
@@ -34,6 +35,13 @@ def made_of(plan: Plan) -> Made:
     initial = initial_nodes(plan, lives)
     told = struck(plan.hosts, lives, plan.outages, plan.back, seed)
     return Made(commands_of(plan, lives, streams), initial, told, idents_of(plan, streams.idents))
+
+
+def text_of_arguments(arguments: Sequence[str], parser: Parser, folder: Path) -> str:
+    """The text of the scenario that these arguments ask for, which name files relative to a folder."""
+    args = parser.parse_args(list(arguments))
+    beside(args, folder)
+    return scenario_of(check(args, parser), arguments_again(args))
 
 
 def whole_text(plan: Plan, made: Made, arguments: list[str]) -> str:

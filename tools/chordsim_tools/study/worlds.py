@@ -10,7 +10,6 @@ from typing import Any, TypeVar
 from chordsim_tools.cli import Failure, Parser, Refused
 from chordsim_tools.generate import arguments as made_by
 from chordsim_tools.generate import command as generate
-from chordsim_tools.generate import plan as generate_plan
 from chordsim_tools.generate.bare import LIMITS, bare_traps
 from chordsim_tools.latency import command as latency
 from chordsim_tools.study.document import toml_text
@@ -80,16 +79,11 @@ def made(path: Any, arguments: tuple[str, ...]) -> dict[str, Any]:
 
 def text_of(path: str, arguments: tuple[str, ...]) -> str:
     """What tools/generate writes for these arguments."""
-
-    def work() -> str:
-        """The tool itself."""
-        parser = made_by.parser_of()
-        args = parser.parse_args(list(arguments))
-        # A file is named relative to the study file.
-        generate.beside(args, Path(path).parent)
-        return generate.scenario_of(generate_plan.check(args, parser), made_by.arguments_again(args))
-
-    return called(f"{path}: generate", work)
+    # A file is named relative to the study file.
+    folder = Path(path).parent
+    return called(
+        f"{path}: generate", lambda: generate.text_of_arguments(arguments, made_by.parser_of(), folder)
+    )
 
 
 def argument_traps(study: Study) -> list[str]:
