@@ -1,0 +1,96 @@
+"""Studies from Python."""
+
+import csv
+import io
+import json
+import tempfile
+from collections.abc import Callable
+from contextlib import redirect_stderr
+from pathlib import Path
+from unittest import TestCase
+
+from chordsim import ChordsimError, Refused, Study, StudyResult
+from chordsim_tools.study.command import main
+from tests.support.programs import ended, program
+from tests.support.worlds import EXAMPLES
+
+STUDY = """\
+question = "How?"
+generate = ["--nodes", "8", "--profile", "4", "--duration", "10s", "--lifetime", "exp:5s", "--stationary"]
+seeds = 2
+window_us = "5s"
+
+[vary]
+list = [1, 2]
+"--lookups" = ["0.50"]
+
+[goal]
+right_of_begun_min = 0.5
+least = "messages"
+"""
+
+
+class StudyTest(TestCase):
+    """A study is that of tools/study."""
+
+    def setUp(self) -> None:
+        """A study file in a folder."""
+        folder = tempfile.TemporaryDirectory()
+        self.addCleanup(folder.cleanup)
+        self.folder = Path(folder.name)
+        self.file = self.folder / "one.toml"
+        self.file.write_text(STUDY)
+
+    def test_file(self) -> None:
+        """What the file says."""
+        study = Study.read(self.file)
+        self.assertEqual((study.path, study.question, study.seeds), (self.file, "How?", (1, 2)))
+        settings = tuple({"list": length, "generate.--lookups": "0.50"} for length in (1, 2))
+        self.assertEqual(study.settings(), settings)
+
+    def test_runs(self) -> None:
+        """Rows and answer are those in the files of tools/study; a varied text is no number, empty cells are None."""
+        program()
+        with redirect_stderr(io.StringIO()):
+            done = Study.read(self.file).run(jobs=2)
+        self.assertEqual(done.folder, self.folder / "one")
+        self.assertEqual(ended(main, "report", str(done.folder))[0], 0)
+        with open(done.folder / "runs.csv", encoding="utf-8", newline="") as file:
+            names, *lines = csv.reader(file)
+        rows = done.rows()
+        self.assertEqual(list(rows.names), names)
+        self.assertEqual([row["list"] for row in rows], [1, 1, 2, 2])
+        self.assertEqual([list(row)[:3] for row in rows], [["list", "generate.--lookups", "seed"]] * 4)
+        for row, line in zip(rows, lines, strict=True):
+            self.assertEqual(row["generate.--lookups"], "0.50")
+            self.assertIsInstance(row["events"], int)
+            self.assertIsInstance(row["mean-members"], float)
+            for cell, text in zip(row.values(), line, strict=True):
+                told = "" if cell is None else str(cell)
+                self.assertTrue(told == text or (isinstance(cell, float) and cell == float(text)), (cell, text))
+        self.assertEqual(done.answer(), json.loads((done.folder / "answer.json").read_text()))
+
+    def test_kept_study(self) -> None:
+        """A folder that is there: 240 runs, as README says, and the answer that is kept beside them."""
+        kept = StudyResult.read(EXAMPLES / "study")
+        self.assertEqual(len(kept.rows()), 240)
+        worlds = json.loads((EXAMPLES / "study" / "answer.json").read_text())["worlds"]
+        self.assertEqual(
+            [one["answer"] for one in kept.answer()["worlds"]], [one["answer"] for one in worlds]
+        )
+
+    def test_refused(self) -> None:
+        """Files that are no studies, folders without runs, and numbers of jobs that nobody has."""
+        calls: list[tuple[Callable[[], object], str]] = [
+            (lambda: Study.read(self.folder / "two.toml"), f"cannot read {self.folder}/two.toml"),
+            (lambda: Study.read(EXAMPLES / "ring.toml"), "no key of a study: profile"),
+            (lambda: StudyResult.read(self.folder), f"cannot read {self.folder}/manifest.json"),
+            (lambda: Study.read(self.file).run(jobs=0), "jobs: 1 to 1024, not 0"),
+            (lambda: Study.read(""), "path: '' is no name of a file"),
+        ]
+        for call, text in calls:
+            with self.subTest(text=text):
+                with self.assertRaises(ChordsimError) as fault:
+                    call()
+                self.assertIsInstance(fault.exception, Refused)
+                self.assertIn(text, fault.exception.text)
