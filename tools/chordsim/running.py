@@ -135,20 +135,30 @@ def run(
     options = ["--workers", str(workers)]
     options += [word for name, value in given.items() if value is not None for word in (f"--{name}", str(value))]
     if trace is None or trace is False:
-        return Result(scenario, Report(output_of(files_of(scenario), "run", *options, "--trace", os.devnull)))
-    if trace is not True:
-        file = Path(os.path.abspath(name_of("trace", trace)))
-        with failures_raised():
-            check_output("trace", str(file), scenario.origins)
-        return Result(scenario, Report(output_of(files_of(scenario), "run", *options, "--trace", str(file))), file)
+        return Result(scenario, report_of(scenario, options, os.devnull))
+    if trace is True:
+        return run_for_now(scenario, options)
+    file = os.path.abspath(name_of("trace", trace))
     with failures_raised():
-        file = Path(tempfile.mkdtemp(prefix="chordsim-")) / "trace"
+        check_output("trace", file, scenario.origins)
+    return Result(scenario, report_of(scenario, options, file), Path(file))
+
+
+def run_for_now(scenario: Scenario, options: list[str]) -> Result:
+    """The result with a temporary trace. If the run fails, nothing is left."""
+    with failures_raised():
+        folder = Path(tempfile.mkdtemp(prefix="chordsim-"))
     try:
-        report = Report(output_of(files_of(scenario), "run", *options, "--trace", str(file)))
+        report = report_of(scenario, options, str(folder / "trace"))
     except BaseException:
-        shutil.rmtree(file.parent, ignore_errors=True)
+        shutil.rmtree(folder, ignore_errors=True)
         raise
-    return Result(scenario, report, file, True)
+    return Result(scenario, report, folder / "trace", True)
+
+
+def report_of(scenario: Scenario, options: list[str], trace: str) -> Report:
+    """The report of a run that writes this trace."""
+    return Report(output_of(files_of(scenario), "run", *options, "--trace", trace))
 
 
 def remove_folder(folder: Path, process: int) -> None:

@@ -12,7 +12,7 @@ from chordsim.errors import Refused, failures_raised, refused_argument
 from chordsim.generated import generated_text
 from chordsim.names import Name, name_of
 from chordsim_tools.cli import Refused as RefusedFile
-from chordsim_tools.explain.hints import close_to
+from chordsim_tools.explain.hints import close_to, of_unknown_name
 from chordsim_tools.explain.traps import events_trap, greatest_latency, traps_of
 from chordsim_tools.files import check_apart, read_input, write_whole
 from chordsim_tools.generate.hosts import name_of_group
@@ -168,9 +168,8 @@ class Scenario:
         there = set(self.nodes)
         for name in names:
             if name not in there:
-                meant = close_to(str(name), self.nodes)
-                hint = None if meant is None else f"did you mean {meant!r}?"
-                raise refused_argument(argument, f"there is no node {name!r}", hint)
+                hints = of_unknown_name(str(name), self.nodes)
+                raise refused_argument(argument, f"there is no node {name!r}", "; ".join(hints) or None)
 
     def _of_tables(self, top: Mapping[str, Any]) -> "Scenario":
         """The scenario with these tables in place of its own."""

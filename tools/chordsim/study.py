@@ -97,7 +97,7 @@ class Study:
         """Does the runs that are not done yet, as `tools/study run` or `tools/study search` does, and as many at once.
 
         Without a folder it is the study file without `.toml`. Without jobs there is one for each processor."""
-        if jobs is not None and not 1 <= jobs <= MOST_JOBS:
+        if jobs is not None and not (isinstance(jobs, int) and 1 <= jobs <= MOST_JOBS):
             raise refused_argument("jobs", f"1 to {MOST_JOBS}, not {jobs!r}")
         program()
         study = copy.deepcopy(self._study)

@@ -156,7 +156,7 @@ class RunTest(TestCase):
         ring = Scenario.of_text(text_of_three(ONE_HOP).replace("seed = 1", "seed = 1\nmax_events = 1"))
         stub = self.folder / "stub"
         nowhere = self.folder / "none" / "a.trace"
-        faults = [failure(Failed, lambda: run(ring)), failure(Failed, lambda: run(ring, trace=nowhere))]
+        faults = [failure(Failed, partial(run, ring, trace=file)) for file in (self.folder / "a.trace", nowhere)]
         for script in ("kill -9 $$", "echo unlike a report"):
             stub.write_text(f"#!/bin/sh\n{script}\n")
             stub.chmod(stub.stat().st_mode | stat.S_IXUSR)
@@ -171,6 +171,7 @@ class RunTest(TestCase):
             [("3", 3), ("4", 3), ("the", -9), ("this", 3), ("the", 3)],
         )
         self.assertEqual(faults[0].text, "3 TooManyEvents")
+        self.assertEqual((self.folder / "a.trace").read_text(), "100 n3 lookup 1\n")
         self.assertIn("the program is missing: CHORDSIM=/no/such/program", faults[4].text)
 
 

@@ -12,22 +12,11 @@ from chordsim import Refused, Scenario
 from chordsim_tools.generate.command import main as generate
 from chordsim_tools.scenario.tables import EXTENDED
 from tests.support.programs import ended, program
-from tests.support.rings import IN_THE_PLANE, text_of_three
+from tests.support.rings import IN_THE_PLANE, SETTINGS, text_of_three
 from tests.support.worlds import EXAMPLES, RING
 
 Call = Callable[[], object]
-EVERYTHING = """\
-profile = 4
-bits = 128
-list = 3
-seed = 1
-duration_us = 200
-window_us = 10
-latency_us = 10
-timeout_us = 40
-audit_us = 200
-stabilize_us = 1000
-finger_us = 1000
+EVERYTHING = "profile = 4\nbits = 128\nseed = 1\nlatency_us = 10\n" + SETTINGS + """\
 jitter_us = 1
 max_events = 99_999_999_999
 loss_ppm = 1
@@ -164,7 +153,7 @@ class ScenarioTest(TestCase):
             (lambda: ring.with_(timeout_us="5 s"), "timeout_us",
              "write whole microseconds, or a text with us, ms, s, m, h or d"),
             (lambda: ring.crash("n2x", 1), "nodes", None),
-            (lambda: ring.crash(["n0", "N1"], 1), "nodes", "did you mean 'n1'?"),
+            (lambda: ring.crash(["n0", "N1"], 1), "nodes", 'did you mean "n1"?'),
             (lambda: ring.join("n0", 1, via="n"), "via", None),
             (lambda: ring.lookup("n0", 1, at=True), "at",
              "write whole microseconds, or a text with us, ms, s, m, h or d"),
