@@ -51,6 +51,10 @@ class Report(Mapping[str, int]):
         """How many numbers there are."""
         return len(self._numbers)
 
+    def __hash__(self) -> int:
+        """Equal reports have equal ones."""
+        return hash(frozenset(self._numbers.items()))
+
     def __repr__(self) -> str:
         """As a dictionary."""
         return repr(self._numbers)

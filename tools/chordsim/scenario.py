@@ -191,9 +191,13 @@ class Scenario:
         return self.text
 
     def __repr__(self) -> str:
-        """A few words: the text is long."""
-        rows = "" if self.latency is None else f", {len(self.latency)} characters of latencies"
-        return f"<Scenario of {len(self.text)} characters{rows}>"
+        """How many nodes and commands there are: the text is long."""
+        try:
+            nodes, commands = len(self.nodes), self._top.get("command", [])
+        except Refused:
+            return f"<Scenario of {len(self.text)} characters that are no TOML>"
+        count = len(commands) if has_type(commands, "tables") else 0
+        return f"<Scenario nodes={nodes} commands={count}{'' if self.latency is None else ' with latencies'}>"
 
 
 def files_of(scenario: Scenario) -> Files:

@@ -3,6 +3,7 @@
 import csv
 import gc
 import importlib
+import json
 import operator
 import os
 import pickle
@@ -80,7 +81,7 @@ class RunTest(TestCase):
             traces.append((self.folder / f"{at}.trace").read_bytes())
             self.assertEqual((result.report, traces[at]), (results[0].report, traces[0]))
         self.assertEqual(traces[0].count(b" found "), results[0]["found"])
-        self.assertEqual(run(ring), run(ring, workers=4))
+        self.assertEqual({run(ring), run(ring, workers=4)}, {run(ring, workers=2)})
         again = pickle.loads(pickle.dumps(results[0]))
         self.assertEqual((again, again.lookups), (results[0], results[0].lookups))
 
@@ -95,7 +96,7 @@ class RunTest(TestCase):
         self.assertEqual(result.summary()["answers"]["right_strict"], 1)
 
     def test_rows_of_the_tool(self) -> None:
-        """All lookups of a ring with churn are those that tools/trace writes, cut off and lost ones too."""
+        """Lookups and counts of a ring with churn are those of tools/trace, with lookups that were cut off or lost."""
         ring = churn()
         ring.write(self.folder / "a.toml")
         result = run(ring, trace=self.folder / "a.trace")
@@ -107,6 +108,11 @@ class RunTest(TestCase):
         self.assertEqual([["" if cell is None else str(cell) for cell in row] for row in result.lookups], rows)
         self.assertEqual(names, list(result.lookups.names))
         self.assertEqual({row[9] for row in rows} - {"right", "wrong"}, {"lost", "cut-by-crash", "cut-by-end"})
+        facts = json.loads(ended(trace_tool, *arguments, "--json")[1])
+        self.assertEqual({**facts, "report": dict(result.report)}, {**result.summary(), "scenario": arguments[1]})
+        counts = [sum(row.whole for row in result.audits), sum(row.torn for row in result.audits)]
+        self.assertEqual(counts, [facts["audits"]["whole"], facts["audits"]["torn"]])
+        self.assertEqual(len(result.audits), facts["audits"]["all"])
 
     def test_temporary_trace(self) -> None:
         """It is there as long as the result is, and the result stays in its process."""

@@ -81,6 +81,7 @@ class ScenarioTest(TestCase):
         self.assertEqual(top["lookups"], {"gap_min_us": 1_000_000, "gap_max_us": 2_000_000})
         self.assertNotIn("list", top)
         self.assertEqual((ring.text, changed.latency, str(ring)), (RING, "n0,n1,20\n", RING))
+        self.assertEqual(repr(ring), "<Scenario nodes=3 commands=1 with latencies>")
         with self.assertRaises(FrozenInstanceError):
             setattr(ring, "text", "")
 
