@@ -7,7 +7,7 @@ from typing import Any, NoReturn
 from chordsim.errors import refused_argument
 from chordsim_tools.cli import Failure, Parser
 from chordsim_tools.explain.hints import close_to
-from chordsim_tools.generate.arguments import AGAIN, OPTIONS, parser_of
+from chordsim_tools.generate.arguments import AGAIN, OPTIONS, PROG, parser_of
 from chordsim_tools.generate.command import text_of_arguments
 
 NAMES = {name.replace("-", "_"): name for name, *_ in OPTIONS}
@@ -37,7 +37,7 @@ def words_of(keyword: str, value: Any) -> Iterator[str]:
     name = NAMES.get(keyword)
     if name is None:
         meant = close_to(keyword, NAMES)
-        hint = "tools/generate --help lists them" if meant is None else f"did you mean `{meant}`?"
+        hint = f"{PROG} --help lists them" if meant is None else f"did you mean `{meant}`?"
         raise refused_argument(keyword, "there is no such option", hint)
     if value is None or value is False:
         return

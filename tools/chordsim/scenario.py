@@ -215,7 +215,7 @@ def check_key(key: str, top: Mapping[str, Any]) -> None:
     names = [one.name for one in EXTENDED.tables["top"]]
     if key not in names and key not in top:
         meant = close_to(key, names)
-        hint = "docs/formats.md lists them" if meant is None else f"did you mean `{meant}`?"
+        hint = f"the keys are {', '.join(names)}" if meant is None else f"did you mean `{meant}`?"
         raise refused_argument(key, "no scenario has such a key at its top", hint)
 
 

@@ -20,7 +20,7 @@ from chordsim_tools.study.outcome import outcome
 from chordsim_tools.study.pieces import COLUMN
 from chordsim_tools.study.runs import run_study
 from chordsim_tools.study.search_runs import run_search
-from chordsim_tools.study.so_far import Drawn, tables_of
+from chordsim_tools.study.so_far import Drawn, tables_of, write_report
 
 MOST_JOBS = 1024
 
@@ -106,9 +106,11 @@ class Study:
         with failures_raised():
             if study.search is None:
                 run_study(study, result.folder, count)
+                confirm_here(study, result.folder, count)
             else:
                 run_search(study, result.folder, count)
-            confirm_here(study, result.folder, count)
+                confirm_here(study, result.folder, count)
+                write_report(result.folder)
         return result
 
     def __repr__(self) -> str:

@@ -178,6 +178,8 @@ class RunTest(TestCase):
         )
         self.assertEqual(faults[0].text, "3 TooManyEvents")
         self.assertEqual((self.folder / "a.trace").read_text(), "100 n3 lookup 1\n")
+        self.assertEqual(faults[2].text, "the program was ended by signal 9")
+        self.assertEqual(faults[0].remedy, "take a greater max_events, or a shorter duration_us")
         self.assertIn("the program is missing: CHORDSIM=/no/such/program", faults[4].text)
 
 

@@ -139,6 +139,7 @@ class ScenarioTest(TestCase):
             words = "--nodes 8 --list 2 --churn-uniform 20s..60s 5s..15s"
             self.assertEqual(ended(generate, *words.split(), "-o", str(file))[0], 0)
             self.assertEqual(pairs.text, file.read_text())
+            self.assertEqual(Scenario.generate(nodes=8, list=2, churn_uniform="20s..60s 5s..15s"), pairs)
 
     def test_refused_arguments(self) -> None:
         """Each names the argument, and the remedy if there is one."""

@@ -5,7 +5,7 @@ import io
 import json
 import tempfile
 from collections.abc import Callable
-from contextlib import redirect_stderr
+from contextlib import redirect_stderr, redirect_stdout
 from pathlib import Path
 from unittest import TestCase
 
@@ -13,6 +13,9 @@ from chordsim import ChordsimError, Refused, Study, StudyResult
 from chordsim_tools.study.command import main
 from tests.support.programs import ended, program
 from tests.support.worlds import EXAMPLES
+from tests.test_study_confirm import WITH_GOAL
+from tests.test_study_run import study_folder
+from tests.test_study_search import GOAL, RING
 
 STUDY = """\
 question = "How?"
@@ -69,6 +72,28 @@ class StudyTest(TestCase):
                 told = "" if cell is None else str(cell)
                 self.assertTrue(told == text or (isinstance(cell, float) and cell == float(text)), (cell, text))
         self.assertEqual(done.answer(), json.loads((done.folder / "answer.json").read_text()))
+
+    def test_fresh_seeds(self) -> None:
+        """The setting of an answer is run again with six fresh seeds, which are in no row."""
+        program()
+        with study_folder(WITH_GOAL) as folder, redirect_stderr(io.StringIO()):
+            done = Study.read(folder / "study.toml").run(folder / "out", jobs=2)
+            [world] = done.answer()["worlds"]
+            self.assertEqual((world["fresh"]["setting"], world["fresh"]["seeds"]), (world["answer"], 6))
+            self.assertEqual(sorted({row["seed"] for row in done.rows()}, key=str), [1, 2, 3, 4, 5, 6])
+
+    def test_search(self) -> None:
+        """Without churn the longest period is the best one; the page has fresh seeds. The study stays as it was."""
+        program()
+        self.file.write_text(f'{RING}{GOAL}[search]\nstabilize_us = "500ms..4s"\nmost_rounds = 2\n')
+        study = Study.read(self.file)
+        begun = study.settings()
+        with redirect_stderr(io.StringIO()), redirect_stdout(io.StringIO()):
+            done = study.run(jobs=2)
+        self.assertEqual([world["answer"] for world in done.answer()["worlds"]], ["stabilize_us=4s"])
+        self.assertIn("fresh seeds", (done.folder / "report.md").read_text())
+        self.assertEqual(study.settings(), begun)
+        self.assertEqual(begun, tuple({"stabilize_us": period} for period in (500_000, 1_410_000, 4_000_000)))
 
     def test_kept_study(self) -> None:
         """A folder that is there: 240 runs, as README says, and the answer that is kept beside them."""
