@@ -10,12 +10,13 @@ from pathlib import Path
 from unittest import TestCase
 
 from chordsim import ChordsimError, Refused, Study, StudyResult
+from chordsim.study import cell_of
 from chordsim_tools.study.command import main
 from tests.support.programs import ended, program
 from tests.support.worlds import EXAMPLES
 from tests.test_study_confirm import WITH_GOAL
 from tests.test_study_run import study_folder
-from tests.test_study_search import GOAL, RING
+from tests.test_study_search import RING
 
 STUDY = """\
 question = "How?"
@@ -73,6 +74,14 @@ class StudyTest(TestCase):
                 self.assertTrue(told == text or (isinstance(cell, float) and cell == float(text)), (cell, text))
         self.assertEqual(done.answer(), json.loads((done.folder / "answer.json").read_text()))
 
+    def test_cells(self) -> None:
+        """Numbers are numbers, but for those of pieces, of which a cell has mostly several."""
+        cells = (("lost", "12", 12), ("wanted", "-1.50", -1.5), ("lost-at-us", "", None), ("pieces-lost", "12", "12"),
+                 ("pieces-lost", "1 2", "1 2"), ("pieces-lost", "", None), ("x", "007", "007"))
+        for name, text, wanted in cells:
+            cell = cell_of(name, text)
+            self.assertEqual((cell, type(cell)), (wanted, type(wanted)))
+
     def test_fresh_seeds(self) -> None:
         """The setting of an answer is run again with six fresh seeds, which are in no row."""
         program()
@@ -83,14 +92,15 @@ class StudyTest(TestCase):
             self.assertEqual(sorted({row["seed"] for row in done.rows()}, key=str), [1, 2, 3, 4, 5, 6])
 
     def test_search(self) -> None:
-        """Without churn the longest period is the best one; the page has fresh seeds. The study stays as it was."""
+        """Upkeep of 2 messages takes 841 ms, which the second round has; the page has fresh seeds. The study stays."""
         program()
-        self.file.write_text(f'{RING}{GOAL}[search]\nstabilize_us = "500ms..4s"\nmost_rounds = 2\n')
+        ends = '[goal]\nupkeep_min = 2.0\n[search]\nstabilize_us = "500ms..4s"\nmost_rounds = 2\n'
+        self.file.write_text(RING + ends)
         study = Study.read(self.file)
         begun = study.settings()
         with redirect_stderr(io.StringIO()), redirect_stdout(io.StringIO()):
             done = study.run(jobs=2)
-        self.assertEqual([world["answer"] for world in done.answer()["worlds"]], ["stabilize_us=4s"])
+        self.assertEqual([world["answer"] for world in done.answer()["worlds"]], ["stabilize_us=841ms"])
         self.assertIn("fresh seeds", (done.folder / "report.md").read_text())
         self.assertEqual(study.settings(), begun)
         self.assertEqual(begun, tuple({"stabilize_us": period} for period in (500_000, 1_410_000, 4_000_000)))
