@@ -141,8 +141,8 @@ class Scenario:
     def _value(self) -> tuple[str, str]:
         """What is compared: the values of all keys, or the text if it is no TOML; and the latencies."""
         try:
-            tables = json.dumps(parse_toml(files_of(self).scenario), sort_keys=True, default=repr)
-        except RefusedFile:
+            tables = json.dumps(self._top, sort_keys=True, default=repr)
+        except Refused:
             tables = self.text
         return tables, self.latency or ""
 
