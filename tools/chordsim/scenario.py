@@ -157,6 +157,8 @@ class Scenario:
 
     def _names_of(self, nodes: Nodes) -> list[str]:
         """The nodes that are named one by one, or all of a group."""
+        if not isinstance(nodes, Iterable):
+            raise refused_argument("nodes", f"{nodes!r} is no name, and no list of names")
         names = [nodes] if isinstance(nodes, str) else list(nodes)
         if isinstance(nodes, str) and nodes not in self.nodes:
             names = [name for name in self.nodes if nodes and name_of_group(name) == nodes] or names
@@ -167,7 +169,7 @@ class Scenario:
         """Refuses names that no node has."""
         there = set(self.nodes)
         for name in names:
-            if name not in there:
+            if not isinstance(name, str) or name not in there:
                 hints = of_unknown_name(str(name), self.nodes)
                 raise refused_argument(argument, f"there is no node {name!r}", "; ".join(hints) or None)
 

@@ -46,7 +46,7 @@ class PageTest(TestCase):
                 self.assertEqual(printed(code, names), wanted)
 
     def test_notebook(self) -> None:
-        """Each cell of examples/notebook.ipynb, in order, without Jupyter and without a screen."""
+        """Each cell of examples/notebook.ipynb, in order, without Jupyter and without a screen. Only texts are kept."""
         notebook = json.loads((TOP / "examples" / "notebook.ipynb").read_text(encoding="utf-8"))
         names: dict[str, Any] = {}
         kept = []
@@ -54,6 +54,7 @@ class PageTest(TestCase):
             for cell in notebook["cells"]:
                 if cell["cell_type"] != "code":
                     continue
+                self.assertEqual([output["output_type"] for output in cell["outputs"]], ["stream"] * len(cell["outputs"]))
                 kept.append("".join(text for output in cell["outputs"] for text in output["text"]))
                 self.assertEqual(printed("".join(cell["source"]), names), kept[-1])
         self.assertIn("drop_silent", "".join(kept))

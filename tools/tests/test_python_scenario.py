@@ -6,6 +6,7 @@ import tomllib
 from collections.abc import Callable
 from dataclasses import FrozenInstanceError
 from pathlib import Path
+from typing import Any, cast
 from unittest import TestCase
 
 from chordsim import Refused, Scenario
@@ -156,6 +157,8 @@ class ScenarioTest(TestCase):
              "write whole microseconds, or a text with us, ms, s, m, h or d"),
             (lambda: ring.crash("n2x", 1), "nodes", None),
             (lambda: ring.crash(["n0", "N1"], 1), "nodes", 'did you mean "n1"?'),
+            (lambda: ring.crash(cast(Any, None), 1), "nodes", None),
+            (lambda: ring.crash(cast(Any, [["n0"]]), 1), "nodes", None),
             (lambda: ring.join("n0", 1, via="n"), "via", None),
             (lambda: ring.lookup("n0", 1, at=True), "at",
              "write whole microseconds, or a text with us, ms, s, m, h or d"),
