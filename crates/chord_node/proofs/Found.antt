@@ -21,9 +21,13 @@ find-has P p (x ∷ xs) all = go (p x) (find-has P p xs (All-tail P x xs all))
 pub first_known : (sc : Scenario) (n : ℕ) → IsInRange sc → IfSome (first_bootstrap sc n) (λ node. node < node_count sc)
 first_known sc n ranges = find-has (λ node. node < node_count sc) (λ x. not (x == n)) sc.bootstraps ranges.nodes.bootstraps
 
+-- whether a node other than node n follows another one in the order of the file
+abbrev pub is_later : (n before x : ℕ) → Bool
+is_later n before x = nat_lt before x && not (x == n)
+
 pub later_known : (sc : Scenario) (n before : ℕ) → IsInRange sc → IfSome (later_bootstrap sc n before) (λ node. node < node_count sc)
 later_known sc n before ranges =
-    find-has (λ node. node < node_count sc) (λ x. nat_lt before x && not (x == n)) sc.bootstraps ranges.nodes.bootstraps
+    find-has (λ node. node < node_count sc) (λ x. is_later n before x) sc.bootstraps ranges.nodes.bootstraps
 
 pub or-has : (P : ℕ → Type 0) (one other : Option ℕ) → IfSome one P → IfSome other P → IfSome (option_or one other) P
 or-has P None other h rest = rest
@@ -33,5 +37,5 @@ pub next_has : (sc : Scenario) (P : ℕ → Type 0) (n before : ℕ) → All P s
 unfolding next_bootstrap
 next_has sc P n before all =
     or-has P (later_bootstrap sc n before) (first_bootstrap sc n)
-    (find-has P (λ x. nat_lt before x && not (x == n)) sc.bootstraps all)
+    (find-has P (λ x. is_later n before x) sc.bootstraps all)
     (find-has P (λ x. not (x == n)) sc.bootstraps all)

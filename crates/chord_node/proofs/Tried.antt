@@ -10,6 +10,7 @@ use Rattle.chord_event.proofs.Members.{All_at, contains_cons, contains_here, con
 use Rattle.chord_scenario.specs.declared.scenario.Scenario.{Scenario}
 use Rattle.chord_scenario.specs.Range.{IsInRange}
 use Rattle.chord_scenario.specs.World.{node_count}
+use Rattle.chord_node.proofs.Found.{is_later}
 use Rattle.chord_node.specs.Bootstraps.{IsNextBootstrap, first_bootstrap, later_bootstrap, next_bootstrap, turns_to}
 
 -- what is found in an ascending list: it is in the list, it passes the test, and no less one does
@@ -55,9 +56,6 @@ is_another n x h = λ e. grind (arith, nat_tests, h, e)
 
 abbrev is_other : (n x : ℕ) → Bool
 is_other n x = not (x == n)
-
-abbrev is_later : (n before x : ℕ) → Bool
-is_later n before x = nat_lt before x && not (x == n)
 
 other_passes : (n x : ℕ) → x ≢ n → is_other n x ≡ true
 other_passes n x ne = ap not (ne_eqb x n ne)
