@@ -135,6 +135,18 @@ class StudyTraceTest(TestCase):
             with self.subTest(rings=rings):
                 self.assertEqual(reader(*lines).numbers()["lost-at-us"], lost_at)
 
+    def test_ring_that_is_not_lost(self) -> None:
+        """No audit from 100 us on finds a ring. It is lost if at most half of the lookups that end then are right."""
+        audit = "audit members=3 dead=0 ring={} ordered=yes principals=3 sufficient=no"
+        right, wrong, lost = found(15, "b", 150), found(15, "c", 150), "150 a lost 15 hops=0 timeouts=1 us=10"
+        for ends, lost_at in (
+            ([right, wrong], 100), ([right, lost], 100), ([right, right, wrong], None), ([right], None), ([lost], 100),
+        ):
+            # What ends before the audit counts nowhere: with it each ring would be kept.
+            lines = [*[found(15, "b")] * 3, "100 " + audit.format(0), *ends, "200 " + audit.format(0)]
+            with self.subTest(ends=ends):
+                self.assertEqual(reader(*lines).numbers()["lost-at-us"], lost_at)
+
     def test_right_in_two_ways(self) -> None:
         """d joins one microsecond before the answer: strictly wrong, but right while the lookup ran."""
         begun, late = "30 a lookup 35", "50 a found 35 a hops=1 timeouts=0 us=20"

@@ -90,8 +90,9 @@ Runs `chordsim run --serial` for each setting and seed and writes into FOLDER:
                  mean-members     the mean number of members in these
                  whole-rings      ... with a ring of all members that goes once around
                  torn-rings       ... with a member that has no living successor, no ring, or one that is out of order
-                 lost-at-us       the time of the first audit without a ring, if none has one from then to the end and
-                                  that is a tenth of the run at least
+                 lost-at-us       the time at which the ring was lost: of the first audit without one, if none has one
+                                  from then to the end, that is a tenth of the run at least, and at most half of the
+                                  lookups that end in it are right
                  stranded-at-us   the time at which the first member was stranded
                  wanted           lookups begun or refused, and those that nodes missed which were up but no members;
                                   wanted-1, right-1, wanted-2, right-2: in the two halves of the judged span

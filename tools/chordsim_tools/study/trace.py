@@ -28,6 +28,7 @@ class TraceReader:
         self.audit_members: list[int] = []
         self.whole = self.torn = 0
         self.ringless_since: int | None = None
+        self.ended_ringless = self.right_ringless = 0
         self.stranded_at: int | None = None
 
     def read(self, line: str) -> None:
@@ -64,6 +65,7 @@ class TraceReader:
         self.all_found += 1
         self.over_time.now().found += 1
         self.over_time.now().right += right
+        self.end_without_ring(right)
         begun = self.over_time.begun_at(time - int(fields[7].removeprefix("us=")))
         begun.ended += 1
         begun.right_of_ended += right
@@ -72,9 +74,16 @@ class TraceReader:
 
     def lost(self, time: int, fields: list[str]) -> None:
         """A lookup ends without an owner."""
+        self.end_without_ring(False)
         self.over_time.begun_at(time - int(fields[6].removeprefix("us="))).ended += 1
         for view in self.views:
             view.judged.give_up(time, fields)
+
+    def end_without_ring(self, right: bool) -> None:
+        """A lookup ends. It counts if the last audit has found no ring."""
+        if self.ringless_since is not None:
+            self.ended_ringless += 1
+            self.right_ringless += right
 
     def refuse(self, time: int, name: str) -> None:
         """A lookup of a node cannot begin."""
@@ -102,6 +111,7 @@ class TraceReader:
         facts = dict(word.split("=") for word in fields[2:])
         if facts["ring"] != "0":
             self.ringless_since = None
+            self.ended_ringless = self.right_ringless = 0
         elif self.ringless_since is None:
             self.ringless_since = time
         if time <= self.scope.warmup_us:
@@ -112,9 +122,12 @@ class TraceReader:
         self.torn += not ordered or facts["ring"] == "0" or facts["dead"] != "0"
 
     def lost_at(self) -> int | None:
-        """The first of the audits without a ring that the run ends with, if they go over its last tenth or more."""
+        """The first of the audits without a ring that the run ends with, if the ring is lost.
+
+        It is if they go over a tenth of the run at least, and if at most half of the answers since then are right."""
         since, latest = self.ringless_since, self.scope.duration_us - self.scope.duration_us // 10
-        return since if since is not None and since <= latest else None
+        is_lost = since is not None and since <= latest and 2 * self.right_ringless <= self.ended_ringless
+        return since if is_lost else None
 
     def numbers(self) -> Numbers:
         """What a row of runs.csv has beside the report. Call it once, at the end of the trace."""
