@@ -496,7 +496,7 @@ def draw_load(pyplot: Any) -> None:
         draw_points(left, {keys: beside_mean(runs, number) for keys, runs in loads().items()}, look, f"chordsim, {named}")
     near = [next(iter(published(figure).values())) for figure in LOADS.values()]
     left.plot([50] * len(near), near, "o", mfc="none", mec="black", markersize=9, label="published (SIGCOMM 2001)")
-    left.set(xlabel="keys of a node, mean; 10,000 nodes", ylabel="keys of a node beside the mean", ylim=(-0.5, 14))
+    left.set(xlabel="keys of a node, mean; 10,000 nodes", ylabel="keys of a node beside the mean", ylim=(-0.5, 18))
     looks = {"1": "C0", "32": "C1"}, {"false": ".--", "true": ".-"}
     for (entries, asked), runs in stretches().items():
         means = {float(share): interval([float(row[f"stretch-p{share}"]) for row in runs]) for share in STRETCHES}
@@ -507,7 +507,7 @@ def draw_load(pyplot: Any) -> None:
     for axes in (left, right):
         axes.grid(alpha=0.3)
         axes.legend(fontsize=8, loc="upper left")
-    figure.suptitle("Load balance (ten seeds) and stretch (five seeds), bars: 95% intervals")
+    figure.suptitle("Load balance and stretch, bars: 95% intervals of five seeds")
     figure.savefig(FOLDER / "load.png", dpi=110)
 
 

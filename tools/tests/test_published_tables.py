@@ -13,7 +13,7 @@ from contextlib import redirect_stdout
 from functools import cache
 from pathlib import Path
 from tempfile import TemporaryDirectory
-from typing import NamedTuple
+from typing import Any, NamedTuple
 from unittest import TestCase
 
 from chordsim_tools.study.task import Task, result_of
@@ -57,17 +57,23 @@ def arguments(study: str, *more: str) -> list[str]:
     return [*words, *more]
 
 
-def counted(words: list[str], warmup: int = SECOND) -> Counted:
-    """The lookups of all seeds that begin after the warm-up, by the program."""
-    runs = program()
-    ended = hops = timeouts = lost = wrong = 0
+def rows_of(words: list[str], warmup: int = SECOND) -> list[dict[str, Any]]:
+    """What a row of runs.csv has of each seed, of lookups that begin after the warm-up, by the program."""
+    runs, rows = program(), []
     for seed in SEEDS:
         text = text_of("a test", (*words, "--seed", str(seed)))
         with TemporaryDirectory() as folder:
             path = Path(folder) / "scenario.toml"
             path.write_text(text, encoding="utf-8")
             task = Task("", text, None, 100 * SECOND, warmup, 20 * SECOND, "")
-            numbers = result_of(task, runs, path, None)["numbers"]
+            rows.append(result_of(task, runs, path, None)["numbers"])
+    return rows
+
+
+def counted(words: list[str], warmup: int = SECOND) -> Counted:
+    """The lookups of all seeds that begin after the warm-up."""
+    ended = hops = timeouts = lost = wrong = 0
+    for numbers in rows_of(words, warmup):
         ended += numbers["judged-found"] + numbers["judged-lost"]
         hops += numbers["ended-hops"]
         timeouts += numbers["ended-timeouts"]
@@ -132,6 +138,24 @@ class PublishedTablesTest(TestCase):
                 assert abs(found.hops - hops) < 0.2, found
                 assert (found.lost + found.wrong) * 10_000 <= failures * found.ended, found
                 assert timeouts / 3 < found.timeouts < timeouts, found
+
+    def test_load(self) -> None:
+        """The keys of 1,000 nodes: the 99th percentile near 4.6 times the mean, the first one near none."""
+        for numbers in rows_of(arguments("load.toml", "--nodes", "1000", "--lookup-gap", "800ms..2400ms"), 0):
+            keys = numbers["judged-found"] / 1000
+            assert 40 < keys < 60 and numbers["judged-lost"] + numbers["wrong"] == 0, numbers
+            assert numbers["owned-p1"] < 0.1 * keys and 3.6 < numbers["owned-p99"] / keys < 5.6, numbers
+            assert numbers["owned-p99"] < numbers["owned-most"] < 12 * keys, numbers
+
+    def test_stretch(self) -> None:
+        """In a ring of 4,096 nodes, with lists of 1: a lookup has six hops, and so six round trips of usual length."""
+        words = arguments("stretch.toml", "--nodes", "4096", "--lookup-gap", "1s..40s")
+        asked, unasked = (rows_of([*words, "--list", "1", *more], 0) for more in ((), ("--no-ask-owner",)))
+        for one, other in zip(asked, unasked, strict=True):
+            found = [float(other[f"stretch-p{share}"]) for share in (10, 50, 90)]
+            assert found[0] < 6 < found[2] and abs(found[1] - 6) < 0.5, found
+            assert all(abs(float(one[f"stretch-p{share}"]) - number - 1) < 0.01
+                       for share, number in zip((10, 50, 90), found, strict=True)), (one, other)
 
     def test_rotation(self) -> None:
         """With nineteen fingers in the rotation timeouts are the published ones, within a fifth of them."""
