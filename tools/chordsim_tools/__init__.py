@@ -1,1 +1,3 @@
 """What the tools beside chordsim have in common, and the tools themselves."""
+
+__version__ = "0.2.0"

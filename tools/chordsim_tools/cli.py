@@ -1,4 +1,4 @@
-"""What the five commands share: how they end, how they read their arguments, and how they say how far they are."""
+"""What the tools share: how they end, how they read their arguments, and how they say how far they are."""
 
 import argparse
 import errno
@@ -10,6 +10,9 @@ import time
 from collections.abc import Callable
 from types import TracebackType
 from typing import Any, NoReturn
+
+from chordsim_tools import __version__
+from chordsim_tools.place import here
 
 
 class Failure(Exception):
@@ -117,7 +120,9 @@ class Parser(argparse.ArgumentParser):
     def __init__(self, prog: str, description: str, epilog: str, strict: bool = False) -> None:
         """A parser whose help keeps its own line breaks."""
         style = argparse.RawDescriptionHelpFormatter
-        super().__init__(prog, description=description, epilog=epilog, formatter_class=style, allow_abbrev=not strict)
+        super().__init__(
+            prog, description=here(description), epilog=here(epilog), formatter_class=style, allow_abbrev=not strict
+        )
         # A value such as -5s is one that its option refuses, and no option.
         self._negative_number_matcher = re.compile("-[0-9]")
         if strict:
@@ -136,6 +141,26 @@ class Parser(argparse.ArgumentParser):
         """Ends with status 2."""
         # All tools name an option by itself, as `--seed: given twice`.
         self.exit(2, usage_line(self.prog, message.removeprefix("argument ")) + "\n")
+
+
+class Version(argparse.Action):
+    """Prints the name and the version of a tool, and ends it."""
+
+    def __call__(
+        self, parser: argparse.ArgumentParser, namespace: argparse.Namespace, values: Any,
+        option_string: str | None = None,
+    ) -> NoReturn:
+        """Writes the line as all tools write: whole, or the tool ends with status 3."""
+        parser.exit(run(parser.prog, lambda: write_out(f"{parser.prog} {__version__}\n")))
+
+
+class ToolParser(Parser):
+    """The parser of a whole tool, which has a version."""
+
+    def __init__(self, prog: str, description: str, epilog: str, strict: bool = False) -> None:
+        """A parser with the option `--version`."""
+        super().__init__(prog, description, epilog, strict)
+        self.add_argument("--version", action=Version, nargs=0, dest="version", help="show the version and exit")
 
 
 class Progress:

@@ -11,6 +11,7 @@ from math import sqrt
 from chordsim_tools.cli import Refused
 from chordsim_tools.draws import Draws
 from chordsim_tools.files import read_input
+from chordsim_tools.place import tool
 from chordsim_tools.quantities import time_of, time_text
 from chordsim_tools.scenario.coordinates import Coordinates
 from chordsim_tools.scenario.tables import GREATEST_SIZE
@@ -43,7 +44,7 @@ class Regions:
         if -1 in found:
             node = names[found.index(-1)]
             raise Refused(f"{self.file}: {node} is in none of its regions ({', '.join(self.names)}): a node is named "
-                          f"REGION-NUMBER, as {self.names[0]}-0 (tools/generate --group {self.names[0]}:COUNT)")
+                          f"REGION-NUMBER, as {self.names[0]}-0 ({tool('generate')} --group {self.names[0]}:COUNT)")
         return found
 
 

@@ -6,7 +6,7 @@ from collections import Counter
 from collections.abc import Iterator
 from dataclasses import asdict, dataclass
 
-from chordsim_tools.cli import Parser, Progress, run
+from chordsim_tools.cli import Progress, ToolParser, run
 from chordsim_tools.explain.files import Explanation, Files
 from chordsim_tools.explain.positions import Positions
 from chordsim_tools.explain.program import answer_of
@@ -15,11 +15,12 @@ from chordsim_tools.explain.traps import events_trap, greatest_latency, traps_of
 from chordsim_tools.explain.wording import explained
 from chordsim_tools.explain.world_traps import round_told
 from chordsim_tools.files import put, read_input
+from chordsim_tools.place import tool
 from chordsim_tools.program import find_program
 from chordsim_tools.scenario.faults import Document, faults_of
 from chordsim_tools.scenario.tables import GREATEST_SIZE, NotToml, parse_toml, rows_of
 
-PROG = "tools/explain"
+PROG = tool("explain")
 HELP = """\
 Lists all faults of a scenario and its latency file: for each one the line and column, what is there, what is allowed
 there and what was likely meant. The first line is that of `chordsim check`, `refused: ...`, or, for files that are
@@ -27,9 +28,9 @@ accepted, `accepted: N nodes, M commands`. The faults follow in the order of doc
 first one is the one that the program prints. What only follows from another fault is left out. A scenario that is no
 TOML is not looked into: the parser's first complaint is explained, and the rows of the latency file by themselves.
 
-The program is asked for its own line, if there is one: that of the variable CHORDSIM, else the one that is built of the
-repository's sources (none is built). If it prints another fault than the first one here, its line comes first, and is
-called unexplained. That can be for these reasons, since Python's tomllib reads TOML 1.0 and the program TOML 1.1:
+The program is asked for its own line, if there is one: that of the variable CHORDSIM, else the one that came with the
+tools (none is built). If it prints another fault than the first one here, its line comes first, and is called
+unexplained. That can be for these reasons, since Python's tomllib reads TOML 1.0 and the program TOML 1.1:
   - the program accepts times without seconds, seconds of 60 and the year 0, the escapes \\e and \\x41, and line feeds
     and a last comma in inline tables; here they are no TOML (S1)
   - the program refuses as no TOML what is nested deeper than 80; here that is another fault, or none
@@ -79,15 +80,15 @@ class Findings:
         return self.first_line == self.answer
 
 
-def parsed(arguments: list[str]) -> Namespace:
-    """The arguments of the command line."""
-    parser = Parser(PROG, HELP, EXAMPLES)
+def parser_of() -> ToolParser:
+    """The parser of the arguments."""
+    parser = ToolParser(PROG, HELP, EXAMPLES)
     parser.add_argument("scenario", metavar="SCENARIO", help="the scenario file (TOML)")
     parser.add_argument("latency", metavar="LATENCY", nargs="?", help="the latency file (CSV)")
     parser.add_argument("--json", action="store_true", help="print one JSON object, for other programs")
     parser.add_argument("--most", metavar="N", type=count, help="print at most N faults of each kind (default: all)")
     parser.add_argument("--alone", action="store_true", help="do not ask the program")
-    return parser.parse_args(arguments)
+    return parser
 
 
 def count(text: str) -> int:
@@ -208,5 +209,5 @@ def work(args: Namespace) -> int:
 
 def main(arguments: list[str]) -> int:
     """The command."""
-    args = parsed(arguments)
+    args = parser_of().parse_args(arguments)
     return run(PROG, lambda: work(args), interrupted="stopped")

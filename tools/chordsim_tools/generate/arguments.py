@@ -2,7 +2,7 @@
 
 from argparse import Namespace
 
-from chordsim_tools.cli import Parser
+from chordsim_tools.cli import Parser, ToolParser
 from chordsim_tools.draws import distribution_of
 from chordsim_tools.generate.help import EPILOG, HELP
 from chordsim_tools.generate.hosts import GROUPS, gap_of_rate, group_of
@@ -15,10 +15,11 @@ from chordsim_tools.generate.plan import LIVES
 from chordsim_tools.options import (
     GREATEST_SEED, Given, a_time, a_whole, choice, duration, one_of, value, whole, within,
 )
+from chordsim_tools.place import tool
 from chordsim_tools.places import LAWS, law_of_places
 from chordsim_tools.quantities import BILLION, span_of, whole_of
 
-PROG = "tools/generate"
+PROG = tool("generate")
 LOSS = "messages lost per million, 0 to 1000000 (5000 is 0.5 %)"
 LENGTH = duration(1, BILLION)
 LIFE = value(distribution_of, LIVES)
@@ -115,7 +116,7 @@ AGAIN = ("group", "crash")
 """Those that may be given several times."""
 
 
-def parser_of(made_by: type[Parser] = Parser) -> Parser:
+def parser_of(made_by: type[Parser] = ToolParser) -> Parser:
     """The parser of the arguments, of this class."""
     parser = made_by(PROG, HELP, EPILOG, strict=True)
     for name, metavar, kind, told in OPTIONS:

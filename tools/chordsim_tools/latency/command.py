@@ -8,7 +8,7 @@ from argparse import Namespace
 from itertools import combinations
 from statistics import median_low
 
-from chordsim_tools.cli import Failure, Parser, Refused, run, say
+from chordsim_tools.cli import Failure, Parser, Refused, ToolParser, run, say
 from chordsim_tools.draws import Draws
 from chordsim_tools.explain.traps import timeout_trap, warn
 from chordsim_tools.files import check_output, put, read_input
@@ -16,12 +16,13 @@ from chordsim_tools.generate.bare import SHORT, bare_traps
 from chordsim_tools.latency.coordinates import Placed, placed_by_fit, placed_by_king
 from chordsim_tools.latency.measured import UNITS, Latencies, latencies_of, read_lines, read_matrix
 from chordsim_tools.options import GREATEST_SEED, Options, a_whole, choice, duration, whole
+from chordsim_tools.place import tool
 from chordsim_tools.places import places_text
 from chordsim_tools.regions import read_regions
 from chordsim_tools.scenario.coordinates import greatest_latency
 from chordsim_tools.scenario.tables import EXTENDED, GREATEST_SIZE, parse_toml
 
-PROG = "tools/latency"
+PROG = tool("latency")
 HELP = """\
 Writes a latency file for chordsim: a row a,b,microseconds for each pair of nodes, from measured round trips or of hosts
 at random places of a square. Or writes coordinates, a row name,x,y,height in microseconds for each node: fitted to a
@@ -93,7 +94,7 @@ MOST_NODES = EXTENDED.greatest("node")
 
 def parser_of() -> Parser:
     """The parser of the arguments."""
-    parser = Parser(PROG, HELP, EPILOG, strict=True)
+    parser = ToolParser(PROG, HELP, EPILOG, strict=True)
     add = parser.add_argument
     add("measured", metavar="MEASURED", nargs="?", help="the file with the round trips")
     add("--nodes", metavar="N", type=a_whole(), help="2 to 65536 nodes (64, or as many as --names has)")
@@ -201,7 +202,8 @@ def is_count_open(options: Options) -> bool:
 def check_size(count: int, size: int) -> None:
     """Refuses a file of this size or more that chordsim would not read."""
     if size > GREATEST_SIZE:
-        more = "coordinates have no such limit: --king, or tools/generate --profile 4 --coordinates (also regions:FILE)"
+        made = f"{tool('generate')} --profile 4 --coordinates (also regions:FILE)"
+        more = f"coordinates have no such limit: --king, or {made}"
         raise Failure(2, f"--nodes: rows for all pairs of {count} nodes have more than {GREATEST_SIZE} bytes; {more}")
 
 

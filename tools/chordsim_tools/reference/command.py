@@ -6,15 +6,16 @@ from collections.abc import Iterable, Iterator
 from itertools import zip_longest
 from typing import TextIO
 
-from chordsim_tools.cli import Failure, Parser, Refused, close_quietly, run, write_out
+from chordsim_tools.cli import Failure, Refused, ToolParser, close_quietly, run, write_out
 from chordsim_tools.files import check_output, read_input
+from chordsim_tools.place import tool
 from chordsim_tools.reference.report import Report
 from chordsim_tools.reference.simulation import Simulation
 from chordsim_tools.reference.state import KINDS
 from chordsim_tools.scenario.reading import Scenario, read_scenario
 from chordsim_tools.scenario.tables import GREATEST_SIZE
 
-PROG = "tools/reference"
+PROG = tool("reference")
 HELP = """\
 Runs a scenario by the rules of docs/rules.md, one event at a time, and prints the trace and then the report: the
 bytes that `chordsim run --scenario SCENARIO --serial` prints. It is slow: about 40,000 events each second."""
@@ -32,9 +33,9 @@ examples:
 status: 0 all was done; 1 a file is refused, or the traces differ; 2 the arguments are wrong; 3 the run failed"""
 
 
-def parsed(arguments: list[str]) -> Namespace:
-    """The arguments of the command line."""
-    parser = Parser(PROG, HELP, EXAMPLES)
+def parser_of() -> ToolParser:
+    """The parser of the arguments."""
+    parser = ToolParser(PROG, HELP, EXAMPLES)
     parser.add_argument("scenario", metavar="SCENARIO", help="the scenario file (TOML)")
     parser.add_argument("latency", metavar="LATENCY", nargs="?", help="the latency file (CSV)")
     where = parser.add_mutually_exclusive_group()
@@ -42,7 +43,7 @@ def parsed(arguments: list[str]) -> Namespace:
     where.add_argument("--report", action="store_true", help="print no trace")
     where.add_argument("--compare", metavar="TRACE", help="print neither; compare the trace with that of this file")
     parser.add_argument("--messages", action="store_true", help="after the report, count the messages made by kind")
-    return parser.parse_args(arguments)
+    return parser
 
 
 def lines_of(name: str) -> Iterator[str]:
@@ -114,5 +115,5 @@ def write(scenario: Scenario, args: Namespace) -> int:
 
 def main(arguments: list[str]) -> int:
     """The command."""
-    args = parsed(arguments)
+    args = parser_of().parse_args(arguments)
     return run(PROG, lambda: work(args))

@@ -5,7 +5,8 @@ import shlex
 from argparse import ArgumentParser, ArgumentTypeError, Namespace
 from pathlib import Path
 
-from chordsim_tools.cli import Parser, run, write_out
+from chordsim_tools.cli import Parser, ToolParser, run, write_out
+from chordsim_tools.place import tool
 from chordsim_tools.study.comparison import write_comparison
 from chordsim_tools.study.confirm import confirm_here
 from chordsim_tools.study.help import (
@@ -18,7 +19,7 @@ from chordsim_tools.study.runs import Share, run_study
 from chordsim_tools.study.search_runs import run_search
 from chordsim_tools.study.so_far import write_report
 
-PROG = "tools/study"
+PROG = tool("study")
 COMMANDS = {
     "run": ("run all settings and seeds", RUN_HELP),
     "search": ("run settings around the best one", SEARCH_HELP),
@@ -32,9 +33,15 @@ COMMANDS = {
 
 def parsed(arguments: list[str]) -> Namespace:
     """The arguments of the command line."""
-    parser = Parser(PROG, HELP, epilog_of(*EXAMPLES))
+    parser = parser_of()
     if arguments and arguments[0] not in COMMANDS and arguments[0].endswith(".toml"):
         parser.error(f"{arguments[0]} is no command: did you mean `{PROG} run {arguments[0]}`?")
+    return parser.parse_args(arguments)
+
+
+def parser_of() -> ToolParser:
+    """The parser of the arguments."""
+    parser = ToolParser(PROG, HELP, epilog_of(*EXAMPLES))
     of_all = parser.add_subparsers(dest="command", required=True, metavar="|".join(COMMANDS), parser_class=Parser)
     commands = {
         name: of_all.add_parser(name, help=short, description=long, epilog=epilog_of(name))
@@ -55,7 +62,7 @@ def parsed(arguments: list[str]) -> Namespace:
     for name in ("merge", "plot", "report", "compare"):
         moved = "the study file, if it is no longer in its place"
         commands[name].add_argument("--study", metavar="STUDY", type=Path, help=moved)
-    return parser.parse_args(arguments)
+    return parser
 
 
 def epilog_of(*names: str) -> str:
@@ -147,8 +154,8 @@ def run_told(folder: Path, part: Share = (1, 1)) -> str:
     """What was written, and the command that comes next."""
     name = shlex.quote(str(folder))
     if part[1] > 1:
-        return f"runs in {folder}; next, with the folders of all parts: tools/study merge {name} .. -o OUT\n"
-    return f"tables in {folder}; next: tools/study report {name}\n"
+        return f"runs in {folder}; next, with the folders of all parts: {PROG} merge {name} .. -o OUT\n"
+    return f"tables in {folder}; next: {PROG} report {name}\n"
 
 
 def main(arguments: list[str]) -> int:

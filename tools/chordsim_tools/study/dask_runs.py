@@ -8,15 +8,13 @@ from typing import Any
 
 from chordsim_tools.cli import Failure
 from chordsim_tools.files import read_input, sum_of
+from chordsim_tools.place import remedy
 from chordsim_tools.program import find_program
 from chordsim_tools.study.pool import SEED
 from chordsim_tools.study.progress import RunProgress
 from chordsim_tools.study.task import Task, result_of
 
-MISSING = (
-    "--dask needs the package distributed: apt-get install python3-distributed, "
-    "and start this with Debian's Python: /usr/bin/python3 tools/study run"
-)
+MISSING = f"--dask needs the package distributed: {remedy('python3-distributed', 'distributed', 'run')}"
 CONNECT_SECONDS = 20
 Answer = tuple[int, str, dict[str, Any]]
 """What a worker returns: a status, what went wrong, the result. An exception would lose its status on the way."""

@@ -5,11 +5,11 @@ import textwrap
 from typing import Any
 
 from chordsim_tools.cli import Failure
+from chordsim_tools.place import remedy
 from chordsim_tools.study.looks import Layout, Values, key_words, value_words
 
 MISSING = (
-    "plots need numpy and matplotlib: apt-get install python3-numpy python3-matplotlib, "
-    "and start this with Debian's Python: /usr/bin/python3 tools/study plot"
+    f"plots need numpy and matplotlib: {remedy('python3-numpy python3-matplotlib', 'numpy matplotlib', 'plot')}"
 )
 
 

@@ -1,5 +1,7 @@
 """The help of tools/study: what a study file has, what each command does, and examples."""
 
+from chordsim_tools.place import IS_INSTALLED
+
 HELP = """\
 Runs chordsim with many settings and seeds, and makes tables, plots and a page of it. A study file says what:
 
@@ -41,7 +43,7 @@ The setting of an answer is run once more with as many fresh seeds, unless the f
 `world = ["loss_ppm"]` names the varied keys that nobody chooses: each world has its own answer. `note = ".."` is a text
 for the page. Both may be left out, and stand above the tables.
 
-The program is that of the variable CHORDSIM, else ./chordsim of the repository."""
+The program is that of the variable CHORDSIM, else the one that came with the tools."""
 EXAMPLES = {
     "run": """\
   tools/study run lists.toml                      all runs, into the folder lists
@@ -178,8 +180,13 @@ done yet is drawn as far as it is, with a mark.
 
 plots.json has the digests of the tables that each plot was drawn of, by which `tools/study report` knows it.
 
+"""
+PLOT_HELP += (
+    "It needs numpy and matplotlib, which are Debian's packages python3-numpy and python3-matplotlib."
+    if IS_INSTALLED else """\
 It needs Debian's packages python3-numpy and python3-matplotlib, and Debian's Python: if another one comes first on
 PATH, `/usr/bin/python3 tools/study plot FOLDER`."""
+)
 
 REPORT_HELP = """\
 Writes FOLDER/answer.json, for programs (docs/studies.md), and the page FOLDER/report.md: the question; the answer to

@@ -8,6 +8,7 @@ from typing import Any
 from chordsim_tools.cli import Refused
 from chordsim_tools.explain.hints import close_to
 from chordsim_tools.generate.arguments import OPTIONS
+from chordsim_tools.place import tool
 from chordsim_tools.quantities import UNITS, time_of
 from chordsim_tools.scenario.tables import CHURN, EXTENDED, GREATEST_INTEGER, LOOKUPS, Key
 
@@ -123,7 +124,7 @@ def unknown_told(key: str, is_generated: bool) -> str:
     if key.startswith(OF_GENERATE):
         meant = close_to(key.removeprefix(head), sorted(name.removeprefix(head) for name in varied_options()))
         hint = "" if meant is None else f": did you mean `{head}{meant}`?"
-        return f"{key}: tools/generate has no {key.removeprefix(OF_GENERATE)}{hint}"
+        return f"{key}: {tool('generate')} has no {key.removeprefix(OF_GENERATE)}{hint}"
     meant = head + key if is_generated and head + key in varied_options() else close_to(key, sorted(varied_keys()))
     return f"{key} is no key of a scenario that can be varied" + ("" if meant is None else f": did you mean `{meant}`?")
 

@@ -6,6 +6,7 @@ from dataclasses import dataclass, field
 from typing import Any
 
 from chordsim_tools.cli import Refused
+from chordsim_tools.place import tool
 from chordsim_tools.study.bounded import bounded, share_mean
 from chordsim_tools.study.estimates import MOST_ERROR, OLDER_ERROR
 from chordsim_tools.study.exact import count_interval, share_interval
@@ -233,7 +234,7 @@ def setting_label(keys: list[str], values: tuple[str, ...]) -> str:
 def summaries(tables: Tables) -> list[Summary]:
     """All settings, in the order of runs.csv."""
     if tables.runs and "wanted" not in tables.runs[0]:
-        raise Refused("runs.csv is of an older tools/study: run the study again")
+        raise Refused(f"runs.csv is of an older {tool('study')}: run the study again")
     keys = list(tables.manifest["vary"])
     spans, sizes = list(tables.manifest.get("spans") or {}), tables.manifest.get("sizes") or {}
     runs = [with_bytes(cells, sizes) if sizes else cells for cells in tables.runs]

@@ -6,6 +6,7 @@ from pathlib import Path
 
 from chordsim_tools.cli import Refused
 from chordsim_tools.files import make_folder
+from chordsim_tools.place import tool
 from chordsim_tools.study.curves import write_results
 from chordsim_tools.study.plan import Study
 from chordsim_tools.study.precise import more_seeds
@@ -61,7 +62,7 @@ def check_same(folders: list[Path], records: list[Record]) -> None:
         if different is not None:
             raise Refused(f"{folders[0]} and {folder} do not go together: {different}")
     if records[0].reading != READING:
-        raise Refused(f"{folders[0]}: its runs were read by another version of tools/study")
+        raise Refused(f"{folders[0]}: its runs were read by another version of {tool('study')}")
 
 
 def taken(run: Run, folders: list[Path]) -> bool:

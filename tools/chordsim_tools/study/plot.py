@@ -8,6 +8,7 @@ from typing import Any
 from chordsim_tools.cli import Progress
 from chordsim_tools.explain.traps import warn
 from chordsim_tools.files import write_whole
+from chordsim_tools.place import tool
 from chordsim_tools.study.columns import COST, Column, SpanColumn
 from chordsim_tools.study.figures import drawing, rendered
 from chordsim_tools.study.front import Plane, front_figure
@@ -66,9 +67,9 @@ def left_out(drawn: Drawn) -> list[str]:
     """What the tables of an older tools/study do not have, so that no plot draws it."""
     told = []
     if drawn.tables.series and SERVED not in drawn.tables.series[0]:
-        told.append("right: no served, and right answers of those found; series.csv is of an older tools/study")
+        told.append(f"right: no served, and right answers of those found; series.csv is of an older {tool('study')}")
     if TAIL not in drawn.tables.manifest["sha256"]:
-        told.append("tail: not drawn, since an older tools/study wrote no tail.csv")
+        told.append(f"tail: not drawn, since an older {tool('study')} wrote no tail.csv")
     return told
 
 

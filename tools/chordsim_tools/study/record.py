@@ -9,6 +9,7 @@ from pathlib import Path
 
 from chordsim_tools.cli import Failure, Refused
 from chordsim_tools.files import read_input, reason, sum_of
+from chordsim_tools.place import tool
 from chordsim_tools.program import TOP
 from chordsim_tools.study.plan import Study, read_study
 from chordsim_tools.study.tables import manifest_of
@@ -79,7 +80,7 @@ def read_record(folder: Path) -> Record:
     try:
         return Record(**json.loads(content))
     except (ValueError, TypeError):
-        raise Refused(f"{path} is not one that tools/study run wrote") from None
+        raise Refused(f"{path} is not one that {tool('study')} run wrote") from None
 
 
 def study_of(folder: Path, record: Record, named: Path | None = None) -> Study:

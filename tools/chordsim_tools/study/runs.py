@@ -11,6 +11,7 @@ from typing import Any
 from chordsim_tools.cli import Failure, Refused
 from chordsim_tools.explain.traps import timer_events, warn
 from chordsim_tools.files import make_folder, read_input, sum_of, write_whole
+from chordsim_tools.place import tool
 from chordsim_tools.program import find_program
 from chordsim_tools.study.curves import write_results
 from chordsim_tools.study.dask_runs import run_by_dask
@@ -109,7 +110,7 @@ def write_if_other(path: Path, content: bytes) -> None:
 def run_study(study: Study, folder: Path, jobs: int, share: Share = (1, 1), dask: str | None = None) -> None:
     """Does the runs of a share that are not done yet, and writes the tables if the share is the whole study."""
     if study.search is not None:
-        raise Refused(f"{study.path} has [search]: `tools/study search` does this study")
+        raise Refused(f"{study.path} has [search]: `{tool('study')} search` does this study")
     program = find_program(build=True)
     if program is None:
         raise Failure(3, "the program is missing")

@@ -8,6 +8,7 @@ from chordsim_tools.cli import Failure, Refused, write_out
 from chordsim_tools.files import make_folder, read_input, sum_of
 from chordsim_tools.explain.traps import warn
 from chordsim_tools.known import known
+from chordsim_tools.place import tool
 from chordsim_tools.program import find_program
 from chordsim_tools.study.answer import cost, cost_told, least_of, nearest_of
 from chordsim_tools.study.bounds import misses, missing_level, reaches
@@ -32,7 +33,7 @@ def run_search(study: Study, folder: Path, jobs: int) -> None:
     """Does all rounds, keeps their runs as `run` does, and writes the tables and the page after each round."""
     search, goal = study.search, study.goal
     if search is None or goal is None:
-        raise Refused(f"{study.path}: no [search]: `tools/study run` does this study")
+        raise Refused(f"{study.path}: no [search]: `{tool('study')} run` does this study")
     if len(study.seeds) < LEAST_SEEDS:
         raise Refused(f"{study.path}: [search] needs {LEAST_SEEDS} seeds or more, and seeds has {len(study.seeds)}")
     program = find_program(build=True)

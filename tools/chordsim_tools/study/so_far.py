@@ -8,6 +8,7 @@ from pathlib import Path
 from chordsim_tools.cli import Refused
 from chordsim_tools.explain.traps import warn
 from chordsim_tools.files import read_input, sum_of, write_whole
+from chordsim_tools.place import tool
 from chordsim_tools.study import outcome
 from chordsim_tools.study.curves import CDF, STEPS, TAIL, write_results
 from chordsim_tools.study.numbers import Cells
@@ -48,7 +49,7 @@ def whole_tables(folder: Path, named: Path | None = None) -> Tables:
     """The tables of a folder, if all its runs are done."""
     drawn = tables_of(folder, named)
     if drawn.mark:
-        parts = "`tools/study run` goes on, and `tools/study merge` puts parts together"
+        parts = f"`{tool('study')} run` goes on, and `{tool('study')} merge` puts parts together"
         raise Refused(f"{folder}: {drawn.mark} are done; compare needs all: {parts}")
     return drawn.tables
 

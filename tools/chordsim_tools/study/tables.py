@@ -11,6 +11,7 @@ from typing import Any
 
 from chordsim_tools.cli import Failure, Refused
 from chordsim_tools.files import read_input, sum_of, write_whole
+from chordsim_tools.place import tool
 from chordsim_tools.program import TOP
 from chordsim_tools.study.network import are_placed, input_sums
 from chordsim_tools.study.plan import Setting, Study
@@ -154,7 +155,7 @@ def read_tables(folder: Path) -> Tables:
         names = ("runs.csv", "series.csv", *([FRESH] if FRESH in sums else []))
         tables = [checked_table(folder / name, sums[name]) for name in names]
     except (ValueError, KeyError, TypeError):
-        raise Refused(f"{folder / 'manifest.json'} is not one that tools/study run wrote") from None
+        raise Refused(f"{folder / 'manifest.json'} is not one that {tool('study')} run wrote") from None
     return Tables(manifest, *tables)
 
 

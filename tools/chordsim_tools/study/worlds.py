@@ -12,6 +12,7 @@ from chordsim_tools.generate import arguments as made_by
 from chordsim_tools.generate import command as generate
 from chordsim_tools.generate.bare import LIMITS, bare_traps
 from chordsim_tools.latency import command as latency
+from chordsim_tools.place import tool
 from chordsim_tools.study.document import toml_text
 from chordsim_tools.study.keys import BOOLEANS, OF_GENERATE, parsed
 from chordsim_tools.study.plan import Setting, Study
@@ -136,7 +137,7 @@ def rows_text(path: str, folder: str, arguments: tuple[str, ...], names: tuple[s
         args = parser.parse_args(list(arguments))
         if args.king or args.fit is not None:
             raise Refused(f"{path}: latency has --{'king' if args.king else 'fit'}, which makes coordinates; give them "
-                          "to tools/generate by --coordinates")
+                          f"to {tool('generate')} by --coordinates")
         args.measured = None if args.measured is None else f"{folder}/{args.measured}"
         args.regions = None if args.regions is None else f"{folder}/{args.regions}"
         options = latency.check(args, parser)

@@ -4,9 +4,10 @@ import json
 import re
 from argparse import ArgumentTypeError, Namespace
 
-from chordsim_tools.cli import Failure, Parser, Refused, run
+from chordsim_tools.cli import Failure, Refused, ToolParser, run
 from chordsim_tools.explain.traps import warn
 from chordsim_tools.files import check_apart, check_output, read_input
+from chordsim_tools.place import tool
 from chordsim_tools.quantities import time_of
 from chordsim_tools.scenario.reading import Scenario, read_scenario
 from chordsim_tools.scenario.tables import GREATEST_SIZE, parse_toml
@@ -22,7 +23,7 @@ from chordsim_tools.trace.wording import show
 from chordsim_tools.trace.page.groups import read_groups
 from chordsim_tools.trace.page.writing import write_page
 
-PROG = "tools/trace"
+PROG = tool("trace")
 HELP = """\
 Tells what happened in one run: from its trace, which `chordsim run --trace` writes, and its scenario. Without an option
 it prints a summary. docs/trace.md says what each number means.
@@ -50,9 +51,9 @@ status: 0 all was done; 1 a file is refused, or cannot be read; 2 the arguments 
 or D3 is missing for --html: apt-get install node-d3); 130 stopped by Ctrl-C"""
 
 
-def parsed(arguments: list[str]) -> Namespace:
-    """The arguments of the command line."""
-    parser = Parser(PROG, HELP, EXAMPLES, strict=True)
+def parser_of() -> ToolParser:
+    """The parser of the arguments."""
+    parser = ToolParser(PROG, HELP, EXAMPLES, strict=True)
     parser.add_argument("trace", metavar="TRACE", help="the trace, with or without the report after it")
     parser.add_argument("scenario", metavar="SCENARIO", help="the scenario file (TOML) of the run")
     parser.add_argument("--latency", metavar="FILE", help="the latency file of the run: stories with detail need it")
@@ -68,7 +69,7 @@ def parsed(arguments: list[str]) -> Namespace:
     parser.add_argument("--html", metavar="FILE", help="write a page for a browser into FILE")
     parser.add_argument("--groups", metavar="FILE", help="groups of nodes for the page: rows NODE,GROUP (by names)")
     parser.add_argument("--json", action="store_true", help="print the summary, and the tables asked for, as JSON")
-    return parser.parse_args(arguments)
+    return parser
 
 
 def step(text: str) -> int:
@@ -104,8 +105,8 @@ def swapped(args: Namespace, fault: Refused) -> str:
     except Refused:
         is_scenario = False
     if is_scenario and fault.text.startswith("S1 "):
-        return f"; {args.trace} is a scenario: swap the two, as tools/trace TRACE SCENARIO"
-    return "; tools/explain says more"
+        return f"; {args.trace} is a scenario: swap the two, as {PROG} TRACE SCENARIO"
+    return f"; {tool('explain')} says more"
 
 
 def work(args: Namespace) -> None:
@@ -173,5 +174,5 @@ def in_text(one: Run, args: Namespace) -> list[str]:
 
 def main(arguments: list[str]) -> int:
     """The command."""
-    args = parsed(arguments)
+    args = parser_of().parse_args(arguments)
     return run(PROG, lambda: work(args), interrupted="stopped")

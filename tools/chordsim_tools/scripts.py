@@ -1,0 +1,43 @@
+"""The commands of an installed package: `chordsim`, and each tool as `chordsim-NAME`."""
+
+import os
+import signal
+import sys
+from functools import partial
+from importlib import import_module
+
+from chordsim_tools.cli import Failure, ended
+from chordsim_tools.files import reason
+from chordsim_tools.place import IS_INSTALLED
+from chordsim_tools.program import LAUNCHER, packaged_program
+
+NO_PROGRAM = 125
+"""The status if there is no whole program. The program itself never returns it."""
+
+
+def run_tool(name: str) -> int:
+    """Runs a tool with the arguments of the command line, and returns its status."""
+    return int(import_module(f"chordsim_tools.{name}.command").main(sys.argv[1:]))
+
+
+explain = partial(run_tool, "explain")
+generate = partial(run_tool, "generate")
+latency = partial(run_tool, "latency")
+reference = partial(run_tool, "reference")
+study = partial(run_tool, "study")
+trace = partial(run_tool, "trace")
+
+
+def chordsim() -> int:
+    """Replaces this process by the program. Returns a status only if there is no whole program."""
+    try:
+        program = packaged_program() if IS_INSTALLED else LAUNCHER
+    except Failure as fault:
+        return ended(NO_PROGRAM, f"chordsim: {fault.text}")
+    # Python ignores these two, and what is ignored stays so in the program.
+    for number in (signal.SIGPIPE, signal.SIGXFSZ):
+        signal.signal(number, signal.SIG_DFL)
+    try:
+        os.execv(program, ["chordsim", *sys.argv[1:]])
+    except OSError as fault:
+        return ended(NO_PROGRAM, f"chordsim: cannot run {program}: {reason(fault)}")
