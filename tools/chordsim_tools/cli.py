@@ -128,6 +128,10 @@ class Parser(argparse.ArgumentParser):
         if strict:
             self.register("action", None, Once)
 
+    def arguments(self) -> list[argparse.Action]:
+        """The options and the positional arguments, in the order of the help."""
+        return list(self._actions)
+
     def print_help(self, file: Any = None) -> None:
         """Writes the help to standard output as all tools write: whole, or it ends with status 3."""
         if file is not None:

@@ -20,17 +20,26 @@ class Given(Generic[T]):
     value: T
 
 
-def value(read: Callable[[str], T | None], wanted: str) -> Callable[[str], Given[T]]:
-    """A `type=` for argparse. The reader returns nothing for a text that is not wanted."""
+@dataclass(frozen=True)
+class Reader(Generic[T]):
+    """A `type=` for argparse. `read` returns nothing for a text that is not wanted."""
 
-    def convert(text: str) -> Given[T]:
+    read: Callable[[str], T | None]
+    wanted: str
+    values: tuple[str, ...] = ()
+    """All values of the option, if they are few."""
+
+    def __call__(self, text: str) -> Given[T]:
         """The value with its text."""
-        result = read(text)
+        result = self.read(text)
         if result is None:
-            raise ArgumentTypeError(f"{wanted}, not {text!r}{reversed_told(text)}")
+            raise ArgumentTypeError(f"{self.wanted}, not {text!r}{reversed_told(text)}")
         return Given(text, result)
 
-    return convert
+
+def value(read: Callable[[str], T | None], wanted: str) -> Reader[T]:
+    """What argparse reads an option with."""
+    return Reader(read, wanted)
 
 
 def reversed_told(text: str) -> str:
@@ -41,12 +50,12 @@ def reversed_told(text: str) -> str:
     return ", whose first time is above its second"
 
 
-def whole(least: int, greatest: int) -> Callable[[str], Given[int]]:
+def whole(least: int, greatest: int) -> Reader[int]:
     """A number in a range."""
     return value(within(whole_of, least, greatest), f"{least} to {greatest}")
 
 
-def one_of(*numbers: int) -> Callable[[str], Given[int]]:
+def one_of(*numbers: int) -> Reader[int]:
     """One of a few numbers, in ascending order."""
     *others, last = numbers
     wanted = f"{', '.join(map(str, others))} or {last}"
@@ -56,28 +65,28 @@ def one_of(*numbers: int) -> Callable[[str], Given[int]]:
         number = whole_of(text)
         return number if number in numbers else None
 
-    return value(chosen, wanted)
+    return Reader(chosen, wanted, tuple(map(str, numbers)))
 
 
-def a_whole() -> Callable[[str], Given[int]]:
+def a_whole() -> Reader[int]:
     """A number whose range depends on other options, so that `Options.whole` looks at it."""
     return value(integer_of, "a whole number")
 
 
-def duration(least: int, greatest: int) -> Callable[[str], Given[int]]:
+def duration(least: int, greatest: int) -> Reader[int]:
     """A time in a range, in microseconds."""
     wanted = f"a time of {time_text(least)} to {time_text(greatest)} ({UNIT_NAMES})"
     return value(within(time_of, least, greatest), wanted)
 
 
-def a_time() -> Callable[[str], Given[int]]:
+def a_time() -> Reader[int]:
     """A time whose range depends on other options, so that `Options.time` looks at it."""
     return value(time_of, f"a time ({UNIT_NAMES})")
 
 
-def choice(*choices: str) -> Callable[[str], Given[str]]:
+def choice(*choices: str) -> Reader[str]:
     """One of a few texts."""
-    return value(lambda text: text if text in choices else None, " or ".join(choices))
+    return Reader(lambda text: text if text in choices else None, " or ".join(choices), choices)
 
 
 def within(read: Callable[[str], int | None], least: int, greatest: int) -> Callable[[str], int | None]:

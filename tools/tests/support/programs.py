@@ -11,6 +11,8 @@ from unittest import SkipTest
 from chordsim_tools.cli import Failure
 from chordsim_tools.program import find_program
 
+TOOLS = ("explain", "generate", "latency", "reference", "study", "trace")
+
 
 def ended(main: Callable[[list[str]], int], *arguments: str) -> tuple[int, str, str]:
     """The status of a tool, and what it wrote to its two streams."""

@@ -1,0 +1,1 @@
+"""Writes the man pages of the tools and the completions of their arguments, from their parsers."""
