@@ -5,6 +5,8 @@ import signal
 import sys
 from functools import partial
 from importlib import import_module
+from pathlib import Path
+from typing import NoReturn
 
 from chordsim_tools.cli import Failure, ended
 from chordsim_tools.files import reason
@@ -28,16 +30,20 @@ study = partial(run_tool, "study")
 trace = partial(run_tool, "trace")
 
 
-def chordsim() -> int:
-    """Replaces this process by the program. Returns a status only if there is no whole program."""
+def chordsim() -> NoReturn:
+    """Becomes the program, with the same arguments and streams. Ends with status 125 if there is no whole program."""
     try:
-        program = packaged_program() if IS_INSTALLED else LAUNCHER
+        become(packaged_program() if IS_INSTALLED else LAUNCHER)
     except Failure as fault:
-        return ended(NO_PROGRAM, f"chordsim: {fault.text}")
-    # Python ignores these two, and what is ignored stays so in the program.
+        sys.exit(ended(NO_PROGRAM, f"chordsim: {fault.text}"))
+
+
+def become(program: Path) -> NoReturn:
+    """Replaces this process by the program."""
+    # Python ignores these two signals, and the program would too.
     for number in (signal.SIGPIPE, signal.SIGXFSZ):
         signal.signal(number, signal.SIG_DFL)
     try:
         os.execv(program, ["chordsim", *sys.argv[1:]])
     except OSError as fault:
-        return ended(NO_PROGRAM, f"chordsim: cannot run {program}: {reason(fault)}")
+        raise Failure(3, f"cannot run {program}: {reason(fault)}") from None

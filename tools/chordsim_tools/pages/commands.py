@@ -6,7 +6,6 @@ from importlib import import_module
 from types import ModuleType
 
 from chordsim_tools.cli import Parser
-from chordsim_tools.options import Reader
 
 TOOLS = ("explain", "generate", "latency", "reference", "study", "trace")
 
@@ -65,10 +64,11 @@ def described(parser: Parser, short: str, shorts: dict[str, str]) -> Command:
 
 def argument_of(action: Action) -> Argument:
     """An argument of a parser."""
+    # Only a `Reader` knows its values.
     return Argument(
         tuple(action.option_strings),
         places_of(action),
-        action.type.values if isinstance(action.type, Reader) else (),
+        getattr(action.type, "values", ()),
         action.required,
         action.nargs == "+" or type(action).__name__ == "_AppendAction",
         (action.help or "").replace("%%", "%"),
