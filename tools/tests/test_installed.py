@@ -1,14 +1,13 @@
 """chordsim installed by pip: its commands, its program and its files. Nothing is fetched from a network."""
 
 import shutil
-import subprocess
 import sys
 import tempfile
 from pathlib import Path
 from unittest import SkipTest, TestCase
 
 from chordsim_tools import __version__
-from tests.support.programs import TOOLS
+from tests.support.programs import TOOLS, called
 from tests.support.worlds import EXAMPLES
 
 TOP = Path(__file__).resolve().parents[2]
@@ -17,12 +16,6 @@ SOURCES = ("pyproject.toml", "setup.py", "README.md", "release", "tools/chordsim
 PACKAGES = f"lib/python{sys.version_info.major}.{sys.version_info.minor}/site-packages"
 AGAIN = "install chordsim again (pip install --force-reinstall, or apt-get install --reinstall)"
 OFFLINE = ("--no-index", "--no-build-isolation", "--no-deps", "--disable-pip-version-check", "--quiet")
-
-
-def called(*command: str | Path) -> tuple[int, str, str]:
-    """The status of a command, and what it prints on both streams."""
-    done = subprocess.run(command, capture_output=True, text=True, check=False, timeout=300)
-    return done.returncode, done.stdout, done.stderr
 
 
 def copy_sources(folder: Path) -> None:
@@ -121,10 +114,10 @@ class InstalledTest(TestCase):
         digest = (TOP / "release" / "x86_64-linux" / "chordsim.sha256").read_text(encoding="ascii").split()[0]
         for value in ("", str(self.bin / "chordsim")):
             out = self.folder / f"study{bool(value)}"
-            command = ["env", f"CHORDSIM={value}", str(self.bin / "chordsim-study"), "run"]
+            command = (self.bin / "chordsim-study", "run", self.folder / "study.toml", "-o", out)
             told = f"tables in {out}; next: chordsim-study report {out}\n"
             with self.subTest(value=value):
-                self.assertEqual(called(*command, self.folder / "study.toml", "-o", out)[:2], (0, told))
+                self.assertEqual(called(*command, CHORDSIM=value)[:2], (0, told))
                 self.assertIn(f'"sha256": "{digest}"', (out / "manifest.json").read_text(encoding="utf-8"))
 
     def test_files(self) -> None:

@@ -2,6 +2,7 @@
 
 import functools
 import io
+import os
 import subprocess
 from collections.abc import Callable
 from contextlib import redirect_stderr, redirect_stdout
@@ -41,6 +42,13 @@ def program() -> Path:
     if isinstance(found, str):
         raise SkipTest(found)
     return found
+
+
+def called(*command: str | Path, **more: str) -> tuple[int, str, str]:
+    """The status of a command, and what it prints on both streams. CHORDSIM is not set, unless it is one of `more`."""
+    environment = {name: value for name, value in os.environ.items() if name != "CHORDSIM"} | more
+    done = subprocess.run(command, env=environment, capture_output=True, text=True, check=False, timeout=300)
+    return done.returncode, done.stdout, done.stderr
 
 
 def checked(scenario: Path, latency: Path | None = None) -> str:
