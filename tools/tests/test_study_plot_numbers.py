@@ -203,6 +203,7 @@ class PlotNumbersTest(TestCase):
         assert points[0][2] < 120 < points[0][3]
 
     def test_sizes_of_the_published_plots(self) -> None:
-        """So that a clone stays small."""
-        plots = [path for form in ("png", "svg") for path in EXAMPLES.glob(f"*/*.{form}")]
-        assert len(plots) >= 30 and not [path for path in plots if path.stat().st_size > MOST_BYTES]
+        """So that a clone stays small: each plot is kept once, as the picture that its page shows."""
+        plots = list(EXAMPLES.glob("*/*.png"))
+        assert len(plots) >= 20 and not [path for path in plots if path.stat().st_size > MOST_BYTES]
+        assert not list(EXAMPLES.glob("**/*.svg"))
