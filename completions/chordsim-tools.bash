@@ -1,4 +1,5 @@
-# Completion of the tools' arguments for bash. Written by packaging/make-pages.
+# Completion of the tools' arguments for bash. Made by packaging/make-pages.
+# Source this file, or copy it to /etc/bash_completion.d.
 
 _chordsim_tools() {
     local current=${COMP_WORDS[COMP_CWORD]} previous=${COMP_WORDS[COMP_CWORD - 1]}

@@ -1,4 +1,5 @@
-# Completion of the tools' arguments for fish. Written by packaging/make-pages.
+# Completion of the tools' arguments for fish. Made by packaging/make-pages.
+# Copy this file to ~/.config/fish/conf.d.
 
 complete -c chordsim-explain -s h -l help -d 'show this help message and exit'
 complete -c chordsim-explain -l version -d 'show the version and exit'

@@ -65,6 +65,16 @@ class InstalledTest(TestCase):
         self.assertEqual(self.call("chordsim", "check", "--scenario", "no such file"), refused)
         self.assertEqual(self.call("chordsim", "walk")[0], 2)
 
+    def test_streams(self) -> None:
+        """A closed output, and a file that may not grow, end the command as they end the program itself."""
+        scenario = EXAMPLES / "churn64.toml"
+        closed, limited = 'exec "$0" "$@" >&-', 'ulimit -f 1; exec "$0" "$@" > trace'
+        for shell, wanted in ((closed, (3, "failed: 4 Write\n")), (limited, (-25, ""))):
+            for program in (self.bin / "chordsim", TOP / "release" / "x86_64-linux" / "chordsim"):
+                command = ("sh", "-c", f"cd {self.folder}; {shell}", program, "run", "--serial", "--scenario", scenario)
+                with self.subTest(shell=shell, program=program):
+                    self.assertEqual(called(*command)[::2], wanted)
+
     def test_damaged_program(self) -> None:
         """The program is not started if it does not have its digest: status 125, or 3 of a tool, and what to do."""
         program = self.folder / "venv" / PACKAGES / "chordsim_tools" / "release" / "chordsim"

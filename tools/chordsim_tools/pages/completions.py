@@ -2,11 +2,16 @@
 
 from chordsim_tools.pages.commands import Argument, Command
 
-HEAD = "Completion of the tools' arguments for {}. Written by packaging/make-pages."
+HEAD = "Completion of the tools' arguments for {}. Made by packaging/make-pages."
+HOW = {
+    "bash": "Source this file, or copy it to /etc/bash_completion.d.",
+    "zsh": "Copy this file to a folder of $fpath.",
+    "fish": "Copy this file to ~/.config/fish/conf.d.",
+}
 FILES = ("FILE", "FOLDER", "LATENCY", "MEASURED", "OUT", "ROWS", "SCENARIO", "STUDY", "TRACE")
 """What is the name of a file or of a folder."""
 BASH = """\
-# {head}
+{head}
 
 _chordsim_tools() {{
     local current=${{COMP_WORDS[COMP_CWORD]}} previous=${{COMP_WORDS[COMP_CWORD - 1]}}
@@ -41,7 +46,7 @@ complete -o filenames -F _chordsim_tools {names}
 """
 ZSH = """\
 #compdef {names}
-# {head}
+{head}
 
 _chordsim_tools() {{
     local context state line
@@ -53,6 +58,11 @@ _chordsim_tools() {{
 
 _chordsim_tools "$@"
 """
+
+
+def head_of(shell: str) -> str:
+    """The first lines of a script: what it is, and where it belongs."""
+    return f"# {HEAD.format(shell)}\n# {HOW[shell]}"
 
 
 def all_of(tools: list[Command]) -> list[Command]:
@@ -83,7 +93,7 @@ def last_name(command: Command) -> str:
 def bash_completions(tools: list[Command]) -> str:
     """The script for bash. In the top folder of the repository it completes `tools/study` too."""
     return BASH.format(
-        head=HEAD.format("bash"),
+        head=head_of("bash"),
         tools="\n".join(line for command in all_of(tools) for line in bash_options(command)),
         values="\n".join(line for command in all_of(tools) for line in bash_values(command)),
         names=" ".join(name for tool in tools for name in (tool.name, f"tools/{short_name(tool)}")),
@@ -114,7 +124,7 @@ def bash_values(command: Command) -> list[str]:
 def zsh_completions(tools: list[Command]) -> str:
     """The script for zsh."""
     return ZSH.format(
-        head=HEAD.format("zsh"),
+        head=head_of("zsh"),
         names=" ".join(tool.name for tool in tools),
         tools="\n".join(line for tool in tools for line in zsh_tool(tool)),
     )
@@ -161,7 +171,7 @@ def zsh_argument(argument: Argument) -> str:
 
 def fish_completions(tools: list[Command]) -> str:
     """The script for fish."""
-    lines = [f"# {HEAD.format('fish')}", ""]
+    lines = [head_of("fish"), ""]
     for tool in tools:
         if all(argument.names for argument in tool.arguments) and not tool.commands:
             lines.append(f"complete -c {tool.name} -f")
