@@ -17,6 +17,7 @@ def man_page(tool: Command, others: list[str]) -> str:
     notes, examples, status = parts_of(tool.epilog)
     lines = [
         f'.TH {tool.name.upper()} 1 "" "chordsim {__version__}" "User Commands"',
+        ".nh", ".ad l",
         ".SH NAME", f"{escaped(tool.name)} \\- {escaped(tool.short)}",
         ".SH SYNOPSIS", *synopsis(tool),
         ".SH DESCRIPTION", *prose(tool.description),
@@ -24,7 +25,7 @@ def man_page(tool: Command, others: list[str]) -> str:
         *(line for command in tool.commands for line in section_of(command)),
         ".SH OPTIONS", *entries(tool.arguments),
         *([".SH NOTES", *prose(notes)] if notes else []),
-        ".SH EXAMPLES", *verbatim(examples.splitlines()),
+        ".SH EXAMPLES", *prose(examples),
         '.SH "EXIT STATUS"', *map(filled, status.splitlines()),
         '.SH "SEE ALSO"', *(f".BR {escaped(other)} (1)," for other in others), ".BR chordsim (1)",
     ]
@@ -102,9 +103,12 @@ def prose(text: str) -> list[str]:
 
 
 def is_wrapped(before: str, line: str) -> bool:
-    """Whether a line goes on with the paragraph of the line before, where its first word had no room."""
-    is_text = bool(before) and not before.startswith("  ")
-    return is_text and len(before) + 1 + len(line.split()[0]) > WIDTH
+    """Whether a line goes on with the paragraph of the line before.
+
+    It does if that one is the middle of a sentence, or has no room for its first word."""
+    if not before or before.startswith("  "):
+        return False
+    return before[-1] not in ".:" or len(before) + 1 + len(line.split()[0]) > WIDTH
 
 
 def verbatim(lines: list[str]) -> list[str]:
