@@ -15,7 +15,7 @@ BASH = """\
 
 _chordsim_tools() {{
     local current=${{COMP_WORDS[COMP_CWORD]}} previous=${{COMP_WORDS[COMP_CWORD - 1]}}
-    local tool=${{COMP_WORDS[0]##*/}} options= of_files= of_others= values= takes_files=
+    local tool=${{COMP_WORDS[0]##*/}} options='' of_files='' of_others='' values='' takes_files=''
     COMPREPLY=()
     # Bash takes --seed=5 for three words.
     if [ "$current" = "=" ]; then
