@@ -13,9 +13,13 @@ FILES = ("chordsim", "chordsim.sha256")
 
 
 def check_release() -> None:
-    """Fails if the program does not have its digest."""
+    """Fails if the program is missing, or does not have its digest."""
     program, digest = (RELEASE / name for name in FILES)
-    if hashlib.sha256(program.read_bytes()).hexdigest() != digest.read_text(encoding="ascii").split()[0]:
+    try:
+        kept, found = digest.read_bytes().split()[:1], hashlib.sha256(program.read_bytes()).hexdigest()
+    except OSError as fault:
+        raise SystemExit(f"the program is missing: {fault.filename}: {fault.strerror}") from None
+    if kept != [found.encode()]:
         raise SystemExit(f"{program} is damaged: it does not have the digest of {digest}")
 
 

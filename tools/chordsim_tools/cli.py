@@ -164,7 +164,8 @@ class ToolParser(Parser):
     def __init__(self, prog: str, description: str, epilog: str, strict: bool = False) -> None:
         """A parser with the option `--version`."""
         super().__init__(prog, description, epilog, strict)
-        self.add_argument("--version", action=Version, nargs=0, dest="version", help="show the version and exit")
+        meaning = "show the version and exit"
+        self.add_argument("--version", action=Version, nargs=0, default=argparse.SUPPRESS, help=meaning)
 
 
 class Progress:

@@ -147,7 +147,7 @@ class InstalledTest(TestCase):
         self.assertIn("\nTag: py3-none-linux_x86_64\n", wheel.read_text(encoding="utf-8"))
 
     def test_damaged_release(self) -> None:
-        """Nothing is built if the program in the repository does not have its digest."""
+        """Nothing is built if the program in the repository is missing, or does not have its digest."""
         source = self.folder / "damaged"
         copy_sources(source)
         program = source / "release" / "x86_64-linux" / "chordsim"
@@ -158,6 +158,9 @@ class InstalledTest(TestCase):
         told = "release/x86_64-linux/chordsim is damaged: it does not have the digest of"
         status, _, error = called(*build)
         self.assertEqual((status, error.splitlines()[-1]), (1, f"{told} release/x86_64-linux/chordsim.sha256"))
+        program.unlink()
+        told = "the program is missing: release/x86_64-linux/chordsim: No such file or directory"
+        self.assertEqual(called(*build)[2].splitlines()[-1], told)
         self.assertFalse(built.exists())
         program.write_bytes(kept)
         self.assertEqual((called(*build)[0], built.read_bytes()), (0, kept))
