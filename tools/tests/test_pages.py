@@ -30,8 +30,22 @@ def options_of(*command: str) -> set[str]:
 
 
 def page_of(tool: str) -> str:
-    """The man page of a tool, whose hyphens mean themselves."""
-    return (TOP / "docs" / f"chordsim-{tool}.1").read_text(encoding="utf-8").replace("\\-", "-")
+    """The man page of a tool, whose letters mean themselves. Backquotes are left out."""
+    text = (TOP / "docs" / f"chordsim-{tool}.1").read_text(encoding="utf-8")
+    for escape, letter in (("\\-", "-"), ("\\(aq", "'"), ("\\(ha", "^"), ("\\e", "\\")):
+        text = text.replace(escape, letter)
+    return re.sub(r"\\fB|\\fR|\\&|\\\(ga", "", text)
+
+
+def prose_of(*command: str) -> list[str]:
+    """The words of a help text but for its usage, its options and two headings, with the names of installed tools.
+
+    Which Python draws plots is left out: an installed tool is started by one of its own."""
+    text = printed(str(TOP / "tools" / command[0]), *command[1:], "--help").replace("`", "")
+    before, _, after = text.replace("tools/", "chordsim-").partition("\n\n")[2].partition("\noptions:\n")
+    before = before.partition("\npositional arguments:\n")[0].partition("It needs Debian's packages")[0]
+    told = before + after.partition("\n\n")[2]
+    return [word for word in told.split() if word not in ("examples:", "status:")]
 
 
 def entries_of(text: str) -> set[str]:
@@ -64,6 +78,14 @@ class PagesTest(TestCase):
         for command, part in zip(parts[::2], parts[1::2], strict=True):
             with self.subTest(command=command):
                 self.assertEqual(entries_of(part) | {"--help"}, options_of("study", command))
+
+    def test_texts(self) -> None:
+        """Each word of a help text is in the page."""
+        self.assertIn("--stationary", prose_of("generate"))
+        for command in [(tool,) for tool in TOOLS] + [("study", command) for command in COMMANDS]:
+            words = set(page_of(command[0]).split())
+            with self.subTest(command=command):
+                self.assertEqual([word for word in prose_of(*command) if word not in words], [])
 
     def test_names(self) -> None:
         """No page calls a tool as in the repository."""
