@@ -128,6 +128,10 @@ class InstalledTest(TestCase):
             told = f"tables in {out}; next: chordsim-study report {out}\n"
             with self.subTest(value=value):
                 self.assertEqual(called(*command, CHORDSIM=value)[:2], (0, told))
+                self.assertEqual(self.call("chordsim-study", "report", out)[0], 0)
+                page = (out / "report.md").read_text(encoding="utf-8")
+                self.assertIn("\nchordsim-study run study.toml -o FOLDER\n", page)
+                self.assertNotIn("tools/", page)
                 self.assertIn(f'"sha256": "{digest}"', (out / "manifest.json").read_text(encoding="utf-8"))
 
     def test_files(self) -> None:

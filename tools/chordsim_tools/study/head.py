@@ -3,6 +3,7 @@
 import math
 from typing import Any
 
+from chordsim_tools.place import tool
 from chordsim_tools.quantities import time_text
 from chordsim_tools.study.goal import precision_again
 from chordsim_tools.study.interval import LEAST_SEEDS, outward
@@ -62,7 +63,7 @@ def estimated(found: list[Summary]) -> str:
     text = f"Messages are estimated, to within {100 * error_share(rows):g} %{bytes_told(found)}."
     text += " ± says nothing of that. Goals and comparisons allow for it."
     if any("messages-counted" not in cells for cells in rows):
-        return f"{text} An older `tools/study` did so: it is further off if round trips are as long as the period."
+        return f"{text} An older `{tool('study')}` did so: it is further off if round trips are as long as the period."
     return f"{text} With `profile = 4` they are counted."
 
 

@@ -3,6 +3,7 @@
 import shlex
 from typing import Any
 
+from chordsim_tools.place import tool
 from chordsim_tools.study.answer import answer
 from chordsim_tools.study.confirm import fresh_of
 from chordsim_tools.study.goal import goal_again
@@ -18,7 +19,8 @@ from chordsim_tools.study.unravel import unravelled
 from chordsim_tools.study.wrap import paragraph, wrapped
 
 CHANGED = " `+` means: with changes since that commit."
-LATER = " This page may have been written by a later `tools/study`."
+STUDY = tool("study")
+LATER = f" This page may have been written by a later `{STUDY}`."
 
 
 def lost_told(tables: Tables, found: list[Summary]) -> str:
@@ -54,9 +56,9 @@ def commands(tables: Tables) -> str:
     if manifest["latency_arguments"] is not None:
         latency = f" --latency FOLDER/done/{stem}.csv"
     return (
-        f"tools/study run {manifest['study']} -o FOLDER\n"
-        "tools/study plot FOLDER\n"
-        "tools/study report FOLDER\n"
+        f"{STUDY} run {manifest['study']} -o FOLDER\n"
+        f"{STUDY} plot FOLDER\n"
+        f"{STUDY} report FOLDER\n"
         f"chordsim run --scenario FOLDER/done/{stem}.toml{latency} --serial    # the first of {len(tables.runs)} runs\n"
     )
 
@@ -64,8 +66,8 @@ def commands(tables: Tables) -> str:
 def made_for_each_seed(manifest: dict[str, Any]) -> str:
     """The arguments by which worlds are made, if they are."""
     lines = [
-        f"- `tools/{tool} {shlex.join(manifest[key])}`, for each seed\n"
-        for tool, key in (("generate", "generate"), ("latency", "latency_arguments")) if manifest[key] is not None
+        f"- `{tool(name)} {shlex.join(manifest[key])}`, for each seed\n"
+        for name, key in (("generate", "generate"), ("latency", "latency_arguments")) if manifest[key] is not None
     ]
     return "".join(lines) + ("\n" if lines else "")
 
@@ -80,7 +82,7 @@ def sums(tables: Tables) -> str:
 
 def commits(manifest: dict[str, Any]) -> str:
     """Which tool and which program the tables are of, as far as that is known."""
-    made = {"`tools/study`": manifest["tool"]["commit"], "the program": manifest["program"]["commit"]}
+    made = {f"`{STUDY}`": manifest["tool"]["commit"], "the program": manifest["program"]["commit"]}
     makers = [f"{name} of commit `{commit}`" for name, commit in made.items() if commit]
     if not makers:
         return ""

@@ -7,6 +7,7 @@ from pathlib import Path
 from typing import Any
 
 from chordsim_tools.files import sum_of, write_whole
+from chordsim_tools.place import tool
 from chordsim_tools.study.limits import span_numbers
 from chordsim_tools.study.wrap import paragraph
 
@@ -24,7 +25,7 @@ PLOTS = {
 """The plots that a page has, in their order."""
 NEEDS = {"network": "steps.csv", "cdf": "cdf.csv", "tail": "tail.csv"}
 """Tables that older studies do not have, and the plots that are drawn of them."""
-DRAWS = "`tools/study plot FOLDER` draws them."
+DRAWS = f"`{tool('study')} plot FOLDER` draws them."
 NO_PLOTS = f"No plots: {DRAWS}\n\n"
 """What a page has in place of plots that were never drawn."""
 
