@@ -12,7 +12,7 @@ from tests.support.worlds import EXAMPLES
 
 TOP = Path(__file__).resolve().parents[2]
 SOURCES = ("pyproject.toml", "setup.py", "README.md", "release", "tools/chordsim_tools", "tools/chordsim")
-"""What a package is made of. The last folder is the library, if the repository has one."""
+"""What a package is made of."""
 PACKAGES = f"lib/python{sys.version_info.major}.{sys.version_info.minor}/site-packages"
 AGAIN = "install chordsim again (pip install --force-reinstall, or apt-get install --reinstall)"
 OFFLINE = ("--no-index", "--no-build-isolation", "--no-deps", "--disable-pip-version-check", "--quiet")
@@ -25,7 +25,7 @@ def copy_sources(folder: Path) -> None:
         target.parent.mkdir(parents=True, exist_ok=True)
         if source.is_dir():
             shutil.copytree(source, target, ignore=shutil.ignore_patterns("__pycache__"))
-        elif source.exists():
+        else:
             shutil.copy2(source, target)
 
 
@@ -133,6 +133,13 @@ class InstalledTest(TestCase):
                 self.assertIn("\nchordsim-study run study.toml -o FOLDER\n", page)
                 self.assertNotIn("tools/", page)
                 self.assertIn(f'"sha256": "{digest}"', (out / "manifest.json").read_text(encoding="utf-8"))
+
+    def test_library(self) -> None:
+        """The Python package runs a scenario with the program of the package."""
+        ring = "from chordsim import Scenario, run; from chordsim_tools.program import find_program as find"
+        code = f"{ring}; print(run(Scenario.read({str(EXAMPLES / 'ring.toml')!r}))['found'], find(build=False))"
+        program = self.folder / "venv" / PACKAGES / "chordsim_tools" / "release" / "chordsim"
+        self.assertEqual(self.call("python3", "-P", "-c", code), (0, f"1 {program}\n", ""))
 
     def test_files(self) -> None:
         """Each file that the tools read when they run is there."""
