@@ -1,4 +1,4 @@
-"""Rings in which neighbours crash at the same time: what fingers, and what bootstrap nodes that make a ring, bring back."""
+"""Rings in which neighbours crash at once: what fingers bring back, and what bootstrap nodes that make a ring do."""
 
 import subprocess
 from pathlib import Path
@@ -14,7 +14,7 @@ CREATING = "create_alone = true\n"
 
 
 def gap_world(seed: int, gap: int, keys: str = "", bootstraps: int = 0) -> str:
-    """A ring with lists of four. At ten seconds some neighbours crash; the first nodes after them are bootstrap nodes."""
+    """A ring with lists of four. At ten seconds neighbours crash; the first nodes after them are bootstrap nodes."""
     draws = Random(seed)
     idents = sorted(draws.getrandbits(63) for _ in range(NODES))
     first = draws.randrange(NODES)
@@ -41,7 +41,7 @@ def whole_rings(gap: int, keys: str = "", bootstraps: int = 0) -> int:
         for seed in SEEDS:
             scenario = Path(folder) / f"{seed}.toml"
             scenario.write_text(gap_world(seed, gap, keys, bootstraps), encoding="utf-8")
-            command = [program(), "run", "--scenario", scenario, "--serial"]
+            command = [str(program()), "run", "--scenario", str(scenario), "--serial"]
             done = subprocess.run(command, capture_output=True, text=True, check=True)
             count += whole in done.stdout
     return count
