@@ -444,11 +444,12 @@ class StudyRunTest(TestCase):
 
     def test_files_of_the_examples(self) -> None:
         """What the studies of examples/ keep is what their manifests name: 12 settings by 20 seeds, and 30 by 8."""
-        for name in ("study", "loss"):
+        tables = {"study.toml", "runs.csv", "series.csv", "steps.csv", "cdf.csv"}
+        for name, later in (("study", {"tail.csv", "confirm.csv"}), ("loss", set[str]())):
             folder = TOP / "examples" / name
             manifest = json.loads((folder / "manifest.json").read_text())
             with self.subTest(study=name):
-                assert set(manifest["sha256"]) == {"study.toml", "runs.csv", "series.csv", "steps.csv", "cdf.csv"}
+                assert set(manifest["sha256"]) == tables | later
                 for file, digest in manifest["sha256"].items():
                     assert hashlib.sha256((folder / file).read_bytes()).hexdigest() == digest, file
                 assert len((folder / "runs.csv").read_text().splitlines()) == 1 + 240
