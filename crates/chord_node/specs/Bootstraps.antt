@@ -21,12 +21,12 @@ later_bootstrap sc n before = find (λ x. nat_lt before x && not (x == n)) sc.bo
 unfoldable pub next_bootstrap : Scenario → (n before : ℕ) → Option ℕ
 next_bootstrap sc n before = option_or (later_bootstrap sc n before) (first_bootstrap sc n)
 
--- how many nodes of the file one goes on from a node to another one, from the last node to the first one: from a node
--- to itself it is the whole round
+-- how many steps it is from a node to another one in the order of the file, in which the first node follows the last:
+-- from a node to itself it is the whole round
 abbrev pub turns_to : Scenario → (from to : ℕ) → ℕ
 turns_to sc from to = if nat_lt from to then to - from else to + node_count sc - from
 
--- the bootstrap node that node n tries next is the first other one that one comes to
+-- the bootstrap node that node n tries next is the one, other than itself, that is the fewest steps on
 pub record IsNextBootstrap (sc : Scenario) (n before next : ℕ) : Type 0 where
   pub another : next ≢ n
   pub bootstrap : Contains sc.bootstraps next

@@ -15,8 +15,8 @@ pub fn near_fingers_are_skipped()
 {}
 
 /// Nodes try the bootstrap nodes in turn: the next one is the first one other than the node itself
-/// after the last one tried, in the order of the file and from its end to its beginning. There is
-/// one as long as another node is a bootstrap node.
+/// after the last one tried, in the order of the file, in which the first node follows the last.
+/// There is one as long as another node is a bootstrap node.
 pub fn bootstrap_nodes_are_tried()
     ensures in_turn { (sc : AScenario) (n before : ℕ) → IsInRange sc → before < node_count sc → IfSome (next_bootstrap sc n before) (IsNextBootstrap sc n before) }
     ensures found { (sc : AScenario) (n before other : ℕ) → Contains sc.bootstraps other → other ≢ n → IsSome (next_bootstrap sc n before) }

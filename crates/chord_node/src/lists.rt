@@ -1,4 +1,4 @@
-//! What is asked of lists of nodes.
+//! Helpers for lists of nodes.
 ghost use Rattle.std.specs.Prelude.{◌≡◌, OnOk};
 ghost use Rattle.chord_node.specs.Bootstraps.{first_other};
 ghost use Rattle.chord_node.specs.Ring.{or_itself};

@@ -107,8 +107,8 @@ pub record NumbersInRange (sc : Setup) : Type 0 where
   pub jitters : AreJitters sc.jitters
   pub one_jitter : sc.profile ≤ 2 → sc.jitters ≡ record { stabilize = sc.jitter; finger = sc.jitter; check = sc.jitter }
 
--- no two nodes are at one place of the circle; bootstrap nodes are in the order of the file, and are of the extended
--- profile alone
+-- no two nodes are at one place of the circle; bootstrap nodes are in the order of the file, and only the extended
+-- profile has any
 pub record NodesInRange (sc : Setup) : Type 0 where
   pub least : 2 ≤ node_count sc
   pub greatest : node_count sc ≤ 65536
