@@ -5,10 +5,10 @@ from chordsim.running import AuditRow, Report, Result, run
 from chordsim.scenario import Scenario
 from chordsim.study import Study, StudyResult
 from chordsim.table import Table
+from chordsim_tools import __version__
 from chordsim_tools.trace.lookups import LookupRow
 
-__version__ = "0.2.0"
 __all__ = [
     "AuditRow", "ChordsimError", "Failed", "LookupRow", "Refused", "Report", "Result", "Scenario", "Study",
-    "StudyResult", "Table", "run",
+    "StudyResult", "Table", "__version__", "run",
 ]

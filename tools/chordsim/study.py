@@ -106,10 +106,10 @@ class Study:
         with failures_raised():
             if study.search is None:
                 run_study(study, result.folder, count)
-                confirm_here(study, result.folder, count)
             else:
                 run_search(study, result.folder, count)
-                confirm_here(study, result.folder, count)
+            confirm_here(study, result.folder, count)
+            if study.search is not None:
                 write_report(result.folder)
         return result
 

@@ -99,6 +99,10 @@ Runs `chordsim run --serial` for each setting and seed and writes into FOLDER:
                  wanted           lookups begun or refused, and those that nodes missed which were up but no members;
                                   wanted-1, right-1, wanted-2, right-2: in the two halves of the judged span
                  up-us, member-us time that nodes were up, and members, in the judged span
+                 owned-p1 ... owned-most    how many judged answers name a member: percentiles 1, 50, 99 (nearest rank),
+                                  and the greatest, of the members at the end of the run
+                 stretch-p10 ...  percentiles 10, 50, 90 of stretch: the time of a judged answer that names another node
+                                  than the asker, divided by a round trip to that node without the random delay
                  pieces-WORD      the column WORD in each of six pieces of the judged span; messages if they are counted
                  cost-...         from warmup_us to the end: time as members, and events; timeouts, those that take a
                                   member for dead, and of these such that remove it from a successor list; requests sent

@@ -12,9 +12,9 @@ FIRST = (
     f"like them. With fewer than {LEAST_SEEDS} seeds there is no interval.",
     "**(m of n)**: the mean is of m of the n seeds. A seed is left out if its ring was lost, or if it has no such "
     "number. `-`: all seeds are left out.",
-    "**rings kept**: seeds whose ring was not lost. It is lost if audits find none from some time to the end, and at "
-    "most half of the lookups that end then are right. In brackets: the exact interval of their share (Clopper and "
-    "Pearson).",
+    "**rings kept**: seeds whose ring was not lost. It is lost if audits find none from some time to the end, which is "
+    "a tenth of the run at least, and at most half of the lookups that end then are right. In brackets: the exact "
+    "interval of their share (Clopper and Pearson).",
 )
 AGAIN = "±, `(m of n)` and `-` are as above."
 NOTES = {

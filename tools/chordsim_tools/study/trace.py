@@ -124,7 +124,8 @@ class TraceReader:
     def lost_at(self) -> int | None:
         """The first of the audits without a ring that the run ends with, if the ring is lost.
 
-        It is if they go over a tenth of the run at least, and if at most half of the answers since then are right."""
+        It is lost if they go over a tenth of the run at least, and at most half of the lookups that end in that time
+        are right."""
         since, latest = self.ringless_since, self.scope.duration_us - self.scope.duration_us // 10
         is_lost = since is not None and since <= latest and 2 * self.right_ringless <= self.ended_ringless
         return since if is_lost else None
