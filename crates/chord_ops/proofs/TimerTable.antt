@@ -21,12 +21,12 @@ IsLater row = IfSome row (λ timer. 1 ≤ timer.0.least)
 abbrev pub IsTick : Scenario → Option (Span × Body) → Type 0
 IsTick sc row = IfSome row (λ timer. IsBody sc timer.1)
 
-IfSome-map : {A B : Type 0} (P : A → Type 0) (Q : B → Type 0) (f : A → B) (o : Option A) → IfSome o P → ((a : A) → P a → Q (f a))
+pub IfSome-map : {A B : Type 0} (P : A → Type 0) (Q : B → Type 0) (f : A → B) (o : Option A) → IfSome o P → ((a : A) → P a → Q (f a))
     → IfSome (option_map f o) Q
 IfSome-map P Q f None h g = tt
 IfSome-map P Q f (Some a) h g = g a h
 
-IfSome-if : {A : Type 0} (P : A → Type 0) (b : Bool) (o : Option A) → IfSome o P → IfSome (if b then o else None) P
+pub IfSome-if : {A : Type 0} (P : A → Type 0) (b : Bool) (o : Option A) → IfSome o P → IfSome (if b then o else None) P
 IfSome-if P true o h = h
 IfSome-if P false o h = tt
 
