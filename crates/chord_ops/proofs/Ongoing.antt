@@ -108,7 +108,7 @@ other_node me n apart = by (me == n) refl
     by true test = absurd (apart (grind (arith, nat_tests)))
     by false test = test
 
-and_none : (b : Bool) → (b && false) ≡ false
+pub and_none : (b : Bool) → (b && false) ≡ false
 and_none true = refl
 and_none false = refl
 
@@ -231,7 +231,7 @@ timed_more calls timeouts count more k number low le none was = by (k == number)
       counted = λ above. omega (arith, was.counted (omega (arith, above, le)));
     }
 
-lived_no_timeout : (k : ℕ) (t : Timer) (number : ℕ) → is_lived t ≡ true → is_timer (body.Timeout k) t number ≡ false
+pub lived_no_timeout : (k : ℕ) (t : Timer) (number : ℕ) → is_lived t ≡ true → is_timer (body.Timeout k) t number ≡ false
 lived_no_timeout k Timeout number lived = absurd (cc)
 lived_no_timeout k Stabilize number lived = refl
 lived_no_timeout k Finger number lived = refl
@@ -256,7 +256,7 @@ request_quiet request.GetList k t number = refl
 request_quiet request.Ping k t number = refl
 
 -- without the calls of a number none of it is left, and none of another is more
-numbered_same : (k : ℕ) (calls : List Call) → numbered k (filter (λ (c : Call). not (c.number == k)) calls) ≡ 0
+pub numbered_same : (k : ℕ) (calls : List Call) → numbered k (filter (λ (c : Call). not (c.number == k)) calls) ≡ 0
 numbered_same k [] = refl
 numbered_same k (x ∷ xs) = by (x.number == k) refl (numbered_same k xs)
   where
@@ -302,17 +302,16 @@ calls_split p k calls call distinct found =
     let here : calls_for p (call ∷ []) ≡ cond (p call.purpose) 1 0 + calls_for p [] = sum_by-cons (λ (c : Call). cond (p c.purpose) 1 0) call [] in
     omega (arith, split, one, here)
 
--- no call of the number is found, so there is none
-pub numbered_none : (k : ℕ) (calls : List Call) → find (λ (c : Call). c.number == k) calls ≡ None → numbered k calls ≡ 0
-numbered_none k [] none = refl
-numbered_none k (x ∷ xs) none = by (x.number == k) refl none (λ later. numbered_none k xs later)
+-- nothing is found, so there is none
+pub none_found : {X : Type 0} (p : X → Bool) (xs : List X) → find p xs ≡ None → count_by p xs ≡ 0
+none_found p [] none = refl
+none_found {X} p (x ∷ xs) none = by (p x) refl none (λ later. none_found p xs later)
   where
-    by : (b : Bool) → (x.number == k) ≡ b → (if b then Some x else find (λ (c : Call). c.number == k) xs) ≡ None
-        → (find (λ (c : Call). c.number == k) xs ≡ None → numbered k xs ≡ 0) → numbered k (x ∷ xs) ≡ 0
+    by : (b : Bool) → p x ≡ b → (if b then Some x else find p xs) ≡ None → (find p xs ≡ None → count_by p xs ≡ 0) → count_by p (x ∷ xs) ≡ 0
     by true test is ih = absurd (cc)
     by false test is ih =
-        let one : ◌≡◌ {A = ℕ} (cond (x.number == k) 1 0) 0 = ap (λ (b : Bool). cond b 1 0) test in
-        omega (arith, sum_by-cons (λ (c : Call). cond (c.number == k) 1 0) x xs, one, ih is)
+        let one : ◌≡◌ {A = ℕ} (cond (p x) 1 0) 0 = ap (λ (b : Bool). cond b 1 0) test in
+        omega (arith, sum_by-cons (λ (y : X). cond (p y) 1 0) x xs, one, ih is)
 
 module _ (sc : Scenario) (claim : Timer → ℕ) (rest : List (Event Body)) where
   -- the timeout of a call is set, and the call is kept

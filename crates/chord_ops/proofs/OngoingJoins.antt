@@ -1,5 +1,5 @@
 -- What a node waits for stays pending while it comes up, joins and goes down.
-use Rattle.std.proofs.Common.{◌≡◌, ◌==◌, ◌*◌, ◌⊎◌, inl, inr, ℕ, ◌+◌, ◌-◌, ◌<◌, ◌≤◌, Bool, true, false, cond, nat_lt, List, [], ◌∷◌, ◌++◌, Option, Some, None, option_map, refl, sym, ◌∙◌, ap, subst, arith}
+use Rattle.std.proofs.Common.{◌≡◌, ◌≢◌, ◌==◌, ◌*◌, ◌⊎◌, inl, inr, ℕ, ◌+◌, ◌-◌, ◌<◌, ◌≤◌, Bool, true, false, cond, nat_lt, List, [], ◌∷◌, ◌++◌, Option, Some, None, option_map, refl, sym, ◌∙◌, ap, subst, arith}
 use Rattle.std.proofs.lemmas.Bool.Decides.{nat_tests}
 use Rattle.std.specs.List.{AllByRecursion}
 use Rattle.std.specs.Prelude.{IfSome, IsSome, is_some, replicate, if◌then◌else◌}
@@ -224,20 +224,39 @@ module _ (sc : Scenario) (claim : Timer → ℕ) (rest : List (Event Body)) wher
       (λ again. going_join_paused sc.join_pause (record attempt { failures = attempt.failures + 1 }) (via_moved sc turn) joining moved h)
       (λ over. going_join_ended attempt (via_moved sc turn) joining moved h)
 
+  cleared_joins : (s : Status) (calls pauses : ℕ) → s ≡ status.Member → FitsJoin s calls pauses → FitsJoin s 0 pauses
+  cleared_joins status.Down calls pauses is h = tt
+  cleared_joins status.Joining calls pauses is h = absurd (cc)
+  cleared_joins status.Member calls pauses is h = omega (arith, h)
+
+  -- a member without calls
+  pub going_cleared : (turn : Turn) → turn.state.status ≡ status.Member → IsOngoing sc claim 0 rest turn
+      → IsOngoing sc claim 0 rest (record turn { state = record turn.state { calls = [] } })
+  going_cleared turn member h =
+      record {
+        timed = λ number. record { enough = omega arith; once = (h.timed number).once; counted = (h.timed number).counted };
+        seldom = none_of (λ (c : Call). c.resent ≤ sc.retries);
+        later = h.later;
+        ticks = h.ticks;
+        joins =
+            cleared_joins turn.state.status (calls_for is_for_join turn.state.calls)
+            (waits turn.state.me Rejoin turn.state.epoch rest turn.events + 0) member h.joins;
+        own = h.own;
+      }
+
   -- a member is stranded
-  pub going_stranded : (owed via : ℕ) (turn : Turn) → turn.state.status ≡ status.Member → IsOngoing sc claim 0 rest turn
-      → IsOngoing sc claim 0 rest (stranded sc via turn)
+  pub going_stranded : (via : ℕ) (turn : Turn) → turn.state.status ≡ status.Member
+      → IsOngoing sc claim 0 rest (record turn { state = record turn.state { calls = [] } }) → IsOngoing sc claim 0 rest (stranded sc via turn)
   unfolding stranded
-  going_stranded owed via turn member h =
+  going_stranded via turn member h =
       let next : ℕ = other_via sc turn.state.me via in
       let pauses : ℕ = waits turn.state.me Rejoin turn.state.epoch rest turn.events in
-      let none : calls_for is_for_join turn.state.calls + (pauses + 0) ≡ 0 =
-      subst (λ (s : Status). FitsJoin s (calls_for is_for_join turn.state.calls) (pauses + 0)) member h.joins in
+      let none : 0 + (pauses + 0) ≡ 0 = subst (λ (s : Status). FitsJoin s 0 (pauses + 0)) member h.joins in
       going_join_begun [] next
       (record turn { state = alone next turn.state; lines = turn.lines ++ stranded_lines next turn.time turn.state.lookups }) refl
       (record {
-        timed = λ number. record { enough = omega arith; once = (h.timed number).once; counted = (h.timed number).counted };
-        seldom = none_of (λ (c : Call). c.resent ≤ sc.retries);
+        timed = h.timed;
+        seldom = h.seldom;
         later = h.later;
         ticks = λ t is.
         subst (λ (s : Status). FitsTick s (waits turn.state.me t turn.state.epoch rest turn.events) (claim t)) member (h.ticks t is);
@@ -255,52 +274,49 @@ module _ (sc : Scenario) (claim : Timer → ℕ) (rest : List (Event Body)) wher
 -- The timers of a life
 
 -- a tick of this life
-record IsTickOf (epoch : ℕ) (message : Body) : Type 0 where
+pub record IsTickOf (epoch : ℕ) (message : Body) : Type 0 where
   pub no_timeout : (number : ℕ) → is_timer message Timeout number ≡ false
   pub no_pause : (number : ℕ) → is_timer message Rejoin number ≡ false
-  pub not_later : (t : Timer) (number : ℕ) → epoch < number → is_timer message t number ≡ false
+  pub others : (t : Timer) (number : ℕ) → number ≢ epoch → is_timer message t number ≡ false
 
 -- a row that has one, if it has any
 abbrev HasTickOf : (epoch : ℕ) → Option (Span × Body) → Type 0
 HasTickOf epoch row = IfSome row (λ timer. IsTickOf epoch timer.1)
 
-apart_from : (epoch number : ℕ) → epoch < number → (epoch == number) ≡ false
-apart_from epoch number above = grind (arith, nat_tests)
-
-stabilize_is : (epoch : ℕ) → IsTickOf epoch (body.StabilizeTick epoch)
-stabilize_is epoch = record { no_timeout = λ number. refl; no_pause = λ number. refl; not_later = later }
+pub stabilize_is : (epoch : ℕ) → IsTickOf epoch (body.StabilizeTick epoch)
+stabilize_is epoch = record { no_timeout = λ number. refl; no_pause = λ number. refl; others = others }
   where
-    later : (t : Timer) (number : ℕ) → epoch < number → is_timer (body.StabilizeTick epoch) t number ≡ false
-    later Stabilize number above = apart_from epoch number above
-    later _ number above = refl
+    others : (t : Timer) (number : ℕ) → number ≢ epoch → is_timer (body.StabilizeTick epoch) t number ≡ false
+    others Stabilize number apart = other_node epoch number apart
+    others _ number apart = refl
 
-finger_is : (epoch : ℕ) → IsTickOf epoch (body.FingerTick epoch)
-finger_is epoch = record { no_timeout = λ number. refl; no_pause = λ number. refl; not_later = later }
+pub finger_is : (epoch : ℕ) → IsTickOf epoch (body.FingerTick epoch)
+finger_is epoch = record { no_timeout = λ number. refl; no_pause = λ number. refl; others = others }
   where
-    later : (t : Timer) (number : ℕ) → epoch < number → is_timer (body.FingerTick epoch) t number ≡ false
-    later Finger number above = apart_from epoch number above
-    later _ number above = refl
+    others : (t : Timer) (number : ℕ) → number ≢ epoch → is_timer (body.FingerTick epoch) t number ≡ false
+    others Finger number apart = other_node epoch number apart
+    others _ number apart = refl
 
-traffic_is : (epoch : ℕ) → IsTickOf epoch (body.TrafficTick epoch)
-traffic_is epoch = record { no_timeout = λ number. refl; no_pause = λ number. refl; not_later = later }
+pub traffic_is : (epoch : ℕ) → IsTickOf epoch (body.TrafficTick epoch)
+traffic_is epoch = record { no_timeout = λ number. refl; no_pause = λ number. refl; others = others }
   where
-    later : (t : Timer) (number : ℕ) → epoch < number → is_timer (body.TrafficTick epoch) t number ≡ false
-    later Traffic number above = apart_from epoch number above
-    later _ number above = refl
+    others : (t : Timer) (number : ℕ) → number ≢ epoch → is_timer (body.TrafficTick epoch) t number ≡ false
+    others Traffic number apart = other_node epoch number apart
+    others _ number apart = refl
 
-life_is : (epoch : ℕ) → IsTickOf epoch (body.LifeEnd epoch)
-life_is epoch = record { no_timeout = λ number. refl; no_pause = λ number. refl; not_later = later }
+pub life_is : (epoch : ℕ) → IsTickOf epoch (body.LifeEnd epoch)
+life_is epoch = record { no_timeout = λ number. refl; no_pause = λ number. refl; others = others }
   where
-    later : (t : Timer) (number : ℕ) → epoch < number → is_timer (body.LifeEnd epoch) t number ≡ false
-    later Life number above = apart_from epoch number above
-    later _ number above = refl
+    others : (t : Timer) (number : ℕ) → number ≢ epoch → is_timer (body.LifeEnd epoch) t number ≡ false
+    others Life number apart = other_node epoch number apart
+    others _ number apart = refl
 
-check_is : (epoch : ℕ) → IsTickOf epoch (body.CheckTick epoch)
-check_is epoch = record { no_timeout = λ number. refl; no_pause = λ number. refl; not_later = later }
+pub check_is : (epoch : ℕ) → IsTickOf epoch (body.CheckTick epoch)
+check_is epoch = record { no_timeout = λ number. refl; no_pause = λ number. refl; others = others }
   where
-    later : (t : Timer) (number : ℕ) → epoch < number → is_timer (body.CheckTick epoch) t number ≡ false
-    later Check number above = apart_from epoch number above
-    later _ number above = refl
+    others : (t : Timer) (number : ℕ) → number ≢ epoch → is_timer (body.CheckTick epoch) t number ≡ false
+    others Check number apart = other_node epoch number apart
+    others _ number apart = refl
 
 -- how many ticks of a kind rows set
 abbrev claim_of : Option (Span × Body) → (epoch : ℕ) → Timer → ℕ
@@ -346,7 +362,7 @@ going_ticked sc claim rest wait message turn joining is h =
         counted = λ above. omega (arith, was.counted (omega (arith, above)), none Timeout number (is.no_timeout number));
       };
       seldom = h.seldom;
-      later = λ t number lived above. omega (arith, h.later t number lived above, none t number (is.not_later t number above));
+      later = λ t number lived above. omega (arith, h.later t number lived above, none t number (is.others t number (λ same. omega (arith, above, same))));
       ticks = λ t tick.
       let was : waits me t epoch rest turn.events ≡ claim t =
       subst (λ (s : Status). FitsTick s (waits me t epoch rest turn.events) (claim t)) joining (h.ticks t tick) in
