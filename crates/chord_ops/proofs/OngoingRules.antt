@@ -799,3 +799,343 @@ module _ (sc : Scenario) (claim : Timer → ℕ) (rest : List (Event Body)) (key
       let has = joins_with turn.state.status turn.state.join joining known.status in
       going_for_attempt sc claim rest (join_retried sc) turn has.has_attempt
       (λ attempt. going_join_retried sc claim rest attempt (without_attempt turn) joining has.has_via (pause_over same)))
+
+-- Timeouts
+
+module _ (sc : Scenario) (claim : Timer → ℕ) (rest : List (Event Body)) (key : Key) (target number : ℕ) (turn : Turn) (here : target ≡ turn.state.me)
+    (h : IsOngoing sc claim 0 (event_of key target (body.Timeout number) ∷ rest) turn) where
+  timeout_is_one : ◌≡◌ {A = ℕ} (is_set turn.state.me Timeout number (event_of key target (body.Timeout number))) 1
+  timeout_is_one =
+      set_here turn.state.me Timeout number (event_of key target (body.Timeout number)) here ∙ ap (λ (b : Bool). cond b 1 0) (same_node number)
+
+  -- it was the only one of its number
+  timeout_was_alone : waits turn.state.me Timeout number rest turn.events ≡ 0
+  timeout_was_alone =
+      omega (arith, (h.timed number).once, set_for-cons turn.state.me Timeout number (event_of key target (body.Timeout number)) rest, timeout_is_one)
+
+  -- and the number is used
+  timeout_counted : number ≤ turn.state.count
+  timeout_counted = by (nat_lt turn.state.count number) refl
+    where
+      by : (b : Bool) → nat_lt turn.state.count number ≡ b → number ≤ turn.state.count
+      by true test =
+          let above : turn.state.count < number = grind (arith, nat_tests) in
+          absurd (omega (
+            arith,
+            (h.timed number).counted above,
+            set_for-cons turn.state.me Timeout number (event_of key target (body.Timeout number)) rest,
+            set_here turn.state.me Timeout number (event_of key target (body.Timeout number)) here ∙ ap (λ (b : Bool). cond b 1 0) (same_node number),
+          ))
+      by false test = grind (arith, nat_tests)
+
+-- a timeout of a number that no call has is over
+timeout_over : (sc : Scenario) (claim : Timer → ℕ) (owed : ℕ) (rest : List (Event Body)) (key : Key) (target number : ℕ) (turn : Turn)
+    → numbered number turn.state.calls ≡ 0 → IsOngoing sc claim owed (event_of key target (body.Timeout number) ∷ rest) turn → IsOngoing sc claim owed rest turn
+timeout_over sc claim owed rest key target number turn none h =
+    going_over sc claim rest owed (event_of key target (body.Timeout number)) turn (λ other. by other (number == other) refl)
+    (λ t lived. inr (lived_no_timeout number t turn.state.epoch lived)) h
+  where
+    by : (other : ℕ) (b : Bool) → (number == other) ≡ b → (numbered other turn.state.calls ≡ 0) ⊎ ((number == other) ≡ false)
+    by other true test =
+        let same : number ≡ other = grind (arith, nat_tests) in inl (ap (λ (n : ℕ). numbered n turn.state.calls) (sym same) ∙ none)
+    by other false test = inr test
+
+-- the call of a timeout is taken out
+call_taken : (sc : Scenario) (claim : Timer → ℕ) (rest : List (Event Body)) (key : Key) (target number : ℕ) (call : Call) (turn : Turn)
+    → IsAsked number call turn.state.calls turn.state.status turn.state.via turn.state.join
+    → IsOngoing sc claim 0 (event_of key target (body.Timeout number) ∷ rest) turn → IsOngoing sc claim (owes call.purpose) rest (without_call number turn)
+call_taken sc claim rest key target number call turn asked h =
+    timeout_over sc claim (owes call.purpose) rest key target number (without_call number turn) (numbered_same number turn.state.calls)
+    (going_without sc claim (event_of key target (body.Timeout number) ∷ rest) number call turn asked.distinct asked.found h)
+
+-- a call without a reply is over
+going_call_over : (sc : Scenario) (claim : Timer → ℕ) (rest : List (Event Body)) (key : Key) (target number : ℕ) (call : Call) (turn : Turn)
+    → IsAsked number call turn.state.calls turn.state.status turn.state.via turn.state.join
+    → IsOngoing sc claim 0 (event_of key target (body.Timeout number) ∷ rest) turn → IsOngoing sc claim 0 rest (call_over sc number call turn)
+going_call_over sc claim rest key target number call turn asked h =
+    going_timed_out sc claim rest number call.to call.purpose (without_call number turn) asked.joins asked.others asked.has_via asked.has_attempt
+    (call_taken sc claim rest key target number call turn asked h)
+
+via_of_member : (sc : Scenario) (s : Status) (via : Option ℕ) (succ fingers : List ℕ) (join : Option Attempt) → s ≡ status.Member
+    → FitsStatus sc s via succ fingers join → IsSome via
+via_of_member sc status.Down via succ fingers join is fits = absurd (cc)
+via_of_member sc status.Joining via succ fingers join is fits = absurd (cc)
+via_of_member sc status.Member via succ fingers join is fits = fits.has_via
+
+-- the node that was asked is taken for dead
+going_call_given_up : (sc : Scenario) (claim : Timer → ℕ) (rest : List (Event Body)) (key : Key) (target number : ℕ) (call : Call) (turn : Turn)
+    → IsNodeState sc turn.state → IsAsked number call turn.state.calls turn.state.status turn.state.via turn.state.join
+    → IsOngoing sc claim 0 (event_of key target (body.Timeout number) ∷ rest) turn → IsOngoing sc claim 0 rest (call_given_up sc number call turn)
+unfolding call_given_up
+going_call_given_up sc claim rest key target number call turn known asked h =
+    let mid : Turn = noted (line.Timeout call.to) turn in
+    going_if (IsOngoing sc claim 0 rest) (sc.rules.drop_silent && is_member turn.state) _ _
+    (λ drops.
+    let member : turn.state.status ≡ status.Member = member_is turn.state.status (and_both sc.rules.drop_silent (is_member turn.state) drops).1 in
+    going_dropped sc claim rest call.to (call_over sc number call) mid member
+    (via_of_member sc turn.state.status turn.state.via turn.state.succ turn.state.fingers turn.state.join member known.status)
+    (timeout_over sc claim 0 rest key target number (record mid { state = record mid.state { calls = [] } }) refl
+    (going_cleared sc claim (event_of key target (body.Timeout number) ∷ rest) mid member h))
+    (λ succ fingers lines.
+    going_call_over sc claim rest key target number call (record mid { state = record mid.state { succ = succ; fingers = fingers }; lines = lines }) asked h))
+    (λ keeps. going_call_over sc claim rest key target number call mid asked h)
+
+-- a call that waits knows what it has asked for
+request_known : (sc : Scenario) (number : ℕ) (call : Call) (wanted : Purpose) (s : NodeState) → call.purpose ≡ wanted
+    → IsAsked number call s.calls s.status s.via s.join → IsNodeState sc s → IsSome (request_again sc number wanted s)
+request_known sc number call purpose.Lookup s is asked known = by (find (λ (l : Lookup). l.call == number) s.lookups) refl
+  where
+    one : waiting number s.lookups ≡ 1
+    one =
+        known.matched number ∙ asking_found number s.calls call asked.distinct asked.found
+        ∙ ap (λ (p : Purpose). cond (is_for_lookup p) 1 0) is
+
+    by : (o : Option Lookup) → find (λ (l : Lookup). l.call == number) s.lookups ≡ o
+        → IsSome (option_map (λ (lookup : Lookup). request.Step lookup.key lookup.avoid) o)
+    by None none = absurd (omega (arith, none_found (λ (l : Lookup). l.call == number) s.lookups none, one))
+    by (Some lookup) found = refl
+request_known sc number call purpose.JoinStep s is asked known = by s.join (asked.has_attempt (ap is_for_join is))
+  where
+    by : (o : Option Attempt) → IsSome o → IsSome (option_map (λ (attempt : Attempt). own_step sc attempt.avoid s) o)
+    by None has = absurd (cc)
+    by (Some attempt) has = refl
+request_known sc number call _ s is asked known = refl
+
+-- a call is sent again, and has its next timeout
+going_call_repeated : (sc : Scenario) (claim : Timer → ℕ) (rest : List (Event Body)) (key : Key) (target number : ℕ) (call : Call) (turn : Turn)
+    → target ≡ turn.state.me → call.resent < sc.retries → IsNodeState sc turn.state
+    → IsAsked number call turn.state.calls turn.state.status turn.state.via turn.state.join
+    → IsOngoing sc claim 0 (event_of key target (body.Timeout number) ∷ rest) turn → IsOngoing sc claim 0 rest (call_repeated sc number call turn)
+unfolding call_repeated
+going_call_repeated sc claim rest key target number call turn here few known asked h =
+    going_with (IsOngoing sc claim 0 rest) (request_again sc number call.purpose turn.state) (asked_again sc number call) turn
+    (request_known sc number call call.purpose turn.state refl asked known)
+    (λ request found.
+    going_asked sc claim rest request (sent_once_more number call) (noted (line.Again (kind_of request) call.to) (without_call number turn))
+    (omega (arith, few)) (omega (arith, timeout_counted sc claim rest key target number turn here h))
+    (timeout_was_alone sc claim rest key target number turn here h)
+    (call_taken sc claim rest key target number call turn asked h))
+
+going_timeout : (sc : Scenario) (claim : Timer → ℕ) (rest : List (Event Body)) (key : Key) (target number : ℕ) (turn : Turn)
+    → target ≡ turn.state.me → IsNodeState sc turn.state
+    → IsOngoing sc claim 0 (event_of key target (body.Timeout number) ∷ rest) turn → IsOngoing sc claim 0 rest (timeout sc number turn)
+unfolding timeout
+going_timeout sc claim rest key target number turn here known h = by (call_of number turn.state) refl
+  where
+    by : (o : Option Call) → call_of number turn.state ≡ o → IsOngoing sc claim 0 rest (when_some o (call_timed_out sc number) turn)
+    by None none =
+        timeout_over sc claim 0 rest key target number turn (none_found (λ (c : Call). c.number == number) turn.state.calls none) h
+    by (Some call) found =
+        let asked = asked_by sc number call turn.state found known in
+        going_if (IsOngoing sc claim 0 rest) (nat_lt call.resent sc.retries) _ _
+        (λ again.
+        let few : call.resent < sc.retries = grind (arith, nat_tests) in
+        going_call_repeated sc claim rest key target number call turn here few known asked h)
+        (λ over. going_call_given_up sc claim rest key target number call turn known asked h)
+
+-- Timers that only some scenarios want, and commands
+
+module _ (sc : Scenario) (rest : List (Event Body)) (key : Key) (target : ℕ) where
+  going_random_lookup : (claim : Timer → ℕ) (turn : Turn) → IsOngoing sc claim 0 rest turn → IsOngoing sc claim 0 rest (random_lookup sc turn)
+  unfolding random_lookup
+  going_random_lookup claim turn h =
+      going_user_lookup sc claim rest (random_key sc turn.time turn.state) (record turn { state = after_words (key_words sc.bits) turn.state }) h
+
+  traffic_set : (claim : Timer → ℕ) (epoch : ℕ) (turn : Turn) → target ≡ turn.state.me → IsFresh epoch turn.state → IsSome sc.lookups
+      → IsOngoing sc claim 0 (event_of key target (body.TrafficTick epoch) ∷ rest) turn → IsOngoing sc claim 0 rest (traffic_armed sc turn)
+  unfolding traffic_armed
+  traffic_set claim epoch turn here fresh wants h = by sc.lookups wants
+    where
+      by : (o : Option Span) → IsSome o
+          → IsOngoing sc claim 0 rest (row_armed sc (option_map (λ (gap : Span). (gap, body.TrafficTick turn.state.epoch)) o) turn)
+      by None has = absurd (cc)
+      by (Some gap) has =
+          going_set_again sc claim rest key target gap (body.TrafficTick epoch) (body.TrafficTick turn.state.epoch) turn here
+          (ap (λ (n : ℕ). body.TrafficTick n) (sym fresh.same)) h
+
+  -- whether a tick of this life is of its epoch
+  own_epoch : (epoch : ℕ) (turn : Turn) → IsFresh epoch turn.state → (epoch == turn.state.epoch) ≡ true
+  own_epoch epoch turn fresh = ap (λ (n : ℕ). epoch == n) fresh.same ∙ same_node epoch
+
+  going_traffic_tick : (epoch : ℕ) (turn : Turn) → target ≡ turn.state.me
+      → IsOngoing sc (wanted sc turn.state.me) 0 (event_of key target (body.TrafficTick epoch) ∷ rest) turn
+      → IsOngoing sc (wanted sc turn.state.me) 0 rest (traffic_tick sc epoch turn)
+  unfolding traffic_tick
+  going_traffic_tick epoch turn here h =
+      let claim : Timer → ℕ = wanted sc turn.state.me in
+      going_if (IsOngoing sc claim 0 rest) (is_void epoch turn.state || not (is_some sc.lookups)) turn _
+      (λ void. by (is_void epoch turn.state) refl (is_some sc.lookups) refl void)
+      (λ fresh.
+      let parts = or_false (is_void epoch turn.state) (not (is_some sc.lookups)) fresh in
+      let g : IsOngoing sc claim 0 rest (traffic_armed sc turn) =
+      traffic_set claim epoch turn here (fresh_by epoch turn.state parts.0) (not_false (is_some sc.lookups) parts.1) h in
+      going_if (IsOngoing sc claim 0 rest) (is_joining turn.state) _ _
+      (λ joining. g)
+      (λ member. going_random_lookup claim (traffic_armed sc turn) g))
+    where
+      by : (v : Bool) → is_void epoch turn.state ≡ v → (b : Bool) → is_some sc.lookups ≡ b → (v || not b) ≡ true
+          → IsOngoing sc (wanted sc turn.state.me) 0 rest turn
+      by true void b wants is =
+          going_void sc (wanted sc turn.state.me) rest key target epoch (body.TrafficTick epoch) turn (traffic_is epoch).no_timeout (traffic_is epoch).others void h
+      by false fresh true wants is = absurd (cc)
+      by false fresh false wants is =
+          let life = fresh_by epoch turn.state fresh in
+          absurd (unwanted sc (wanted sc turn.state.me) rest key target Traffic (body.TrafficTick epoch) turn here refl life.up (own_epoch epoch turn life)
+          (ap (λ (b : Bool). if b then 1 else 0) wants) h)
+
+  -- a node that goes down needs no event any more
+  over_down : (claim : Timer → ℕ) (message : Body) (turn : Turn) → IsOngoing sc claim 0 (event_of key target message ∷ rest) turn
+      → IsOngoing sc claim 0 rest (gone_down sc turn)
+  over_down claim message turn h =
+      going_over sc claim rest 0 (event_of key target message) (gone_down sc turn) (λ number. inl refl) (λ t lived. inl refl)
+      (going_down sc claim (event_of key target message ∷ rest) 0 turn h)
+
+  going_life_end : (epoch : ℕ) (turn : Turn) → target ≡ turn.state.me
+      → IsOngoing sc (wanted sc turn.state.me) 0 (event_of key target (body.LifeEnd epoch) ∷ rest) turn
+      → IsOngoing sc (wanted sc turn.state.me) 0 rest (life_end sc epoch turn)
+  unfolding life_end
+  going_life_end epoch turn here h =
+      let claim : Timer → ℕ = wanted sc turn.state.me in
+      going_if (IsOngoing sc claim 0 rest) (is_void epoch turn.state || not (is_churn_node sc turn.state.me)) turn _
+      (λ void. by (is_void epoch turn.state) refl (is_churn_node sc turn.state.me) refl void)
+      (λ fresh.
+      going_rise_armed sc claim rest (gone_down sc (noted line.Crash turn))
+      (over_down claim (body.LifeEnd epoch) (noted line.Crash turn) h))
+    where
+      by : (v : Bool) → is_void epoch turn.state ≡ v → (b : Bool) → is_churn_node sc turn.state.me ≡ b → (v || not b) ≡ true
+          → IsOngoing sc (wanted sc turn.state.me) 0 rest turn
+      by true void b churns is =
+          going_void sc (wanted sc turn.state.me) rest key target epoch (body.LifeEnd epoch) turn (life_is epoch).no_timeout (life_is epoch).others void h
+      by false fresh true churns is = absurd (cc)
+      by false fresh false churns is =
+          let life = fresh_by epoch turn.state fresh in
+          absurd (unwanted sc (wanted sc turn.state.me) rest key target Life (body.LifeEnd epoch) turn here refl life.up (own_epoch epoch turn life)
+          (ap (λ (b : Bool). if b then 1 else 0) churns) h)
+
+  check_set : (claim : Timer → ℕ) (epoch : ℕ) (turn : Turn) → target ≡ turn.state.me → IsFresh epoch turn.state → claim Check ≡ (if sc.check == 0 then 0 else 1)
+      → IsOngoing sc claim 0 (event_of key target (body.CheckTick epoch) ∷ rest) turn → IsOngoing sc claim 0 rest (check_armed sc turn)
+  unfolding check_armed
+  check_set claim epoch turn here fresh wants h = by (sc.check == 0) wants
+    where
+      by : (b : Bool) → claim Check ≡ (if b then 0 else 1)
+          → IsOngoing sc claim 0 rest (row_armed sc (if b then None else Some (jittered sc.check sc.jitters.check, body.CheckTick turn.state.epoch)) turn)
+      by true none =
+          absurd (unwanted sc claim rest key target Check (body.CheckTick epoch) turn here refl fresh.up (own_epoch epoch turn fresh) none h)
+      by false some =
+          going_set_again sc claim rest key target (jittered sc.check sc.jitters.check) (body.CheckTick epoch) (body.CheckTick turn.state.epoch) turn here
+          (ap (λ (n : ℕ). body.CheckTick n) (sym fresh.same)) h
+
+  going_check_tick : (epoch : ℕ) (turn : Turn) → target ≡ turn.state.me
+      → IsOngoing sc (wanted sc turn.state.me) 0 (event_of key target (body.CheckTick epoch) ∷ rest) turn
+      → IsOngoing sc (wanted sc turn.state.me) 0 rest (check_tick sc epoch turn)
+  unfolding check_tick
+  going_check_tick epoch turn here h =
+      let claim : Timer → ℕ = wanted sc turn.state.me in
+      let armed : Turn = check_armed sc turn in
+      going_if (IsOngoing sc claim 0 rest) (is_void epoch turn.state) turn _
+      (λ void. going_void sc claim rest key target epoch (body.CheckTick epoch) turn (check_is epoch).no_timeout (check_is epoch).others void h)
+      (λ fresh.
+      let g : IsOngoing sc claim 0 rest armed = check_set claim epoch turn here (fresh_by epoch turn.state fresh) refl h in
+      going_if (IsOngoing sc claim 0 rest) (is_joining turn.state || has_ping_call turn.state) armed _
+      (λ busy. g)
+      (λ idle. going_when (IsOngoing sc claim 0 rest) armed.state.prdc _ armed g
+      (λ prdc found. going_called_else sc claim rest prdc request.Ping purpose.Check armed refl g)))
+
+module _ (sc : Scenario) (rest : List (Event Body)) (ranges : IsInRange sc) (turn : Turn) (known : IsNodeState sc turn.state)
+    (h : IsOngoing sc (wanted sc turn.state.me) 0 rest turn) where
+  going_up : (via : ℕ) → turn.state.status ≡ status.Down → IsOngoing sc (wanted sc turn.state.me) 0 rest (came_up sc via turn)
+  going_up via down =
+      going_came_up sc rest via turn ranges (count_down is_for_join turn.state.status turn.state.calls down known.calls.purposes) h
+
+  going_cmd_join : (via : ℕ) → IsOngoing sc (wanted sc turn.state.me) 0 rest (cmd_join sc via turn)
+  unfolding cmd_join
+  going_cmd_join via =
+      going_if (IsOngoing sc (wanted sc turn.state.me) 0 rest) (not (is_down turn.state)) _ _
+      (λ up. h)
+      (λ down. going_up via (down_by turn.state.status (not_false (is_down turn.state) down)))
+
+  going_rise : (epoch : ℕ) → IsOngoing sc (wanted sc turn.state.me) 0 rest (rise sc epoch turn)
+  unfolding rise
+  going_rise epoch =
+      going_if (IsOngoing sc (wanted sc turn.state.me) 0 rest) (not (turn.state.epoch == epoch) || not (is_down turn.state)) turn _
+      (λ void. h)
+      (λ due.
+      let parts = or_false (not (turn.state.epoch == epoch)) (not (is_down turn.state)) due in
+      going_when (IsOngoing sc (wanted sc turn.state.me) 0 rest) turn.state.via (came_up sc) turn h
+      (λ via found. going_up via (down_by turn.state.status (not_false (is_down turn.state) parts.1))))
+
+  going_cmd_crash : IsOngoing sc (wanted sc turn.state.me) 0 rest (cmd_crash sc turn)
+  unfolding cmd_crash
+  going_cmd_crash =
+      going_if (IsOngoing sc (wanted sc turn.state.me) 0 rest) (is_down turn.state) _ _
+      (λ down. h)
+      (λ up. going_down sc (wanted sc turn.state.me) rest 0 (noted line.Crash turn) h)
+
+  going_cmd_lookup : (asked : ℕ) → IsOngoing sc (wanted sc turn.state.me) 0 rest (cmd_lookup sc asked turn)
+  unfolding cmd_lookup
+  going_cmd_lookup asked =
+      going_if (IsOngoing sc (wanted sc turn.state.me) 0 rest) (not (is_member turn.state)) _ _
+      (λ other. h)
+      (λ member. going_user_lookup sc (wanted sc turn.state.me) rest asked turn h)
+
+-- The whole table
+
+module _ (sc : Scenario) (rest : List (Event Body)) (ranges : IsInRange sc) (sender : ℕ) (key : Key) (target : ℕ) (turn : Turn)
+    (here : target ≡ turn.state.me) (known : IsNodeState sc turn.state) where
+  going_acted : (message : Body) → IsOngoing sc (wanted sc turn.state.me) 0 (event_of key target message ∷ rest) turn
+      → IsOngoing sc (wanted sc turn.state.me) 0 rest (acted sc sender message turn)
+  going_acted (body.CmdJoin via) h =
+      going_cmd_join sc rest ranges turn known (going_past sc (wanted sc turn.state.me) rest (event_of key target (body.CmdJoin via)) turn (λ t number. refl) h) via
+  going_acted body.CmdCrash h =
+      going_cmd_crash sc rest ranges turn known (going_past sc (wanted sc turn.state.me) rest (event_of key target body.CmdCrash) turn (λ t number. refl) h)
+  going_acted (body.CmdLookup asked) h =
+      going_cmd_lookup sc rest ranges turn known (going_past sc (wanted sc turn.state.me) rest (event_of key target (body.CmdLookup asked)) turn (λ t number. refl) h) asked
+  going_acted (body.StabilizeTick epoch) h = going_stabilize_tick sc (wanted sc turn.state.me) rest key target epoch turn here h
+  going_acted (body.FingerTick epoch) h = going_finger_tick sc (wanted sc turn.state.me) rest key target epoch turn here h
+  going_acted (body.TrafficTick epoch) h = going_traffic_tick sc rest key target epoch turn here h
+  going_acted (body.LifeEnd epoch) h = going_life_end sc rest key target epoch turn here h
+  going_acted (body.Rise epoch) h =
+      going_rise sc rest ranges turn known (going_past sc (wanted sc turn.state.me) rest (event_of key target (body.Rise epoch)) turn (λ t number. refl) h) epoch
+  going_acted (body.CheckTick epoch) h = going_check_tick sc rest key target epoch turn here h
+  going_acted (body.Rejoin epoch) h = going_rejoin sc (wanted sc turn.state.me) rest key target epoch turn here h known
+  going_acted (body.Timeout number) h = going_timeout sc (wanted sc turn.state.me) rest key target number turn here known h
+  going_acted (body.Step number asked avoid) h =
+      going_step_asked sc (wanted sc turn.state.me) rest sender number asked avoid turn
+      (going_past sc (wanted sc turn.state.me) rest (event_of key target (body.Step number asked avoid)) turn (λ t n. refl) h)
+  going_acted (body.GetState number) h =
+      going_state_asked sc (wanted sc turn.state.me) rest sender number turn
+      (going_past sc (wanted sc turn.state.me) rest (event_of key target (body.GetState number)) turn (λ t n. refl) h)
+  going_acted (body.GetList number) h =
+      going_list_asked sc (wanted sc turn.state.me) rest sender number turn
+      (going_past sc (wanted sc turn.state.me) rest (event_of key target (body.GetList number)) turn (λ t n. refl) h)
+  going_acted (body.Ping number) h =
+      going_pinged sc (wanted sc turn.state.me) rest sender number turn
+      (going_past sc (wanted sc turn.state.me) rest (event_of key target (body.Ping number)) turn (λ t n. refl) h)
+  going_acted body.Notify h =
+      going_notified sc (wanted sc turn.state.me) rest sender turn
+      (going_past sc (wanted sc turn.state.me) rest (event_of key target body.Notify) turn (λ t n. refl) h)
+  going_acted (body.StepReply number a) h =
+      going_step_replied sc (wanted sc turn.state.me) rest sender number a turn known
+      (going_past sc (wanted sc turn.state.me) rest (event_of key target (body.StepReply number a)) turn (λ t n. refl) h)
+  going_acted (body.StateReply number prdc list) h =
+      going_state_replied sc (wanted sc turn.state.me) rest sender number prdc list turn known
+      (going_past sc (wanted sc turn.state.me) rest (event_of key target (body.StateReply number prdc list)) turn (λ t n. refl) h)
+  going_acted (body.ListReply number list) h =
+      going_list_replied sc (wanted sc turn.state.me) rest sender number list turn known
+      (going_past sc (wanted sc turn.state.me) rest (event_of key target (body.ListReply number list)) turn (λ t n. refl) h)
+  going_acted (body.Pong number) h =
+      going_ponged sc (wanted sc turn.state.me) rest sender number turn known
+      (going_past sc (wanted sc turn.state.me) rest (event_of key target (body.Pong number)) turn (λ t n. refl) h)
+
+going_detailed : (sc : Scenario) (claim : Timer → ℕ) (rest : List (Event Body)) (turn : Turn) → IsOngoing sc claim 0 rest turn
+    → IsOngoing sc claim 0 rest (detailed sc turn)
+unfolding detailed
+going_detailed sc claim rest turn h = going_if (IsOngoing sc claim 0 rest) sc.detail _ turn (λ tells. h) (λ silent. h)
+
+-- what a node waits for stays pending, whatever event it acts on
+pub going_effect : (sc : Scenario) (rest : List (Event Body)) (s : NodeState) (e : Event Body) → IsInRange sc → IsNodeState sc s → e.target ≡ s.me
+    → IsOngoing sc (wanted sc s.me) 0 (e ∷ rest) (opening s e) → IsOngoing sc (wanted sc s.me) 0 rest (effect sc s e)
+unfolding effect
+going_effect sc rest s e ranges known here h =
+    going_detailed sc (wanted sc s.me) rest (acted sc (e.key.origin - 2) e.body (opening s e))
+    (going_acted sc rest ranges (e.key.origin - 2) e.key e.target (opening s e) here known e.body h)
