@@ -51,7 +51,7 @@ pub record From {A B : Type 0} (f : A → B) (xs : List A) (y : B) : Type 0 wher
   pub among : Contains xs source
   pub made : f source ≡ y
 
-mapped-from : {A B : Type 0} (f : A → B) (xs : List A) (y : B) → Contains (map f xs) y → From f xs y
+pub mapped-from : {A B : Type 0} (f : A → B) (xs : List A) (y : B) → Contains (map f xs) y → From f xs y
 mapped-from f [] y c = absurd (contains_none y c)
 mapped-from f (x ∷ xs) y c = ⊎_elim
     (λ e. record { source = x; among = contains_here x xs; made = e })
@@ -63,7 +63,7 @@ pub record Numbered {A : Type 0} (first : ℕ) (xs : List A) (p : ℕ × A) : Ty
   pub least : first ≤ p.0
   pub most : p.0 < first + length xs
 
-numbered : {A : Type 0} (first : ℕ) (xs : List A) (p : ℕ × A) → Contains (enumerate_from first xs) p → Numbered first xs p
+pub numbered : {A : Type 0} (first : ℕ) (xs : List A) (p : ℕ × A) → Contains (enumerate_from first xs) p → Numbered first xs p
 numbered first [] p c = absurd (contains_none p c)
 numbered {A} first (x ∷ xs) p c = ⊎_elim
     (λ e. subst (λ (q : ℕ × A). Numbered first (x ∷ xs) q) e (record { among = contains_here x xs; least = omega arith; most = omega arith }))
@@ -147,7 +147,7 @@ ticks : (sc : Scenario) (n : ℕ) (timer : Span × Body) → Contains (timers sc
 unfolding timers
 ticks sc n timer c = ticks-in sc (timer_table sc n 1) timer (table_ticks sc n 1) c
 
-timers-are : (sc : Scenario) (n : ℕ) (e : Event Body) → Contains (first_timers sc n) e → IsFirstTimer sc n e
+pub timers-are : (sc : Scenario) (n : ℕ) (e : Event Body) → Contains (first_timers sc n) e → IsFirstTimer sc n e
 unfolding first_timers
 timers-are sc n e c =
     let from = mapped-from (λ (p : ℕ × (Span × Body)). timer_event sc n p.0 p.1) (enumerate_from 0 (timers sc n)) e c in

@@ -2,6 +2,7 @@
 
 ghost use Rattle.chord_machine.specs.Chord.{chord};
 ghost use Rattle.chord_machine.specs.AuditTimes.{AreAuditsInTime};
+ghost use Rattle.chord_machine.specs.Ongoing.{CallsAreRepeatedSeldom, CallsAreTimed, JoinsGoOn, TimersLive};
 ghost use Rattle.chord_machine.specs.Room.{RoomIsLeft};
 ghost use Rattle.chord_machine.specs.Sound.{HistoriesAreSound};
 ghost use Rattle.chord_model.specs.Laws.{AuditsSeeAll, EndsAreWhole, EventsCloseAudits, HistoryIsLegal, HistoryIsWhole, KeysAreDistinct, LegalIsAscending, LegalIsPossible, LegalIsUnique, NextIsFound, OthersKeepTheirStates, PendingIsTheRest, PendingMoves, TraceGrows};
@@ -91,4 +92,25 @@ pub fn audits_see_all()
 /// An event closes the audits up to its time.
 pub fn events_close_audits()
     ensures { (sc : Scenario) → IsInRange sc → EventsCloseAudits (chord sc) }
+{}
+
+/// Each outstanding call has exactly one timeout pending: it is answered, or times out.
+pub fn calls_are_timed()
+    ensures { (sc : Scenario) → IsInRange sc → CallsAreTimed sc }
+{}
+
+/// No call is sent again more often than the scenario says.
+pub fn calls_are_repeated_seldom()
+    ensures { (sc : Scenario) → IsInRange sc → CallsAreRepeatedSeldom sc }
+{}
+
+/// A joining node has one call of its join outstanding, or one pause in it pending: no join is
+/// forgotten, and none goes on twice.
+pub fn joins_go_on()
+    ensures { (sc : Scenario) → IsInRange sc → JoinsGoOn sc }
+{}
+
+/// A node that is not down has each tick of its life pending exactly once, if the scenario wants it.
+pub fn timers_live()
+    ensures { (sc : Scenario) → IsInRange sc → TimersLive sc }
 {}

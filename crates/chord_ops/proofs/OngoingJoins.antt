@@ -280,7 +280,7 @@ pub record IsTickOf (epoch : ℕ) (message : Body) : Type 0 where
   pub others : (t : Timer) (number : ℕ) → number ≢ epoch → is_timer message t number ≡ false
 
 -- a row that has one, if it has any
-abbrev HasTickOf : (epoch : ℕ) → Option (Span × Body) → Type 0
+abbrev pub HasTickOf : (epoch : ℕ) → Option (Span × Body) → Type 0
 HasTickOf epoch row = IfSome row (λ timer. IsTickOf epoch timer.1)
 
 pub stabilize_is : (epoch : ℕ) → IsTickOf epoch (body.StabilizeTick epoch)
@@ -464,7 +464,7 @@ module _ (sc : Scenario) (n epoch : ℕ) (ranges : IsInRange sc) where
   table_claims Timeout is = absurd (cc)
 
 -- each row of the table is a tick of the life
-table_of_life : (sc : Scenario) (n epoch : ℕ) → AllByRecursion (HasTickOf epoch) (timer_table sc n epoch)
+pub table_of_life : (sc : Scenario) (n epoch : ℕ) → AllByRecursion (HasTickOf epoch) (timer_table sc n epoch)
 table_of_life sc n epoch =
     let is : Span × Body → Type 0 = λ timer. IsTickOf epoch timer.1 in
     (
