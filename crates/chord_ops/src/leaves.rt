@@ -29,7 +29,7 @@ fn inherited(gone: u32, prdc: Option<u32>, own: Option<u32>) -> Option<u32>
 
 impl Turn {
     /// Tells another node which predecessor and which successors this one has, since it leaves.
-    fn tell(&mut self, scenario: &Scenario, to: u32) -> Result<(), Memory>
+    fn tell_of_leave(&mut self, scenario: &Scenario, to: u32) -> Result<(), Memory>
         requires can_act { CanAct scenario.now 1 2 self.old }
         requires to { to < node_count scenario.now }
         ensures value { OnOk result (self.new ≡ told scenario.now to self.old) }
@@ -54,7 +54,7 @@ impl Turn {
         if self.state.prdc == Some(head) {
             Ok(())
         } else {
-            self.tell(scenario, head)
+            self.tell_of_leave(scenario, head)
         }
     }
 
@@ -70,7 +70,7 @@ impl Turn {
         let head = head_of(&self.state);
         self.note(Line::Leave)?;
         if let Some(prdc) = self.state.prdc {
-            self.tell(scenario, prdc)?;
+            self.tell_of_leave(scenario, prdc)?;
         }
         if let Some(head) = head {
             self.tell_head(scenario, head)?;

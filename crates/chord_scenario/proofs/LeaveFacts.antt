@@ -1,5 +1,5 @@
 -- What a file without faults of keys says of leaves.
-use Rattle.std.proofs.Common.{◌≡◌, ◌≢◌, ◌==◌, sym, ap, ℕ, Bool, true, false, not, ◌&&◌, List, [], ◌∷◌, filter, map, Option, Some, None, inl, inr}
+use Rattle.std.proofs.Common.{◌≡◌, ◌≢◌, ◌==◌, sym, refl, ℕ, Bool, true, false, not, ◌&&◌, List, [], ◌∷◌, filter, map, Option, Some, None, inl, inr}
 use Rattle.std.specs.Option.{option_map_or, option_and_then}
 use Rattle.std.specs.List.{AllByRecursion}
 use Rattle.std.proofs.lemmas.Bool.{cases_Bool, and_parts, false≢true}
@@ -12,6 +12,7 @@ use Rattle.chord_scenario.specs.declared.keys_check.Needs.{Needs}
 use Rattle.chord_scenario.specs.declared.operation.Operation.{Operation as AnOperation}
 use Rattle.chord_scenario.specs.declared.operation.Operation.TheVariants as operation
 use Rattle.chord_scenario.specs.declared.setting.Action.TheVariants as action
+use Rattle.chord_scenario.specs.declared.setting.Command.{Command}
 use Rattle.chord_scenario.specs.declared.setting.Node.{Node}
 use Rattle.chord_scenario.specs.FileKeys.{required}
 use Rattle.chord_scenario.specs.Operations.{is_allowed, operation_named}
@@ -59,18 +60,19 @@ module _ (profile bits : ℕ) (needs : Needs) (not_extended : profile == 4 ≡ f
       asks_no_leave circle nodes ms (operation_at ms)
       (no_leave_among bits _ (data_at key.Do ms) (rw not_extended at (not_out sound (required key.Do (Operation (profile == 4))) refl)))
 
+  each_stays : (circle : ℕ) (nodes : List Node) (ss : List Section) → AllByRecursion (IsSound profile bits needs) ss
+      → AllByRecursion (λ (command : Command). command.action ≢ action.Leave)
+      (map (λ s. command_of circle nodes s.members) (filter (λ s. is_command s.at) ss))
+  unfolding command_of
+  each_stays circle nodes [] sound = tt
+  each_stays circle nodes (s ∷ ss) sound =
+      elim (cases_Bool (is_command s.at)) [
+        | inl here ↦ rw here (stays s.at s.members circle nodes here sound.0, each_stays circle nodes ss sound.1)
+        | inr other ↦ rw other (each_stays circle nodes ss sound.1)
+      ]
+
   -- no command of the first two profiles is a leave
   pub no_leave_commands : (circle : ℕ) (nodes : List Node) (ss : List Section) → AllByRecursion (IsSound profile bits needs) ss
-      → AllByRecursion (λ command. command.action ≢ action.Leave) (commands_of circle nodes ss)
+      → AllByRecursion (λ (command : Command). command.action ≢ action.Leave) (commands_of circle nodes ss)
   unfolding commands_of
-  no_leave_commands circle nodes ss sound = each ss sound
-    where
-      each : (ss : List Section) → AllByRecursion (IsSound profile bits needs) ss
-          → AllByRecursion (λ command. command.action ≢ action.Leave) (map (λ s. command_of circle nodes s.members) (filter (λ s. is_command s.at) ss))
-      unfolding command_of
-      each [] sound = tt
-      each (s ∷ ss) sound =
-          elim (cases_Bool (is_command s.at)) [
-            | inl here ↦ rw here (stays s.at s.members circle nodes here sound.0, each ss sound.1)
-            | inr other ↦ rw other (each ss sound.1)
-          ]
+  no_leave_commands circle nodes ss sound = each_stays circle nodes ss sound

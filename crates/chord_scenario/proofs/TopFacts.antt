@@ -51,6 +51,7 @@ use Rattle.chord_scenario.specs.declared.key.Form.TheVariants.{Table, Tables, Wh
 use Rattle.chord_scenario.specs.declared.key.Presence.TheVariants.{ForChurn}
 use Rattle.chord_scenario.specs.declared.key.Group.{Group}
 use Rattle.chord_scenario.specs.declared.key.Group.TheVariants.{Nodes, Commands}
+use Rattle.chord_scenario.specs.declared.setting.Churn.{Churn}
 use Rattle.chord_scenario.specs.declared.setting.Command.{Command}
 use Rattle.chord_scenario.specs.declared.setting.Node.{Node}
 use Rattle.chord_scenario.specs.FileKeys.{key_name, required, optional}
@@ -390,7 +391,7 @@ module _ (profile bits : ℕ) (needs : Needs) where
 
   -- nobody leaves in the first two profiles
   stays : (o : Option Data) → (profile == 4) ≡ false → AllByRecursion (IsSound profile bits needs) (table_at place.Churn o)
-      → IfSome (option_map (λ ms. record {
+      → IfSome {T = Churn} (option_map (λ ms. record {
         life = record { least = number_at key.LifeMinUs ms; greatest = number_at key.LifeMaxUs ms };
         down = record { least = number_at key.DownMinUs ms; greatest = number_at key.DownMaxUs ms };
         leave = number_or 0 key.LeavePpm ms;
