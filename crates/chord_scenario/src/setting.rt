@@ -5,7 +5,7 @@ use crate::name::Name;
 use chord_circle::Ident;
 
 /// A node: its name, its place on the circle, whether it is a member of the ring at the start,
-/// whether it crashes and rises by itself, and whether it is a bootstrap node, one of those that
+/// whether it goes down and rises by itself, and whether it is a bootstrap node, one of those that
 /// joining nodes try in turn.
 #[derive(Drop)]
 pub struct Node {
