@@ -1,5 +1,5 @@
 -- A node that leaves, and the end of a life, keep the invariant.
-use Rattle.std.proofs.Common.{◌≡◌, ◌==◌, ℕ, ◌+◌, ◌<◌, not, ◌||◌, Option, refl}
+use Rattle.std.proofs.Common.{◌≡◌, ◌==◌, ℕ, ◌+◌, ◌<◌, ◌≤◌, not, ◌||◌, List, length, Option, refl}
 use Rattle.std.specs.Prelude.{IfSome, nat_lt, slice_get}
 use Rattle.chord_event.specs.declared.body.Body.TheVariants as body
 use Rattle.chord_event.specs.declared.line.CommandKind.TheVariants as command
@@ -10,12 +10,19 @@ use Rattle.chord_scenario.specs.declared.setting.Churn.{Churn}
 use Rattle.chord_scenario.specs.Draws.{leave_number}
 use Rattle.chord_scenario.specs.Range.{IsInRange}
 use Rattle.chord_scenario.specs.World.{is_churn_node, node_count}
+use Rattle.chord_node.specs.declared.state.Attempt.{Attempt}
+use Rattle.chord_node.specs.declared.state.NodeState.{NodeState}
+use Rattle.chord_node.specs.declared.state.Status.{Status}
+use Rattle.chord_node.specs.declared.state.Status.TheVariants as status
+use Rattle.chord_node.specs.Invariant.{AllNodes, FitsStatus, IsNodeState}
 use Rattle.chord_ops.specs.declared.turn.Turn.{Turn}
 use Rattle.chord_ops.specs.Procedures.{departed, head_told, holds, told}
-use Rattle.chord_ops.specs.Rules.{cmd_leave, crashed, is_down, is_void, life_end, life_over}
+use Rattle.chord_ops.specs.Rules.{cmd_leave, crashed, inherited, is_down, is_void, life_end, life_over, mended}
 use Rattle.chord_ops.specs.Sound.{IsSound}
 use Rattle.chord_ops.specs.Turns.{after_words, noted, when_some}
 use Rattle.chord_ops.proofs.Growing.{known}
+use Rattle.chord_ops.proofs.Heirs.{inherited_known, mended_few, mended_known, mended_some}
+use Rattle.chord_ops.proofs.KeptFields.{with_prdc, with_succ}
 use Rattle.chord_ops.proofs.KeptTurns.{kept_at_place, kept_noted}
 use Rattle.chord_ops.proofs.KeptRules.{first_known, kept_gone_down, kept_if, kept_sent, kept_when_some}
 use Rattle.chord_ops.proofs.KeptJoins.{kept_rise_armed}
@@ -65,3 +72,24 @@ kept_life_end sc epoch turn ranges h =
     (λ test. kept_rise_armed sc (when_some sc.churn (life_over sc epoch) turn)
     (kept_when_some sc (λ _. Unit {0}) sc.churn (life_over sc epoch) turn (known sc.churn) h
     (λ churn _. kept_life_over sc epoch churn turn ranges h)))
+
+-- Those that are left
+
+-- a member has a successor
+successor_of_member : (sc : Scenario) (s : Status) (via : Option ℕ) (succ fingers : List ℕ) (join : Option Attempt) → s ≡ status.Member
+    → FitsStatus sc s via succ fingers join → 1 ≤ length succ
+successor_of_member sc status.Down via succ fingers join is h = absurd (cc)
+successor_of_member sc status.Joining via succ fingers join is h = absurd (cc)
+successor_of_member sc status.Member via succ fingers join is h = h.has_successor
+
+-- a member whose neighbours have changed places with those of a node that has left
+pub heirs_fit : (sc : Scenario) (gone : ℕ) (prdc : Option ℕ) (list : List ℕ) (s : NodeState) → IsInRange sc → gone < node_count sc
+    → IfSome prdc (λ node. node < node_count sc) → AllNodes sc list → s.status ≡ status.Member → IsNodeState sc s
+    → IsNodeState sc (record s { prdc = inherited gone prdc s.prdc; succ = mended sc gone list s.succ })
+heirs_fit sc gone prdc list s ranges at known_prdc all member h =
+    let new : List ℕ = mended sc gone list s.succ in
+    let some : 1 ≤ length s.succ = successor_of_member sc s.status s.via s.succ s.fingers s.join member h.status in
+    with_prdc sc (record s { succ = new }) (inherited gone prdc s.prdc) (inherited_known sc gone prdc s.prdc known_prdc h.neighbours.prdc_known)
+    (with_succ sc s new (mended_known sc gone list s.succ at all h.neighbours.succ_known)
+    (mended_few sc gone list s.succ ranges.numbers.list_least h.neighbours.list)
+    (mended_some sc gone list s.succ some) h)

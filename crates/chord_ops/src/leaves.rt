@@ -111,6 +111,7 @@ impl Turn {
         requires list { AllNodes scenario.now list.now }
         ensures { OnOk result (self.new ≡ leave_heard scenario.now sender prdc list.now self.old) }
     {
+        scenario.recall_range();
         if !self.drop_unless_member(MessageKind::Leave, sender)? {
             return Ok(());
         }
