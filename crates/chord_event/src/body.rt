@@ -22,6 +22,7 @@ pub enum Body {
         via: u32,
     },
     CmdCrash,
+    CmdLeave,
     CmdLookup {
         key: Ident,
     },
@@ -65,6 +66,11 @@ pub enum Body {
         call: u64,
     },
     Notify,
+    /// The sender leaves. Its predecessor and its successors take its place.
+    Leave {
+        prdc: Option<u32>,
+        list: Listed<u32>,
+    },
     StepReply {
         call: u64,
         answer: Answer,
@@ -91,6 +97,7 @@ impl Body {
         let copy = match self {
             Body::CmdJoin { via } => Body::CmdJoin { via: *via },
             Body::CmdCrash => Body::CmdCrash,
+            Body::CmdLeave => Body::CmdLeave,
             Body::CmdLookup { key } => Body::CmdLookup { key: *key },
             Body::StabilizeTick { epoch } => Body::StabilizeTick { epoch: *epoch },
             Body::FingerTick { epoch } => Body::FingerTick { epoch: *epoch },
@@ -109,6 +116,10 @@ impl Body {
             Body::GetList { call } => Body::GetList { call: *call },
             Body::Ping { call } => Body::Ping { call: *call },
             Body::Notify => Body::Notify,
+            Body::Leave { prdc, list } => Body::Leave {
+                prdc: *prdc,
+                list: list.try_clone()?,
+            },
             Body::StepReply { call, answer } => Body::StepReply {
                 call: *call,
                 answer: *answer,

@@ -9,6 +9,7 @@ pub enum MessageKind {
     GetList,
     Ping,
     Notify,
+    Leave,
     StepReply,
     StateReply,
     ListReply,
@@ -20,6 +21,7 @@ pub enum MessageKind {
 pub enum CommandKind {
     Join,
     Crash,
+    Leave,
     Lookup,
 }
 
@@ -34,6 +36,8 @@ pub enum Line {
     },
     JoinFailed,
     Crash,
+    /// A node leaves, by a command or at the end of its life.
+    Leave,
     Stranded {
         via: u32,
     },
@@ -83,7 +87,7 @@ pub enum Line {
         key: Ident,
         since: u64,
     },
-    /// With detail: a reply or a notify that this node sends and the network does not lose.
+    /// With detail: a reply, a notify or a leave that this node sends and the network does not lose.
     Send {
         kind: MessageKind,
         receiver: u32,

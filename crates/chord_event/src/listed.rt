@@ -135,6 +135,14 @@ impl<T: Copy> Listed<T> {
         let items = Vec::from_slice(*self.items.allocator(), self.items.as_slice())?;
         Ok(Listed { items })
     }
+
+    /// Adds items at the end.
+    pub fn extend_from_slice(&mut self, items: &[T]) -> Result<(), Memory>
+        ensures { OnOk result (self.new ≡ self.old ++ items.now) }
+    {
+        self.items.extend_from_slice(items)?;
+        Ok(())
+    }
 }
 
 /// The number, or the new one in the place of the old.

@@ -95,6 +95,7 @@ pub record IsCommandEvent (sc : Scenario) (e : Event Body) : Type 0 where
 command_bodies : (sc : Scenario) (a : Action) → IsActionOf sc a → IsBody sc (command_body a)
 command_bodies sc (action.Join via) h = h
 command_bodies sc action.Crash h = tt
+command_bodies sc action.Leave h = tt
 command_bodies sc (action.Lookup key) h = h
 
 pub commands-are : (sc : Scenario) → IsInRange sc → (e : Event Body) → Contains (command_events sc) e → IsCommandEvent sc e

@@ -6,7 +6,9 @@ use Rattle.std.specs.Prelude.{IfSome, position, slice_get}
 use Rattle.chord_event.specs.declared.body.Answer.{Answer}
 use Rattle.chord_event.specs.declared.body.Answer.TheVariants as answer
 use Rattle.chord_event.specs.declared.body.Body.{Body}
+use Rattle.chord_event.specs.declared.body.Body.TheVariants as body
 use Rattle.chord_event.specs.declared.line.Line.TheVariants as line
+use Rattle.chord_event.specs.declared.line.MessageKind.TheVariants as kind
 use Rattle.chord_scenario.specs.declared.scenario.Scenario.{Scenario}
 use Rattle.chord_scenario.specs.declared.setting.Span.{Span}
 use Rattle.chord_scenario.specs.Start.{timer_table, traffic_timer, check_timer}
@@ -32,7 +34,11 @@ use Rattle.chord_ops.specs.Procedures.{
   lookup_resumed,
   past,
   created,
+  departed,
   gone_down,
+  head_told,
+  holds,
+  told,
   lookup_failed,
   lookup_finished,
   lookup_finished_for,
@@ -68,11 +74,12 @@ use Rattle.chord_ops.specs.Procedures.{
   check_armed,
 }
 use Rattle.chord_ops.specs.Search.{NamesNode, step_answer}
-use Rattle.chord_ops.specs.Turns.{called, noted, timer_made}
+use Rattle.chord_ops.specs.Turns.{called, noted, timer_made, when_some}
 use Rattle.chord_ops.proofs.Growing.{known}
 use Rattle.chord_ops.proofs.Found.{at_index_known}
 use Rattle.chord_ops.proofs.Vias.{moved_known, other_known}
 use Rattle.chord_ops.proofs.KeptTurns.{last_known, step_answer_names}
+use Rattle.chord_ops.proofs.KeptRules.{first_known}
 use Rattle.chord_ops.proofs.Noted.{
   HasNoted,
   KnowsNodes,
@@ -83,6 +90,7 @@ use Rattle.chord_ops.proofs.Noted.{
   noted_called,
   noted_if,
   noted_line,
+  noted_sent,
   noted_when_some,
   notes_cleared,
   notes_inserted,
@@ -327,3 +335,26 @@ noted_stranded sc n via turn at knows h =
             few_lost turn.time turn.state.lookups,
           );
     })
+
+-- Leaves
+
+noted_told : (sc : Scenario) (n to : ℕ) (turn : Turn) → to < node_count sc → HasNoted sc n turn → HasNoted sc (n + 1) (told sc to turn)
+noted_told sc n to turn at h =
+    noted_if sc (n + 1) (to == turn.state.me) turn _ (one_more sc n h)
+    (noted_sent sc n kind.Leave to (body.Leave turn.state.prdc turn.state.succ) turn at h)
+
+noted_head_told : (sc : Scenario) (n to : ℕ) (turn : Turn) → to < node_count sc → HasNoted sc n turn → HasNoted sc (n + 1) (head_told sc to turn)
+noted_head_told sc n to turn at h = noted_if sc (n + 1) (holds turn.state.prdc to) turn _ (one_more sc n h) (noted_told sc n to turn at h)
+
+pub noted_departed : (sc : Scenario) (n : ℕ) (turn : Turn) → KnowsNodes sc turn.state → HasNoted sc n turn → HasNoted sc (n + 1 + 1 + 1) (departed sc turn)
+unfolding departed
+noted_departed sc n turn knows h =
+    let leaving : Turn = noted line.Leave turn in
+    let one : Turn = when_some turn.state.prdc (told sc) leaving in
+    let left : HasNoted sc (n + 1) leaving = noted_line sc n line.Leave turn (no_node sc) h in
+    let told_one : HasNoted sc (n + 1 + 1) one = noted_when_some sc (n + 1 + 1) (λ node. node < node_count sc) turn.state.prdc (told sc) leaving
+    knows.prdc_known (one_more sc (n + 1) left) (λ prdc at. noted_told sc (n + 1) prdc leaving at left) in
+    noted_gone_down sc (n + 1 + 1 + 1) (when_some (slice_get turn.state.succ 0) (head_told sc) one)
+    (noted_when_some sc (n + 1 + 1 + 1) (λ node. node < node_count sc) (slice_get turn.state.succ 0) (head_told sc) one
+    (first_known sc turn.state.succ knows.succ_known) (one_more sc (n + 1 + 1) told_one)
+    (λ first at. noted_head_told sc (n + 1 + 1) first one at told_one))

@@ -17,6 +17,9 @@ use Rattle.chord_event.specs.declared.line.MessageKind.TheVariants as kind
 use Rattle.chord_event.specs.declared.line.Line.{Line}
 use Rattle.chord_event.specs.declared.line.Line.TheVariants as line
 use Rattle.chord_scenario.specs.declared.scenario.Scenario.{Scenario}
+use Rattle.chord_scenario.specs.declared.setting.Churn.{Churn}
+use Rattle.chord_scenario.specs.Draws.{leave_number}
+use Rattle.chord_ops.proofs.Heirs.{inherited_known, mended_known}
 use Rattle.chord_node.specs.declared.state.Aim.TheVariants as aim
 use Rattle.chord_node.specs.declared.state.Attempt.{Attempt}
 use Rattle.chord_node.specs.declared.state.Call.{Call}
@@ -46,7 +49,12 @@ use Rattle.chord_ops.specs.Rules.{
   block_of,
   cmd_crash,
   cmd_join,
+  cmd_leave,
   cmd_lookup,
+  crashed,
+  leave_heard,
+  life_over,
+  with_heirs,
   effect,
   finger_after,
   finger_tick,
@@ -172,6 +180,7 @@ use Rattle.chord_ops.proofs.NotedProcedures.{
   noted_stranded,
   noted_traffic_armed,
   noted_came_up,
+  noted_departed,
   noted_user_lookup,
   noted_with_lookup,
 }
@@ -191,6 +200,13 @@ noted_cmd_crash sc n turn h =
     noted_if sc (n + 1) (is_down turn.state) _ _
     (noted_line sc n (line.Ignored command.Crash) turn (no_node sc) h)
     (noted_gone_down sc (n + 1) (noted line.Crash turn) (noted_line sc n line.Crash turn (no_node sc) h))
+
+noted_cmd_leave : (sc : Scenario) (n : ℕ) (turn : Turn) → KnowsNodes sc turn.state → HasNoted sc n turn → HasNoted sc (n + 1 + 1 + 1) (cmd_leave sc turn)
+unfolding cmd_leave
+noted_cmd_leave sc n turn knows h =
+    noted_if sc (n + 1 + 1 + 1) (is_down turn.state) _ _
+    (two_more sc (n + 1) (noted_line sc n (line.Ignored command.Leave) turn (no_node sc) h))
+    (noted_departed sc n turn knows h)
 
 noted_cmd_lookup : (sc : Scenario) (n key : ℕ) (turn : Turn) → KnowsNodes sc turn.state → HasNoted sc n turn
     → HasNoted sc (n + 1 + 1 + 1) (cmd_lookup sc key turn)
@@ -304,13 +320,25 @@ noted_traffic_tick sc n epoch turn knows h =
     (noted_traffic_armed sc (n + 1 + 1 + 1) turn still)
     (noted_random_lookup sc n (traffic_armed sc turn) (knows_traffic_armed sc turn knows) (noted_traffic_armed sc n turn h)))
 
-noted_life_end : (sc : Scenario) (n epoch : ℕ) (turn : Turn) → HasNoted sc n turn → HasNoted sc (n + 1) (life_end sc epoch turn)
+noted_crashed : (sc : Scenario) (n : ℕ) (turn : Turn) → HasNoted sc n turn → HasNoted sc (n + 1) (crashed sc turn)
+noted_crashed sc n turn h = noted_gone_down sc (n + 1) (noted line.Crash turn) (noted_line sc n line.Crash turn (no_node sc) h)
+
+noted_life_over : (sc : Scenario) (n epoch : ℕ) (churn : Churn) (turn : Turn) → KnowsNodes sc turn.state → HasNoted sc n turn
+    → HasNoted sc (n + 1 + 1 + 1) (life_over sc epoch churn turn)
+noted_life_over sc n epoch churn turn knows h =
+    let drawn : Turn = record turn { state = after_words 1 turn.state } in
+    noted_if sc (n + 1 + 1 + 1) (churn.leave == 0) _ _ (two_more sc (n + 1) (noted_crashed sc n turn h))
+    (noted_if sc (n + 1 + 1 + 1) (nat_lt (leave_number sc turn.state.me epoch) churn.leave) _ _
+    (noted_departed sc n drawn knows h) (two_more sc (n + 1) (noted_crashed sc n drawn h)))
+
+noted_life_end : (sc : Scenario) (n epoch : ℕ) (turn : Turn) → KnowsNodes sc turn.state → HasNoted sc n turn
+    → HasNoted sc (n + 1 + 1 + 1) (life_end sc epoch turn)
 unfolding life_end
-noted_life_end sc n epoch turn h =
-    noted_if sc (n + 1) (is_void epoch turn.state || not (is_churn_node sc turn.state.me)) turn _
-    (one_more sc n h)
-    (noted_rise_armed sc (n + 1) (gone_down sc (noted line.Crash turn))
-    (noted_gone_down sc (n + 1) (noted line.Crash turn) (noted_line sc n line.Crash turn (no_node sc) h)))
+noted_life_end sc n epoch turn knows h =
+    noted_if sc (n + 1 + 1 + 1) (is_void epoch turn.state || not (is_churn_node sc turn.state.me)) turn _ (three_more sc n h)
+    (noted_rise_armed sc (n + 1 + 1 + 1) (when_some sc.churn (life_over sc epoch) turn)
+    (noted_when_some sc (n + 1 + 1 + 1) (λ _. Unit {0}) sc.churn (life_over sc epoch) turn (known _) (three_more sc n h)
+    (λ churn _. noted_life_over sc n epoch churn turn knows h)))
 
 -- Timeouts
 
@@ -524,6 +552,24 @@ noted_notified sc n sender turn at knows h =
     noted_at_member sc n kind.Notify sender turn _ at h
     (noted_notifier_met sc n sender turn.state.prdc turn knows.prdc_known h)
 
+noted_leave_heard : (sc : Scenario) (n sender : ℕ) (prdc : Option ℕ) (list : List ℕ) (turn : Turn) → sender < node_count sc
+    → IfSome prdc (λ node. node < node_count sc) → AllNodes sc list → KnowsNodes sc turn.state → HasNoted sc n turn
+    → HasNoted sc (n + 1 + 1 + 1) (leave_heard sc sender prdc list turn)
+unfolding leave_heard
+noted_leave_heard sc n sender prdc list turn at of_gone all knows h =
+    let mid : Turn = with_heirs sc sender prdc list turn in
+    noted_at_member sc (n + 1 + 1) kind.Leave sender turn _ at (two_more sc n h)
+    (noted_dropped sc n sender (λ t. t) mid
+    (record {
+      own = knows.own;
+      via_known = knows.via_known;
+      prdc_known = inherited_known sc sender prdc turn.state.prdc of_gone knows.prdc_known;
+      succ_known = mended_known sc sender list turn.state.succ at all knows.succ_known;
+      fingers_known = knows.fingers_known;
+      bootstraps = knows.bootstraps;
+    })
+    h (λ succ fingers lines of_list of_fingers notes. two_more sc (n + 1) notes))
+
 -- Replies
 
 noted_replied : (sc : Scenario) (n : ℕ) (k : MessageKind) (sender : ℕ) (step : Call → Turn → Turn) (o : Option Call) (turn : Turn)
@@ -732,6 +778,8 @@ noted_acted sc n sender (body.CmdJoin via) turn at names is knows h =
     one_more sc (n + 1 + 1 + 1) (one_more sc (n + 1 + 1) (noted_cmd_join sc n via turn names h))
 noted_acted sc n sender body.CmdCrash turn at names is knows h =
     one_more sc (n + 1 + 1 + 1) (two_more sc (n + 1) (noted_cmd_crash sc n turn h))
+noted_acted sc n sender body.CmdLeave turn at names is knows h =
+    one_more sc (n + 1 + 1 + 1) (noted_cmd_leave sc n turn knows h)
 noted_acted sc n sender (body.CmdLookup key) turn at names is knows h =
     one_more sc (n + 1 + 1 + 1) (noted_cmd_lookup sc n key turn knows h)
 noted_acted sc n sender (body.StabilizeTick epoch) turn at names is knows h =
@@ -741,7 +789,7 @@ noted_acted sc n sender (body.FingerTick epoch) turn at names is knows h =
 noted_acted sc n sender (body.TrafficTick epoch) turn at names is knows h =
     one_more sc (n + 1 + 1 + 1) (noted_traffic_tick sc n epoch turn knows h)
 noted_acted sc n sender (body.LifeEnd epoch) turn at names is knows h =
-    one_more sc (n + 1 + 1 + 1) (two_more sc (n + 1) (noted_life_end sc n epoch turn h))
+    one_more sc (n + 1 + 1 + 1) (noted_life_end sc n epoch turn knows h)
 noted_acted sc n sender (body.Rise epoch) turn at names is knows h =
     one_more sc (n + 1 + 1 + 1) (one_more sc (n + 1 + 1) (noted_rise sc n epoch turn knows.via_known h))
 noted_acted sc n sender (body.CheckTick epoch) turn at names is knows h =
@@ -759,6 +807,8 @@ noted_acted sc n sender (body.Ping number) turn at names is knows h =
     one_more sc (n + 1 + 1 + 1) (two_more sc (n + 1) (noted_pinged sc n sender number turn at h))
 noted_acted sc n sender body.Notify turn at names is knows h =
     one_more sc (n + 1 + 1 + 1) (two_more sc (n + 1) (noted_notified sc n sender turn at knows h))
+noted_acted sc n sender (body.Leave prdc list) turn at names is knows h =
+    one_more sc (n + 1 + 1 + 1) (noted_leave_heard sc n sender prdc list turn at names.0 names.1 knows h)
 noted_acted sc n sender (body.StepReply number a) turn at names is knows h =
     one_more sc (n + 1 + 1 + 1) (one_more sc (n + 1 + 1) (noted_step_replied sc n sender number a turn at names is knows h))
 noted_acted sc n sender (body.StateReply number prdc list) turn at names is knows h =

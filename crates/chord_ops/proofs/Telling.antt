@@ -62,6 +62,7 @@ line_known sc s target (body.StateReply number prdc list) h at = one_node sc tar
 line_known sc s target (body.ListReply number list) h at = one_node sc target at
 line_known sc s target (body.Pong number) h at = one_node sc target at
 line_known sc s target body.Notify h at = one_node sc target at
+line_known sc s target (body.Leave prdc list) h at = one_node sc target at
 line_known sc s target _ h at = tt
 
 all_known : {A : Type 0} (P : Line → Type 0) (f : A → Option Line) (xs : List A) → All (λ x. IfSome (f x) P) xs → All P (filter_map f xs)

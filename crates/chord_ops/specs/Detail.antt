@@ -42,6 +42,7 @@ line_for s target (body.StateReply number prdc list) = Some (line.Send kind.Stat
 line_for s target (body.ListReply number list) = Some (line.Send kind.ListReply target)
 line_for s target (body.Pong number) = Some (line.Send kind.Pong target)
 line_for s target body.Notify = Some (line.Send kind.Notify target)
+line_for s target (body.Leave prdc list) = Some (line.Send kind.Leave target)
 line_for s target _ = None
 
 -- the lines for the events that were made, by the state at the end

@@ -65,6 +65,7 @@ fn line_for(state: &NodeState, target: u32, body: &Body) -> Option<Line>
         Body::ListReply { .. } => MessageKind::ListReply,
         Body::Pong { .. } => MessageKind::Pong,
         Body::Notify => MessageKind::Notify,
+        Body::Leave { .. } => MessageKind::Leave,
         _ => return None,
     };
     Some(Line::Send {

@@ -1,5 +1,5 @@
 -- A scenario of a file without faults is in range.
-use Rattle.std.proofs.Common.{◌≡◌, ◌∙◌, sym, ℕ, ◌<◌, ◌≤◌, ◌^◌, List, [], ◌∷◌, length, map, get_or, ◌==◌, false, Option, None, arith, refl, eq-eqb}
+use Rattle.std.proofs.Common.{◌≡◌, ◌≢◌, ◌∙◌, sym, ℕ, ◌<◌, ◌≤◌, ◌^◌, List, [], ◌∷◌, length, map, get_or, ◌==◌, false, Option, None, arith, refl, eq-eqb}
 use Rattle.std.specs.List.{All, AllByRecursion}
 use Rattle.std.proofs.lemmas.Bool.{false≢true}
 use Rattle.std.proofs.lemmas.List.Elements.{All-from_recursion, All-get_or}
@@ -10,6 +10,7 @@ use Rattle.toml.specs.Data.{Members}
 use Rattle.chord_scenario.specs.declared.fault.ScenarioFault.{ScenarioFault}
 use Rattle.chord_scenario.specs.declared.fault.ScenarioFault.TheVariants.{SameId}
 use Rattle.chord_scenario.specs.declared.key.FileKey.TheVariants as key
+use Rattle.chord_scenario.specs.declared.setting.Action.TheVariants as action
 use Rattle.chord_scenario.specs.declared.setting.Node.{Node}
 use Rattle.chord_scenario.specs.Accepted.{setup_with, nodes_in, commands_in}
 use Rattle.chord_scenario.specs.Faults.{first_answer, same_name, same_id, too_few_initial, time_after_end, bad_latency_row, below_window}
@@ -29,10 +30,11 @@ use Rattle.chord_scenario.proofs.CoordinateFacts.{coordinates_fit}
 use Rattle.chord_scenario.proofs.DistinctNames.{or_none}
 use Rattle.chord_scenario.proofs.FirstRepeat.{mapped_none}
 use Rattle.chord_scenario.proofs.LatencyFacts.{first_of, latencies_fit}
+use Rattle.chord_scenario.proofs.LeaveFacts.{no_leave_commands}
 use Rattle.chord_scenario.proofs.Ranges.{filter-range_below}
 use Rattle.chord_scenario.proofs.NodeFacts.{no_repeat, enough_initial, a_node_churns, commands_fit}
 use Rattle.chord_scenario.proofs.SoundSections.{IsSound, sound_sections, holds_in_file}
-use Rattle.chord_scenario.proofs.TopFacts.{profile_known, profile_small, bits_fit, numbers_fit, churn_there, churn_in_range, lookups_in_range, few_nodes, few_commands, two_nodes}
+use Rattle.chord_scenario.proofs.TopFacts.{profile_known, profile_small, bits_fit, numbers_fit, churn_there, churn_in_range, no_leaves, lookups_in_range, few_nodes, few_commands, two_nodes}
 
 -- no question finds a fault
 answers_none : (qs : List (Option ScenarioFault)) → first_answer qs ≡ None → AllByRecursion (λ q. q ≡ None) qs
@@ -152,4 +154,10 @@ module _ (profile : ℕ) (top : Members) (rows : List Row) (cells : List ℕ) (i
         lookups = lookups_in_range profile bits needs top sound;
         few_commands = few_commands profile bits needs top sound.top bits (nodes_in top);
         commands = All-from_recursion (IsCommandOf sc) sc.commands (commands_fit sc (omega arith) (sections top) none.in_time);
+        leaves = record {
+          no_command = λ early. All-from_recursion (λ command. command.action ≢ action.Leave) sc.commands
+              (no_leave_commands profile bits needs (not_four profile (omega (arith, early, is_profile))) bits (nodes_in top) (sections top)
+              (sound_sections profile bits (sections top) keys));
+          no_share = λ early. no_leaves profile bits needs top (not_four profile (omega (arith, early, is_profile))) sound;
+        };
       }

@@ -28,6 +28,7 @@ pub mod Entries
 pub mod TopFacts
 pub mod NodeFacts
 pub mod BootstrapFacts
+pub mod LeaveFacts
 pub mod CoordinateFacts
 pub mod LatencyFacts
 pub mod InRange

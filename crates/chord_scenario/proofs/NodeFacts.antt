@@ -204,6 +204,7 @@ module _ (sc : Setup) (some : 0 < node_count sc) where
       by_operation : (o : Option Operation) → IsActionOf sc (action_by sc.bits sc.nodes ms o)
       by_operation (Some operation.Join) = node_at-below key.Via ms
       by_operation (Some operation.Crash) = tt
+      by_operation (Some operation.Leave) = tt
       by_operation (Some operation.Lookup) = circle_fits sc.bits (option_and_then identifier_of (data_at key.Key ms))
       by_operation None = circle_fits sc.bits (option_and_then identifier_of (data_at key.Key ms))
 

@@ -51,6 +51,7 @@ use Rattle.chord_scenario.specs.declared.key.Form.TheVariants.{Table, Tables, Wh
 use Rattle.chord_scenario.specs.declared.key.Presence.TheVariants.{ForChurn}
 use Rattle.chord_scenario.specs.declared.key.Group.{Group}
 use Rattle.chord_scenario.specs.declared.key.Group.TheVariants.{Nodes, Commands}
+use Rattle.chord_scenario.specs.declared.setting.Churn.{Churn}
 use Rattle.chord_scenario.specs.declared.setting.Command.{Command}
 use Rattle.chord_scenario.specs.declared.setting.Node.{Node}
 use Rattle.chord_scenario.specs.FileKeys.{key_name, required, optional}
@@ -352,11 +353,20 @@ module _ (profile bits : ℕ) (needs : Needs) (top : Members) (s : IsSound profi
       mapped f (Some x) h = refl
 
 module _ (profile bits : ℕ) (needs : Needs) where
+  -- the share of leaves in a churn table
+  leave_fits : (ms : Members) → IsSound profile bits needs (record { at = place.Churn; members = ms }) → number_or 0 key.LeavePpm ms ≤ 1000000
+  leave_fits ms s =
+      elim (cases_Bool (profile == 4)) [
+        | inl extended ↦ (optional_fits s key.LeavePpm 0 1000000 0 (rw extended refl) (record { low = omega arith; high = omega arith })).high
+        | inr not_extended ↦ rw (unlisted_default s key.LeavePpm 0 (rw not_extended refl)) (omega arith)
+      ]
+
   -- the spans of a churn table and of a lookups table
   churn_fits : (o : Option Data) → AllByRecursion (IsSound profile bits needs) (table_at place.Churn o)
       → IfSome (option_map (λ ms. record {
         life = record { least = number_at key.LifeMinUs ms; greatest = number_at key.LifeMaxUs ms };
         down = record { least = number_at key.DownMinUs ms; greatest = number_at key.DownMaxUs ms };
+        leave = number_or 0 key.LeavePpm ms;
       }) (option_and_then as_table o)) IsChurn
   churn_fits None h = tt
   churn_fits (Some (string s)) h = tt
@@ -376,7 +386,24 @@ module _ (profile bits : ℕ) (needs : Needs) where
       record {
         life = record { positive = life_least.low; ordered = leb-true _ _ life; bounded = life_most.high };
         down = record { positive = down_least.low; ordered = leb-true _ _ down; bounded = down_most.high };
+        leave = leave_fits ms s;
       }
+
+  -- nobody leaves in the first two profiles
+  stays : (o : Option Data) → (profile == 4) ≡ false → AllByRecursion (IsSound profile bits needs) (table_at place.Churn o)
+      → IfSome {T = Churn} (option_map (λ ms. record {
+        life = record { least = number_at key.LifeMinUs ms; greatest = number_at key.LifeMaxUs ms };
+        down = record { least = number_at key.DownMinUs ms; greatest = number_at key.DownMaxUs ms };
+        leave = number_or 0 key.LeavePpm ms;
+      }) (option_and_then as_table o)) (λ churn. churn.leave ≡ 0)
+  stays None not_extended h = tt
+  stays (Some (string s)) not_extended h = tt
+  stays (Some (integer z)) not_extended h = tt
+  stays (Some (float x)) not_extended h = tt
+  stays (Some (boolean b)) not_extended h = tt
+  stays (Some (datetime t)) not_extended h = tt
+  stays (Some (array ds)) not_extended h = tt
+  stays (Some (table ms)) not_extended h = unlisted_default h.0 key.LeavePpm 0 (rw not_extended refl)
 
   lookups_fit : (o : Option Data) → AllByRecursion (IsSound profile bits needs) (table_at place.Lookups o)
       → IfSome (option_map (λ ms. record { least = number_at key.GapMinUs ms; greatest = number_at key.GapMaxUs ms }) (option_and_then as_table o)) IsSpan
@@ -397,6 +424,10 @@ module _ (profile bits : ℕ) (needs : Needs) where
   pub churn_in_range : (file : Members) → HoldsInFile (IsSound profile bits needs) file → IfSome (churn_of file) IsChurn
   unfolding churn_of
   churn_in_range file h = churn_fits (data_at key.Churn file) h.churn
+
+  pub no_leaves : (file : Members) → (profile == 4) ≡ false → HoldsInFile (IsSound profile bits needs) file → IfSome (churn_of file) (λ churn. churn.leave ≡ 0)
+  unfolding churn_of
+  no_leaves file not_extended h = stays (data_at key.Churn file) not_extended h.churn
 
   pub lookups_in_range : (file : Members) → HoldsInFile (IsSound profile bits needs) file → IfSome (lookups_of file) IsSpan
   unfolding lookups_of

@@ -29,6 +29,9 @@ message_purpose = 7
 abbrev pub finger_purpose : ℕ
 finger_purpose = 9
 
+abbrev pub leave_purpose : ℕ
+leave_purpose = 10
+
 -- when a timer's delay is drawn: in which life of the node, for the end of a life and for the rise after it; otherwise
 -- at which time
 abbrev pub timer_occasion : (time : ℕ) → Body → ℕ
@@ -68,3 +71,7 @@ extra sc n place number =
 -- the number below a bound that decides which finger node n looks up first
 abbrev pub finger_number : Setup → (n bound : ℕ) → ℕ
 finger_number sc n bound = first_number sc.seed (own_stream n finger_purpose) 0 bound
+
+-- the number that decides whether a life of node n ends with a leave
+abbrev pub leave_number : Setup → (n epoch : ℕ) → ℕ
+leave_number sc n epoch = first_number sc.seed (own_stream n leave_purpose) epoch 1000000

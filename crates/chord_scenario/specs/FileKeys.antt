@@ -52,6 +52,7 @@ key_name key.LifeMinUs = codes "life_min_us"
 key_name key.LifeMaxUs = codes "life_max_us"
 key_name key.DownMinUs = codes "down_min_us"
 key_name key.DownMaxUs = codes "down_max_us"
+key_name key.LeavePpm = codes "leave_ppm"
 key_name key.GapMinUs = codes "gap_min_us"
 key_name key.GapMaxUs = codes "gap_max_us"
 key_name key.Name = codes "name"
@@ -133,13 +134,13 @@ top_keys profile =
     else if profile == 2 then top_keys_of 128 16 4096 50000000 (network_keys_and [])
     else top_keys_of 64 16 512 50000000 []
 
-abbrev pub churn_keys : List Entry
-churn_keys =
+abbrev pub churn_keys : (profile : ℕ) → List Entry
+churn_keys profile =
     required key.LifeMinUs interval
     ∷ required key.LifeMaxUs interval
     ∷ required key.DownMinUs interval
     ∷ required key.DownMaxUs interval
-    ∷ []
+    ∷ (if profile == 4 then optional key.LeavePpm (Whole 0 1000000) ∷ [] else [])
 
 abbrev pub lookups_keys : List Entry
 lookups_keys = required key.GapMinUs interval ∷ required key.GapMaxUs interval ∷ []
@@ -171,7 +172,7 @@ node_keys profile =
 abbrev pub command_keys : (profile : ℕ) → List Entry
 command_keys profile =
     required key.AtUs (Whole 0 1000000000000)
-    ∷ required key.Do Operation
+    ∷ required key.Do (Operation (profile == 4))
     ∷ required key.Node Text
     ∷ record { 0 = key.Via; 1 = Text; 2 = ForJoin }
     ∷ record { 0 = key.Key; 1 = Identifier (most_digits profile); 2 = ForLookup }
@@ -180,7 +181,7 @@ command_keys profile =
 -- the keys of the table at a place; a profile other than the numbers 2 and 4 has the keys of the first
 abbrev pub keys_at : (profile : ℕ) → Place → List Entry
 keys_at profile place.Top = top_keys profile
-keys_at profile place.Churn = churn_keys
+keys_at profile place.Churn = churn_keys profile
 keys_at profile place.Lookups = lookups_keys
 keys_at profile (place.Node n) = node_keys profile
 keys_at profile (place.Command n) = command_keys profile

@@ -28,6 +28,7 @@ IsSpan span = IsSpanUpTo 1000000000 span
 pub record IsChurn (churn : Churn) : Type 0 where
   pub life : IsSpan churn.life
   pub down : IsSpan churn.down
+  pub leave : churn.leave ≤ 1000000
 
 -- a time of at least one microsecond and at most 1,000 seconds
 pub record IsInterval (time : ℕ) : Type 0 where
@@ -38,6 +39,7 @@ pub record IsInterval (time : ℕ) : Type 0 where
 abbrev pub IsActionOf : Setup → Action → Type 0
 IsActionOf sc (action.Join via) = via < node_count sc
 IsActionOf sc action.Crash = Unit {0}
+IsActionOf sc action.Leave = Unit {0}
 IsActionOf sc (action.Lookup key) = key < 2 ^ sc.bits
 
 pub record IsCommandOf (sc : Setup) (command : Command) : Type 0 where
@@ -132,6 +134,11 @@ pub record CoordinatesInRange (sc : Setup) : Type 0 where
   pub all_or_none : (sc.coordinates ≡ []) ⊎ (length sc.coordinates ≡ node_count sc)
   pub places : All IsPlace sc.coordinates
 
+-- the first two profiles have no leaves: neither by a command nor at the end of a life
+pub record LeavesInRange (sc : Setup) : Type 0 where
+  pub no_command : sc.profile ≤ 2 → All (λ command. command.action ≢ action.Leave) sc.commands
+  pub no_share : sc.profile ≤ 2 → IfSome sc.churn (λ churn. churn.leave ≡ 0)
+
 -- every scenario has this
 pub record IsInRange (sc : Setup) : Type 0 where
   pub numbers : NumbersInRange sc
@@ -143,3 +150,4 @@ pub record IsInRange (sc : Setup) : Type 0 where
   pub lookups : IfSome sc.lookups IsSpan
   pub few_commands : length sc.commands ≤ 100000
   pub commands : All (IsCommandOf sc) sc.commands
+  pub leaves : LeavesInRange sc

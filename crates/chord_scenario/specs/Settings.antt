@@ -41,7 +41,7 @@ use Rattle.chord_scenario.specs.declared.setting.Span.{Span}
 use Rattle.chord_scenario.specs.declared.setting.Churn.{Churn}
 use Rattle.chord_scenario.specs.declared.setting.Command.{Command}
 use Rattle.chord_scenario.specs.declared.setting.Action.{Action}
-use Rattle.chord_scenario.specs.declared.setting.Action.TheVariants.{Join, Crash, Lookup}
+use Rattle.chord_scenario.specs.declared.setting.Action.TheVariants.{Join, Crash, Leave, Lookup}
 use Rattle.chord_scenario.specs.declared.operation.Operation.{Operation}
 use Rattle.chord_scenario.specs.declared.operation.Operation.TheVariants as operation
 use Rattle.chord_scenario.specs.Operations.{operation_named}
@@ -158,6 +158,7 @@ operation_at ms = option_and_then operation_named (text_at key.Do ms)
 abbrev pub action_by : (bits : ℕ) → List Node → Members → Option Operation → Action
 action_by bits nodes ms (Some operation.Join) = Join (node_at key.Via nodes ms)
 action_by bits nodes ms (Some operation.Crash) = Crash
+action_by bits nodes ms (Some operation.Leave) = Leave
 action_by bits nodes ms _ = Lookup (unwrap_or (identifier_at bits key.Key ms) 0)
 
 abbrev pub action_of : (bits : ℕ) → List Node → Members → Action
@@ -175,7 +176,12 @@ span_of least greatest ms = record { least = number_at least ms; greatest = numb
 
 unfoldable pub churn_of : Members → Option Churn
 churn_of top =
-    option_map (λ ms. record { life = span_of key.LifeMinUs key.LifeMaxUs ms; down = span_of key.DownMinUs key.DownMaxUs ms })
+    option_map
+    (λ ms. record {
+      life = span_of key.LifeMinUs key.LifeMaxUs ms;
+      down = span_of key.DownMinUs key.DownMaxUs ms;
+      leave = number_or 0 key.LeavePpm ms;
+    })
     (option_and_then as_table (data_at key.Churn top))
 
 unfoldable pub lookups_of : Members → Option Span

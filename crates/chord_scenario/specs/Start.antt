@@ -16,6 +16,7 @@ use Rattle.chord_scenario.specs.World.{node_count, is_initial, is_churn_node}
 abbrev pub command_body : Action → Body
 command_body (action.Join via) = body.CmdJoin via
 command_body action.Crash = body.CmdCrash
+command_body action.Leave = body.CmdLeave
 command_body (action.Lookup key) = body.CmdLookup key
 
 -- a command of this number as an event: commands have origin 1

@@ -32,7 +32,7 @@ use Rattle.chord_scenario.specs.declared.key.FileKey.TheVariants as key
 use Rattle.chord_scenario.specs.declared.key.Form.{Form}
 use Rattle.chord_scenario.specs.declared.key.Form.TheVariants.{Whole, Profile, Text, Operation, Boolean, Identifier, Table, Tables}
 use Rattle.chord_scenario.specs.FileKeys.{key_name}
-use Rattle.chord_scenario.specs.Operations.{operation_named}
+use Rattle.chord_scenario.specs.Operations.{is_allowed, operation_named}
 
 -- what the members hold at a key
 unfoldable pub data_at : FileKey → Members → Option Data
@@ -75,7 +75,7 @@ unfoldable pub has_type : Form → Data → Bool
 has_type (Whole least greatest) d = is_some (as_integer d)
 has_type Profile d = is_some (as_integer d)
 has_type Text d = is_some (as_str d)
-has_type Operation d = is_some (as_str d)
+has_type (Operation leaves) d = is_some (as_str d)
 has_type Boolean d = is_some (as_bool d)
 has_type (Identifier digits) d = is_some (as_integer d) || is_some (as_str d)
 has_type Table d = is_table d
@@ -113,7 +113,7 @@ unfoldable pub is_in_range : ℕ → Form → Data → Bool
 is_in_range bits (Whole least greatest) d = option_map_or (is_within least greatest) (as_whole d) false
 is_in_range bits Profile d = option_map_or is_profile (as_whole d) false
 is_in_range bits Text d = true
-is_in_range bits Operation d = option_map_or (λ word. is_some (operation_named word)) (as_str d) false
+is_in_range bits (Operation leaves) d = option_map_or (λ word. is_allowed leaves (operation_named word)) (as_str d) false
 is_in_range bits Boolean d = true
 is_in_range bits (Identifier digits) d = option_map_or (λ n. has_digits digits d && nat_lt n (2 ^ bits)) (identifier_of d) false
 is_in_range bits Table d = true

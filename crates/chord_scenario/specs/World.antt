@@ -19,7 +19,7 @@ ident_of sc i = slice_index (map (λ n. n.ident) sc.nodes) i
 unfoldable pub is_initial : Setup → ℕ → Bool
 is_initial sc i = unwrap_or (option_map (λ n. n.initial) (slice_get sc.nodes i)) false
 
--- node i crashes and rises by itself
+-- node i goes down and rises by itself
 unfoldable pub is_churn_node : Setup → ℕ → Bool
 is_churn_node sc i = unwrap_or (option_map (λ n. n.churn) (slice_get sc.nodes i)) false
 

@@ -46,6 +46,7 @@ fn action_of(circle: Circle, names: &Names<'_>, table: &Table) -> Action
             via: node_at(names, table, FileKey::Via),
         },
         Some(Operation::Crash) => Action::Crash,
+        Some(Operation::Leave) => Action::Leave,
         Some(Operation::Lookup) | None => Action::Lookup {
             key: key_of(circle, table),
         },
@@ -188,7 +189,7 @@ fn table_at<'a>(table: &'a Table, key: FileKey) -> Option<&'a Table>
     }
 }
 
-/// How long nodes live and stay down, if the file says so.
+/// How long nodes live and stay down and how many leave, if the file says so.
 #[tactic(auto, unfolding(crate::specs::Settings::churn_of))]
 pub(crate) fn churn_of(top: &Table) -> Option<Churn>
     ensures { result ≡ churn_of (table_view top.now) }
@@ -197,6 +198,7 @@ pub(crate) fn churn_of(top: &Table) -> Option<Churn>
         Some(table) => Some(Churn {
             life: span_of(table, FileKey::LifeMinUs, FileKey::LifeMaxUs),
             down: span_of(table, FileKey::DownMinUs, FileKey::DownMaxUs),
+            leave: number_or(table, FileKey::LeavePpm, 0),
         }),
         None => None,
     }

@@ -1,7 +1,7 @@
 //! What nodes draw. In the first two profiles each draw takes the next words of the node's one stream.
 //! In the extended profile each draw has words of its own, so that no draw depends on earlier ones.
 ghost use Rattle.std.specs.Prelude.{◌≡◌, ◌+◌, ◌-◌, ◌^◌, ◌<◌, ◌≤◌};
-ghost use Rattle.chord_scenario.specs.Draws.{chance, delay, extra, finger_number, timer_number, timer_occasion, timer_purpose};
+ghost use Rattle.chord_scenario.specs.Draws.{chance, delay, extra, finger_number, leave_number, timer_number, timer_occasion, timer_purpose};
 ghost use Rattle.chord_scenario.specs.Range.{IsSpanUpTo};
 
 use crate::scenario::{EXTENDED_PROFILE, Scenario};
@@ -18,6 +18,9 @@ const MESSAGE_PURPOSE: u32 = 7;
 /// The purpose of the words that decide which finger a node looks up first, in the extended profile.
 /// It is 9, since 8 is that of the timer of checks.
 const FINGER_PURPOSE: u32 = 9;
+
+/// The purpose of the words that decide whether a life ends with a leave, in the extended profile.
+const LEAVE_PURPOSE: u32 = 10;
 
 /// Who draws and when: the node, how many words of its stream it has drawn, and the time in
 /// microseconds.
@@ -85,6 +88,13 @@ impl Scenario {
         ensures below { result < bound }
     {
         Stream::for_purpose(self.seed(), node, FINGER_PURPOSE).number_in(0, bound)
+    }
+
+    /// The number below 1,000,000 that decides whether a node's life ends with a leave.
+    pub fn leave_number(&self, node: u32, epoch: u64) -> u64
+        ensures { result ≡ leave_number self.now node epoch }
+    {
+        Stream::for_purpose(self.seed(), node, LEAVE_PURPOSE).number_in(epoch, 1_000_000)
     }
 
     /// The two numbers of a node's message of this number. The first is below 1,000,000 and decides

@@ -1,7 +1,7 @@
 //! The tables of a scenario file: their places, their keys, and what each key holds.
 
 ghost use Rattle.std.specs.Prelude.{◌≡◌};
-ghost use Rattle.chord_scenario.specs.FileKeys.{is_wide, keys_at, key_name, node_keys, top_keys};
+ghost use Rattle.chord_scenario.specs.FileKeys.{churn_keys, command_keys, keys_at, key_name, node_keys, top_keys};
 ghost use Rattle.chord_scenario.specs.Sections.{key_of, place_in};
 
 use std::fmt;
@@ -75,6 +75,7 @@ pub enum FileKey {
     LifeMaxUs,
     DownMinUs,
     DownMaxUs,
+    LeavePpm,
     GapMinUs,
     GapMaxUs,
     Name,
@@ -91,7 +92,7 @@ pub enum FileKey {
 }
 
 /// The keys as the file writes them, in the order of `FileKey`.
-static KEY_NAMES: [&str; 54] = [
+static KEY_NAMES: [&str; 55] = [
     "profile",
     "bits",
     "list",
@@ -133,6 +134,7 @@ static KEY_NAMES: [&str; 54] = [
     "life_max_us",
     "down_min_us",
     "down_max_us",
+    "leave_ppm",
     "gap_min_us",
     "gap_max_us",
     "name",
@@ -165,8 +167,8 @@ pub(crate) enum Form {
     /// The number of a profile.
     Profile,
     Text,
-    /// One of `join`, `crash` and `lookup`.
-    Operation,
+    /// One of `join`, `crash` and `lookup`, and if the flag says so, also `leave`.
+    Operation(bool),
     Boolean,
     /// A whole number, or a text of at most this many hexadecimal digits.
     Identifier(usize),
@@ -412,12 +414,25 @@ static EXTENDED_TOP_KEYS: [Entry; 37] = [
     COMMANDS,
 ];
 
-static CHURN_KEYS: [Entry; 4] = [
-    Entry(FileKey::LifeMinUs, INTERVAL, Presence::Required),
-    Entry(FileKey::LifeMaxUs, INTERVAL, Presence::Required),
-    Entry(FileKey::DownMinUs, INTERVAL, Presence::Required),
-    Entry(FileKey::DownMaxUs, INTERVAL, Presence::Required),
-];
+const LIFE_MIN: Entry = Entry(FileKey::LifeMinUs, INTERVAL, Presence::Required);
+
+const LIFE_MAX: Entry = Entry(FileKey::LifeMaxUs, INTERVAL, Presence::Required);
+
+const DOWN_MIN: Entry = Entry(FileKey::DownMinUs, INTERVAL, Presence::Required);
+
+const DOWN_MAX: Entry = Entry(FileKey::DownMaxUs, INTERVAL, Presence::Required);
+
+const LEAVE: Entry = Entry(
+    FileKey::LeavePpm,
+    Form::Whole(0, 1_000_000),
+    Presence::Optional,
+);
+
+/// The keys of the table `churn` in the first two profiles.
+static CHURN_KEYS: [Entry; 4] = [LIFE_MIN, LIFE_MAX, DOWN_MIN, DOWN_MAX];
+
+/// The keys of the table `churn` in the extended profile.
+static EXTENDED_CHURN_KEYS: [Entry; 5] = [LIFE_MIN, LIFE_MAX, DOWN_MIN, DOWN_MAX, LEAVE];
 
 static LOOKUPS_KEYS: [Entry; 2] = [
     Entry(FileKey::GapMinUs, INTERVAL, Presence::Required),
@@ -470,7 +485,9 @@ const AT: Entry = Entry(
     Presence::Required,
 );
 
-const DO: Entry = Entry(FileKey::Do, Form::Operation, Presence::Required);
+const DO: Entry = Entry(FileKey::Do, Form::Operation(false), Presence::Required);
+
+const DO_OR_LEAVE: Entry = Entry(FileKey::Do, Form::Operation(true), Presence::Required);
 
 const NODE: Entry = Entry(FileKey::Node, Form::Text, Presence::Required);
 
@@ -483,15 +500,11 @@ const LONG_KEY: Entry = Entry(FileKey::Key, LONG_IDENTIFIER, Presence::ForLookup
 /// The keys of a command in the first profile.
 static COMMAND_KEYS: [Entry; 5] = [AT, DO, NODE, VIA, KEY];
 
-/// The keys of a command in the second and the extended profile.
+/// The keys of a command in the second profile.
 static LONG_COMMAND_KEYS: [Entry; 5] = [AT, DO, NODE, VIA, LONG_KEY];
 
-/// Whether a profile has identifiers of up to 128 bits.
-fn is_wide(profile: u64) -> bool
-    ensures { result ≡ is_wide profile }
-{
-    profile == 2 || profile == 4
-}
+/// The keys of a command in the extended profile.
+static EXTENDED_COMMAND_KEYS: [Entry; 5] = [AT, DO_OR_LEAVE, NODE, VIA, LONG_KEY];
 
 /// The keys at top in a profile.
 fn top_keys(profile: u64) -> &'static [Entry]
@@ -501,6 +514,27 @@ fn top_keys(profile: u64) -> &'static [Entry]
         2 => &NETWORK_TOP_KEYS,
         4 => &EXTENDED_TOP_KEYS,
         _ => &TOP_KEYS,
+    }
+}
+
+/// The keys of the table `churn` in a profile.
+fn churn_keys(profile: u64) -> &'static [Entry]
+    ensures { result.now ≡ churn_keys profile }
+{
+    match profile {
+        4 => &EXTENDED_CHURN_KEYS,
+        _ => &CHURN_KEYS,
+    }
+}
+
+/// The keys of a command in a profile.
+fn command_keys(profile: u64) -> &'static [Entry]
+    ensures { result.now ≡ command_keys profile }
+{
+    match profile {
+        2 => &LONG_COMMAND_KEYS,
+        4 => &EXTENDED_COMMAND_KEYS,
+        _ => &COMMAND_KEYS,
     }
 }
 
@@ -522,11 +556,10 @@ pub(crate) fn keys_at(profile: u64, place: Place) -> &'static [Entry]
 {
     match place {
         Place::Top => top_keys(profile),
-        Place::Churn => &CHURN_KEYS,
+        Place::Churn => churn_keys(profile),
         Place::Lookups => &LOOKUPS_KEYS,
         Place::Node(_) => node_keys(profile),
-        Place::Command(_) if is_wide(profile) => &LONG_COMMAND_KEYS,
-        Place::Command(_) => &COMMAND_KEYS,
+        Place::Command(_) => command_keys(profile),
         Place::Row(_) => &[],
     }
 }

@@ -1,7 +1,7 @@
 //! The operations of commands.
 ghost use Rattle.std.specs.Prelude.{◌≡◌};
 ghost use Rattle.toml.specs.View.{table_view};
-ghost use Rattle.chord_scenario.specs.Operations.{operation_named};
+ghost use Rattle.chord_scenario.specs.Operations.{is_allowed, operation_named};
 ghost use Rattle.chord_scenario.specs.Settings.{operation_at};
 
 use crate::key::FileKey;
@@ -13,6 +13,7 @@ use toml::Table;
 pub(crate) enum Operation {
     Join,
     Crash,
+    Leave,
     Lookup,
 }
 
@@ -23,8 +24,20 @@ pub(crate) fn operation_named(word: &str) -> Option<Operation>
     match word {
         "join" => Some(Operation::Join),
         "crash" => Some(Operation::Crash),
+        "leave" => Some(Operation::Leave),
         "lookup" => Some(Operation::Lookup),
         _ => None,
+    }
+}
+
+/// Whether a command may ask this. Nodes leave in the extended profile alone.
+pub(crate) fn is_allowed(leaves: bool, operation: Option<Operation>) -> bool
+    ensures { result ≡ is_allowed leaves operation }
+{
+    match operation {
+        Some(Operation::Leave) => leaves,
+        Some(_) => true,
+        None => false,
     }
 }
 

@@ -234,7 +234,7 @@ impl Scenario {
         self.jitters
     }
 
-    /// How long churn nodes live and stay down, if the scenario says so.
+    /// How long churn nodes live and stay down and how many leave, if the scenario says so.
     pub fn churn_times(&self) -> Option<Churn>
         ensures { result ≡ self.now.churn }
     {
@@ -291,7 +291,7 @@ impl Scenario {
         self.nodes[node as usize].initial
     }
 
-    /// Whether a node crashes and rises by itself.
+    /// Whether a node goes down and rises by itself.
     #[tactic(auto, unfolding(crate::specs::World::is_churn_node))]
     pub fn churn(&self, node: u32) -> bool
         requires { node < node_count self.now }

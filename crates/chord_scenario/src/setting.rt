@@ -5,7 +5,7 @@ use crate::name::Name;
 use chord_circle::Ident;
 
 /// A node: its name, its place on the circle, whether it is a member of the ring at the start,
-/// whether it crashes and rises by itself, and whether it is a bootstrap node, one of those that
+/// whether it goes down and rises by itself, and whether it is a bootstrap node, one of those that
 /// joining nodes try in turn.
 #[derive(Drop)]
 pub struct Node {
@@ -32,11 +32,13 @@ pub struct Span {
     pub greatest: u64,
 }
 
-/// How long churn nodes live, and how long they stay down.
+/// How long churn nodes live and stay down, and how many of a million of their lives end with a leave
+/// in place of a crash.
 #[derive(Clone, Copy, Drop)]
 pub struct Churn {
     pub life: Span,
     pub down: Span,
+    pub leave: u64,
 }
 
 /// Which rules of published Chord the nodes follow. The first two profiles have none of them.
@@ -77,6 +79,7 @@ pub struct Jitters {
 pub enum Action {
     Join { via: u32 },
     Crash,
+    Leave,
     Lookup { key: Ident },
 }
 

@@ -18,6 +18,7 @@ fn command_body(action: Action) -> Body
     match action {
         Action::Join { via } => Body::CmdJoin { via },
         Action::Crash => Body::CmdCrash,
+        Action::Leave => Body::CmdLeave,
         Action::Lookup { key } => Body::CmdLookup { key },
     }
 }

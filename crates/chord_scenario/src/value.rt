@@ -6,7 +6,7 @@ ghost use Rattle.toml.specs.View.{table_view, view, items_view};
 ghost use Rattle.chord_scenario.specs.Values.{data_at, number_at, truth_at, truth_or, text_at, as_whole, are_tables, has_type, hexadecimal, is_hexadecimal_digit, is_within, is_profile, identifier_of, has_digits, is_in_range, agrees};
 
 use crate::key::{FileKey, Form};
-use crate::operation::operation_named;
+use crate::operation::{is_allowed, operation_named};
 use chord_circle::Raw;
 use toml::{Table, Value};
 
@@ -83,7 +83,7 @@ pub(crate) fn has_type(form: Form, value: &Value) -> bool
 {
     match form {
         Form::Whole(_, _) | Form::Profile => value.is_integer(),
-        Form::Text | Form::Operation => value.is_str(),
+        Form::Text | Form::Operation(_) => value.is_str(),
         Form::Boolean => value.is_bool(),
         Form::Identifier(_) => value.is_integer() || value.is_str(),
         Form::Table => value.is_table(),
@@ -180,8 +180,8 @@ pub(crate) fn is_in_range(bits: u64, form: Form, value: &Value) -> bool
             Some(number) => is_profile(number),
             None => false,
         },
-        Form::Operation => match value.as_str() {
-            Some(word) => operation_named(word).is_some(),
+        Form::Operation(leaves) => match value.as_str() {
+            Some(word) => is_allowed(leaves, operation_named(word)),
             None => false,
         },
         Form::Identifier(digits) => match identifier_of(value) {

@@ -17,6 +17,7 @@ use Rattle.chord_trace.specs.Kinds.{
   is_loss,
   is_again,
   is_forgotten,
+  is_leave,
   is_rescue,
   is_create,
 }
@@ -40,6 +41,7 @@ counts_in lines = record {
   losses = count_by is_loss lines;
   again = count_by is_again lines;
   forgotten = count_by is_forgotten lines;
+  leaves = count_by is_leave lines;
   rescues = count_by is_rescue lines;
   creates = count_by is_create lines;
 }
@@ -62,6 +64,7 @@ plus a b = record {
   losses = a.losses + b.losses;
   again = a.again + b.again;
   forgotten = a.forgotten + b.forgotten;
+  leaves = a.leaves + b.leaves;
   rescues = a.rescues + b.rescues;
   creates = a.creates + b.creates;
 }
@@ -83,5 +86,6 @@ pub record AreWithin (limit : ℕ) (c : LineCounts) : Type 0 where
   pub losses : c.losses ≤ limit
   pub again : c.again ≤ limit
   pub forgotten : c.forgotten ≤ limit
+  pub leaves : c.leaves ≤ limit
   pub rescues : c.rescues ≤ limit
   pub creates : c.creates ≤ limit

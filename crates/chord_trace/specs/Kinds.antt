@@ -44,6 +44,10 @@ abbrev pub is_forgotten : Line → Bool
 is_forgotten (line.Forget predecessor) = true
 is_forgotten _ = false
 
+abbrev pub is_leave : Line → Bool
+is_leave line.Leave = true
+is_leave _ = false
+
 abbrev pub is_rescue : Line → Bool
 is_rescue (line.Rescue finger) = true
 is_rescue _ = false

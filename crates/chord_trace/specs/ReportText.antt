@@ -24,8 +24,8 @@ network_numbers_of r = (codes "losses", r.lines.losses) ∷ []
 -- those of the extended profile
 abbrev pub extended_numbers_of : Report → List (List ℕ × ℕ)
 extended_numbers_of r =
-    (codes "again", r.lines.again) ∷ (codes "forgotten", r.lines.forgotten) ∷ (codes "rescues", r.lines.rescues)
-    ∷ (codes "creates", r.lines.creates) ∷ (codes "timeouts-sum", r.timeouts_sum) ∷ []
+    (codes "again", r.lines.again) ∷ (codes "forgotten", r.lines.forgotten) ∷ (codes "leaves", r.lines.leaves)
+    ∷ (codes "rescues", r.lines.rescues) ∷ (codes "creates", r.lines.creates) ∷ (codes "timeouts-sum", r.timeouts_sum) ∷ []
 
 -- a line for each name and its number
 abbrev pub number_text : List (List ℕ × ℕ) → List ℕ

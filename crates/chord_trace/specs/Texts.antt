@@ -21,6 +21,7 @@ message_text message.GetState = codes "get-state"
 message_text message.GetList = codes "get-list"
 message_text message.Ping = codes "ping"
 message_text message.Notify = codes "notify"
+message_text message.Leave = codes "leave"
 message_text message.StepReply = codes "step-reply"
 message_text message.StateReply = codes "state-reply"
 message_text message.ListReply = codes "list-reply"
@@ -30,6 +31,7 @@ message_text message.Pong = codes "pong"
 abbrev pub command_text : CommandKind → List ℕ
 command_text command.Join = codes "join"
 command_text command.Crash = codes "crash"
+command_text command.Leave = codes "leave"
 command_text command.Lookup = codes "lookup"
 
 -- what a line says of a message, with the other node
@@ -42,6 +44,7 @@ line_words sc (line.Join via) = codes "join " ++ name_of sc via
 line_words sc (line.Member predecessor) = codes "member " ++ name_of sc predecessor
 line_words sc line.JoinFailed = codes "join-failed"
 line_words sc line.Crash = codes "crash"
+line_words sc line.Leave = codes "leave"
 line_words sc (line.Stranded via) = codes "stranded " ++ name_of sc via
 line_words sc (line.Drop kind sender) = message_words sc (codes "drop") kind sender
 line_words sc (line.Late kind sender) = message_words sc (codes "late") kind sender

@@ -82,6 +82,7 @@ fn push_words(text: &mut String, scenario: &Scenario, line: Line) -> Result<(), 
         Line::Member { predecessor } => push_node(text, scenario, "member ", predecessor),
         Line::JoinFailed => text.push_str("join-failed"),
         Line::Crash => text.push_str("crash"),
+        Line::Leave => text.push_str("leave"),
         Line::Stranded { via } => push_node(text, scenario, "stranded ", via),
         Line::Drop { kind, sender } => push_message(text, scenario, "drop", kind, sender),
         Line::Late { kind, sender } => push_message(text, scenario, "late", kind, sender),
@@ -196,6 +197,7 @@ fn message_text(kind: MessageKind) -> &'static str
         MessageKind::GetList => "get-list",
         MessageKind::Ping => "ping",
         MessageKind::Notify => "notify",
+        MessageKind::Leave => "leave",
         MessageKind::StepReply => "step-reply",
         MessageKind::StateReply => "state-reply",
         MessageKind::ListReply => "list-reply",
@@ -209,6 +211,7 @@ fn command_text(command: CommandKind) -> &'static str
     match command {
         CommandKind::Join => "join",
         CommandKind::Crash => "crash",
+        CommandKind::Leave => "leave",
         CommandKind::Lookup => "lookup",
     }
 }

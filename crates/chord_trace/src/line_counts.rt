@@ -22,6 +22,8 @@ pub struct LineCounts {
     pub again: u64,
     /// Predecessors that were forgotten. Only the extended profile has them.
     pub forgotten: u64,
+    /// Nodes that left. Only the extended profile has them.
+    pub leaves: u64,
     /// Fingers that were taken as successors. Only the extended profile has them.
     pub rescues: u64,
     /// Rings that nodes made of their own. Only the extended profile has them.
@@ -65,6 +67,7 @@ impl LineCounts {
             losses: self.losses + other.losses,
             again: self.again + other.again,
             forgotten: self.forgotten + other.forgotten,
+            leaves: self.leaves + other.leaves,
             rescues: self.rescues + other.rescues,
             creates: self.creates + other.creates,
         }
@@ -92,6 +95,7 @@ impl LineCounts {
             Line::Lose { .. } => self.losses += 1,
             Line::Again { .. } => self.again += 1,
             Line::Forget { .. } => self.forgotten += 1,
+            Line::Leave => self.leaves += 1,
             Line::Rescue { .. } => self.rescues += 1,
             Line::Create => self.creates += 1,
         }

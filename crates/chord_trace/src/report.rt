@@ -104,12 +104,13 @@ impl Report {
     }
 
     /// The numbers of the extended profile.
-    fn extended_numbers(&self) -> [(&'static str, u128); 5]
+    fn extended_numbers(&self) -> [(&'static str, u128); 6]
         ensures { map (λ p. (p.0.now, p.1)) result ≡ extended_numbers_of self.now }
     {
         [
             ("again", u128::from(self.lines.again)),
             ("forgotten", u128::from(self.lines.forgotten)),
+            ("leaves", u128::from(self.lines.leaves)),
             ("rescues", u128::from(self.lines.rescues)),
             ("creates", u128::from(self.lines.creates)),
             ("timeouts-sum", self.timeouts_sum),

@@ -30,6 +30,7 @@ fn content_of(body: &Body) -> Content<'_> {
     match body {
         Body::CmdJoin { via } => number_alone("CmdJoin", u64::from(*via)),
         Body::CmdCrash => number_alone("CmdCrash", 0),
+        Body::CmdLeave => number_alone("CmdLeave", 0),
         Body::StabilizeTick { epoch } => number_alone("StabilizeTick", *epoch),
         Body::FingerTick { epoch } => number_alone("FingerTick", *epoch),
         Body::TrafficTick { epoch } => number_alone("TrafficTick", *epoch),
@@ -51,6 +52,11 @@ fn content_of(body: &Body) -> Content<'_> {
             key: Some(*key),
             nodes: avoid.as_slice(),
             ..number_alone("Step", *call)
+        },
+        Body::Leave { prdc, list } => Content {
+            answer: prdc.map(Answer::Next),
+            nodes: list.as_slice(),
+            ..number_alone("Leave", 0)
         },
         Body::StepReply { call, answer } => Content {
             answer: Some(*answer),

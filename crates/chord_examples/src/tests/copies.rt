@@ -4,7 +4,7 @@ use crate::tests::steps::value_of;
 use chord_circle::{Circle, Ident};
 use chord_event::{Answer, Body, Listed};
 
-/// The body of each kind from 0 to 19, with two nodes in each list.
+/// The body of each kind from 0 to 21, with two nodes in each list.
 fn body_of(kind: u32, key: Ident, list: Listed<u32>) -> Body {
     match kind {
         0 => Body::CmdJoin { via: 1 },
@@ -27,6 +27,7 @@ fn body_of(kind: u32, key: Ident, list: Listed<u32>) -> Body {
         14 => Body::Pong { call: 1 },
         15 => Body::CheckTick { epoch: 1 },
         16 => Body::Rejoin { epoch: 1 },
+        17 => Body::CmdLeave,
         _ => body_with(kind, key, list),
     }
 }
@@ -34,13 +35,17 @@ fn body_of(kind: u32, key: Ident, list: Listed<u32>) -> Body {
 /// The bodies that have a list.
 fn body_with(kind: u32, key: Ident, list: Listed<u32>) -> Body {
     match kind {
-        17 => Body::Step {
+        18 => Body::Step {
             call: 1,
             key,
             avoid: list,
         },
-        18 => Body::StateReply {
+        19 => Body::StateReply {
             call: 1,
+            prdc: Some(1),
+            list,
+        },
+        20 => Body::Leave {
             prdc: Some(1),
             list,
         },
@@ -52,7 +57,7 @@ fn body_with(kind: u32, key: Ident, list: Listed<u32>) -> Body {
 fn a_copy_of_each_body(rt: HostRuntime) {
     let key = Circle::new(3).and_then(|circle| circle.ident(5));
     let key = value_of(&rt, key.ok_or("no key"));
-    for kind in 0..20 {
+    for kind in 0..22 {
         let mut list = Listed::new(rt.alloc());
         value_of(&rt, list.push(1));
         value_of(&rt, list.push(2));

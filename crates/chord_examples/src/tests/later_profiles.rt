@@ -61,7 +61,7 @@ fn have_no_loss<T: Abort + AllocGlobal + Threads + Wait + Sync>(rt: &T, group: &
         let last = value_of(
             rt,
             format!(in rt.alloc();
-                "losses 0\nagain 0\nforgotten 0\nrescues 0\ncreates 0\ntimeouts-sum {}\n",
+                "losses 0\nagain 0\nforgotten 0\nleaves 0\nrescues 0\ncreates 0\ntimeouts-sum {}\n",
                 timeouts_in(example.trace)
             ),
         );

@@ -21,13 +21,14 @@ const REPORT: Report = Report {
         losses: 18446744073709551614,
         again: 26,
         forgotten: 27,
-        rescues: 28,
-        creates: 29,
+        leaves: 28,
+        rescues: 29,
+        creates: 30,
     },
     unfinished: 14,
     hops_sum: 15,
     hops_greatest: 16,
-    timeouts_sum: 30,
+    timeouts_sum: 31,
     us_sum: 340282366920938463463374607431768211455,
     us_least: 18,
     us_median: 19,
@@ -46,7 +47,8 @@ const TEXT: &str =
     lookups 9\nfound 10\nlost 11\nbusy 12\nignored 13\nunfinished 14\nhops-sum 15\n\
     hops-greatest 16\nus-sum 340282366920938463463374607431768211455\nus-least 18\nus-median 19\n\
     us-greatest 18446744073709551615\naudits 21\nringless 22\nunordered 23\ninsufficient 24\n\
-    losses 18446744073709551614\nagain 26\nforgotten 27\nrescues 28\ncreates 29\ntimeouts-sum 30\n";
+    losses 18446744073709551614\nagain 26\nforgotten 27\nleaves 28\nrescues 29\n\
+    creates 30\ntimeouts-sum 31\n";
 
 #[test]
 fn each_number_has_its_line(rt: HostRuntime) {

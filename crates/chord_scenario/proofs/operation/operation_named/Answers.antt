@@ -12,6 +12,9 @@ returns-in-join c = sym (ap operation_named c.in-join.is)
 pub returns-in-crash : goal.returns-in-crash
 returns-in-crash c = sym (ap operation_named c.in-crash.is)
 
+pub returns-in-leave : goal.returns-in-leave
+returns-in-leave c = sym (ap operation_named c.in-leave.is)
+
 pub returns-in-lookup : goal.returns-in-lookup
 returns-in-lookup c = sym (ap operation_named c.in-lookup.is)
 
@@ -24,5 +27,6 @@ returns-in_default c =
     rw (
       other (codes "join") word c.in_default.not-join,
       other (codes "crash") word c.in_default.not-crash,
+      other (codes "leave") word c.in_default.not-leave,
       other (codes "lookup") word c.in_default.not-lookup,
     ) refl
