@@ -53,6 +53,7 @@ set_for-append n t number xs ys = sum_by-append (λ (x : Event Body). is_set n t
 command_quiet : (a : Action) (t : Timer) (number : ℕ) → is_timer (command_body a) t number ≡ false
 command_quiet (action.Join via) t number = refl
 command_quiet action.Crash t number = refl
+command_quiet action.Leave t number = refl
 command_quiet (action.Lookup key) t number = refl
 
 commands_none : (sc : Scenario) (n : ℕ) (t : Timer) (number : ℕ) → set_for n t number (command_events sc) ≡ 0

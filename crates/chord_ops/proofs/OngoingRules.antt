@@ -17,8 +17,9 @@ use Rattle.chord_event.specs.declared.line.MessageKind.TheVariants as kind
 use Rattle.chord_event.specs.declared.line.Line.{Line}
 use Rattle.chord_event.specs.declared.line.Line.TheVariants as line
 use Rattle.chord_scenario.specs.declared.scenario.Scenario.{Scenario}
+use Rattle.chord_scenario.specs.declared.setting.Churn.{Churn}
 use Rattle.chord_scenario.specs.declared.setting.Span.{Span}
-use Rattle.chord_scenario.specs.Draws.{delay}
+use Rattle.chord_scenario.specs.Draws.{delay, leave_number}
 use Rattle.chord_scenario.specs.Range.{IsInRange}
 use Rattle.chord_scenario.specs.Start.{check_timer, jittered, traffic_timer}
 use Rattle.chord_scenario.specs.World.{ident_of, is_churn_node}
@@ -42,8 +43,10 @@ use Rattle.chord_ops.specs.Procedures.{
   call_of,
   came_up,
   check_armed,
+  departed,
   finger_armed,
   gone_down,
+  head_told,
   holds,
   join_failed,
   join_retried,
@@ -51,6 +54,7 @@ use Rattle.chord_ops.specs.Procedures.{
   row_armed,
   stabilize_armed,
   stranded,
+  told,
   traffic_armed,
   with_attempt,
   without_attempt,
@@ -74,6 +78,7 @@ use Rattle.chord_ops.specs.Rules.{
   cleaned,
   cmd_crash,
   cmd_join,
+  cmd_leave,
   cmd_lookup,
   dropped,
   dropped_by,
@@ -108,7 +113,9 @@ use Rattle.chord_ops.specs.Rules.{
   join_timed_out,
   joined,
   key_words,
+  leave_heard,
   life_end,
+  life_over,
   list_after,
   list_answered,
   list_answered_for,
@@ -150,6 +157,7 @@ use Rattle.chord_ops.specs.Rules.{
   timed_out,
   timeout,
   traffic_tick,
+  with_heirs,
   without_head,
 }
 use Rattle.chord_ops.specs.Timers.{Timer, is_timer, wanted}
@@ -273,6 +281,16 @@ owed_as : (sc : Scenario) (claim : Timer → ℕ) (rest : List (Event Body)) (ca
     → IsOngoing sc claim (owes call.purpose) rest turn → IsOngoing sc claim (owes wanted) rest turn
 owed_as sc claim rest call wanted turn is h = subst (λ (p : Purpose). IsOngoing sc claim (owes p) rest turn) is h
 
+via_of_member : (sc : Scenario) (s : Status) (via : Option ℕ) (succ fingers : List ℕ) (join : Option Attempt) → s ≡ status.Member
+    → FitsStatus sc s via succ fingers join → IsSome via
+via_of_member sc status.Down via succ fingers join is fits = absurd (cc)
+via_of_member sc status.Joining via succ fingers join is fits = absurd (cc)
+via_of_member sc status.Member via succ fingers join is fits = fits.has_via
+
+-- the turn in which a node that leaves has told its neighbours
+abbrev all_told : Scenario → Turn → Turn
+all_told sc turn = when_some (slice_get turn.state.succ 0) (head_told sc) (when_some turn.state.prdc (told sc) (noted line.Leave turn))
+
 module _ (sc : Scenario) (claim : Timer → ℕ) (rest : List (Event Body)) where
   -- Timeouts of calls that are not sent again
 
@@ -393,6 +411,40 @@ module _ (sc : Scenario) (claim : Timer → ℕ) (rest : List (Event Body)) wher
   going_notified : (sender : ℕ) (turn : Turn) → IsOngoing sc claim 0 rest turn → IsOngoing sc claim 0 rest (notified sc sender turn)
   unfolding notified
   going_notified sender turn h = going_at_member kind.Notify sender turn _ (going_notifier_met sender turn.state.prdc turn h) h
+
+  -- Leaves
+
+  going_told : (to : ℕ) (turn : Turn) → IsOngoing sc claim 0 rest turn → IsOngoing sc claim 0 rest (told sc to turn)
+  going_told to turn h =
+      going_if (IsOngoing sc claim 0 rest) (to == turn.state.me) turn _
+      (λ own. h)
+      (λ other. going_sent sc claim rest 0 kind.Leave to (body.Leave turn.state.prdc turn.state.succ) turn (λ t number. refl) h)
+
+  -- a node that leaves has told its neighbours
+  going_told_all : (turn : Turn) → IsOngoing sc claim 0 rest turn → IsOngoing sc claim 0 rest (all_told sc turn)
+  going_told_all turn h =
+      let first : Turn = when_some turn.state.prdc (told sc) (noted line.Leave turn) in
+      let g : IsOngoing sc claim 0 rest first =
+      going_when (IsOngoing sc claim 0 rest) turn.state.prdc (told sc) (noted line.Leave turn) h (λ prdc found. going_told prdc (noted line.Leave turn) h) in
+      going_when (IsOngoing sc claim 0 rest) (slice_get turn.state.succ 0) (head_told sc) first g
+      (λ node found. going_if (IsOngoing sc claim 0 rest) (holds first.state.prdc node) first _ (λ same. g) (λ other. going_told node first g))
+
+  going_departed : (turn : Turn) → IsOngoing sc claim 0 rest turn → IsOngoing sc claim 0 rest (departed sc turn)
+  unfolding departed
+  going_departed turn h = going_down sc claim rest 0 (all_told sc turn) (going_told_all turn h)
+
+  going_leave_heard : (sender : ℕ) (prdc : Option ℕ) (list : List ℕ) (turn : Turn) → IsNodeState sc turn.state → IsOngoing sc claim 0 rest turn
+      → IsOngoing sc claim 0 rest (leave_heard sc sender prdc list turn)
+  unfolding leave_heard
+  going_leave_heard sender prdc list turn known h =
+      going_if (IsOngoing sc claim 0 rest) (is_member turn.state) _ _
+      (λ is.
+      let member : turn.state.status ≡ status.Member = member_is turn.state.status is in
+      going_dropped sender (λ t. t) (with_heirs sc sender prdc list turn) member
+      (via_of_member sc turn.state.status turn.state.via turn.state.succ turn.state.fingers turn.state.join member known.status)
+      (going_cleared sc claim rest (with_heirs sc sender prdc list turn) member h)
+      (λ succ fingers lines. h))
+      (λ other. h)
 
   -- Replies
 
@@ -856,12 +908,6 @@ going_call_over sc claim rest key target number call turn asked h =
     going_timed_out sc claim rest number call.to call.purpose (without_call number turn) asked.joins asked.others asked.has_via asked.has_attempt
     (call_taken sc claim rest key target number call turn asked h)
 
-via_of_member : (sc : Scenario) (s : Status) (via : Option ℕ) (succ fingers : List ℕ) (join : Option Attempt) → s ≡ status.Member
-    → FitsStatus sc s via succ fingers join → IsSome via
-via_of_member sc status.Down via succ fingers join is fits = absurd (cc)
-via_of_member sc status.Joining via succ fingers join is fits = absurd (cc)
-via_of_member sc status.Member via succ fingers join is fits = fits.has_via
-
 -- the node that was asked is taken for dead
 going_call_given_up : (sc : Scenario) (claim : Timer → ℕ) (rest : List (Event Body)) (key : Key) (target number : ℕ) (call : Call) (turn : Turn)
     → IsNodeState sc turn.state → IsAsked number call turn.state.calls turn.state.status turn.state.via turn.state.join
@@ -990,17 +1036,33 @@ module _ (sc : Scenario) (rest : List (Event Body)) (key : Key) (target : ℕ) w
       going_over sc claim rest 0 (event_of key target message) (gone_down sc turn) (λ number. inl refl) (λ t lived. inl refl)
       (going_down sc claim (event_of key target message ∷ rest) 0 turn h)
 
-  going_life_end : (epoch : ℕ) (turn : Turn) → target ≡ turn.state.me
+  -- the end of a life, by a leave or by a crash
+  going_life_over : (claim : Timer → ℕ) (epoch : ℕ) (churn : Churn) (turn : Turn) → IsOngoing sc claim 0 (event_of key target (body.LifeEnd epoch) ∷ rest) turn
+      → IsOngoing sc claim 0 rest (life_over sc epoch churn turn)
+  unfolding departed
+  going_life_over claim epoch churn turn h =
+      let drawn : Turn = record turn { state = after_words 1 turn.state } in
+      going_if (IsOngoing sc claim 0 rest) (churn.leave == 0) _ _
+      (λ never. over_down claim (body.LifeEnd epoch) (noted line.Crash turn) h)
+      (λ drawn_for. going_if (IsOngoing sc claim 0 rest) (nat_lt (leave_number sc drawn.state.me epoch) churn.leave) _ _
+      (λ leaves. over_down claim (body.LifeEnd epoch) (all_told sc drawn)
+      (going_told_all sc claim (event_of key target (body.LifeEnd epoch) ∷ rest) drawn h))
+      (λ crashes. over_down claim (body.LifeEnd epoch) (noted line.Crash drawn) h))
+
+  going_life_end : (epoch : ℕ) (turn : Turn) → IsInRange sc → target ≡ turn.state.me
       → IsOngoing sc (wanted sc turn.state.me) 0 (event_of key target (body.LifeEnd epoch) ∷ rest) turn
       → IsOngoing sc (wanted sc turn.state.me) 0 rest (life_end sc epoch turn)
   unfolding life_end
-  going_life_end epoch turn here h =
+  going_life_end epoch turn ranges here h =
       let claim : Timer → ℕ = wanted sc turn.state.me in
       going_if (IsOngoing sc claim 0 rest) (is_void epoch turn.state || not (is_churn_node sc turn.state.me)) turn _
       (λ void. by (is_void epoch turn.state) refl (is_churn_node sc turn.state.me) refl void)
       (λ fresh.
-      going_rise_armed sc claim rest (gone_down sc (noted line.Crash turn))
-      (over_down claim (body.LifeEnd epoch) (noted line.Crash turn) h))
+      let churns : is_churn_node sc turn.state.me ≡ true = not_false (is_churn_node sc turn.state.me)
+      (or_false (is_void epoch turn.state) (not (is_churn_node sc turn.state.me)) fresh).1 in
+      going_rise_armed sc claim rest (when_some sc.churn (life_over sc epoch) turn)
+      (going_with (IsOngoing sc claim 0 rest) sc.churn (life_over sc epoch) turn (ranges.churn_is_set turn.state.me churns)
+      (λ churn found. going_life_over claim epoch churn turn h)))
     where
       by : (v : Bool) → is_void epoch turn.state ≡ v → (b : Bool) → is_churn_node sc turn.state.me ≡ b → (v || not b) ≡ true
           → IsOngoing sc (wanted sc turn.state.me) 0 rest turn
@@ -1071,6 +1133,13 @@ module _ (sc : Scenario) (rest : List (Event Body)) (ranges : IsInRange sc) (tur
       (λ down. h)
       (λ up. going_down sc (wanted sc turn.state.me) rest 0 (noted line.Crash turn) h)
 
+  going_cmd_leave : IsOngoing sc (wanted sc turn.state.me) 0 rest (cmd_leave sc turn)
+  unfolding cmd_leave
+  going_cmd_leave =
+      going_if (IsOngoing sc (wanted sc turn.state.me) 0 rest) (is_down turn.state) _ _
+      (λ down. h)
+      (λ up. going_departed sc (wanted sc turn.state.me) rest turn h)
+
   going_cmd_lookup : (asked : ℕ) → IsOngoing sc (wanted sc turn.state.me) 0 rest (cmd_lookup sc asked turn)
   unfolding cmd_lookup
   going_cmd_lookup asked =
@@ -1088,12 +1157,14 @@ module _ (sc : Scenario) (rest : List (Event Body)) (ranges : IsInRange sc) (sen
       going_cmd_join sc rest ranges turn known (going_past sc (wanted sc turn.state.me) rest (event_of key target (body.CmdJoin via)) turn (λ t number. refl) h) via
   going_acted body.CmdCrash h =
       going_cmd_crash sc rest ranges turn known (going_past sc (wanted sc turn.state.me) rest (event_of key target body.CmdCrash) turn (λ t number. refl) h)
+  going_acted body.CmdLeave h =
+      going_cmd_leave sc rest ranges turn known (going_past sc (wanted sc turn.state.me) rest (event_of key target body.CmdLeave) turn (λ t number. refl) h)
   going_acted (body.CmdLookup asked) h =
       going_cmd_lookup sc rest ranges turn known (going_past sc (wanted sc turn.state.me) rest (event_of key target (body.CmdLookup asked)) turn (λ t number. refl) h) asked
   going_acted (body.StabilizeTick epoch) h = going_stabilize_tick sc (wanted sc turn.state.me) rest key target epoch turn here h
   going_acted (body.FingerTick epoch) h = going_finger_tick sc (wanted sc turn.state.me) rest key target epoch turn here h
   going_acted (body.TrafficTick epoch) h = going_traffic_tick sc rest key target epoch turn here h
-  going_acted (body.LifeEnd epoch) h = going_life_end sc rest key target epoch turn here h
+  going_acted (body.LifeEnd epoch) h = going_life_end sc rest key target epoch turn ranges here h
   going_acted (body.Rise epoch) h =
       going_rise sc rest ranges turn known (going_past sc (wanted sc turn.state.me) rest (event_of key target (body.Rise epoch)) turn (λ t number. refl) h) epoch
   going_acted (body.CheckTick epoch) h = going_check_tick sc rest key target epoch turn here h
@@ -1114,6 +1185,9 @@ module _ (sc : Scenario) (rest : List (Event Body)) (ranges : IsInRange sc) (sen
   going_acted body.Notify h =
       going_notified sc (wanted sc turn.state.me) rest sender turn
       (going_past sc (wanted sc turn.state.me) rest (event_of key target body.Notify) turn (λ t n. refl) h)
+  going_acted (body.Leave prdc list) h =
+      going_leave_heard sc (wanted sc turn.state.me) rest sender prdc list turn known
+      (going_past sc (wanted sc turn.state.me) rest (event_of key target (body.Leave prdc list)) turn (λ t n. refl) h)
   going_acted (body.StepReply number a) h =
       going_step_replied sc (wanted sc turn.state.me) rest sender number a turn known
       (going_past sc (wanted sc turn.state.me) rest (event_of key target (body.StepReply number a)) turn (λ t n. refl) h)
