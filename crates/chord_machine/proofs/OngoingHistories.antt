@@ -22,7 +22,8 @@ use Rattle.chord_ops.specs.Timers.{Timer, is_timer, set_for, wanted}
 use Rattle.chord_ops.specs.Timers.Timer.{Stabilize, Finger, Traffic, Life, Check, Rejoin, Timeout}
 use Rattle.chord_ops.specs.declared.turn.Turn.{Turn}
 use Rattle.chord_ops.proofs.GrowingRules.{grows_effect}
-use Rattle.chord_ops.proofs.Ongoing.{FitsJoin, FitsTick, IsOngoing, is_set, is_tick, numbered, other_node, recounted, same_node, set_elsewhere, set_for-cons}
+use Rattle.chord_ops.specs.Ongoing.{FitsJoin, FitsTick, IsOngoing, is_tick, numbered}
+use Rattle.chord_ops.proofs.Ongoing.{is_set, other_node, recounted, same_node, set_elsewhere, set_for-cons}
 use Rattle.chord_ops.proofs.OngoingRules.{going_effect}
 use Rattle.chord_scenario.specs.declared.scenario.Scenario.{Scenario}
 use Rattle.chord_scenario.specs.Range.{IsInRange}

@@ -20,7 +20,8 @@ use Rattle.chord_ops.specs.Timers.Timer.{Stabilize, Finger, Traffic, Life, Check
 use Rattle.chord_ops.proofs.FirstTimers.{timers_armed}
 use Rattle.chord_ops.proofs.KeptJoins.{same_armed}
 use Rattle.chord_ops.proofs.KeptRules.{none_of}
-use Rattle.chord_ops.proofs.Ongoing.{FitsTick, IsOngoing, is_lived, is_set, is_tick, not_set, other_node, set_elsewhere, waits}
+use Rattle.chord_ops.specs.Ongoing.{FitsTick, IsOngoing, is_lived, is_tick, waits}
+use Rattle.chord_ops.proofs.Ongoing.{is_set, not_set, other_node, set_elsewhere}
 use Rattle.chord_ops.proofs.OngoingJoins.{HasTickOf, IsTickOf, going_armed, table_of_life}
 use Rattle.chord_scenario.specs.declared.scenario.Scenario.{Scenario}
 use Rattle.chord_scenario.specs.declared.setting.Command.{Command}

@@ -16,6 +16,7 @@ use Rattle.chord_node.specs.declared.state.Purpose.{Purpose}
 use Rattle.chord_node.specs.declared.state.Status.{Status}
 use Rattle.chord_node.specs.declared.state.Status.TheVariants as status
 use Rattle.chord_node.specs.Invariant.{calls_for, is_for_join}
+use Rattle.chord_ops.specs.Ongoing.{FitsJoin, FitsTick, IsOngoing, IsTimed, Ongoing, is_lived, is_tick, numbered, waits}
 use Rattle.chord_ops.specs.Timers.{Timer, is_timer, set_for}
 use Rattle.chord_ops.specs.Timers.Timer.{Stabilize, Finger, Traffic, Life, Check, Rejoin, Timeout}
 use Rattle.chord_ops.specs.declared.turn.Turn.{Turn}
@@ -26,55 +27,6 @@ use Rattle.chord_ops.specs.Turns.{asked, body_of, called, kind_of, lost_on_the_w
 use Rattle.chord_ops.proofs.Kept.{calls_for-push, count_by-push}
 use Rattle.chord_ops.proofs.Removed.{all_pairs_head, all_pairs_tail, count_by-filter}
 use Rattle.chord_ops.proofs.Sending.{asked_as, asked_over, at_place, sent_as}
-
--- The timers of a node among the events that are pending beside those of a turn, and among those of the turn
-abbrev pub waits : (me : ℕ) → Timer → (number : ℕ) → (rest events : List (Event Body)) → ℕ
-waits me t number rest events = set_for me t number rest + set_for me t number events
-
--- the number of calls of this number
-abbrev pub numbered : (number : ℕ) → List Call → ℕ
-numbered number calls = count_by (λ call. call.number == number) calls
-
--- a call has its timeout, no number has two, and no number has one that is not yet used
-pub record IsTimed (calls timeouts count number : ℕ) : Type 0 where
-  pub enough : calls ≤ timeouts
-  pub once : timeouts ≤ 1
-  pub counted : count < number → timeouts ≡ 0
-
-abbrev pub is_tick : Timer → Bool
-is_tick Rejoin = false
-is_tick Timeout = false
-is_tick _ = true
-
--- whether a timer belongs to a life
-abbrev pub is_lived : Timer → Bool
-is_lived Timeout = false
-is_lived _ = true
-
-abbrev pub FitsTick : Status → (have claim : ℕ) → Type 0
-FitsTick status.Down have claim = Unit {0}
-FitsTick status.Joining have claim = have ≡ claim
-FitsTick status.Member have claim = have ≡ claim
-
--- a joining node has a call for it or pauses, and a member does neither
-abbrev pub FitsJoin : Status → (calls pauses : ℕ) → Type 0
-FitsJoin status.Down calls pauses = Unit {0}
-FitsJoin status.Joining calls pauses = calls + pauses ≡ 1
-FitsJoin status.Member calls pauses = calls + pauses ≡ 0
-
--- `owed` is 1 while a call for a join has been taken out, or a pause is over, and the join has not gone on yet
-pub record Ongoing (claim : Timer → ℕ) (owed retries : ℕ) (rest events : List (Event Body)) (me count epoch : ℕ) (status : Status) (calls : List Call) : Type 0 where
-  pub timed : (number : ℕ) → IsTimed (numbered number calls) (waits me Timeout number rest events) count number
-  pub seldom : All (λ (call : Call). call.resent ≤ retries) calls
-  pub later : (t : Timer) (number : ℕ) → is_lived t ≡ true → epoch < number → waits me t number rest events ≡ 0
-  pub ticks : (t : Timer) → is_tick t ≡ true → FitsTick status (waits me t epoch rest events) (claim t)
-  pub joins : FitsJoin status (calls_for is_for_join calls) (waits me Rejoin epoch rest events + owed)
-  pub own : (n : ℕ) (t : Timer) (number : ℕ) → n ≢ me → set_for n t number events ≡ 0
-
--- the same of a turn
-abbrev pub IsOngoing : Scenario → (claim : Timer → ℕ) → (owed : ℕ) → (rest : List (Event Body)) → Turn → Type 0
-IsOngoing sc claim owed rest turn =
-    Ongoing claim owed sc.retries rest turn.events turn.state.me turn.state.count turn.state.epoch turn.state.status turn.state.calls
 
 -- what a call owes its join when it is taken out
 abbrev pub owes : Purpose → ℕ

@@ -59,29 +59,8 @@ use Rattle.chord_ops.proofs.KeptRules.{none_of}
 use Rattle.chord_ops.proofs.Growing.{known}
 use Rattle.chord_ops.proofs.KeptJoins.{same_armed, same_rows_armed}
 use Rattle.chord_ops.proofs.TimerTable.{IfSome-if, IfSome-map}
-use Rattle.chord_ops.proofs.Ongoing.{
-  FitsJoin,
-  FitsTick,
-  IsOngoing,
-  going_called,
-  going_if,
-  going_made,
-  going_when,
-  going_with,
-  is_lived,
-  is_set,
-  is_tick,
-  joins_alike,
-  not_set,
-  same_node,
-  other_node,
-  set_elsewhere,
-  set_for-push,
-  set_here,
-  tick_lived,
-  ticks_alike,
-  waits,
-}
+use Rattle.chord_ops.specs.Ongoing.{FitsJoin, FitsTick, IsOngoing, is_lived, is_tick, waits}
+use Rattle.chord_ops.proofs.Ongoing.{going_called, going_if, going_made, going_when, going_with, is_set, joins_alike, not_set, same_node, other_node, set_elsewhere, set_for-push, set_here, tick_lived, ticks_alike}
 
 module _ (sc : Scenario) (claim : Timer → ℕ) (rest : List (Event Body)) where
   -- a joining node becomes a member

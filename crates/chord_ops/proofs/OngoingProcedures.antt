@@ -38,7 +38,8 @@ use Rattle.chord_ops.specs.Procedures.{
 use Rattle.chord_ops.specs.Search.{step_answer}
 use Rattle.chord_ops.specs.Timers.{Timer}
 use Rattle.chord_ops.specs.Turns.{called, noted}
-use Rattle.chord_ops.proofs.Ongoing.{IsOngoing, going_called, going_if, going_when}
+use Rattle.chord_ops.specs.Ongoing.{IsOngoing}
+use Rattle.chord_ops.proofs.Ongoing.{going_called, going_if, going_when}
 
 module _ (sc : Scenario) (claim : Timer → ℕ) (rest : List (Event Body)) where
   -- a call for something else than a join

@@ -167,36 +167,8 @@ use Rattle.chord_ops.proofs.KeptRules.{count_by-none, not_false, or_false}
 use Rattle.chord_ops.proofs.KeptJoins.{count_down, down_by, joins_by, purpose_of_found}
 use Rattle.chord_ops.proofs.KeptTable.{IsAnswered, and_both, answered_is, for_pong, found_number, member_is, member_with}
 use Rattle.chord_ops.proofs.Removed.{asking_found}
-use Rattle.chord_ops.proofs.Ongoing.{
-  FitsJoin,
-  FitsTick,
-  IsOngoing,
-  going_again,
-  going_asked,
-  going_called,
-  going_if,
-  going_over,
-  going_past,
-  going_sent,
-  going_when,
-  going_with,
-  going_without,
-  is_lived,
-  is_set,
-  is_tick,
-  joins_alike,
-  lived_no_timeout,
-  none_found,
-  numbered,
-  numbered_same,
-  other_node,
-  owes,
-  same_node,
-  set_for-cons,
-  set_here,
-  ticks_alike,
-  waits,
-}
+use Rattle.chord_ops.specs.Ongoing.{FitsJoin, FitsTick, IsOngoing, is_lived, is_tick, numbered, waits}
+use Rattle.chord_ops.proofs.Ongoing.{going_again, going_asked, going_called, going_if, going_over, going_past, going_sent, going_when, going_with, going_without, is_set, joins_alike, lived_no_timeout, none_found, numbered_same, other_node, owes, same_node, set_for-cons, set_here, ticks_alike}
 use Rattle.chord_ops.proofs.OngoingJoins.{
   IsTickOf,
   check_is,
