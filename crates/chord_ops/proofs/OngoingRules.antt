@@ -545,7 +545,7 @@ module _ (sc : Scenario) (claim : Timer → ℕ) (rest : List (Event Body)) wher
       → IsOngoing sc claim 1 rest turn → IsOngoing sc claim 0 rest (place_found sc behind first list attempt turn)
   unfolding place_found
   going_place_found behind first list attempt turn joining h =
-      going_if (IsOngoing sc claim 0 rest) sc.rules.join_asks _ _
+      going_if (IsOngoing sc claim 0 rest) _ _ _
       (λ asks. going_called sc claim rest first request.GetState (purpose.JoinHead behind) (with_attempt attempt turn) h)
       (λ joins. going_joined behind first list turn joining h)
 
@@ -945,7 +945,7 @@ going_timeout sc claim rest key target number turn here known h = by (call_of nu
         timeout_over sc claim 0 rest key target number turn (none_found (λ (c : Call). c.number == number) turn.state.calls none) h
     by (Some call) found =
         let asked = asked_by sc number call turn.state found known in
-        going_if (IsOngoing sc claim 0 rest) (nat_lt call.resent sc.retries) _ _
+        going_if (IsOngoing sc claim 0 rest) _ _ _
         (λ again.
         let few : call.resent < sc.retries = grind (arith, nat_tests) in
         going_call_repeated sc claim rest key target number call turn here few known asked h)

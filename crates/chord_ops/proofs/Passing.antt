@@ -136,7 +136,7 @@ founded_place_found : (sc : Scenario) (behind first : ℕ) (list : List ℕ) (at
     → turn.state.status ≡ status.Joining → IsFounded (place_found sc behind first list attempt turn)
 unfolding place_found
 founded_place_found sc behind first list attempt turn asks joining =
-    going_if IsFounded sc.rules.join_asks _ _
+    going_if IsFounded _ _ _
     (λ test. founded_called sc first request.GetState (purpose.JoinHead behind) (with_attempt attempt turn) joining)
     (λ test. let both : true ≡ false = sym asks ∙ test in absurd (cc))
 
