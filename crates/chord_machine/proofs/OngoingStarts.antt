@@ -223,8 +223,8 @@ starts_go_on sc n ranges known = by (is_initial sc n) refl
         set_at_start sc n t number known is ∙ first_none sc n t number is_none in
         record {
           timed = λ number.
-          let free : set_for n Timeout number (start_events sc) ≡ 0 = none Timeout number (λ message tick. tick.no_timeout number) in
-          record { enough = omega arith; once = omega (arith, free); counted = λ above. omega (arith, free) };
+              let free : set_for n Timeout number (start_events sc) ≡ 0 = none Timeout number (λ message tick. tick.no_timeout number) in
+              record { enough = omega arith; once = omega (arith, free); counted = λ above. omega (arith, free) };
           seldom = none_of _;
           later = λ t number lived above. omega (arith, none t number (λ message tick. tick.others t number (λ same. omega (arith, above, same))));
           ticks = λ t tick. omega (arith, set_at_start sc n t 1 known is, first_wanted sc n ranges t tick);
@@ -233,8 +233,8 @@ starts_go_on sc n ranges known = by (is_initial sc n) refl
         }
     by false other = record {
       timed = λ number.
-      let free : set_for n Timeout number (start_events sc) ≡ 0 = none_at_start sc n Timeout number other in
-      record { enough = omega arith; once = omega (arith, free); counted = λ above. omega (arith, free) };
+          let free : set_for n Timeout number (start_events sc) ≡ 0 = none_at_start sc n Timeout number other in
+          record { enough = omega arith; once = omega (arith, free); counted = λ above. omega (arith, free) };
       seldom = none_of _;
       later = λ t number lived above. omega (arith, none_at_start sc n t number other);
       ticks = λ t tick. tt;

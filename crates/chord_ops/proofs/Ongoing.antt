@@ -110,12 +110,12 @@ recounted sc claim owed rest more old new same me le epoch is calls own h =
     (subst (λ (cs : List Call). Ongoing claim owed sc.retries more new.events old.state.me new.state.count old.state.epoch old.state.status cs) (sym calls)
     (record {
       timed = λ number.
-      let was = h.timed number in
-      record {
-        enough = omega (arith, was.enough, same Timeout number);
-        once = omega (arith, was.once, same Timeout number);
-        counted = λ above. omega (arith, was.counted (omega (arith, above, le)), same Timeout number);
-      };
+          let was = h.timed number in
+          record {
+            enough = omega (arith, was.enough, same Timeout number);
+            once = omega (arith, was.once, same Timeout number);
+            counted = λ above. omega (arith, was.counted (omega (arith, above, le)), same Timeout number);
+          };
       seldom = h.seldom;
       later = λ t number lived above. sym (same t number) ∙ h.later t number lived above;
       ticks = λ t is_one. subst (λ (n : ℕ). FitsTick old.state.status n (claim t)) (same t old.state.epoch) (h.ticks t is_one);
@@ -286,13 +286,13 @@ module _ (sc : Scenario) (claim : Timer → ℕ) (rest : List (Event Body)) wher
       omega (arith, set_for-push me t number out.events e, not_set me t number e (lived_no_timeout call.number t number lived)) in
       record {
         timed = λ number.
-        let now = timed_more (numbered number out.state.calls) (waits me Timeout number rest out.events) out.state.count (out.state.count + 1) call.number number
-        low (omega arith) (λ same. ap (λ (n : ℕ). waits me Timeout n rest out.events) (sym same) ∙ none) (h.timed number) in
-        record {
-          enough = omega (arith, now.enough, one_more number, set number);
-          once = omega (arith, now.once, set number);
-          counted = λ above. set number ∙ now.counted above;
-        };
+            let now = timed_more (numbered number out.state.calls) (waits me Timeout number rest out.events) out.state.count (out.state.count + 1) call.number number
+            low (omega arith) (λ same. ap (λ (n : ℕ). waits me Timeout n rest out.events) (sym same) ∙ none) (h.timed number) in
+            record {
+              enough = omega (arith, now.enough, one_more number, set number);
+              once = omega (arith, now.once, set number);
+              counted = λ above. set number ∙ now.counted above;
+            };
         seldom = All-push (λ (c : Call). c.resent ≤ sc.retries) out.state.calls call h.seldom few;
         later = λ t number lived above. sym (still t number lived) ∙ h.later t number lived above;
         ticks = λ t is. ticks_alike out.state.status _ (claim t) _ (still t out.state.epoch (tick_lived t is)) (h.ticks t is);
@@ -300,7 +300,7 @@ module _ (sc : Scenario) (claim : Timer → ℕ) (rest : List (Event Body)) wher
             joins_alike out.state.status (calls_for is_for_join out.state.calls) (waits me Rejoin out.state.epoch rest out.events + owes call.purpose) _ _
             (omega (arith, calls_for-push is_for_join out.state.calls call, still Rejoin out.state.epoch refl)) h.joins;
         own = λ n t number apart.
-        omega (arith, set_for-push n t number out.events e, set_elsewhere n t number e (other_node me n apart), h.own n t number apart);
+            omega (arith, set_for-push n t number out.events e, set_elsewhere n t number e (other_node me n apart), h.own n t number apart);
       }
 
   pub going_asked : (request : Request) (call : Call) (turn : Turn) → call.resent ≤ sc.retries → call.number ≤ turn.state.count + 1
@@ -340,12 +340,12 @@ module _ (sc : Scenario) (claim : Timer → ℕ) (rest : List (Event Body)) wher
   going_without k call turn distinct found h =
       record {
         timed = λ number.
-        let was = h.timed number in
-        record {
-          enough = omega (arith, was.enough, count_by-filter (λ (c : Call). c.number == number) (λ (c : Call). not (c.number == k)) turn.state.calls);
-          once = was.once;
-          counted = was.counted;
-        };
+            let was = h.timed number in
+            record {
+              enough = omega (arith, was.enough, count_by-filter (λ (c : Call). c.number == number) (λ (c : Call). not (c.number == k)) turn.state.calls);
+              once = was.once;
+              counted = was.counted;
+            };
         seldom = All-filter (λ (c : Call). not (c.number == k)) (λ (c : Call). c.resent ≤ sc.retries) turn.state.calls h.seldom;
         later = h.later;
         ticks = h.ticks;
@@ -371,15 +371,15 @@ module _ (sc : Scenario) (claim : Timer → ℕ) (rest : List (Event Body)) wher
       omega (arith, split t turn.state.epoch, not_set me t turn.state.epoch e other) in
       record {
         timed = λ number.
-        let was = h.timed number in
-        record {
-          enough = elim (no_call number) [
-            | inl none ↦ omega (arith, none)
-            | inr other ↦ omega (arith, was.enough, split Timeout number, not_set me Timeout number e other)
-          ];
-          once = omega (arith, was.once, split Timeout number);
-          counted = λ above. omega (arith, was.counted above, split Timeout number);
-        };
+            let was = h.timed number in
+            record {
+              enough = elim (no_call number) [
+                | inl none ↦ omega (arith, none)
+                | inr other ↦ omega (arith, was.enough, split Timeout number, not_set me Timeout number e other)
+              ];
+              once = omega (arith, was.once, split Timeout number);
+              counted = λ above. omega (arith, was.counted above, split Timeout number);
+            };
         seldom = h.seldom;
         later = λ t number lived above. omega (arith, h.later t number lived above, split t number);
         ticks = λ t is. elim (no_life t (tick_lived t is)) [

@@ -75,7 +75,7 @@ module _ (sc : Scenario) (claim : Timer → ℕ) (rest : List (Event Body)) wher
         seldom = h.seldom;
         later = h.later;
         ticks = λ t is.
-        subst (λ (s : Status). FitsTick s (waits turn.state.me t turn.state.epoch rest turn.events) (claim t)) joining (h.ticks t is);
+            subst (λ (s : Status). FitsTick s (waits turn.state.me t turn.state.epoch rest turn.events) (claim t)) joining (h.ticks t is);
         joins = omega (arith, one);
         own = h.own;
       }
@@ -118,21 +118,21 @@ module _ (sc : Scenario) (claim : Timer → ℕ) (rest : List (Event Body)) wher
       let here : ◌≡◌ {A = ℕ} (cond (epoch == epoch) 1 0) 1 = ap (λ (b : Bool). cond b 1 0) (same_node epoch) in
       record {
         timed = λ number.
-        let was = h.timed number in
-        record {
-          enough = omega (arith, was.enough, push Timeout number);
-          once = omega (arith, was.once, push Timeout number);
-          counted = λ above. omega (arith, was.counted (omega (arith, above)), push Timeout number);
-        };
+            let was = h.timed number in
+            record {
+              enough = omega (arith, was.enough, push Timeout number);
+              once = omega (arith, was.once, push Timeout number);
+              counted = λ above. omega (arith, was.counted (omega (arith, above)), push Timeout number);
+            };
         seldom = h.seldom;
         later = λ t number lived above.
-        omega (arith, h.later t number lived above, push t number, not_yet t number epoch above);
+            omega (arith, h.later t number lived above, push t number, not_yet t number epoch above);
         ticks = λ t is. ticks_alike turn.state.status _ (claim t) _ (omega (arith, push t epoch, no_tick t epoch epoch is)) (h.ticks t is);
         joins =
             subst (λ (s : Status). FitsJoin s (calls_for is_for_join turn.state.calls) (waits me Rejoin epoch rest (turn.events ++ e ∷ []) + 0)) (sym joining)
             (omega (arith, one, push Rejoin epoch, here));
         own = λ n t number apart.
-        omega (arith, set_for-push n t number turn.events e, set_elsewhere n t number e (other_node me n apart), h.own n t number apart);
+            omega (arith, set_for-push n t number turn.events e, set_elsewhere n t number e (other_node me n apart), h.own n t number apart);
       }
     where
       not_yet : (t : Timer) (number epoch : ℕ) → epoch < number → ◌≡◌ {A = ℕ} (cond (is_timer (body.Rejoin epoch) t number) 1 0) 0
@@ -238,7 +238,7 @@ module _ (sc : Scenario) (claim : Timer → ℕ) (rest : List (Event Body)) wher
         seldom = h.seldom;
         later = h.later;
         ticks = λ t is.
-        subst (λ (s : Status). FitsTick s (waits turn.state.me t turn.state.epoch rest turn.events) (claim t)) member (h.ticks t is);
+            subst (λ (s : Status). FitsTick s (waits turn.state.me t turn.state.epoch rest turn.events) (claim t)) member (h.ticks t is);
         joins = omega (arith, none);
         own = h.own;
       })
@@ -334,24 +334,24 @@ going_ticked sc claim rest wait message turn joining is h =
     omega (arith, set_for-push me t number turn.events e, not_set me t number e other) in
     record {
       timed = λ number.
-      let was = h.timed number in
-      record {
-        enough = omega (arith, was.enough, none Timeout number (is.no_timeout number));
-        once = omega (arith, was.once, none Timeout number (is.no_timeout number));
-        counted = λ above. omega (arith, was.counted (omega (arith, above)), none Timeout number (is.no_timeout number));
-      };
+          let was = h.timed number in
+          record {
+            enough = omega (arith, was.enough, none Timeout number (is.no_timeout number));
+            once = omega (arith, was.once, none Timeout number (is.no_timeout number));
+            counted = λ above. omega (arith, was.counted (omega (arith, above)), none Timeout number (is.no_timeout number));
+          };
       seldom = h.seldom;
       later = λ t number lived above. omega (arith, h.later t number lived above, none t number (is.others t number (λ same. omega (arith, above, same))));
       ticks = λ t tick.
-      let was : waits me t epoch rest turn.events ≡ claim t =
-      subst (λ (s : Status). FitsTick s (waits me t epoch rest turn.events) (claim t)) joining (h.ticks t tick) in
-      subst (λ (s : Status). FitsTick s (waits me t epoch rest (turn.events ++ e ∷ [])) (claim t + cond (is_timer message t epoch) 1 0)) (sym joining)
-      (omega (arith, was, push t epoch));
+          let was : waits me t epoch rest turn.events ≡ claim t =
+          subst (λ (s : Status). FitsTick s (waits me t epoch rest turn.events) (claim t)) joining (h.ticks t tick) in
+          subst (λ (s : Status). FitsTick s (waits me t epoch rest (turn.events ++ e ∷ [])) (claim t + cond (is_timer message t epoch) 1 0)) (sym joining)
+          (omega (arith, was, push t epoch));
       joins =
           joins_alike turn.state.status (calls_for is_for_join turn.state.calls) (waits me Rejoin epoch rest turn.events + 1) _ _
           (omega (arith, none Rejoin epoch (is.no_pause epoch))) h.joins;
       own = λ n t number apart.
-      omega (arith, set_for-push n t number turn.events e, set_elsewhere n t number e (other_node me n apart), h.own n t number apart);
+          omega (arith, set_for-push n t number turn.events e, set_elsewhere n t number e (other_node me n apart), h.own n t number apart);
     }
 
 going_rows : (sc : Scenario) (claim : Timer → ℕ) (rest : List (Event Body)) (rows : List (Option (Span × Body))) (turn : Turn)
@@ -445,8 +445,7 @@ module _ (sc : Scenario) (n epoch : ℕ) (ranges : IsInRange sc) where
 -- each row of the table is a tick of the life
 pub table_of_life : (sc : Scenario) (n epoch : ℕ) → AllByRecursion (HasTickOf epoch) (timer_table sc n epoch)
 table_of_life sc n epoch =
-    let is : Span × Body → Type 0 = λ timer. IsTickOf epoch timer.1 in
-    (
+    let is : Span × Body → Type 0 = λ timer. IsTickOf epoch timer.1 in (
       stabilize_is epoch,
       (
         finger_is epoch,

@@ -752,13 +752,13 @@ module _ (sc : Scenario) (claim : Timer → ℕ) (rest : List (Event Body)) (key
       let me : ℕ = turn.state.me in
       record {
         timed = λ number.
-        let was = h.timed number in
-        let none : ◌≡◌ {A = ℕ} (is_set me Timeout number (event_of key target (body.Rejoin epoch))) 0 = refl in
-        record {
-          enough = omega (arith, was.enough, pause_split Timeout number, none);
-          once = omega (arith, was.once, pause_split Timeout number);
-          counted = λ above. omega (arith, was.counted above, pause_split Timeout number);
-        };
+            let was = h.timed number in
+            let none : ◌≡◌ {A = ℕ} (is_set me Timeout number (event_of key target (body.Rejoin epoch))) 0 = refl in
+            record {
+              enough = omega (arith, was.enough, pause_split Timeout number, none);
+              once = omega (arith, was.once, pause_split Timeout number);
+              counted = λ above. omega (arith, was.counted above, pause_split Timeout number);
+            };
         seldom = h.seldom;
         later = λ t number lived above. omega (arith, h.later t number lived above, pause_split t number);
         ticks = λ t is. ticks_alike turn.state.status _ (claim t) _ (omega (arith, pause_split t turn.state.epoch, pause_no_tick t is)) (h.ticks t is);
