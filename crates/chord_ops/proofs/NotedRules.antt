@@ -726,7 +726,7 @@ noted_place_found : (sc : Scenario) (n behind first : ℕ) (list : List ℕ) (at
     → HasNoted sc n turn → HasNoted sc (n + 1) (place_found sc behind first list attempt turn)
 unfolding place_found
 noted_place_found sc n behind first list attempt turn at known h =
-    noted_if sc (n + 1) sc.rules.join_asks _ _
+    noted_if sc (n + 1) _ _ _
     (noted_called sc n first request.GetState (purpose.JoinHead behind) (with_attempt attempt turn) known h)
     (noted_line sc n (line.Member behind) turn (one_node sc behind at) h)
 
