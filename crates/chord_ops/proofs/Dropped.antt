@@ -1,18 +1,18 @@
 -- What a member knows after it has dropped a silent node.
-use Rattle.std.proofs.Common.{◌≡◌, ◌==◌, ◌&&◌, ℕ, ◌<◌, ◌≤◌, Bool, true, false, not, List, [], ◌∷◌, ◌++◌, ◌-◌, drop, length, map, replicate, Option, Some, None, arith, refl, subst}
-use Rattle.std.proofs.lemmas.List.{length-map, length-take}
+use Rattle.std.proofs.Common.{◌≡◌, ◌==◌, ◌&&◌, ℕ, ◌<◌, ◌≤◌, Bool, true, false, not, List, [], ◌∷◌, ◌++◌, ◌-◌, drop, length, length-append, map, replicate, suc, take, Option, Some, None, arith, refl, subst}
+use Rattle.std.proofs.lemmas.List.{length-drop, length-map, length-take}
 use Rattle.std.proofs.lemmas.List.Sums.{count_by-le-length, length-filter}
 use Rattle.std.proofs.lemmas.List.Elements.{All-append, All-cons, All-drop, All-filter, All-head, All-replicate, All-tail, All-take}
 use Rattle.std.proofs.lemmas.Option.{slice_get_within}
 use Rattle.std.specs.List.{filter, fold, list_any}
-use Rattle.std.specs.Prelude.{IfSome, is_some, nat_lt, slice_get, if◌then◌else◌}
+use Rattle.std.specs.Prelude.{IfSome, is_some, nat_lt, position, slice_get, if◌then◌else◌}
 use Rattle.chord_circle.specs.Circle.{distance}
 use Rattle.chord_scenario.specs.declared.scenario.Scenario.{Scenario}
 use Rattle.chord_scenario.specs.World.{ident_of, node_count}
 use Rattle.chord_node.specs.declared.state.NodeState.{NodeState}
 use Rattle.chord_node.specs.Invariant.{AllNodes, IsNodeState}
 use Rattle.chord_ops.specs.declared.turn.Turn.{Turn}
-use Rattle.chord_ops.specs.Rules.{dropped, dropped_by, head, led_by, list_after, list_left, near_covered, nearer, nearest_finger, others_left, rescuer}
+use Rattle.chord_ops.specs.Rules.{dropped, dropped_by, head, led_by, list_after, list_left, list_without, near_covered, nearer, nearest_finger, others_left, rescuer, without_at}
 use Rattle.chord_ops.specs.Turns.{when_some}
 use Rattle.chord_ops.proofs.KeptFields.{with_fingers, with_succ}
 use Rattle.chord_ops.proofs.KeptRules.{first_known}
@@ -76,6 +76,33 @@ put_known sc silent first (x ∷ xs) at all =
     by : (b : Bool) → (if b then first else x) < node_count sc
     by true = at
     by false = All-head (λ y. y < node_count sc) x xs all
+
+-- the list without a node that was asked for its state, too
+
+pub at_known : (sc : Scenario) (o : Option ℕ) (xs : List ℕ) → AllNodes sc xs → AllNodes sc (without_at o xs)
+at_known sc None xs all = all
+at_known sc (Some index) xs all =
+    All-append (λ y. y < node_count sc) (take index xs) (drop (suc index) xs)
+    (All-take (λ y. y < node_count sc) index xs all) (All-drop (λ y. y < node_count sc) (suc index) xs all)
+
+at_few : (o : Option ℕ) (xs : List ℕ) → length (without_at o xs) ≤ length xs
+at_few None xs = omega arith
+at_few (Some index) xs =
+    omega (arith, length-append (take index xs) (drop (suc index) xs), length-take index xs, length-drop (suc index) xs)
+
+pub without_known : (sc : Scenario) (silent : ℕ) (xs : List ℕ) → AllNodes sc xs → AllNodes sc (list_without sc silent xs)
+without_known sc silent xs all = by (sc.profile == 4)
+  where
+    by : (b : Bool) → AllNodes sc (if b then without_at (position (λ x. x == silent) xs) xs else drop 1 xs)
+    by true = at_known sc (position (λ x. x == silent) xs) xs all
+    by false = All-drop (λ y. y < node_count sc) 1 xs all
+
+pub without_few : (sc : Scenario) (silent : ℕ) (xs : List ℕ) → length (list_without sc silent xs) ≤ length xs
+without_few sc silent xs = by (sc.profile == 4)
+  where
+    by : (b : Bool) → length (if b then without_at (position (λ x. x == silent) xs) xs else drop 1 xs) ≤ length xs
+    by true = at_few (position (λ x. x == silent) xs) xs
+    by false = omega (arith, length-drop 1 xs)
 
 -- a node that still has a successor is as it was, but for its list and its fingers
 pub dropped_state : (sc : Scenario) (silent first : ℕ) (s : NodeState) → slice_get (list_after sc silent s) 0 ≡ Some first → IsNodeState sc s

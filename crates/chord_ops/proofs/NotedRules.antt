@@ -131,7 +131,8 @@ use Rattle.chord_ops.specs.Rules.{
   timeout,
   traffic_tick,
   successors_taken,
-  without_head,
+  without_silent,
+  list_without,
   call_given_up,
   call_repeated,
   request_again,
@@ -143,7 +144,7 @@ use Rattle.chord_ops.specs.Turns.{after_words, kind_of, noted, timer_made, when_
 use Rattle.chord_ops.proofs.Answered.{IfSome-answered_call}
 use Rattle.chord_ops.proofs.Found.{IfSome-find}
 use Rattle.chord_ops.proofs.Growing.{known}
-use Rattle.chord_ops.proofs.Dropped.{list_known, put_known, rescuer_known}
+use Rattle.chord_ops.proofs.Dropped.{list_known, put_known, rescuer_known, without_known}
 use Rattle.chord_ops.proofs.KeptJoins.{cleaned_known}
 use Rattle.chord_ops.proofs.KeptRules.{arrived_last, first_known, none_of}
 use Rattle.chord_ops.proofs.Noted.{
@@ -367,14 +368,12 @@ noted_head_asked sc n None turn knows at h =
 noted_head_asked sc n (Some first) turn knows at h =
     one_more sc (n + 1) (noted_called sc n first request.GetState purpose.State turn at h)
 
-noted_state_timed_out : (sc : Scenario) (n : ℕ) (turn : Turn) → KnowsNodes sc turn.state → HasNoted sc n turn
-    → HasNoted sc (n + 1 + 1) (state_timed_out sc turn)
+noted_state_timed_out : (sc : Scenario) (n silent : ℕ) (turn : Turn) → KnowsNodes sc turn.state → HasNoted sc n turn
+    → HasNoted sc (n + 1 + 1) (state_timed_out sc silent turn)
 unfolding state_timed_out
-noted_state_timed_out sc n turn knows h =
-    let others : AllNodes sc (drop 1 turn.state.succ) = All-drop (λ node. node < node_count sc) 1 turn.state.succ knows.succ_known in
-    noted_if sc (n + 1 + 1) sc.rules.drop_silent _ _
-    (noted_head_asked sc n (head turn.state) turn knows (first_known sc turn.state.succ knows.succ_known) h)
-    (noted_head_asked sc n (head (without_head turn).state) (without_head turn)
+noted_state_timed_out sc n silent turn knows h =
+    let others : AllNodes sc (list_without sc silent turn.state.succ) = without_known sc silent turn.state.succ knows.succ_known in
+    noted_head_asked sc n (head (without_silent sc silent turn).state) (without_silent sc silent turn)
     (record {
       own = knows.own;
       via_known = knows.via_known;
@@ -383,7 +382,7 @@ noted_state_timed_out sc n turn knows h =
       fingers_known = knows.fingers_known;
       bootstraps = knows.bootstraps;
     })
-    (first_known sc (drop 1 turn.state.succ) others) h)
+    (first_known sc (list_without sc silent turn.state.succ) others) h
 
 noted_head_notified : (sc : Scenario) (n : ℕ) (turn : Turn) → KnowsNodes sc turn.state → HasNoted sc n turn → HasNoted sc (n + 1) (head_notified sc turn)
 unfolding head_notified
@@ -415,7 +414,7 @@ noted_timed_out sc n number silent purpose.Owner turn at lasts knows h = noted_t
 noted_timed_out sc n number silent purpose.JoinStep turn at lasts knows h = noted_join_timed_out sc n silent turn knows h
 noted_timed_out sc n number silent purpose.JoinList turn at lasts knows h = noted_join_timed_out sc n silent turn knows h
 noted_timed_out sc n number silent (purpose.JoinHead behind) turn at lasts knows h = noted_join_timed_out sc n silent turn knows h
-noted_timed_out sc n number silent purpose.State turn at lasts knows h = noted_state_timed_out sc n turn knows h
+noted_timed_out sc n number silent purpose.State turn at lasts knows h = noted_state_timed_out sc n silent turn knows h
 noted_timed_out sc n number silent purpose.List turn at lasts knows h =
     one_more sc (n + 1) (noted_head_notified sc n turn knows h)
 noted_timed_out sc n number silent purpose.Check turn at lasts knows h = one_more sc (n + 1) (noted_check_timed_out sc n silent turn at h)

@@ -158,7 +158,7 @@ use Rattle.chord_ops.specs.Rules.{
   timeout,
   traffic_tick,
   with_heirs,
-  without_head,
+  without_silent,
 }
 use Rattle.chord_ops.specs.Timers.{Timer, is_timer, wanted}
 use Rattle.chord_ops.specs.Timers.Timer.{Stabilize, Finger, Traffic, Life, Check, Rejoin, Timeout}
@@ -285,13 +285,11 @@ module _ (sc : Scenario) (claim : Timer → ℕ) (rest : List (Event Body)) wher
       (λ via found. going_stranded sc claim rest via turn member (going_cleared sc claim rest turn member h))
   going_head_asked (Some first) turn member h = going_called_else sc claim rest first request.GetState purpose.State turn refl h
 
-  going_state_timed_out : (turn : Turn) → turn.state.status ≡ status.Member → IsOngoing sc claim 0 rest turn
-      → IsOngoing sc claim 0 rest (state_timed_out sc turn)
+  going_state_timed_out : (silent : ℕ) (turn : Turn) → turn.state.status ≡ status.Member → IsOngoing sc claim 0 rest turn
+      → IsOngoing sc claim 0 rest (state_timed_out sc silent turn)
   unfolding state_timed_out
-  going_state_timed_out turn member h =
-      going_if (IsOngoing sc claim 0 rest) sc.rules.drop_silent _ _
-      (λ drops. going_head_asked (head turn.state) turn member h)
-      (λ keeps. going_head_asked (head (without_head turn).state) (without_head turn) member h)
+  going_state_timed_out silent turn member h =
+      going_head_asked (head (without_silent sc silent turn).state) (without_silent sc silent turn) member h
 
   going_head_notified : (turn : Turn) → IsOngoing sc claim 0 rest turn → IsOngoing sc claim 0 rest (head_notified sc turn)
   unfolding head_notified
@@ -318,7 +316,7 @@ module _ (sc : Scenario) (claim : Timer → ℕ) (rest : List (Event Body)) wher
   going_timed_out number silent purpose.JoinList turn joins others via attempt h = going_join_timed_out silent turn (joins refl) via (attempt refl) h
   going_timed_out number silent (purpose.JoinHead behind) turn joins others via attempt h =
       going_join_timed_out silent turn (joins refl) via (attempt refl) h
-  going_timed_out number silent purpose.State turn joins others via attempt h = going_state_timed_out turn (others refl) h
+  going_timed_out number silent purpose.State turn joins others via attempt h = going_state_timed_out silent turn (others refl) h
   going_timed_out number silent purpose.List turn joins others via attempt h = going_head_notified turn h
   going_timed_out number silent purpose.Check turn joins others via attempt h = going_check_timed_out silent turn h
   going_timed_out number silent (purpose.Ping notifier) turn joins others via attempt h = going_ping_timed_out silent notifier turn h

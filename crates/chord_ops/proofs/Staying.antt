@@ -70,7 +70,7 @@ use Rattle.chord_ops.specs.Procedures.{
 use Rattle.chord_ops.specs.Search.{step_answer}
 use Rattle.chord_ops.specs.Detail.{detailed, message_lines}
 use Rattle.chord_ops.specs.Passages.{ForgetsSilent, IsStranded, PredecessorLeaves}
-use Rattle.chord_ops.specs.Rules.{acted, answered_call, answered_for, answers, arrived, asked_again, call_given_up, call_over, call_repeated, call_timed_out, check_tick, check_timed_out, cmd_crash, cmd_join, cmd_leave, cmd_lookup, crashed, dropped, dropped_by, effect, finger_after, finger_rotated, finger_tick, finger_turned, first_in_turn, has_finger_lookup, has_join_call, has_ping_call, has_repair_call, head, head_asked, head_notified, inherited, is_down, is_down_status, is_handed_over, is_joining, is_joining_status, is_member, is_member_status, is_stuck, is_void, key_words, leave_heard, life_end, life_over, list_after, list_answered, list_answered_for, list_asked, list_left, list_replied, lookup_answered, lookup_timed_out, near_covered, notified, notifier_met, once_more, opening, owner_answered, ping_timed_out, pinged, ponged, predecessor_told, predecessor_weighed, random_key, random_lookup, rejoin, replied, request_again, rescue_lines, rescuer, rise, sent_once_more, stabilize_tick, state_answered, state_answered_for, state_asked, state_replied, state_timed_out, step_asked, step_replied, successors_taken, taken_over, timed_out, timeout, traffic_tick, with_heirs, without_head}
+use Rattle.chord_ops.specs.Rules.{acted, answered_call, answered_for, answers, arrived, asked_again, call_given_up, call_over, call_repeated, call_timed_out, check_tick, check_timed_out, cmd_crash, cmd_join, cmd_leave, cmd_lookup, crashed, dropped, dropped_by, effect, finger_after, finger_rotated, finger_tick, finger_turned, first_in_turn, has_finger_lookup, has_join_call, has_ping_call, has_repair_call, head, head_asked, head_notified, inherited, is_down, is_down_status, is_handed_over, is_joining, is_joining_status, is_member, is_member_status, is_stuck, is_void, key_words, leave_heard, life_end, life_over, list_after, list_answered, list_answered_for, list_asked, list_left, list_replied, lookup_answered, lookup_timed_out, near_covered, notified, notifier_met, once_more, opening, owner_answered, ping_timed_out, pinged, ponged, predecessor_told, predecessor_weighed, random_key, random_lookup, rejoin, replied, request_again, rescue_lines, rescuer, rise, sent_once_more, stabilize_tick, state_answered, state_answered_for, state_asked, state_replied, state_timed_out, step_asked, step_replied, successors_taken, taken_over, timed_out, timeout, traffic_tick, with_heirs, without_silent}
 use Rattle.chord_ops.specs.Turns.{after_words, called, kind_of, noted, sent, timer_made, when_some}
 use Rattle.chord_ops.proofs.KeptJoins.{purpose_of_found, same_check_armed, same_traffic_armed}
 use Rattle.chord_ops.proofs.KeptRules.{not_false, or_false}
@@ -356,10 +356,8 @@ module _ (sc : Scenario) (s : NodeState) (e : Event Body) (prdc : ℕ) (known : 
       out_has (timed_out sc number call.to purpose.Owner (without_call number (over succ fingers lines))) (stays_with_lookup sc number (lookup_timed_out sc call.to) (without_call number (over succ fingers lines))
       (λ place lookup t. stays_lookup_diverted sc call.to place (once_more lookup) t) stays_opening)
   out_timed_out number call purpose.State succ fingers lines is found last asked other =
-      let left : Turn = without_call number (over succ fingers lines) in
-      going_if Out sc.rules.drop_silent _ _
-      (λ drops. out_ends (head_asked sc (head left.state) left) (ends_head_asked sc (head left.state) left stays_opening))
-      (λ keeps. out_ends (head_asked sc (head (without_head left).state) (without_head left)) (ends_head_asked sc (head (without_head left).state) (without_head left) stays_opening))
+      let left : Turn = without_silent sc call.to (without_call number (over succ fingers lines)) in
+      out_ends (head_asked sc (head left.state) left) (ends_head_asked sc (head left.state) left stays_opening)
   out_timed_out number call purpose.List succ fingers lines is found last asked other =
       out_has (timed_out sc number call.to purpose.List (without_call number (over succ fingers lines))) (stays_head_notified sc (without_call number (over succ fingers lines)) stays_opening)
   out_timed_out number call purpose.Check succ fingers lines is found last asked other = out_check number call succ fingers lines is found last asked
