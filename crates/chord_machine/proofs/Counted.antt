@@ -45,11 +45,13 @@ filter_twice {A} p q (x ∷ xs) = by (p x) refl (q x) (filter_twice p q xs)
         ≡ filter (λ y. not (p y)) (cond (not c) (x ∷ filter (λ y. not (q y)) xs) (filter (λ y. not (q y)) xs))
     by true test true ih = ih
     by true test false ih =
-        ih ∙ sym (ap (λ (b : Bool). cond (not b) (x ∷ filter (λ y. not (p y)) (filter (λ y. not (q y)) xs)) (filter (λ y. not (p y)) (filter (λ y. not (q y)) xs))) test)
+        ih ∙ sym (ap (λ (b : Bool). cond (not b) (x ∷ filter (λ y. not (p y)) (filter (λ y. not (q y)) xs)) (filter (λ y. not (p y)) (filter (λ y. not
+        (q y)) xs))) test)
     by false test true ih = ih
     by false test false ih =
         ap (λ ys. x ∷ ys) ih
-        ∙ sym (ap (λ (b : Bool). cond (not b) (x ∷ filter (λ y. not (p y)) (filter (λ y. not (q y)) xs)) (filter (λ y. not (p y)) (filter (λ y. not (q y)) xs))) test)
+        ∙ sym (ap (λ (b : Bool). cond (not b) (x ∷ filter (λ y. not (p y)) (filter (λ y. not (q y)) xs)) (filter (λ y. not (p y)) (filter (λ y. not
+        (q y)) xs))) test)
 
 module _ {Body : Type 0} where
   -- whether an event has the key of this one

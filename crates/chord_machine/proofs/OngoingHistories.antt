@@ -71,7 +71,8 @@ module _ (sc : Scenario) (ranges : IsInRange sc) (h : List (Event Body)) (e : Ev
   same_me = (grows_effect sc (state (chord sc) h e.target) e ranges).me ∙ target_is.me
 
   -- at the target
-  goes_on_here : GoesOn sc h e.target → IsOngoing sc (wanted sc e.target) 0 (pending (chord sc) (e ∷ h)) (first_turn (effect sc (state (chord sc) h e.target) e).state)
+  goes_on_here : GoesOn sc h e.target
+      → IsOngoing sc (wanted sc e.target) 0 (pending (chord sc) (e ∷ h)) (first_turn (effect sc (state (chord sc) h e.target) e).state)
   goes_on_here g =
       let s : NodeState = state (chord sc) h e.target in
       let after : Turn = effect sc s e in
@@ -143,7 +144,8 @@ joins_go_on sc ranges h p n inside joining =
     let g = all_go_on sc ranges h p n inside in
     let s : NodeState = state (chord sc) h n in
     let me : s.me ≡ n = ((meets (chord sc) (well_formed sc ranges) h p).sound n inside).me in
-    let fits = subst (λ (v : Status). FitsJoin v (calls_for is_for_join s.calls) (set_for s.me Rejoin s.epoch (pending (chord sc) h) + 0 + 0)) joining g.joins in
+    let fits = subst (λ (v : Status). FitsJoin v (calls_for is_for_join s.calls) (set_for s.me Rejoin s.epoch (pending
+    (chord sc) h) + 0 + 0)) joining g.joins in
     let here : set_for s.me Rejoin s.epoch (pending (chord sc) h) ≡ set_for n Rejoin s.epoch (pending (chord sc) h) =
     ap (λ (m : ℕ). set_for m Rejoin s.epoch (pending (chord sc) h)) me in
     omega (arith, fits, here)

@@ -112,13 +112,15 @@ own_only : (sc : Scenario) (n : ℕ) (t : Timer) (number : ℕ) (nodes : List �
 own_only sc n t number [] apart c = absurd (contains_none n c)
 own_only sc n t number (m ∷ nodes) apart c = go (cases_eq m n) (λ r. own_only sc n t number nodes apart.1 r)
   where
-    split : set_for n t number (first_timers sc m ++ flat_map (first_timers sc) nodes) ≡ set_for n t number (first_timers sc m) + set_for n t number (flat_map (first_timers sc) nodes)
+    split : set_for n t number (first_timers sc m ++ flat_map (first_timers sc) nodes) ≡ set_for n t number (first_timers sc m) + set_for n t number
+        (flat_map (first_timers sc) nodes)
     split = sum_by-append (λ (x : Event Body). is_set n t number x) (first_timers sc m) (flat_map (first_timers sc) nodes)
 
     go : (m ≡ n) ⊎ (m ≡ n → ⊥) → (Contains nodes n → set_for n t number (flat_map (first_timers sc) nodes) ≡ set_for n t number (first_timers sc n))
         → set_for n t number (first_timers sc m ++ flat_map (first_timers sc) nodes) ≡ set_for n t number (first_timers sc n)
     go (inl same) ih =
-        let here : set_for n t number (first_timers sc m) ≡ set_for n t number (first_timers sc n) = ap (λ (k : ℕ). set_for n t number (first_timers sc k)) same in
+        let here : set_for n t number (first_timers sc m) ≡ set_for n t number (first_timers sc n) = ap (λ (k : ℕ). set_for n t number
+        (first_timers sc k)) same in
         omega (
           arith,
           set_for-append n t number (first_timers sc m) (flat_map (first_timers sc) nodes),
@@ -141,7 +143,8 @@ nodes_apart sc = filter-apart (λ x. x) (is_initial sc) (range_with_len 0 (node_
 
 is_among : (sc : Scenario) (n : ℕ) → n < node_count sc → is_initial sc n ≡ true → Contains (initial_nodes sc) n
 unfolding initial_nodes
-is_among sc n known is = contains_filter (is_initial sc) (range_with_len 0 (node_count sc)) n (range-has 0 (node_count sc) n (omega arith) (omega (arith, known))) is
+is_among sc n known is = contains_filter (is_initial sc) (range_with_len 0 (node_count sc)) n (range-has 0 (node_count sc) n (omega arith) (omega
+    (arith, known))) is
 
 is_not_among : (sc : Scenario) (n : ℕ) → is_initial sc n ≡ false → (m : ℕ) → Contains (initial_nodes sc) m → m ≢ n
 unfolding initial_nodes
@@ -195,7 +198,8 @@ first_wanted sc n ranges t is =
     let same_epoch : (armed sc turn).state.epoch ≡ 1 = same_armed (λ s. s.epoch) sc turn (λ s count place. refl) in
     let joining : (armed sc turn).state.status ≡ status.Joining = same_armed (λ s. s.status) sc turn (λ s count place. refl) in
     let as_joining : waits (armed sc turn).state.me t (armed sc turn).state.epoch [] (armed sc turn).events ≡ wanted sc n t =
-    subst (λ (s : Status). FitsTick s (waits (armed sc turn).state.me t (armed sc turn).state.epoch [] (armed sc turn).events) (wanted sc n t)) joining (g.ticks t is) in
+    subst (λ (s : Status). FitsTick s (waits (armed sc turn).state.me t (armed sc turn).state.epoch [] (armed sc turn).events) (wanted sc n t)) joining
+    (g.ticks t is) in
     let of_node : waits n t (armed sc turn).state.epoch [] (armed sc turn).events ≡ wanted sc n t =
     subst (λ (m : ℕ). waits m t (armed sc turn).state.epoch [] (armed sc turn).events ≡ wanted sc n t) same_me as_joining in
     let of_life : waits n t 1 [] (armed sc turn).events ≡ wanted sc n t =
@@ -219,7 +223,8 @@ starts_go_on sc n ranges known = by (is_initial sc n) refl
 
     by : (b : Bool) → is_initial sc n ≡ b → IsOngoing sc (wanted sc n) 0 (start_events sc) (first_turn (cond b (first_member sc n) (never_up n)))
     by true is =
-        let none : (t : Timer) (number : ℕ) → ((message : Body) → IsTickOf 1 message → is_timer message t number ≡ false) → set_for n t number (start_events sc) ≡ 0 = λ t number is_none.
+        let none : (t : Timer) (number : ℕ) → ((message : Body) → IsTickOf 1 message → is_timer message t number ≡ false) → set_for n t number
+        (start_events sc) ≡ 0 = λ t number is_none.
         set_at_start sc n t number known is ∙ first_none sc n t number is_none in
         record {
           timed = λ number.

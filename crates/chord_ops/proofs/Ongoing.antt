@@ -234,12 +234,14 @@ found_alone k (x ∷ xs) call distinct found =
     by (x.number == k) refl found (λ later. found_alone k xs call (all_pairs_tail (λ (c d : Call). c.number ≢ d.number) x xs distinct) later)
   where
     by : (b : Bool) → (x.number == k) ≡ b → (if b then Some x else find (λ (c : Call). c.number == k) xs) ≡ Some call
-        → (find (λ (c : Call). c.number == k) xs ≡ Some call → filter (λ (c : Call). c.number == k) xs ≡ call ∷ []) → cond b (x ∷ filter (λ (c : Call). c.number == k) xs) (filter (λ (c : Call). c.number == k) xs) ≡ call ∷ []
+        → (find (λ (c : Call). c.number == k) xs ≡ Some call → filter (λ (c : Call). c.number == k) xs ≡ call ∷ [])
+        → cond b (x ∷ filter (λ (c : Call). c.number == k) xs) (filter (λ (c : Call). c.number == k) xs) ≡ call ∷ []
     by true test is ih =
         let same : x ≡ call = cc in
         let number : x.number ≡ k = grind (arith, nat_tests) in
         ap (λ (ys : List Call). x ∷ ys)
-        (none_numbered k xs (subst (λ (n : ℕ). All (λ (c : Call). n ≢ c.number) xs) number (all_pairs_head (λ (c d : Call). c.number ≢ d.number) x xs distinct)))
+        (none_numbered k xs (subst (λ (n : ℕ). All (λ (c : Call). n ≢ c.number) xs) number (all_pairs_head (λ
+        (c d : Call). c.number ≢ d.number) x xs distinct)))
         ∙ ap (λ (c : Call). c ∷ []) same
     by false test is ih = ih is
 
@@ -278,15 +280,19 @@ module _ (sc : Scenario) (claim : Timer → ℕ) (rest : List (Event Body)) wher
         target = out.state.me;
         body = body.Timeout call.number;
       } in
-      let one_more : (number : ℕ) → numbered number (out.state.calls ++ call ∷ []) ≡ numbered number out.state.calls + cond (call.number == number) 1 0 = λ number.
+      let one_more : (number : ℕ) → numbered number (out.state.calls ++ call ∷ []) ≡ numbered number out.state.calls + cond
+      (call.number == number) 1 0 = λ number.
       count_by-push (λ (c : Call). c.number == number) out.state.calls call in
-      let set : (number : ℕ) → waits me Timeout number rest (out.events ++ e ∷ []) ≡ waits me Timeout number rest out.events + cond (call.number == number) 1 0 = λ number.
+      let set : (number : ℕ) → waits me Timeout number rest (out.events ++ e ∷ []) ≡ waits me Timeout number rest out.events + cond
+      (call.number == number) 1 0 = λ number.
       omega (arith, set_for-push me Timeout number out.events e, set_here me Timeout number e refl) in
-      let still : (t : Timer) (number : ℕ) → is_lived t ≡ true → waits me t number rest out.events ≡ waits me t number rest (out.events ++ e ∷ []) = λ t number lived.
+      let still : (t : Timer) (number : ℕ) → is_lived t ≡ true → waits me t number rest out.events ≡ waits me t number rest
+      (out.events ++ e ∷ []) = λ t number lived.
       omega (arith, set_for-push me t number out.events e, not_set me t number e (lived_no_timeout call.number t number lived)) in
       record {
         timed = λ number.
-            let now = timed_more (numbered number out.state.calls) (waits me Timeout number rest out.events) out.state.count (out.state.count + 1) call.number number
+            let now = timed_more (numbered number out.state.calls) (waits me Timeout number rest out.events) out.state.count
+            (out.state.count + 1) call.number number
             low (omega arith) (λ same. ap (λ (n : ℕ). waits me Timeout n rest out.events) (sym same) ∙ none) (h.timed number) in
             record {
               enough = omega (arith, now.enough, one_more number, set number);
@@ -388,7 +394,8 @@ module _ (sc : Scenario) (claim : Timer → ℕ) (rest : List (Event Body)) wher
         ];
         joins = elim (no_life Rejoin refl) [
           | inl down ↦
-              subst (λ (s : Status). FitsJoin s (calls_for is_for_join turn.state.calls) (waits me Rejoin turn.state.epoch rest turn.events + owed)) (sym down) tt
+              subst (λ (s : Status). FitsJoin s (calls_for is_for_join turn.state.calls) (waits me Rejoin turn.state.epoch rest turn.events + owed))
+              (sym down) tt
           | inr other ↦
               joins_alike turn.state.status (calls_for is_for_join turn.state.calls) (waits me Rejoin turn.state.epoch (e ∷ rest) turn.events + owed) _ _
               (omega (arith, still Rejoin other)) h.joins

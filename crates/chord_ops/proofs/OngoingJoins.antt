@@ -111,7 +111,8 @@ module _ (sc : Scenario) (claim : Timer → ℕ) (rest : List (Event Body)) wher
         target = me;
         body = body.Rejoin epoch;
       } in
-      let push : (t : Timer) (number : ℕ) → waits me t number rest (turn.events ++ e ∷ []) ≡ waits me t number rest turn.events + cond (is_timer (body.Rejoin epoch) t number) 1 0 = λ t number.
+      let push : (t : Timer) (number : ℕ) → waits me t number rest (turn.events ++ e ∷ []) ≡ waits me t number rest turn.events + cond (is_timer
+      (body.Rejoin epoch) t number) 1 0 = λ t number.
       omega (arith, set_for-push me t number turn.events e, set_here me t number e refl) in
       let one : calls_for is_for_join turn.state.calls + (waits me Rejoin epoch rest turn.events + 1) ≡ 1 =
       subst (λ (s : Status). FitsJoin s (calls_for is_for_join turn.state.calls) (waits me Rejoin epoch rest turn.events + 1)) joining h.joins in
@@ -328,9 +329,11 @@ going_ticked sc claim rest wait message turn joining is h =
     let epoch : ℕ = turn.state.epoch in
     let e : Event Body =
     record { key = record { time = turn.time + wait; origin = 2 + me; number = turn.state.count + 1 }; target = me; body = message } in
-    let push : (t : Timer) (number : ℕ) → waits me t number rest (turn.events ++ e ∷ []) ≡ waits me t number rest turn.events + cond (is_timer message t number) 1 0 = λ t number.
+    let push : (t : Timer) (number : ℕ) → waits me t number rest (turn.events ++ e ∷ []) ≡ waits me t number rest turn.events + cond
+    (is_timer message t number) 1 0 = λ t number.
     omega (arith, set_for-push me t number turn.events e, set_here me t number e refl) in
-    let none : (t : Timer) (number : ℕ) → is_timer message t number ≡ false → waits me t number rest turn.events ≡ waits me t number rest (turn.events ++ e ∷ []) = λ t number other.
+    let none : (t : Timer) (number : ℕ) → is_timer message t number ≡ false → waits me t number rest turn.events ≡ waits me t number rest
+    (turn.events ++ e ∷ []) = λ t number other.
     omega (arith, set_for-push me t number turn.events e, not_set me t number e other) in
     record {
       timed = λ number.
@@ -360,12 +363,14 @@ going_rows : (sc : Scenario) (claim : Timer → ℕ) (rest : List (Event Body)) 
 unfolding timer_made
 going_rows sc claim rest [] turn joining all h = reclaimed sc claim (λ t. claim t + 0) rest turn (λ t is. omega arith) h
 going_rows sc claim rest (None ∷ rows) turn joining all h =
-    reclaimed sc (λ t. claim t + claims_of rows turn.state.epoch t) (λ t. claim t + (0 + claims_of rows turn.state.epoch t)) rest (rows_armed sc rows turn) (λ t is. omega arith)
+    reclaimed sc (λ t. claim t + claims_of rows turn.state.epoch t) (λ t. claim t + (0 + claims_of rows turn.state.epoch t)) rest (rows_armed sc rows turn)
+    (λ t is. omega arith)
     (going_rows sc claim rest rows turn joining all.1 h)
 going_rows sc claim rest (Some row ∷ rows) turn joining all h =
     let next : Turn = timer_made sc row.0 row.1 turn in
     let epoch : ℕ = turn.state.epoch in
-    reclaimed sc (λ t. claim t + cond (is_timer row.1 t epoch) 1 0 + claims_of rows epoch t) (λ t. claim t + (cond (is_timer row.1 t epoch) 1 0 + claims_of rows epoch t)) rest (rows_armed sc rows next)
+    reclaimed sc (λ t. claim t + cond (is_timer row.1 t epoch) 1 0 + claims_of rows epoch t) (λ t. claim t + (cond
+    (is_timer row.1 t epoch) 1 0 + claims_of rows epoch t)) rest (rows_armed sc rows next)
     (λ t is. omega arith)
     (going_rows sc (λ t. claim t + cond (is_timer row.1 t epoch) 1 0) rest rows next joining all.1
     (going_ticked sc claim rest (delay sc turn.state.me turn.state.place turn.time row.0 row.1) row.1 (record turn { state = after_words 1 turn.state })
@@ -382,11 +387,13 @@ claim_mapped : {A : Type 0} (f : A → Span × Body) (o : Option A) (epoch : ℕ
 claim_mapped f None epoch t b is = refl
 claim_mapped f (Some a) epoch t b is = ap (λ (v : Bool). cond v 1 0) (is a)
 
-claim_if : (b : Bool) (row : Option (Span × Body)) (epoch : ℕ) (t : Timer) → claim_of (if b then row else None) epoch t ≡ (if b then claim_of row epoch t else 0)
+claim_if : (b : Bool) (row : Option (Span × Body)) (epoch : ℕ) (t : Timer)
+    → claim_of (if b then row else None) epoch t ≡ (if b then claim_of row epoch t else 0)
 claim_if true row epoch t = refl
 claim_if false row epoch t = refl
 
-claim_unless : (b : Bool) (row : Option (Span × Body)) (epoch : ℕ) (t : Timer) → claim_of (if b then None else row) epoch t ≡ (if b then 0 else claim_of row epoch t)
+claim_unless : (b : Bool) (row : Option (Span × Body)) (epoch : ℕ) (t : Timer)
+    → claim_of (if b then None else row) epoch t ≡ (if b then 0 else claim_of row epoch t)
 claim_unless true row epoch t = refl
 claim_unless false row epoch t = refl
 
@@ -417,13 +424,15 @@ module _ (sc : Scenario) (n epoch : ℕ) (ranges : IsInRange sc) where
       claim_first sc (check_timer sc epoch) epoch t ∙ claim_unless (sc.check == 0) _ epoch t
       ∙ ap (λ (v : Bool). if sc.check == 0 then 0 else cond v 1 0) is
 
-  traffic_none : (t : Timer) → is_timer (body.TrafficTick epoch) t epoch ≡ false → ◌≡◌ {A = ℕ} (claim_of (option_map (at_first sc) (traffic_timer sc epoch)) epoch t) 0
+  traffic_none : (t : Timer) → is_timer (body.TrafficTick epoch) t epoch ≡ false
+      → ◌≡◌ {A = ℕ} (claim_of (option_map (at_first sc) (traffic_timer sc epoch)) epoch t) 0
   traffic_none t is = traffic_claim t false is ∙ nothing (is_some sc.lookups)
 
   life_none : (t : Timer) → is_timer (body.LifeEnd epoch) t epoch ≡ false → ◌≡◌ {A = ℕ} (claim_of (life_timer sc n epoch) epoch t) 0
   life_none t is = life_claim t false is ∙ nothing (is_churn_node sc n)
 
-  check_none : (t : Timer) → is_timer (body.CheckTick epoch) t epoch ≡ false → ◌≡◌ {A = ℕ} (claim_of (option_map (at_first sc) (check_timer sc epoch)) epoch t) 0
+  check_none : (t : Timer) → is_timer (body.CheckTick epoch) t epoch ≡ false
+      → ◌≡◌ {A = ℕ} (claim_of (option_map (at_first sc) (check_timer sc epoch)) epoch t) 0
   check_none t is = check_claim t false is ∙ nothing (sc.check == 0)
 
   table_claims : (t : Timer) → is_tick t ≡ true → claims_of (timer_table sc n epoch) epoch t ≡ wanted sc n t

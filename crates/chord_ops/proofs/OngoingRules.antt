@@ -780,7 +780,8 @@ module _ (sc : Scenario) (claim : Timer → ℕ) (rest : List (Event Body)) (key
       ]) h
 
   -- a node that is up and has such an event joins, and has no call for it
-  pause_idle : (v : Status) (calls : ℕ) → FitsJoin v calls (waits turn.state.me Rejoin turn.state.epoch (event_of key target (body.Rejoin epoch) ∷ rest) turn.events + 0)
+  pause_idle : (v : Status) (calls : ℕ)
+      → FitsJoin v calls (waits turn.state.me Rejoin turn.state.epoch (event_of key target (body.Rejoin epoch) ∷ rest) turn.events + 0)
       → turn.state.epoch ≡ epoch → (v ≡ status.Down) ⊎ ((is_joining_status v ≡ true) × (calls ≡ 0))
   pause_idle status.Down calls fits same = inl refl
   pause_idle status.Joining calls fits same =
@@ -798,7 +799,8 @@ module _ (sc : Scenario) (claim : Timer → ℕ) (rest : List (Event Body)) (key
       elim (pause_idle turn.state.status (calls_for is_for_join turn.state.calls) h.joins (same_epoch test)) [
         | inl down ↦ pause_void (inl down)
         | inr idle ↦
-            absurd (due_is (is_joining turn.state) (has_join_call turn.state) idle.0 (none_any (λ (c : Call). is_for_join c.purpose) turn.state.calls idle.1) void)
+            absurd (due_is (is_joining turn.state) (has_join_call turn.state) idle.0 (none_any (λ
+            (c : Call). is_for_join c.purpose) turn.state.calls idle.1) void)
       ]
 
   joins_with : (v : Status) (join : Option Attempt) → v ≡ status.Joining
@@ -992,7 +994,8 @@ module _ (sc : Scenario) (rest : List (Event Body)) (key : Key) (target : ℕ) w
       by : (v : Bool) → is_void epoch turn.state ≡ v → (b : Bool) → is_some sc.lookups ≡ b → (v || not b) ≡ true
           → IsOngoing sc (wanted sc turn.state.me) 0 rest turn
       by true void b wants is =
-          going_void sc (wanted sc turn.state.me) rest key target epoch (body.TrafficTick epoch) turn (traffic_is epoch).no_timeout (traffic_is epoch).others void h
+          going_void sc (wanted sc turn.state.me) rest key target epoch (body.TrafficTick epoch) turn (traffic_is epoch).no_timeout
+          (traffic_is epoch).others void h
       by false fresh true wants is = absurd (cc)
       by false fresh false wants is =
           let life = fresh_by epoch turn.state fresh in
@@ -1124,19 +1127,22 @@ module _ (sc : Scenario) (rest : List (Event Body)) (ranges : IsInRange sc) (sen
   going_acted : (message : Body) → IsOngoing sc (wanted sc turn.state.me) 0 (event_of key target message ∷ rest) turn
       → IsOngoing sc (wanted sc turn.state.me) 0 rest (acted sc sender message turn)
   going_acted (body.CmdJoin via) h =
-      going_cmd_join sc rest ranges turn known (going_past sc (wanted sc turn.state.me) rest (event_of key target (body.CmdJoin via)) turn (λ t number. refl) h) via
+      going_cmd_join sc rest ranges turn known (going_past sc (wanted sc turn.state.me) rest (event_of key target (body.CmdJoin via)) turn
+      (λ t number. refl) h) via
   going_acted body.CmdCrash h =
       going_cmd_crash sc rest ranges turn known (going_past sc (wanted sc turn.state.me) rest (event_of key target body.CmdCrash) turn (λ t number. refl) h)
   going_acted body.CmdLeave h =
       going_cmd_leave sc rest ranges turn known (going_past sc (wanted sc turn.state.me) rest (event_of key target body.CmdLeave) turn (λ t number. refl) h)
   going_acted (body.CmdLookup asked) h =
-      going_cmd_lookup sc rest ranges turn known (going_past sc (wanted sc turn.state.me) rest (event_of key target (body.CmdLookup asked)) turn (λ t number. refl) h) asked
+      going_cmd_lookup sc rest ranges turn known (going_past sc (wanted sc turn.state.me) rest (event_of key target (body.CmdLookup asked)) turn
+      (λ t number. refl) h) asked
   going_acted (body.StabilizeTick epoch) h = going_stabilize_tick sc (wanted sc turn.state.me) rest key target epoch turn here h
   going_acted (body.FingerTick epoch) h = going_finger_tick sc (wanted sc turn.state.me) rest key target epoch turn here h
   going_acted (body.TrafficTick epoch) h = going_traffic_tick sc rest key target epoch turn here h
   going_acted (body.LifeEnd epoch) h = going_life_end sc rest key target epoch turn ranges here h
   going_acted (body.Rise epoch) h =
-      going_rise sc rest ranges turn known (going_past sc (wanted sc turn.state.me) rest (event_of key target (body.Rise epoch)) turn (λ t number. refl) h) epoch
+      going_rise sc rest ranges turn known (going_past sc (wanted sc turn.state.me) rest (event_of key target (body.Rise epoch)) turn
+      (λ t number. refl) h) epoch
   going_acted (body.CheckTick epoch) h = going_check_tick sc rest key target epoch turn here h
   going_acted (body.Rejoin epoch) h = going_rejoin sc (wanted sc turn.state.me) rest key target epoch turn here h known
   going_acted (body.Timeout number) h = going_timeout sc (wanted sc turn.state.me) rest key target number turn here known h

@@ -117,11 +117,13 @@ founded_for_attempt sc step turn joining go =
 
 -- Replies
 
-founded_join_asked : (sc : Scenario) (next : ℕ) (attempt : Attempt) (turn : Turn) → turn.state.status ≡ status.Joining → IsFounded (join_asked sc next attempt turn)
+founded_join_asked : (sc : Scenario) (next : ℕ) (attempt : Attempt) (turn : Turn) → turn.state.status ≡ status.Joining
+    → IsFounded (join_asked sc next attempt turn)
 unfolding join_asked
 founded_join_asked sc next attempt turn joining =
     going_if IsFounded (nat_lt attempt.steps most_steps) _ _
-    (λ few. founded_called sc next (own_step sc attempt.avoid turn.state) purpose.JoinStep (with_attempt (record attempt { steps = attempt.steps + 1 }) turn) joining)
+    (λ few. founded_called sc next (own_step sc attempt.avoid turn.state) purpose.JoinStep (with_attempt
+    (record attempt { steps = attempt.steps + 1 }) turn) joining)
     (λ many. founded_join_failed sc attempt turn joining)
 
 founded_join_followed : (sc : Scenario) (to : ℕ) (a : Answer) (attempt : Attempt) (turn : Turn) → turn.state.status ≡ status.Joining
@@ -162,7 +164,8 @@ founded_timed_out sc number silent purpose.JoinList turn is joining = founded_jo
 founded_timed_out sc number silent (purpose.JoinHead behind) turn is joining = founded_join_timed_out sc silent turn joining
 founded_timed_out sc number silent _ turn is joining = absurd (cc)
 
-founded_call_repeated : (sc : Scenario) (number : ℕ) (call : Call) (turn : Turn) → turn.state.status ≡ status.Joining → IsFounded (call_repeated sc number call turn)
+founded_call_repeated : (sc : Scenario) (number : ℕ) (call : Call) (turn : Turn) → turn.state.status ≡ status.Joining
+    → IsFounded (call_repeated sc number call turn)
 unfolding call_repeated
 founded_call_repeated sc number call turn joining =
     going_when IsFounded (request_again sc number call.purpose turn.state) (asked_again sc number call) turn (joins_still turn joining)
@@ -182,12 +185,14 @@ asks_to_join status.Down wanted is allowed = absurd allowed
 asks_to_join status.Joining wanted is allowed = allowed
 asks_to_join status.Member wanted is allowed = absurd (cc)
 
-founded_timeout : (sc : Scenario) (number : ℕ) (turn : Turn) → IsNodeState sc turn.state → turn.state.status ≡ status.Joining → IsFounded (timeout sc number turn)
+founded_timeout : (sc : Scenario) (number : ℕ) (turn : Turn) → IsNodeState sc turn.state → turn.state.status ≡ status.Joining
+    → IsFounded (timeout sc number turn)
 unfolding timeout call_given_up
 founded_timeout sc number turn known joining =
     going_when IsFounded (call_of number turn.state) (call_timed_out sc number) turn (joins_still turn joining)
     (λ call found.
-    let is : is_for_join call.purpose ≡ true = asks_to_join turn.state.status call.purpose joining (purpose_of_found sc number call turn.state found known.calls) in
+    let is : is_for_join call.purpose ≡ true = asks_to_join turn.state.status call.purpose joining
+    (purpose_of_found sc number call turn.state found known.calls) in
     going_if IsFounded (nat_lt call.resent sc.retries) _ _
     (λ again. founded_call_repeated sc number call turn joining)
     (λ over. going_if IsFounded (sc.rules.drop_silent && is_member turn.state) _ _
@@ -209,13 +214,15 @@ module _ (sc : Scenario) (turn : Turn) (known : IsNodeState sc turn.state) (join
 
   founded_at_member : (k : MessageKind) (sender : ℕ) (after : Turn) → IsFounded (if is_member turn.state then after else noted (line.Drop k sender) turn)
   founded_at_member k sender after =
-      going_if IsFounded (is_member turn.state) _ _ (λ member. absurd (no_way (is_member turn.state) member is_no_member)) (λ other. joins_still (noted (line.Drop k sender) turn) joining)
+      going_if IsFounded (is_member turn.state) _ _ (λ member. absurd (no_way (is_member turn.state) member is_no_member)) (λ other. joins_still (noted
+      (line.Drop k sender) turn) joining)
 
   founded_replied : (k : MessageKind) (sender number : ℕ) (step : Call → Turn → Turn) (o : Option Call) → answered_call k number turn.state ≡ o
       → ((call : Call) → IsAnswered k number turn.state call → is_for_join call.purpose ≡ true → (n : ℕ) → IsFounded (step call (without_call n turn)))
       → IsFounded (replied k sender step o turn)
   founded_replied k sender number step None is go =
-      going_if IsFounded (is_down turn.state) _ _ (λ down. joins_still (noted (line.Drop k sender) turn) joining) (λ up. joins_still (noted (line.Late k sender) turn) joining)
+      going_if IsFounded (is_down turn.state) _ _ (λ down. joins_still (noted (line.Drop k sender) turn) joining) (λ up. joins_still (noted
+      (line.Late k sender) turn) joining)
   founded_replied k sender number step (Some call) is go =
       let answered : IsAnswered k number turn.state call = answered_is k number turn.state call is in
       go call answered
@@ -235,7 +242,8 @@ module _ (sc : Scenario) (turn : Turn) (known : IsNodeState sc turn.state) (join
   unfolding join_list_answered
   founded_list_answered_for list to purpose.JoinList n asks replies joins =
       founded_for_attempt sc (λ attempt. join_list_taken sc to (cleaned sc turn.state.me to attempt.avoid list) (heard attempt)) (without_call n turn) joining
-      (λ attempt. founded_join_list_taken sc to (cleaned sc turn.state.me to attempt.avoid list) (heard attempt) (without_attempt (without_call n turn)) asks joining)
+      (λ attempt. founded_join_list_taken sc to (cleaned sc turn.state.me to attempt.avoid list) (heard attempt) (without_attempt
+      (without_call n turn)) asks joining)
   founded_list_answered_for list to purpose.List n asks replies joins = absurd (cc)
   founded_list_answered_for list to _ n asks replies joins = absurd (cc)
 
@@ -285,7 +293,8 @@ module _ (sc : Scenario) (turn : Turn) (known : IsNodeState sc turn.state) (join
       (λ is. let both : status.Joining ≡ status.Member = sym joining ∙ is in cc)
       (λ churn found. going_if (λ t. t.state.status ≡ status.Member → ⊥) (churn.leave == 0) _ _
       (λ never is. cc)
-      (λ draws. going_if (λ t. t.state.status ≡ status.Member → ⊥) (nat_lt (leave_number sc turn.state.me epoch) churn.leave) _ _ (λ leaves is. cc) (λ crashes is. cc)))))
+      (λ draws. going_if (λ t. t.state.status ≡ status.Member → ⊥) (nat_lt (leave_number sc turn.state.me epoch) churn.leave) _ _ (λ leaves is. cc)
+      (λ crashes is. cc)))))
 
   founded_rejoin : (epoch : ℕ) → IsFounded (rejoin sc epoch turn)
   unfolding rejoin
@@ -302,12 +311,14 @@ module _ (sc : Scenario) (turn : Turn) (known : IsNodeState sc turn.state) (join
   founded_cmd_crash : IsFounded (cmd_crash sc turn)
   unfolding cmd_crash
   founded_cmd_crash =
-      going_if IsFounded (is_down turn.state) _ _ (λ down. joins_still (noted (line.Ignored command.Crash) turn) joining) (λ up. down_still (crashed sc turn) refl)
+      going_if IsFounded (is_down turn.state) _ _ (λ down. joins_still (noted (line.Ignored command.Crash) turn) joining) (λ up. down_still
+      (crashed sc turn) refl)
 
   founded_cmd_leave : IsFounded (cmd_leave sc turn)
   unfolding cmd_leave departed
   founded_cmd_leave =
-      going_if IsFounded (is_down turn.state) _ _ (λ down. joins_still (noted (line.Ignored command.Leave) turn) joining) (λ up. down_still (departed sc turn) refl)
+      going_if IsFounded (is_down turn.state) _ _ (λ down. joins_still (noted (line.Ignored command.Leave) turn) joining) (λ up. down_still
+      (departed sc turn) refl)
 
   founded_cmd_lookup : (key : ℕ) → IsFounded (cmd_lookup sc key turn)
   unfolding cmd_lookup
@@ -328,7 +339,8 @@ unfolding detailed
 founded_detailed sc turn h =
     going_if IsFounded sc.detail _ turn (λ tells is. contains_left turn.lines (message_lines turn.state turn.events) line.Create (h is)) (λ silent. h)
 
-module _ (sc : Scenario) (s : NodeState) (e : Event Body) (known : IsNodeState sc s) (joining : s.status ≡ status.Joining) (asks : sc.rules.join_asks ≡ true) where
+module _ (sc : Scenario) (s : NodeState) (e : Event Body) (known : IsNodeState sc s) (joining : s.status ≡ status.Joining)
+    (asks : sc.rules.join_asks ≡ true) where
   -- the reply of the first successor, and any other one
   head_replied : (number : ℕ) (prdc : Option ℕ) (list : List ℕ) (sender : ℕ) (o : Option Call) → e.body ≡ body.StateReply number prdc list
       → answered_call kind.StateReply number s ≡ o
@@ -338,9 +350,11 @@ module _ (sc : Scenario) (s : NodeState) (e : Event Body) (known : IsNodeState s
       (λ up. joins_still (noted (line.Late kind.StateReply sender) (opening s e)) joining))
   head_replied number prdc list sender (Some call) is answered =
       let found : IsAnswered kind.StateReply number s call = answered_is kind.StateReply number s call answered in
-      inl (by call.purpose refl found.asked (asks_to_join s.status call.purpose joining (purpose_of_found sc number call s found.found known.calls)) found.found)
+      inl (by call.purpose refl found.asked (asks_to_join s.status call.purpose joining
+      (purpose_of_found sc number call s found.found known.calls)) found.found)
     where
-      by : (wanted : Purpose) → call.purpose ≡ wanted → answers kind.StateReply wanted ≡ true → is_for_join wanted ≡ true → call_of number s ≡ Some call → MeetsHead s e
+      by : (wanted : Purpose) → call.purpose ≡ wanted → answers kind.StateReply wanted ≡ true → is_for_join wanted ≡ true → call_of number s ≡ Some call
+          → MeetsHead s e
       by (purpose.JoinHead behind) asked replies joins found =
           record { number = number; prdc = prdc; list = list; behind = behind; call = call; is = is; found = found; asked = asked }
       by purpose.State asked replies joins found = absurd (cc)

@@ -108,7 +108,8 @@ module _ (sc : Scenario) where
   unfolding lookup_finished
   stays_lookup_finished lookup owner turn h = stays_lookup_finished_for lookup.aim lookup owner turn h
 
-  stays_lookup_asked : (place : ℕ) (lookup : Lookup) (to : ℕ) (wanted : Purpose) (turn : Turn) → HasPrdc turn → HasPrdc (lookup_asked sc place lookup to wanted turn)
+  stays_lookup_asked : (place : ℕ) (lookup : Lookup) (to : ℕ) (wanted : Purpose) (turn : Turn) → HasPrdc turn
+      → HasPrdc (lookup_asked sc place lookup to wanted turn)
   unfolding lookup_asked
   stays_lookup_asked place lookup to wanted turn h =
       going_if (HasPrdc) (nat_lt lookup.steps (most_lookup_steps sc)) _ (lookup_failed lookup turn)
@@ -190,7 +191,8 @@ module _ (sc : Scenario) where
       stays_lookup_begun (finger_start sc.bits (ident_of sc covered.state.me) index) (aim.Finger index)
       (record covered { state = record covered.state { next_finger = finger_after sc.bits index } }) (stays_near_covered first turn h))
 
-  stays_predecessor_weighed : (sender prdc : ℕ) (turn : Turn) → turn.state.status ≡ status.Member → HasPrdc turn → HasPrdc (predecessor_weighed sc sender prdc turn)
+  stays_predecessor_weighed : (sender prdc : ℕ) (turn : Turn) → turn.state.status ≡ status.Member → HasPrdc turn
+      → HasPrdc (predecessor_weighed sc sender prdc turn)
   stays_predecessor_weighed sender prdc turn member h =
       going_if HasPrdc (between sc.bits (ident_of sc prdc) (ident_of sc sender) (ident_of sc turn.state.me)) _ _
       (λ closer. subst (λ (s : Status). StaysWith s (Some sender)) (sym member) refl)
@@ -202,14 +204,16 @@ module _ (sc : Scenario) where
   stays_notifier_met sender None turn member h = subst (λ (s : Status). StaysWith s (Some sender)) (sym member) refl
   stays_notifier_met sender (Some prdc) turn member h = stays_predecessor_weighed sender prdc turn member h
 
-  stays_lookup_answered : (from : ℕ) (a : Answer) (place : ℕ) (lookup : Lookup) (turn : Turn) → HasPrdc turn → HasPrdc (lookup_answered sc from a place lookup turn)
+  stays_lookup_answered : (from : ℕ) (a : Answer) (place : ℕ) (lookup : Lookup) (turn : Turn) → HasPrdc turn
+      → HasPrdc (lookup_answered sc from a place lookup turn)
   unfolding lookup_answered
   stays_lookup_answered from a place lookup turn h =
       going_if HasPrdc (sc.rules.goes_on && is_stuck a) _ _
       (λ stuck. stays_lookup_diverted from place (arrived sc from a lookup) turn h)
       (λ goes. stays_lookup_followed place (arrived sc from a lookup) a turn h)
 
-  stays_owner_answered : (owner : ℕ) (prdc : Option ℕ) (place : ℕ) (lookup : Lookup) (turn : Turn) → HasPrdc turn → HasPrdc (owner_answered sc owner prdc place lookup turn)
+  stays_owner_answered : (owner : ℕ) (prdc : Option ℕ) (place : ℕ) (lookup : Lookup) (turn : Turn) → HasPrdc turn
+      → HasPrdc (owner_answered sc owner prdc place lookup turn)
   unfolding owner_answered
   stays_owner_answered owner None place lookup turn h = stays_lookup_finished lookup owner turn h
   stays_owner_answered owner (Some prdc) place lookup turn h =
@@ -217,7 +221,8 @@ module _ (sc : Scenario) where
       (λ hands. stays_lookup_asked place lookup prdc purpose.Owner turn h)
       (λ keeps. stays_lookup_finished lookup owner turn h)
 
-  stays_answered_for : (a : Answer) (call : Call) (wanted : Purpose) (turn : Turn) → is_for_join wanted ≡ false → HasPrdc turn → HasPrdc (answered_for sc a call wanted turn)
+  stays_answered_for : (a : Answer) (call : Call) (wanted : Purpose) (turn : Turn) → is_for_join wanted ≡ false → HasPrdc turn
+      → HasPrdc (answered_for sc a call wanted turn)
   stays_answered_for a call purpose.Lookup turn other h =
       stays_with_lookup call.number (lookup_answered sc call.to a) turn (λ place lookup t. stays_lookup_answered call.to a place lookup t) h
   stays_answered_for a call purpose.JoinStep turn other h = absurd (cc)
@@ -294,7 +299,8 @@ module _ (sc : Scenario) where
           go (list_after sc silent turn.state) (map (λ x. if x == silent then first else x) turn.state.fingers)
           (turn.lines ++ rescue_lines (rescuer sc silent turn.state))
 
-module _ (sc : Scenario) (s : NodeState) (e : Event Body) (prdc : ℕ) (known : IsNodeState sc s) (member : s.status ≡ status.Member) (has : s.prdc ≡ Some prdc) where
+module _ (sc : Scenario) (s : NodeState) (e : Event Body) (prdc : ℕ) (known : IsNodeState sc s) (member : s.status ≡ status.Member)
+    (has : s.prdc ≡ Some prdc) where
   -- the ways in which a member loses its predecessor
   abbrev Lost : List Line → Type 0
   Lost lines = ForgetsSilent sc s e lines prdc ⊎ PredecessorLeaves e prdc ⊎ IsStranded lines
@@ -350,16 +356,19 @@ module _ (sc : Scenario) (s : NodeState) (e : Event Body) (prdc : ℕ) (known : 
       → Out (timed_out sc number call.to wanted (without_call number (over succ fingers lines)))
   unfolding state_timed_out ping_timed_out lookup_timed_out
   out_timed_out number call purpose.Lookup succ fingers lines is found last asked other =
-      out_has (timed_out sc number call.to purpose.Lookup (without_call number (over succ fingers lines))) (stays_with_lookup sc number (lookup_timed_out sc call.to) (without_call number (over succ fingers lines))
+      out_has (timed_out sc number call.to purpose.Lookup (without_call number (over succ fingers lines))) (stays_with_lookup sc number
+      (lookup_timed_out sc call.to) (without_call number (over succ fingers lines))
       (λ place lookup t. stays_lookup_diverted sc call.to place (once_more lookup) t) stays_opening)
   out_timed_out number call purpose.Owner succ fingers lines is found last asked other =
-      out_has (timed_out sc number call.to purpose.Owner (without_call number (over succ fingers lines))) (stays_with_lookup sc number (lookup_timed_out sc call.to) (without_call number (over succ fingers lines))
+      out_has (timed_out sc number call.to purpose.Owner (without_call number (over succ fingers lines))) (stays_with_lookup sc number
+      (lookup_timed_out sc call.to) (without_call number (over succ fingers lines))
       (λ place lookup t. stays_lookup_diverted sc call.to place (once_more lookup) t) stays_opening)
   out_timed_out number call purpose.State succ fingers lines is found last asked other =
       let left : Turn = without_silent sc call.to (without_call number (over succ fingers lines)) in
       out_ends (head_asked sc (head left.state) left) (ends_head_asked sc (head left.state) left stays_opening)
   out_timed_out number call purpose.List succ fingers lines is found last asked other =
-      out_has (timed_out sc number call.to purpose.List (without_call number (over succ fingers lines))) (stays_head_notified sc (without_call number (over succ fingers lines)) stays_opening)
+      out_has (timed_out sc number call.to purpose.List (without_call number (over succ fingers lines))) (stays_head_notified sc (without_call number
+      (over succ fingers lines)) stays_opening)
   out_timed_out number call purpose.Check succ fingers lines is found last asked other = out_check number call succ fingers lines is found last asked
   out_timed_out number call (purpose.Ping notifier) succ fingers lines is found last asked other =
       going_if Out (holds s.prdc call.to) _ _
@@ -375,7 +384,8 @@ module _ (sc : Scenario) (s : NodeState) (e : Event Body) (prdc : ℕ) (known : 
       going_if Out (nat_lt call.resent sc.retries) _ _
       (λ again. going_when Out (request_again sc number call.purpose s) (asked_again sc number call) (opening s e) (out_has (opening s e) stays_opening)
       (λ request asked. out_has (asked_again sc number call request (opening s e)) (asked_as HasPrdc sc request (sent_once_more number call)
-      (noted (line.Again (kind_of request) call.to) (without_call number (opening s e))) (λ delay place late near. stays_opening) (λ place near. stays_opening))))
+      (noted (line.Again (kind_of request) call.to) (without_call number (opening s e))) (λ delay place late near. stays_opening)
+      (λ place near. stays_opening))))
       (λ over.
       let last : sc.retries ≤ call.resent = grind (arith, nat_tests) in
       going_if Out (sc.rules.drop_silent && is_member s) _ _
@@ -387,7 +397,8 @@ module _ (sc : Scenario) (s : NodeState) (e : Event Body) (prdc : ℕ) (known : 
       → Out (leave_heard sc sender heir list (opening s e))
   unfolding leave_heard
   out_leave_heard sender heir list is from =
-      going_if Out (is_member s) _ _ (λ here. by (holds s.prdc sender) refl) (λ other. out_has (noted (line.Drop kind.Leave sender) (opening s e)) stays_opening)
+      going_if Out (is_member s) _ _ (λ here. by (holds s.prdc sender) refl) (λ other. out_has (noted (line.Drop kind.Leave sender)
+      (opening s e)) stays_opening)
     where
       by : (b : Bool) → holds s.prdc sender ≡ b → Out (taken_over sc sender heir list (opening s e))
       by true same =
@@ -399,7 +410,11 @@ module _ (sc : Scenario) (s : NodeState) (e : Event Body) (prdc : ℕ) (known : 
           ap (λ (b : Bool). if b then (if holds heir sender then None else heir) else s.prdc) other in
           let g : StaysWith s.status (inherited sender heir s.prdc) = subst (λ (o : Option ℕ). StaysWith s.status o) (sym keeps) stays_opening in
           ends_dropped sc sender (λ t. t) Out (with_heirs sc sender heir list (opening s e)) g out_ends
-          (λ succ fingers lines. out_has (record (with_heirs sc sender heir list (opening s e)) { state = record (with_heirs sc sender heir list (opening s e)).state { succ = succ; fingers = fingers }; lines = lines }) g)
+          (λ succ fingers lines. out_has (record (with_heirs sc sender heir list (opening s e)) {
+            state = record (with_heirs sc sender heir list
+                (opening s e)).state { succ = succ; fingers = fingers };
+            lines = lines;
+          }) g)
 
   -- the rest of the table keeps a predecessor
 
@@ -417,7 +432,8 @@ module _ (sc : Scenario) (s : NodeState) (e : Event Body) (prdc : ℕ) (known : 
       going_if Out (is_member s) _ _ (λ here. out_has after h) (λ other. out_has (noted (line.Drop k sender) (opening s e)) stays_opening)
 
   out_replied : (k : MessageKind) (sender number : ℕ) (step : Call → Turn → Turn) (o : Option Call) → answered_call k number s ≡ o
-      → ((call : Call) → is_for_join call.purpose ≡ false → (n : ℕ) → HasPrdc (step call (without_call n (opening s e)))) → Out (replied k sender step o (opening s e))
+      → ((call : Call) → is_for_join call.purpose ≡ false → (n : ℕ) → HasPrdc (step call (without_call n (opening s e))))
+      → Out (replied k sender step o (opening s e))
   out_replied k sender number step None is go =
       going_if Out (is_down s) _ _ (λ down. out_has (noted (line.Drop k sender) (opening s e)) stays_opening)
       (λ up. out_has (noted (line.Late k sender) (opening s e)) stays_opening)
@@ -442,12 +458,14 @@ module _ (sc : Scenario) (s : NodeState) (e : Event Body) (prdc : ℕ) (known : 
 
   traffic_stays : HasPrdc (traffic_armed sc (opening s e))
   traffic_stays =
-      subst (λ (v : Status). StaysWith v (traffic_armed sc (opening s e)).state.prdc) (sym (same_traffic_armed (λ s. s.status) sc (opening s e) (λ s count place. refl)))
+      subst (λ (v : Status). StaysWith v (traffic_armed sc (opening s e)).state.prdc) (sym (same_traffic_armed (λ s. s.status) sc (opening s e)
+      (λ s count place. refl)))
       (subst (λ (o : Option ℕ). StaysWith s.status o) (sym (same_traffic_armed (λ s. s.prdc) sc (opening s e) (λ s count place. refl))) stays_opening)
 
   check_stays : HasPrdc (check_armed sc (opening s e))
   check_stays =
-      subst (λ (v : Status). StaysWith v (check_armed sc (opening s e)).state.prdc) (sym (same_check_armed (λ s. s.status) sc (opening s e) (λ s count place. refl)))
+      subst (λ (v : Status). StaysWith v (check_armed sc (opening s e)).state.prdc) (sym (same_check_armed (λ s. s.status) sc (opening s e)
+      (λ s count place. refl)))
       (subst (λ (o : Option ℕ). StaysWith s.status o) (sym (same_check_armed (λ s. s.prdc) sc (opening s e) (λ s count place. refl))) stays_opening)
 
   out_traffic_tick : (epoch : ℕ) → Out (traffic_tick sc epoch (opening s e))
@@ -456,7 +474,10 @@ module _ (sc : Scenario) (s : NodeState) (e : Event Body) (prdc : ℕ) (known : 
       let armed : Turn = traffic_armed sc (opening s e) in
       out_has (traffic_tick sc epoch (opening s e)) (going_if HasPrdc (is_void epoch s || not (is_some sc.lookups)) (opening s e) _ (λ void. stays_opening)
       (λ fresh. going_if HasPrdc (is_joining s) _ _ (λ busy. traffic_stays)
-      (λ idle. stays_user_lookup sc (random_key sc armed.time armed.state) (record armed { state = after_words (key_words sc.bits) armed.state }) traffic_stays)))
+      (λ idle. stays_user_lookup sc (random_key sc armed.time armed.state) (record armed {
+        state = after_words
+            (key_words sc.bits) armed.state;
+      }) traffic_stays)))
 
   out_check_tick : (epoch : ℕ) → Out (check_tick sc epoch (opening s e))
   unfolding check_tick
@@ -512,7 +533,8 @@ module _ (sc : Scenario) (s : NodeState) (e : Event Body) (prdc : ℕ) (known : 
   out_cmd_lookup : (key : ℕ) → Out (cmd_lookup sc key (opening s e))
   unfolding cmd_lookup
   out_cmd_lookup key =
-      out_has (cmd_lookup sc key (opening s e)) (going_if HasPrdc (not (is_member s)) _ _ (λ other. stays_opening) (λ here. stays_user_lookup sc key (opening s e) stays_opening))
+      out_has (cmd_lookup sc key (opening s e)) (going_if HasPrdc (not (is_member s)) _ _ (λ other. stays_opening) (λ here. stays_user_lookup sc key
+      (opening s e) stays_opening))
 
   out_acted : (message : Body) → e.body ≡ message → Out (acted sc (e.key.origin - 2) message (opening s e))
   unfolding step_asked state_asked list_asked pinged notified step_replied state_replied list_replied ponged
@@ -528,9 +550,12 @@ module _ (sc : Scenario) (s : NodeState) (e : Event Body) (prdc : ℕ) (known : 
   out_acted (body.CheckTick epoch) is = out_check_tick epoch
   out_acted (body.Rejoin epoch) is = out_rejoin epoch
   out_acted (body.Timeout number) is = out_timeout number is
-  out_acted (body.Step number key avoid) is = out_at_member kind.Step (e.key.origin - 2) _ (stays_sent sc kind.StepReply (e.key.origin - 2) _ (opening s e) stays_opening)
-  out_acted (body.GetState number) is = out_at_member kind.GetState (e.key.origin - 2) _ (stays_sent sc kind.StateReply (e.key.origin - 2) _ (opening s e) stays_opening)
-  out_acted (body.GetList number) is = out_at_member kind.GetList (e.key.origin - 2) _ (stays_sent sc kind.ListReply (e.key.origin - 2) _ (opening s e) stays_opening)
+  out_acted (body.Step number key avoid) is = out_at_member kind.Step (e.key.origin - 2) _ (stays_sent sc kind.StepReply (e.key.origin - 2) _
+      (opening s e) stays_opening)
+  out_acted (body.GetState number) is = out_at_member kind.GetState (e.key.origin - 2) _ (stays_sent sc kind.StateReply (e.key.origin - 2) _
+      (opening s e) stays_opening)
+  out_acted (body.GetList number) is = out_at_member kind.GetList (e.key.origin - 2) _ (stays_sent sc kind.ListReply (e.key.origin - 2) _
+      (opening s e) stays_opening)
   out_acted (body.Ping number) is = out_at_member kind.Ping (e.key.origin - 2) _ (stays_sent sc kind.Pong (e.key.origin - 2) _ (opening s e) stays_opening)
   out_acted body.Notify is = out_at_member kind.Notify (e.key.origin - 2) _ (stays_notifier_met sc (e.key.origin - 2) s.prdc (opening s e) member stays_opening)
   out_acted (body.Leave heir list) is = out_leave_heard (e.key.origin - 2) heir list is refl
@@ -538,7 +563,8 @@ module _ (sc : Scenario) (s : NodeState) (e : Event Body) (prdc : ℕ) (known : 
       out_replied kind.StepReply (e.key.origin - 2) number (λ call. answered_for sc a call call.purpose) (answered_call kind.StepReply number s) refl
       (λ call other n. stays_answered_for sc a call call.purpose (without_call n (opening s e)) other stays_opening)
   out_acted (body.StateReply number before list) is =
-      out_replied kind.StateReply (e.key.origin - 2) number (λ call. state_answered_for sc before list call call.purpose) (answered_call kind.StateReply number s) refl
+      out_replied kind.StateReply (e.key.origin - 2) number (λ call. state_answered_for sc before list call call.purpose)
+      (answered_call kind.StateReply number s) refl
       (λ call other n. stays_state_answered_for sc before list call call.purpose (without_call n (opening s e)) other stays_opening)
   out_acted (body.ListReply number list) is =
       out_replied kind.ListReply (e.key.origin - 2) number (λ call. list_answered_for sc list call.to call.purpose) (answered_call kind.ListReply number s) refl
