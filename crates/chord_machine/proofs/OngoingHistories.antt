@@ -29,7 +29,7 @@ use Rattle.chord_scenario.specs.declared.scenario.Scenario.{Scenario}
 use Rattle.chord_scenario.specs.Range.{IsInRange}
 use Rattle.chord_scenario.specs.World.{node_count}
 use Rattle.chord_machine.specs.Chord.{chord}
-use Rattle.chord_machine.specs.Ongoing.{AreLive, CallsAreRepeatedSeldom, CallsAreTimed, JoinsGoOn, TimersLive}
+use Rattle.chord_machine.specs.Ongoing.{AreLive, RetriesAreLimited, CallsAreTimed, JoinsGoOn, TimersLive}
 use Rattle.chord_machine.specs.Sound.{IsStateOf}
 use Rattle.chord_machine.proofs.Counted.{beside, counted_after, counted_before, pending_first}
 use Rattle.chord_machine.proofs.OngoingStarts.{starts_go_on}
@@ -136,8 +136,8 @@ calls_are_timed sc ranges h p n inside k d within =
     ap (λ (m : ℕ). set_for m Timeout (get_or s.calls k d).number (pending (chord sc) h)) me in
     omega (arith, was.enough, was.once, here, counts_call (get_or s.calls k d).number s.calls (get_or s.calls k d) (contains_at s.calls k d within) refl)
 
-pub calls_are_repeated_seldom : (sc : Scenario) → IsInRange sc → CallsAreRepeatedSeldom sc
-calls_are_repeated_seldom sc ranges h p n inside = (all_go_on sc ranges h p n inside).seldom
+pub retries_are_limited : (sc : Scenario) → IsInRange sc → RetriesAreLimited sc
+retries_are_limited sc ranges h p n inside = (all_go_on sc ranges h p n inside).seldom
 
 pub joins_go_on : (sc : Scenario) → IsInRange sc → JoinsGoOn sc
 joins_go_on sc ranges h p n inside joining =

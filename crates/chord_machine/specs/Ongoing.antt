@@ -25,8 +25,8 @@ abbrev pub CallsAreTimed : Scenario → Type 0
 CallsAreTimed sc = Always sc (λ h n s. All (λ call. pending_at sc h n Timeout call.number ≡ 1) s.calls)
 
 -- no call is sent again more often than the scenario says
-abbrev pub CallsAreRepeatedSeldom : Scenario → Type 0
-CallsAreRepeatedSeldom sc = Always sc (λ h n s. All (λ call. call.resent ≤ sc.retries) s.calls)
+abbrev pub RetriesAreLimited : Scenario → Type 0
+RetriesAreLimited sc = Always sc (λ h n s. All (λ call. call.resent ≤ sc.retries) s.calls)
 
 -- a joining node has a call of its join outstanding, or a pause in it is pending, and not both
 abbrev pub JoinsGoOn : Scenario → Type 0

@@ -2,7 +2,7 @@
 
 ghost use Rattle.chord_machine.specs.Chord.{chord};
 ghost use Rattle.chord_machine.specs.AuditTimes.{AreAuditsInTime};
-ghost use Rattle.chord_machine.specs.Ongoing.{CallsAreRepeatedSeldom, CallsAreTimed, JoinsGoOn, TimersLive};
+ghost use Rattle.chord_machine.specs.Ongoing.{RetriesAreLimited, CallsAreTimed, JoinsGoOn, TimersLive};
 ghost use Rattle.chord_machine.specs.Room.{RoomIsLeft};
 ghost use Rattle.chord_machine.specs.Sound.{HistoriesAreSound};
 ghost use Rattle.chord_model.specs.Laws.{AuditsSeeAll, EndsAreWhole, EventsCloseAudits, HistoryIsLegal, HistoryIsWhole, KeysAreDistinct, LegalIsAscending, LegalIsPossible, LegalIsUnique, NextIsFound, OthersKeepTheirStates, PendingIsTheRest, PendingMoves, TraceGrows};
@@ -100,8 +100,8 @@ pub fn calls_are_timed()
 {}
 
 /// No call is sent again more often than the scenario says.
-pub fn calls_are_repeated_seldom()
-    ensures { (sc : Scenario) → IsInRange sc → CallsAreRepeatedSeldom sc }
+pub fn retries_are_limited()
+    ensures { (sc : Scenario) → IsInRange sc → RetriesAreLimited sc }
 {}
 
 /// A joining node has one call of its join outstanding, or one pause in it pending: no join is
