@@ -1,5 +1,5 @@
 -- A node that leaves, and the end of a life, keep the invariant.
-use Rattle.std.proofs.Common.{◌≡◌, ◌==◌, ℕ, ◌+◌, ◌<◌, ◌≤◌, not, ◌||◌, List, length, Option, refl}
+use Rattle.std.proofs.Common.{◌≡◌, ◌==◌, ℕ, ◌+◌, ◌<◌, ◌≤◌, not, ◌||◌, List, length, Option}
 use Rattle.std.specs.Prelude.{IfSome, nat_lt, slice_get}
 use Rattle.chord_event.specs.declared.body.Body.TheVariants as body
 use Rattle.chord_event.specs.declared.line.CommandKind.TheVariants as command

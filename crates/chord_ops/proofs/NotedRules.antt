@@ -40,7 +40,7 @@ use Rattle.chord_ops.specs.Growth.{Grows}
 use Rattle.chord_ops.specs.Asked.{IsBody}
 use Rattle.chord_ops.specs.declared.turn.Request.TheVariants as request
 use Rattle.chord_ops.specs.declared.turn.Turn.{Turn}
-use Rattle.chord_ops.specs.Procedures.{holds, call_of, gone_down, finger_armed, own_step, stabilize_armed, stranded, traffic_armed, came_up, with_attempt, with_lookup, without_attempt, without_call, without_lookup, check_armed, join_retried}
+use Rattle.chord_ops.specs.Procedures.{holds, call_of, finger_armed, own_step, stabilize_armed, stranded, traffic_armed, came_up, with_attempt, with_lookup, without_attempt, without_call, without_lookup, check_armed, join_retried}
 use Rattle.chord_ops.specs.Rules.{
   acted,
   answered_call,
