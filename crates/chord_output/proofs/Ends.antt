@@ -70,7 +70,7 @@ filter_all : (xs : List ℕ) → filter (λ x. true) xs ≡ xs
 filter_all [] = refl
 filter_all (x ∷ xs) = ap (λ l. x ∷ l) (filter_all xs)
 
-filter_shorter : {A : Type 0} (p : A → Bool) (xs : List A) → length (filter p xs) ≤ length xs
+pub filter_shorter : {A : Type 0} (p : A → Bool) (xs : List A) → length (filter p xs) ≤ length xs
 filter_shorter p [] = omega arith
 filter_shorter p (x ∷ xs) = go (p x) (filter_shorter p xs)
   where
@@ -130,7 +130,8 @@ module _ (sc : Scenario) (ranges : IsInRange sc) where
       abbrev past : List (Event Body)
       past = history (chord sc) count
 
-      abbrev pub last : List Piece
+      -- these audits
+      abbrev last : List Piece
       last = audits_at sc (state (chord sc) past) (due sc.duration clock)
 
       of_last : (P : List Piece → Type 0) → OfAccounts sc slice (λ account. P (audits_at sc account (due time clock))) → P last

@@ -1,35 +1,5 @@
 -- A window is opened: the audits that are due are made.
-use Rattle.std.proofs.Common.{
-  ◌≡◌,
-  ◌∙◌,
-  ℕ,
-  ◌+◌,
-  ◌<◌,
-  ◌≤◌,
-  ◌^◌,
-  Bool,
-  true,
-  false,
-  cond,
-  List,
-  [],
-  ◌∷◌,
-  ◌++◌,
-  Option,
-  None,
-  Some,
-  Vec,
-  slice_get,
-  length,
-  length-append,
-  append-nil,
-  get_or,
-  refl,
-  ap,
-  sym,
-  subst,
-  arith,
-}
+use Rattle.std.proofs.Common.{◌≡◌, ◌∙◌, ℕ, ◌+◌, ◌<◌, ◌≤◌, ◌^◌, Bool, true, false, cond, List, [], ◌∷◌, ◌++◌, Option, None, Some, Vec, slice_get, length, append-nil, get_or, ap, sym, subst, arith}
 use Rattle.std.specs.Global.{Global}
 use Rattle.std.specs.List.{AllByRecursion, filter}
 use Rattle.std.specs.Prelude.{IfSome, nat_le, nat_lt}
@@ -44,7 +14,7 @@ use Rattle.chord_model.specs.Worlds.{AreStatesAfter}
 use Rattle.chord_model.proofs.Audits.{open_see}
 use Rattle.chord_node.specs.declared.state.NodeState.{NodeState}
 use Rattle.chord_output.specs.Output.{audits_at}
-use Rattle.chord_output.proofs.Ends.{pieces_few}
+use Rattle.chord_output.proofs.Ends.{filter_shorter, pieces_few}
 use Rattle.chord_output.proofs.Outputs.{all-left, none-due}
 use Rattle.chord_scenario.specs.declared.scenario.Scenario.{Scenario}
 use Rattle.chord_scenario.specs.Range.{IsInRange}
@@ -89,14 +59,6 @@ all_late [] time up late = tt
 all_late (x ∷ xs) time up late = (late, each_later x time xs late up.0)
 
 -- The tally
-
-filter_shorter : {A : Type 0} (p : A → Bool) (xs : List A) → length (filter p xs) ≤ length xs
-filter_shorter p [] = omega arith
-filter_shorter p (x ∷ xs) = go (p x) (filter_shorter p xs)
-  where
-    go : (b : Bool) → length (filter p xs) ≤ length xs → length (cond b (x ∷ filter p xs) (filter p xs)) ≤ length (x ∷ xs)
-    go true others = omega (arith, others)
-    go false others = omega (arith, others)
 
 pub audits_fewer : (pieces : List Piece) → length (audits_in pieces) ≤ length pieces
 audits_fewer pieces = filter_shorter is_audit pieces

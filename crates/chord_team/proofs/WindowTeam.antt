@@ -8,7 +8,7 @@ use Rattle.chord_event.specs.declared.block.Block.{Block}
 use Rattle.chord_event.specs.declared.body.Body.{Body}
 use Rattle.chord_event.specs.declared.event.Event.{Event}
 use Rattle.chord_machine.specs.Chord.{chord}
-use Rattle.chord_model.specs.Histories.{audit_at, history, next, open_audits, output}
+use Rattle.chord_model.specs.Histories.{history, next, open_audits, output}
 use Rattle.chord_output.specs.Runs.{IsBeginning, Writes}
 use Rattle.chord_output.proofs.Outputs.{fronts_longer, fronts_then, writes_then}
 use Rattle.chord_output.proofs.Runs.{begun_next}

@@ -49,7 +49,6 @@ use Rattle.chord_node.specs.Invariant.{AllNodes}
 use Rattle.chord_scenario.specs.declared.scenario.Scenario.{Scenario}
 use Rattle.chord_scenario.specs.Blocks.{most_lines}
 use Rattle.chord_scenario.specs.Range.{IsInRange}
-use Rattle.chord_scenario.specs.World.{node_count}
 use Rattle.chord_output.specs.Runs.{IsBeginning, Writes}
 use Rattle.chord_output.specs.Output.{Adds, audits_at}
 use Rattle.chord_output.proofs.Ends.{are_states as accounted_states, due_shorter, pieces_few, states_known as known_states}

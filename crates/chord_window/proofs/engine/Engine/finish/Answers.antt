@@ -1,5 +1,5 @@
 -- After the last event, the audits that are left end the trace.
-use Rattle.std.proofs.Common.{rules, ℕ, List, Vec, ap, inl, refl, set, sym, subst}
+use Rattle.std.proofs.Common.{rules, List, Vec, ap, inl, refl, sym, subst}
 use Rattle.std.specs.Global.{Global}
 use Rattle.std.specs.List.{All}
 use Rattle.chord_event.specs.declared.error.RunError.TheVariants as run
