@@ -20,3 +20,4 @@ pub mod Audits
 pub mod PartCourse
 pub mod WindowCourse
 pub mod Unique
+pub mod Ends

@@ -300,7 +300,3 @@ module _ {State Body Piece : Type 0} (m : Machine State Body Piece) {Sound : ℕ
     window_open clear = ap (open_audits m) (sym window_history)
         ∙ open_more m w (history m count) time horizon o clear window_commutes.taken taken_long window_commutes.legal
         (λ x c. All_at (λ (x : Event Body). x.key.time < horizon) window_commutes.taken x window_commutes.below c)
-
-    -- as many as were run
-    pub window_length : length window_commutes.taken ≡ events_run lists d.parts
-    window_length = omega (arith, ap length window_history, window_long, length-append window_commutes.taken (history m count), long)

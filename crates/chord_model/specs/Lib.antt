@@ -7,3 +7,4 @@ pub mod Laws
 pub mod Relay
 pub mod Worlds
 pub mod PartRuns
+pub mod Scribes

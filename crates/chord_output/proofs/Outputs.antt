@@ -16,13 +16,19 @@ use Rattle.chord_trace.specs.declared.tally.Tally.{Tally}
 use Rattle.chord_trace.specs.Tally.{IsTallyOf}
 use Rattle.chord_trace.specs.Texts.{audit_text, piece_text, pieces_text}
 use Rattle.chord_trace.specs.Writing.{AppendsFront}
-use Rattle.chord_output.specs.Output.{Adds, audits_at, due}
+use Rattle.chord_model.specs.Scribes.{AreLaws, due}
+use Rattle.chord_output.specs.Output.{Adds, audits_at}
+use Rattle.chord_output.specs.Runs.{Writes, WritesFront}
 
 pub texts-append : (sc : Scenario) (xs ys : List Piece) → pieces_text sc (xs ++ ys) ≡ pieces_text sc xs ++ pieces_text sc ys
 texts-append sc xs ys = flat_map-append (piece_text sc) xs ys
 
 pub text-one : (sc : Scenario) (p : Piece) → pieces_text sc (p ∷ []) ≡ piece_text sc p
 text-one sc p = append-nil (piece_text sc p)
+
+pub writes_then : (sc : Scenario) (a b c : Option (List ℕ)) (xs ys : List Piece) → Writes sc a b xs → Writes sc b c ys → Writes sc a c (xs ++ ys)
+writes_then sc a b c xs ys p q = subst (λ text. Appends a c text) (sym (texts-append sc xs ys))
+    (Appends-trans a b c (pieces_text sc xs) (pieces_text sc ys) p q)
 
 pub adds_none : (sc : Scenario) (a : Option (List ℕ)) (t : Tally) → Adds sc a a t t []
 adds_none sc a t = record {
@@ -33,7 +39,7 @@ adds_none sc a t = record {
 pub adds_then : (sc : Scenario) (a b c : Option (List ℕ)) (s t u : Tally) (xs ys : List Piece) → Adds sc a b s t xs → Adds sc b c t u ys
     → Adds sc a c s u (xs ++ ys)
 adds_then sc a b c s t u xs ys p q = record {
-  written = subst (λ text. Appends a c text) (sym (texts-append sc xs ys)) (Appends-trans a b c (pieces_text sc xs) (pieces_text sc ys) p.written q.written);
+  written = writes_then sc a b c xs ys p.written q.written;
   tallied = λ earlier h. subst (λ ps. IsTallyOf sc.profile ps u) (append_assoc earlier xs ys) (q.tallied (earlier ++ xs) (p.tallied earlier h));
 }
 
@@ -46,6 +52,16 @@ pub fronts_longer : (sc : Scenario) (a b : Option (List ℕ)) (xs ys : List Piec
     → AppendsFront a b (pieces_text sc (xs ++ ys))
 fronts_longer sc a b xs ys p = subst (λ text. AppendsFront a b text) (sym (texts-append sc xs ys))
     (front_of_longer a b (pieces_text sc xs) (pieces_text sc ys) p)
+
+-- what a writer takes
+pub writer_laws : (sc : Scenario) → AreLaws (Writes sc) (WritesFront sc)
+writer_laws sc = record {
+  adds_none = Appends-nil;
+  adds_then = writes_then sc;
+  fronts_whole = λ a b xs p. front_of_whole a b (pieces_text sc xs) p;
+  fronts_then = fronts_then sc;
+  fronts_longer = fronts_longer sc;
+}
 
 -- one audit
 

@@ -1,12 +1,11 @@
 -- What is written, and added to the tally.
-use Rattle.std.specs.Prelude.{ℕ, List, ◌++◌, Option, map, nat_le}
+use Rattle.std.specs.Prelude.{ℕ, List, ◌++◌, Option}
 use Rattle.std.specs.Io.KnownBytes.{Appends}
-use Rattle.std.specs.List.{filter}
-use Rattle.chord_audit.specs.Audit.{audit_facts}
+use Rattle.chord_machine.specs.Chord.{chord}
+use Rattle.chord_model.specs.Scribes.{audits_at as machine_audits}
 use Rattle.chord_node.specs.declared.state.NodeState.{NodeState}
 use Rattle.chord_scenario.specs.declared.scenario.Scenario.{Scenario}
 use Rattle.chord_trace.specs.declared.piece.Piece.{Piece}
-use Rattle.chord_trace.specs.declared.piece.Piece.TheVariants as piece
 use Rattle.chord_trace.specs.declared.tally.Tally.{Tally}
 use Rattle.chord_trace.specs.Tally.{IsTallyOf}
 use Rattle.chord_trace.specs.Texts.{pieces_text}
@@ -22,8 +21,4 @@ most_audits = 1000001
 
 -- the audits of these times, of nodes in these states
 abbrev pub audits_at : Scenario → (ℕ → NodeState) → List ℕ → List Piece
-audits_at sc state times = map (λ t. piece.OfAudit (audit_facts sc state t)) times
-
--- of these times those that have come
-abbrev pub due : (time : ℕ) → List ℕ → List ℕ
-due time times = filter (λ t. nat_le t time) times
+audits_at sc states times = machine_audits (chord sc) states times

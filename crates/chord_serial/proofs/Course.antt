@@ -29,9 +29,8 @@ use Rattle.std.specs.Prelude.{nat_lt, option_map, slice_get}
 use Rattle.std.proofs.lemmas.Option.{none-some}
 use Rattle.std.specs.Io.KnownBytes.{Appends}
 use Rattle.std.specs.List.{All, Contains, filter}
-use Rattle.std.proofs.KnownBytes.{Appends-nil, Appends-trans}
+use Rattle.std.proofs.KnownBytes.{Appends-nil}
 use Rattle.std.proofs.lemmas.List.FromFn.{get_or-map-range_with_len, length-map-range_with_len}
-use Rattle.chord_audit.specs.Audit.{AreStates}
 use Rattle.chord_event.specs.declared.block.Block.{Block}
 use Rattle.chord_event.specs.declared.body.Body.{Body}
 use Rattle.chord_event.specs.declared.event.Event.{Event}
@@ -43,12 +42,12 @@ use Rattle.chord_event.proofs.Order.{at_most_from_before, at_most_self}
 use Rattle.chord_machine.specs.AuditTimes.{audit_times}
 use Rattle.chord_machine.specs.Chord.{chord}
 use Rattle.chord_machine.specs.Room.{HasRoom}
-use Rattle.chord_machine.specs.Run.{HasTooManyEvents, whole_trace}
+use Rattle.chord_machine.specs.Run.{HasTooManyEvents}
 use Rattle.chord_machine.specs.Sound.{IsStateOf}
 use Rattle.chord_machine.proofs.Room.{room_is_left}
 use Rattle.chord_machine.proofs.WellFormed.{well_formed}
-use Rattle.chord_model.specs.Histories.{history, open_audits, output, state, trace}
-use Rattle.chord_model.specs.Laws.{IsWhole}
+use Rattle.chord_model.specs.Histories.{history, open_audits, output, state}
+use Rattle.chord_model.specs.Scribes.{IsAtEnd, due}
 use Rattle.chord_model.specs.WellFormed.{IsWellFormed}
 use Rattle.chord_model.specs.Worlds.{AreStatesAfter, IsFirstAt, IsWorld}
 use Rattle.chord_model.proofs.Audits.{open_after, output_next}
@@ -65,8 +64,6 @@ use Rattle.chord_model.proofs.Course.{
   world_after,
   world_at_start,
 }
-use Rattle.chord_model.proofs.Distinct.{meets}
-use Rattle.chord_model.proofs.Horizons.{whole_from}
 use Rattle.chord_model.proofs.Runs.{history_is_legal, possible_from_legal}
 use Rattle.chord_node.specs.declared.state.NodeState.{NodeState}
 use Rattle.chord_node.specs.Invariant.{AllNodes}
@@ -80,11 +77,12 @@ use Rattle.chord_scenario.specs.Range.{IsInRange}
 use Rattle.chord_scenario.specs.Start.{start_events}
 use Rattle.chord_scenario.specs.World.{node_count}
 use Rattle.chord_serial.specs.declared.engine.Engine.{Engine}
-use Rattle.chord_serial.specs.Engine.{HasTaken, IsAt}
-use Rattle.chord_output.specs.Runs.{IsBeginning}
-use Rattle.chord_output.specs.Output.{Adds, audits_at, due}
-use Rattle.chord_output.proofs.Ends.{audits-few, audits_at_start, whole_trace_is}
-use Rattle.chord_output.proofs.Outputs.{adds_then, fronts_longer, fronts_then, texts-append}
+use Rattle.chord_serial.specs.Engine.{HasTaken, IsAt, IsAtWith}
+use Rattle.chord_output.specs.Runs.{IsBeginning, Writes}
+use Rattle.chord_output.specs.Output.{Adds, audits_at, most_audits}
+use Rattle.chord_output.proofs.Ends.{OfAccounts, audits_at_start, of_slice, pieces_few, states_known}
+use Rattle.chord_output.proofs.Outputs.{adds_then, fronts_longer, fronts_then, writes_then}
+use Rattle.chord_output.proofs.Runs.{begun_next}
 use Rattle.chord_trace.proofs.Fronts.{front_of_whole}
 use Rattle.chord_trace.specs.declared.piece.Piece.{Piece}
 use Rattle.chord_trace.specs.declared.piece.Piece.TheVariants as piece
@@ -128,7 +126,6 @@ taken_is_next sc old now e event rest at ordered is in_time allowed = record {
     written = at.written;
     tallied = at.tallied;
     within = at.within;
-    room = at.room;
   };
   next = first_at sc.duration event rest (subst (λ es. InKeyOrder event_key es) is ordered) in_time;
   allowed = allowed;
@@ -157,14 +154,6 @@ all_late horizon time (e ∷ es) is late ordered = All_from (λ (x : Event Body)
     (all_in (λ (y : Event Body). IsBefore e.key y.key) es ordered.0 x (IsIn-from_Contains es x later))) in omega (arith, late, here, after))
     (contains_cons x e es c))
 
--- what an engine has written is the beginning of a trace
-pub begin_at : (sc : Scenario) (old now : Option (List ℕ)) (e : Engine) → IsAt sc old now e → IsBeginning sc old now
-begin_at sc old now e a = (
-  e.count,
-  fronts_longer sc old now (output (chord sc) (history (chord sc) e.count)) _
-      (front_of_whole old now (pieces_text sc (output (chord sc) (history (chord sc) e.count))) a.written),
-)
-
 module _ (sc : Scenario) (ranges : IsInRange sc) where
   w : IsWellFormed (chord sc) (IsStateOf sc) (IsSoundEvent sc)
   w = well_formed sc ranges
@@ -172,22 +161,10 @@ module _ (sc : Scenario) (ranges : IsInRange sc) where
   abbrev past : ℕ → List (Event Body)
   past count = history (chord sc) count
 
-  -- the states are those of the history, and sound
-  module _ (states : List NodeState) (events : List (Event Body)) (count : ℕ) (a : IsWorld (chord sc) states events count) where
-    pub states_long : length states ≡ node_count sc
-    states_long = a.states_are.nodes_are
-
-    pub are_states : AreStates sc states (state (chord sc) (past count))
-    are_states n l = a.states_are.state_at n (state (chord sc) (past count) n) l
-
-    state_known : (n : ℕ) (d : NodeState) → n < node_count sc → AllNodes sc (get_or states n d).succ
-    state_known n d l =
-        subst (λ s. AllNodes sc s.succ) (sym (a.states_are.state_at n d l))
-        ((meets (chord sc) w (past count) (possible_from_legal (chord sc) (past count) (history_is_legal (chord sc) count))).sound n
-        l).invariant.neighbours.succ_known
-
-    pub states_known : All (λ (s : NodeState). AllNodes sc s.succ) states
-    states_known n d l = state_known n d (omega (arith, l, states_long))
+  -- few pieces were tallied, and few audits are left
+  pub tallied_few : (old now : Option (List ℕ)) (e : Engine) (events : List (Event Body)) → IsAtWith sc old now e events
+      → taken e.tally + length e.clock ≤ e.count + most_audits
+  tallied_few old now e events at = omega (arith, at.tallied.size, pieces_few sc ranges (past e.count) e.clock at.audits, at.world.long)
 
   module _ (old now : Option (List ℕ)) (e : Engine) (event : Event Body) (t : HasTaken sc old now e event) where
     abbrev here : List (Event Body)
@@ -214,28 +191,18 @@ module _ (sc : Scenario) (ranges : IsInRange sc) where
     pub event_is_in_time : event.key.time < sc.duration
     event_is_in_time = is_in_time (chord sc) w states events e.count world 0 event t.next first
 
-    pub audits_room : taken e.tally + length e.clock ≤ 2 ^ 40
-    audits_room = omega (arith, t.at.room, t.at.within, ranges.numbers.max_events_greatest)
+    -- there is room for the audits, and for the block
+    pub taken_few : taken e.tally + length e.clock < 2 ^ 40
+    taken_few = omega (arith, tallied_few old now e events t.at, t.allowed, ranges.numbers.max_events_greatest)
 
     pub taken_long : length states ≡ node_count sc
-    taken_long = states_long states events e.count world
+    taken_long = world.states_are.nodes_are
 
     pub taken_known : All (λ (s : NodeState). AllNodes sc s.succ) states
-    taken_known = states_known states events e.count world
-
-    pub taken_states : AreStates sc states (state (chord sc) here)
-    taken_states = are_states states events e.count world
+    taken_known = states_known sc ranges states e.count world.states_are
 
     goes_on : past (e.count + 1) ≡ event ∷ here
     goes_on = history_goes_on (chord sc) w states events e.count world 0 event t.next first
-
-    -- what holds of every account of some states
-    abbrev OfAccounts : List NodeState → ((ℕ → NodeState) → Type 0) → Type 0
-    OfAccounts slice P = (account : ℕ → NodeState) → AreStates sc slice account → P account
-
-    -- what holds of every account of a slice of the states holds of the run's own
-    of_slice : (P : (ℕ → NodeState) → Type 0) (slice : List NodeState) → slice ≡ states → OfAccounts slice P → P (state (chord sc) here)
-    of_slice P slice is each = each _ (subst (λ ss. AreStates sc ss (state (chord sc) here)) (sym is) taken_states)
 
     -- the state that is read for the event
     pub taken_read : (s : NodeState) × (s ≡ get_or states event.target s)
@@ -275,33 +242,28 @@ module _ (sc : Scenario) (ranges : IsInRange sc) where
 
       -- the front of that is the front of the trace that is one event longer
       pub begin_more : (x : Option (List ℕ)) → AppendsFront now x (pieces_text sc (put (block_of sc s event))) → IsBeginning sc old x
-      begin_more x front = (
-        e.count + 1,
-        fronts_longer sc old x (output (chord sc) (past (e.count + 1))) _
-            (subst (λ ps. AppendsFront old x (pieces_text sc ps)) (sym outputs)
-            (fronts_then sc old now x (output (chord sc) here) (put (block_of sc s event)) t.at.written front)),
-      )
+      begin_more x front = begun_next sc old now x e.count (e.count + 1) (put (block_of sc s event)) t.at.written outputs front
 
       -- the audits are written with a slice of the states
       module _ (slice : List NodeState) (sliced : slice ≡ states) where
-        pub begin_audits : (x : Option (List ℕ)) → OfAccounts slice (λ account. AppendsFront now x (pieces_text sc (audits_due account))) → IsBeginning sc old x
+        pub begin_audits : (x : Option (List ℕ)) → OfAccounts sc slice (λ account. AppendsFront now x (pieces_text sc (audits_due account))) → IsBeginning sc old x
         begin_audits x fronts =
-            let front = of_slice (λ account. AppendsFront now x (pieces_text sc (audits_due account))) slice sliced fronts in
+            let front = of_slice sc ranges states e.count world.states_are (λ account. AppendsFront now x (pieces_text sc (audits_due account))) slice sliced fronts in
             begin_more x (fronts_longer sc now x audits (piece.OfEvent (block_of sc s event) ∷ []) front)
 
-        pub audits_add : (x : Option (List ℕ)) (middle : Tally) → OfAccounts slice (λ account. Adds sc now x e.tally middle (audits_due account))
+        pub audits_add : (x : Option (List ℕ)) (middle : Tally) → OfAccounts sc slice (λ account. Adds sc now x e.tally middle (audits_due account))
             → Adds sc now x e.tally middle audits
-        audits_add x middle adds = of_slice (λ account. Adds sc now x e.tally middle (audits_due account)) slice sliced adds
+        audits_add x middle adds = of_slice sc ranges states e.count world.states_are (λ account. Adds sc now x e.tally middle (audits_due account)) slice sliced adds
 
         -- after whole audits, nothing or the front of a block has been written
-        pub begin_middle : (x : Option (List ℕ)) (middle : Tally) → OfAccounts slice (λ account. Adds sc now x e.tally middle (audits_due account))
+        pub begin_middle : (x : Option (List ℕ)) (middle : Tally) → OfAccounts sc slice (λ account. Adds sc now x e.tally middle (audits_due account))
             → IsBeginning sc old x
         begin_middle x middle adds =
             let front = front_of_whole now x (pieces_text sc audits) (audits_add x middle adds).written in
             begin_more x (fronts_longer sc now x audits (piece.OfEvent (block_of sc s event) ∷ []) front)
 
         pub begin_front : (middle : Tally) (block : Block) (mid x : Option (List ℕ)) → block ≡ block_of sc s event
-            → OfAccounts slice (λ account. Adds sc now mid e.tally middle (audits_due account))
+            → OfAccounts sc slice (λ account. Adds sc now mid e.tally middle (audits_due account))
             → AppendsFront mid x (pieces_text sc (piece.OfEvent block ∷ [])) → IsBeginning sc old x
         begin_front middle block mid x is adds front =
             begin_more x (fronts_then sc now mid x audits (piece.OfEvent (block_of sc s event) ∷ []) (audits_add mid middle adds).written
@@ -322,9 +284,8 @@ module _ (sc : Scenario) (ranges : IsInRange sc) where
             → ((x : Event Body) → Contains f.pending x ↔ Contains (e.pending ++ made) x) → InKeyOrder event_key f.pending
             → f.clock ≡ filter (λ u. nat_lt event.key.time u) e.clock → f.count ≡ e.count + 1
             → Adds sc now mid e.tally middle audits → Adds sc mid new middle f.tally (piece.OfEvent block ∷ [])
-            → taken middle + length f.clock ≡ taken e.tally + length e.clock → taken f.tally ≡ taken middle + 1
             → IsAt sc old new f
-        next_at f mid new middle left_block block_is states_are same ordered clock_is count_is before block first_size second_size =
+        next_at f mid new middle left_block block_is states_are same ordered clock_is count_is before block =
             let all : Adds sc now new e.tally f.tally (put (block_of sc s event))
             = adds_then sc now mid new e.tally middle f.tally _ _ before (subst (λ b. Adds sc mid new middle f.tally (piece.OfEvent b ∷ [])) block_is block) in
             let long : past f.count ≡ past (e.count + 1) = ap past count_is in
@@ -336,12 +297,10 @@ module _ (sc : Scenario) (ranges : IsInRange sc) where
                   (ordered_apart f.pending ordered) next_world));
               audits = clock_is ∙ ap (filter (λ u. nat_lt event.key.time u)) t.at.audits ∙ sym (open_after (chord sc) event here)
                   ∙ ap (open_audits (chord sc)) (sym (long ∙ goes_on));
-              written = subst (λ ps. Appends old new (pieces_text sc ps)) (sym pieces)
-                  (subst (λ text. Appends old new text) (sym (texts-append sc (output (chord sc) here) (put (block_of sc s event))))
-                  (Appends-trans old now new (pieces_text sc (output (chord sc) here)) (pieces_text sc (put (block_of sc s event))) t.at.written all.written));
+              written = subst (λ ps. Writes sc old new ps) (sym pieces)
+                  (writes_then sc old now new (output (chord sc) here) (put (block_of sc s event)) t.at.written all.written);
               tallied = subst (λ ps. IsTallyOf sc.profile ps f.tally) (sym pieces) (all.tallied (output (chord sc) here) t.at.tallied);
               within = omega (arith, t.allowed, count_is);
-              room = omega (arith, t.at.room, first_size, second_size, count_is);
             }
 
   -- The start
@@ -365,7 +324,6 @@ module _ (sc : Scenario) (ranges : IsInRange sc) where
         written = subst (λ h. Appends now now (pieces_text sc (output (chord sc) h))) (sym none) (Appends-nil now);
         tallied = subst (λ h. IsTallyOf sc.profile (output (chord sc) h) e.tally) (sym none) tally_is;
         within = omega (arith, count_is);
-        room = omega (arith, tally_is.size, ap length clock_is, audits-few sc ranges, count_is);
       }
 
   -- The end
@@ -379,34 +337,11 @@ module _ (sc : Scenario) (ranges : IsInRange sc) where
         too_many (chord sc) w e.states.items (event ∷ es) e.count (subst (λ xs. IsWorld (chord sc) e.states.items xs e.count) (sym is) at.world) 0 event
         (first_at sc.duration event es ordered (omega (arith, in_time, same))) refl (omega (arith, full, at.within))
 
-    module _ (late : All (λ (x : Event Body). sc.duration ≤ x.key.time) e.pending) where
-      abbrev rest : List Piece
-      rest = audits_at sc (state (chord sc) (past e.count)) (due sc.duration e.clock)
-
-      whole : IsWhole (chord sc) (past e.count)
-      whole = whole_from (chord sc) w (past e.count) (history_is_legal (chord sc) e.count)
-          (none_left (chord sc) w e.states.items e.pending e.count at.world late)
-
-      few : length (past e.count) ≤ sc.max_events
-      few = omega (arith, at.world.long, at.within)
-
-      pub not_over_limit : HasTooManyEvents sc → ⊥
-      not_over_limit = (whole.within_limit few).1
-
-      trace_is : output (chord sc) (past e.count) ++ rest ≡ whole_trace sc
-      trace_is = whole_trace_is sc ranges (past e.count) e.clock at.audits whole few
-
-      pub whole_trace_written : (x : Option (List ℕ)) (last : Tally) → Adds sc now x e.tally last rest → Appends old x (pieces_text sc (whole_trace sc))
-      whole_trace_written x last adds = subst (λ ps. Appends old x (pieces_text sc ps)) trace_is
-          (subst (λ text. Appends old x text) (sym (texts-append sc (output (chord sc) (past e.count)) rest))
-          (Appends-trans old now x (pieces_text sc (output (chord sc) (past e.count))) (pieces_text sc rest) at.written adds.written))
-
-      pub whole_trace_tallied : (x : Option (List ℕ)) (last : Tally) → Adds sc now x e.tally last rest → IsTallyOf sc.profile (whole_trace sc) last
-      whole_trace_tallied x last adds = subst (λ ps. IsTallyOf sc.profile ps last) trace_is (adds.tallied (output (chord sc) (past e.count)) at.tallied)
-
-      pub begin_end : (x : Option (List ℕ)) → AppendsFront now x (pieces_text sc rest) → IsBeginning sc old x
-      begin_end x front = (
-        e.count,
-        subst (λ ps. AppendsFront old x (pieces_text sc ps)) (trace_is ∙ sym (ap (trace (chord sc)) ((whole.within_limit few).0)))
-            (fronts_then sc old now x (output (chord sc) (past e.count)) rest at.written front),
-      )
+    pub at_end : All (λ (x : Event Body). sc.duration ≤ x.key.time) e.pending → IsAtEnd (chord sc) (Writes sc) old now e.count e.clock
+    at_end late = record {
+      long = at.world.long;
+      within = at.within;
+      ended = none_left (chord sc) w e.states.items e.pending e.count at.world late;
+      audits = at.audits;
+      put = at.written;
+    }

@@ -1,15 +1,14 @@
 -- Where an engine has come to.
-use Rattle.std.specs.Prelude.{◌≡◌, ℕ, ◌+◌, ◌<◌, ◌≤◌, List, ◌∷◌, Option, length}
+use Rattle.std.specs.Prelude.{◌≡◌, ℕ, ◌<◌, ◌≤◌, List, ◌∷◌, Option}
 use Rattle.std.specs.Io.KnownBytes.{Appends}
 use Rattle.chord_event.specs.declared.body.Body.{Body}
 use Rattle.chord_event.specs.declared.event.Event.{Event}
 use Rattle.chord_machine.specs.Chord.{chord}
 use Rattle.chord_model.specs.Histories.{history, open_audits, output}
 use Rattle.chord_model.specs.Worlds.{IsFirstAt, IsWorld}
-use Rattle.chord_output.specs.Output.{most_audits}
 use Rattle.chord_scenario.specs.declared.scenario.Scenario.{Scenario}
 use Rattle.chord_serial.specs.declared.engine.Engine.{Engine}
-use Rattle.chord_trace.specs.Tally.{IsTallyOf, taken}
+use Rattle.chord_trace.specs.Tally.{IsTallyOf}
 use Rattle.chord_trace.specs.Texts.{pieces_text}
 
 -- the engine, with these events still to come, is where the first `e.count` events of the run leave it, and what they
@@ -20,7 +19,6 @@ pub record IsAtWith (sc : Scenario) (old now : Option (List ℕ)) (e : Engine) (
   pub written : Appends old now (pieces_text sc (output (chord sc) (history (chord sc) e.count)))
   pub tallied : IsTallyOf sc.profile (output (chord sc) (history (chord sc) e.count)) e.tally
   pub within : e.count ≤ sc.max_events
-  pub room : taken e.tally + length e.clock ≤ e.count + most_audits
 
 -- the same with the events that it keeps
 abbrev pub IsAt : Scenario → (old now : Option (List ℕ)) → Engine → Type 0

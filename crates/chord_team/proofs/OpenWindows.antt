@@ -1,35 +1,5 @@
 -- A window is opened: the audits that are due are made.
-use Rattle.std.proofs.Common.{
-  ◌≡◌,
-  ◌∙◌,
-  ℕ,
-  ◌+◌,
-  ◌<◌,
-  ◌≤◌,
-  ◌^◌,
-  Bool,
-  true,
-  false,
-  cond,
-  List,
-  [],
-  ◌∷◌,
-  ◌++◌,
-  Option,
-  None,
-  Some,
-  Vec,
-  slice_get,
-  length,
-  length-append,
-  append-nil,
-  get_or,
-  refl,
-  ap,
-  sym,
-  subst,
-  arith,
-}
+use Rattle.std.proofs.Common.{◌≡◌, ◌∙◌, ℕ, ◌+◌, ◌<◌, ◌≤◌, ◌^◌, Bool, true, false, cond, List, [], ◌∷◌, ◌++◌, Option, None, Some, Vec, slice_get, length, append-nil, get_or, ap, sym, subst, arith}
 use Rattle.std.specs.Global.{Global}
 use Rattle.std.specs.List.{AllByRecursion, filter}
 use Rattle.std.specs.Prelude.{IfSome, nat_le, nat_lt}
@@ -39,9 +9,12 @@ use Rattle.chord_machine.specs.AuditTimes.{IsAscending, audit_times}
 use Rattle.chord_machine.specs.Chord.{chord}
 use Rattle.chord_machine.proofs.Audits.{audits-ascend}
 use Rattle.chord_model.specs.Histories.{history, output, state}
+use Rattle.chord_model.specs.Scribes.{due}
+use Rattle.chord_model.specs.Worlds.{AreStatesAfter}
 use Rattle.chord_model.proofs.Audits.{open_see}
 use Rattle.chord_node.specs.declared.state.NodeState.{NodeState}
-use Rattle.chord_output.specs.Output.{audits_at, due}
+use Rattle.chord_output.specs.Output.{audits_at}
+use Rattle.chord_output.proofs.Ends.{filter_shorter, pieces_few}
 use Rattle.chord_output.proofs.Outputs.{all-left, none-due}
 use Rattle.chord_scenario.specs.declared.scenario.Scenario.{Scenario}
 use Rattle.chord_scenario.specs.Range.{IsInRange}
@@ -55,7 +28,9 @@ use Rattle.chord_window.specs.Worlds.{opening_after}
 use Rattle.chord_team.specs.declared.layout.Layout.{Layout}
 use Rattle.chord_team.specs.declared.part.Parcel.{Parcel}
 use Rattle.chord_team.specs.declared.team.Team.{Team}
+use Rattle.chord_team.specs.Swaps.{HaveSwapped}
 use Rattle.chord_team.specs.Teams.{AreHere, IsHere, IsOpened, IsTeam, audits_due, audits_in, is_audit}
+use Rattle.chord_team.proofs.Swaps.{whole_after}
 
 -- The clock
 
@@ -85,14 +60,6 @@ all_late (x ∷ xs) time up late = (late, each_later x time xs late up.0)
 
 -- The tally
 
-filter_shorter : {A : Type 0} (p : A → Bool) (xs : List A) → length (filter p xs) ≤ length xs
-filter_shorter p [] = omega arith
-filter_shorter p (x ∷ xs) = go (p x) (filter_shorter p xs)
-  where
-    go : (b : Bool) → length (filter p xs) ≤ length xs → length (cond b (x ∷ filter p xs) (filter p xs)) ≤ length (x ∷ xs)
-    go true others = omega (arith, others)
-    go false others = omega (arith, others)
-
 pub audits_fewer : (pieces : List Piece) → length (audits_in pieces) ≤ length pieces
 audits_fewer pieces = filter_shorter is_audit pieces
 
@@ -107,11 +74,18 @@ module _ (sc : Scenario) (ranges : IsInRange sc) (l : Layout) (old now : Option 
   audits_fit = omega (
     arith,
     at.audited.size,
-    audits_fewer (output (chord sc) (history (chord sc) t.count)),
-    at.room,
+    audits_fewer (output (chord sc) past),
+    pieces_few sc ranges past t.clock at.audits,
+    at.long,
     at.within,
     ranges.numbers.max_events_greatest,
   )
+
+  -- the states of all nodes, put together
+  pub together_after : (mid : List (Option Parcel)) (got : List NodeState) → HaveSwapped l (length t.whole.items) t.parcels.items t.whole.items mid got
+      → AreStatesAfter (chord sc) past got
+  together_after mid got first = whole_after sc ranges l at.layout past t.parcels.items at.here (length t.whole.items) at.whole_long t.whole.items mid got first
+      at.whole_long
 
   some_here : (parcels : List (Option Parcel)) → AreHere sc l past parcels → (p : ℕ) → p < l.division.parts
       → IfSome (get_or parcels p None) (IsHere sc l past p)
@@ -131,9 +105,8 @@ module _ (sc : Scenario) (ranges : IsInRange sc) (l : Layout) (old now : Option 
         → text.items ≡ pieces_text sc (audits_at sc (state (chord sc) (history (chord sc) t.count)) (due w.time t.clock))
         → ((earlier : List Piece) → IsTallyOf sc.profile earlier t.audits
         → IsTallyOf sc.profile (earlier ++ audits_at sc (state (chord sc) (history (chord sc) t.count)) (due w.time t.clock)) audits)
-        → taken audits + length clock ≡ taken t.audits + length t.clock
         → IsOpened sc l old now (record t { parcels = ps; clock = clock; audits = audits; due = text; whole = whole; window = w })
-    opened_at here parcels_long whole_long left text_is tallied size =
+    opened_at here parcels_long whole_long left text_is tallied =
         let more = tallied (audits_in (output (chord sc) past)) at.audited in
         record {
           can_send = record {
@@ -149,15 +122,6 @@ module _ (sc : Scenario) (ranges : IsInRange sc) (l : Layout) (old now : Option 
           audits = left ∙ ap (filter (λ u. nat_lt w.time u)) at.audits;
           written = at.written;
           audited = subst (λ z. IsTallyOf sc.profile (audits_in (output (chord sc) past) ++ z) audits) same_made more;
-          room = omega (
-            arith,
-            at.room,
-            more.size,
-            at.audited.size,
-            size,
-            length-append (audits_in (output (chord sc) past)) made,
-            ap length same_made,
-          );
         }
 
   -- if no audit is due, the clock and the tally stay as they are
@@ -170,4 +134,3 @@ module _ (sc : Scenario) (ranges : IsInRange sc) (l : Layout) (old now : Option 
       (none ∙ sym (ap (λ ts. pieces_text sc (audits_at sc (state (chord sc) past) ts)) nothing))
       (λ earlier h. subst (λ z. IsTallyOf sc.profile z t.audits)
       (sym (ap (λ ts. earlier ++ audits_at sc (state (chord sc) past) ts) nothing ∙ append-nil earlier)) h)
-      refl

@@ -79,7 +79,7 @@ use Rattle.chord_model.proofs.Runs.{next-None, next-Some, none_from_late}
 use Rattle.chord_node.specs.declared.state.NodeState.{NodeState}
 use Rattle.chord_node.specs.Ring.{initial_ring}
 use Rattle.chord_ops.specs.Sound.{IsSoundEvent}
-use Rattle.chord_output.proofs.Ends.{audits-few, audits_at_start}
+use Rattle.chord_output.proofs.Ends.{audits_at_start}
 use Rattle.chord_queue.specs.EventKey.{event_key}
 use Rattle.chord_queue.proofs.Inserting.{apart_across, ordered_apart}
 use Rattle.chord_scenario.specs.declared.scenario.Scenario.{Scenario}
@@ -530,5 +530,4 @@ module _ (sc : Scenario) (ranges : IsInRange sc) where
       audits = clock_is ∙ sym (audits_at_start sc ranges);
       written = Appends-nil now;
       audited = tallied;
-      room = omega (arith, ap length clock_is, audits-few sc ranges);
     }

@@ -28,18 +28,13 @@ use Rattle.std.proofs.lemmas.List.{length-set}
 use Rattle.std.proofs.lemmas.Option.{none-some}
 use Rattle.std.specs.Global.{Global}
 use Rattle.std.specs.Prelude.{IfSome, unwrap_or}
-use Rattle.std.specs.List.{All}
-use Rattle.chord_audit.specs.Audit.{AreStates}
 use Rattle.chord_event.specs.declared.body.Body.{Body}
 use Rattle.chord_event.specs.declared.event.Event.{Event}
 use Rattle.chord_machine.specs.Chord.{chord}
-use Rattle.chord_machine.proofs.WellFormed.{well_formed}
-use Rattle.chord_model.specs.Histories.{history, state}
+use Rattle.chord_model.specs.Histories.{state}
 use Rattle.chord_model.specs.Windows.{part_of}
-use Rattle.chord_model.proofs.Distinct.{meets}
-use Rattle.chord_model.proofs.Runs.{history_is_legal, possible_from_legal}
+use Rattle.chord_model.specs.Worlds.{AreStatesAfter}
 use Rattle.chord_node.specs.declared.state.NodeState.{NodeState}
-use Rattle.chord_node.specs.Invariant.{AllNodes}
 use Rattle.chord_scenario.specs.declared.scenario.Scenario.{Scenario}
 use Rattle.chord_scenario.specs.Range.{IsInRange}
 use Rattle.chord_scenario.specs.World.{node_count}
@@ -223,11 +218,11 @@ module _ (sc : Scenario) (ranges : IsInRange sc) (l : Layout) (layout : IsLayout
 
   module _ (n : ℕ) (many : n ≡ node_count sc) (whole : List NodeState) (mid : List (Option Parcel)) (got : List NodeState)
       (first : HaveSwapped l n parcels whole mid got) where
-    pub whole_is : (i : ℕ) (s : NodeState) → i < node_count sc → get_or got i s ≡ state (chord sc) past i
+    whole_is : (i : ℕ) (s : NodeState) → i < node_count sc → get_or got i s ≡ state (chord sc) past i
     whole_is i s k = first.taken i s (omega (arith, k, many)) ∙ placed_is i s k
 
-    pub whole_states : AreStates sc got (state (chord sc) past)
-    whole_states i k = whole_is i (state (chord sc) past i) k
+    pub whole_after : length whole ≡ node_count sc → AreStatesAfter (chord sc) past got
+    whole_after long = record { nodes_are = first.got_long ∙ long; state_at = whole_is }
 
     -- the parts have their states again
     pub here_again : (new : List (Option Parcel)) (back : List NodeState) → HaveSwapped l n mid got new back → AreHere sc l past new
@@ -255,12 +250,3 @@ module _ (sc : Scenario) (ranges : IsInRange sc) (l : Layout) (layout : IsLayout
             no_text = r.2.no_text;
           }),
         )
-
-  -- what audits need of the states
-  pub states_known : (count : ℕ) → past ≡ history (chord sc) count → (states : List NodeState) → length states ≡ node_count sc
-      → ((i : ℕ) (s : NodeState) → i < node_count sc → get_or states i s ≡ state (chord sc) past i) → All (λ (s : NodeState). AllNodes sc s.succ) states
-  states_known count is states long are i d k =
-      let node : i < node_count sc = omega (arith, k, long) in
-      subst (λ s. AllNodes sc s.succ) (sym (are i d node ∙ ap (λ h. state (chord sc) h i) is))
-      ((meets (chord sc) (well_formed sc ranges) (history (chord sc) count)
-      (possible_from_legal (chord sc) (history (chord sc) count) (history_is_legal (chord sc) count))).sound i node).invariant.neighbours.succ_known

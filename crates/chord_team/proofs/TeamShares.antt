@@ -1,38 +1,7 @@
 -- The parts share what a run puts out, and the audits are the rest.
-use Rattle.std.proofs.Common.{
-  ◌≡◌,
-  ◌≢◌,
-  ◌∙◌,
-  ℕ,
-  zero,
-  suc,
-  ◌<◌,
-  ◌==◌,
-  Bool,
-  true,
-  false,
-  cond,
-  List,
-  [],
-  ◌∷◌,
-  ◌++◌,
-  Option,
-  None,
-  Some,
-  length,
-  map,
-  get_or,
-  ap,
-  sym,
-  refl,
-  subst,
-  arith,
-  append_assoc,
-  append-nil,
-  eq-eqb,
-  ⊎_elim,
-}
+use Rattle.std.proofs.Common.{◌≡◌, ◌≢◌, ◌∙◌, ℕ, zero, suc, ◌<◌, ◌==◌, List, [], ◌∷◌, ◌++◌, Option, None, Some, length, map, get_or, ap, sym, refl, subst, arith, append_assoc, append-nil, eq-eqb, ⊎_elim}
 use Rattle.std.proofs.lemmas.Bool.{cases_eq, cond-true, cond-false, ne_eqb}
+use Rattle.std.proofs.lemmas.List.Elements.{filter-append}
 use Rattle.std.proofs.lemmas.List.Sorted.{
   IsPermutation-append_comm,
   IsPermutation-append_left,
@@ -54,6 +23,7 @@ use Rattle.chord_trace.specs.declared.piece.Piece.{Piece}
 use Rattle.chord_trace.specs.declared.tally.Tally.{Tally}
 use Rattle.chord_trace.specs.Tally.{IsTallyOf}
 use Rattle.chord_window.specs.Tallies.{AreTalliesOf, shares_to}
+use Rattle.chord_window.proofs.Shares.{middle_swapped, shares_front, shares_same}
 use Rattle.chord_team.specs.declared.part.Parcel.{Parcel}
 use Rattle.chord_team.specs.Owned.{share_of}
 use Rattle.chord_team.specs.Shares.{tallies_in}
@@ -65,21 +35,7 @@ use Rattle.chord_team.proofs.TeamMail.{none_here, some_same}
 last_swapped : {A : Type 0} (xs ys zs : List A) → IsPermutation ((xs ++ ys) ++ zs) ((xs ++ zs) ++ ys)
 last_swapped xs ys zs = simp append_assoc (IsPermutation-append_right xs (ys ++ zs) (zs ++ ys) (IsPermutation-append_comm ys zs))
 
-middle_swapped : {A : Type 0} (ws xs ys zs : List A) → IsPermutation ((ws ++ xs) ++ (ys ++ zs)) ((ws ++ ys) ++ (xs ++ zs))
-middle_swapped ws xs ys zs = simp append_assoc (IsPermutation-append_right ws (xs ++ (ys ++ zs)) (ys ++ (xs ++ zs))
-    (simp append_assoc at (IsPermutation-append_left zs (xs ++ ys) (ys ++ xs) (IsPermutation-append_comm xs ys))))
-
 -- Shares one after another
-
-shares_same : (a b : ℕ → List Piece) (n : ℕ) → ((k : ℕ) → k < n → a k ≡ b k) → shares_to a n ≡ shares_to b n
-shares_same a b zero same = refl
-shares_same a b (suc n) same = ap (λ l. l ++ a n) (shares_same a b n (λ k l. same k (omega (arith, l))))
-    ∙ ap (λ l. shares_to b n ++ l) (same n (omega arith))
-
-shares_front : (share : ℕ → List Piece) (n : ℕ) → shares_to share (suc n) ≡ share 0 ++ shares_to (λ k. share (suc k)) n
-shares_front share zero = sym (append-nil (share 0))
-shares_front share (suc n) = ap (λ l. l ++ share (suc n)) (shares_front share n)
-    ∙ append_assoc (share 0) (shares_to (λ k. share (suc k)) n) (share (suc n))
 
 -- one share has a piece more
 share_more : (a b : ℕ → List Piece) (part : ℕ) (x : Piece) → b part ≡ a part ++ x ∷ [] → ((k : ℕ) → k ≢ part → b k ≡ a k) → (n : ℕ) → part < n
@@ -102,17 +58,8 @@ share_more a b part x here others (suc n) l = ⊎_elim
 
 -- The audits among the pieces
 
-audits_append : (xs ys : List Piece) → audits_in (xs ++ ys) ≡ audits_in xs ++ audits_in ys
-audits_append [] ys = refl
-audits_append (x ∷ xs) ys = go (is_audit x) (audits_append xs ys)
-  where
-    go : (b : Bool) → audits_in (xs ++ ys) ≡ audits_in xs ++ audits_in ys
-        → cond b (x ∷ audits_in (xs ++ ys)) (audits_in (xs ++ ys)) ≡ cond b (x ∷ audits_in xs) (audits_in xs) ++ audits_in ys
-    go true others = ap (λ l. x ∷ l) others
-    go false others = others
-
 module _ (sc : Scenario) where
-  only_audits : (h : List (Event Body)) (times : List ℕ) → audits_in (map (audit_at (chord sc) h) times) ≡ map (audit_at (chord sc) h) times
+  pub only_audits : (h : List (Event Body)) (times : List ℕ) → audits_in (map (audit_at (chord sc) h) times) ≡ map (audit_at (chord sc) h) times
   only_audits h [] = refl
   only_audits h (t ∷ times) = ap (λ l. audit_at (chord sc) h t ∷ l) (only_audits h times)
 
@@ -132,7 +79,7 @@ module _ (sc : Scenario) where
         let shares : List Piece = shares_to (λ p. share_of sc d p h) n in
         let more : List Piece = shares_to (λ p. share_of sc d p (e ∷ h)) n in
         let ours : audits_in (before ++ (audits ++ x ∷ [])) ≡ audits_in before ++ audits =
-        audits_append before (audits ++ x ∷ []) ∙ ap (λ l. audits_in before ++ l) (audits_append audits (x ∷ [])
+        filter-append is_audit before (audits ++ x ∷ []) ∙ ap (λ l. audits_in before ++ l) (filter-append is_audit audits (x ∷ [])
         ∙ append-nil (audits_in audits) ∙ only_audits h (filter (λ t. nat_le t e.key.time) (open_audits (chord sc) h))) in
         subst (λ l. IsPermutation (before ++ (audits ++ x ∷ [])) (l ++ more)) (sym ours)
         (IsPermutation-trans (before ++ (audits ++ x ∷ [])) ((audits_in before ++ shares) ++ (audits ++ x ∷ [])) ((audits_in before ++ audits) ++ more)

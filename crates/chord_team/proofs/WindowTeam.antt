@@ -1,8 +1,6 @@
 -- The team after a window.
-use Rattle.std.proofs.Common.{◌≡◌, ◌∙◌, ℕ, suc, ◌+◌, ◌<◌, ◌≤◌, List, [], ◌∷◌, ◌++◌, Option, None, length, map, get_or, refl, ap, sym, subst, arith, append-nil, length-append, option_map, take_all}
-use Rattle.std.proofs.lemmas.List.{length-map}
+use Rattle.std.proofs.Common.{◌≡◌, ◌∙◌, ℕ, suc, ◌+◌, ◌<◌, ◌≤◌, List, [], ◌∷◌, ◌++◌, Option, None, length, map, get_or, refl, ap, sym, subst, arith, append-nil, option_map, take_all}
 use Rattle.std.proofs.lemmas.List.Elements.{filter-append}
-use Rattle.std.proofs.KnownBytes.{Appends-trans}
 use Rattle.std.specs.Io.KnownBytes.{Appends}
 use Rattle.std.specs.List.{filter, flat_map}
 use Rattle.std.specs.Prelude.{nat_le}
@@ -10,9 +8,10 @@ use Rattle.chord_event.specs.declared.block.Block.{Block}
 use Rattle.chord_event.specs.declared.body.Body.{Body}
 use Rattle.chord_event.specs.declared.event.Event.{Event}
 use Rattle.chord_machine.specs.Chord.{chord}
-use Rattle.chord_model.specs.Histories.{audit_at, history, next, open_audits, output}
-use Rattle.chord_output.specs.Runs.{IsBeginning}
-use Rattle.chord_output.proofs.Outputs.{fronts_longer, fronts_then, texts-append}
+use Rattle.chord_model.specs.Histories.{history, next, open_audits, output}
+use Rattle.chord_output.specs.Runs.{IsBeginning, Writes}
+use Rattle.chord_output.proofs.Outputs.{fronts_longer, fronts_then, writes_then}
+use Rattle.chord_output.proofs.Runs.{begun_next}
 use Rattle.chord_scenario.specs.declared.scenario.Scenario.{Scenario}
 use Rattle.chord_scenario.specs.Range.{IsInRange}
 use Rattle.chord_trace.specs.declared.piece.Piece.{Piece}
@@ -20,6 +19,7 @@ use Rattle.chord_trace.specs.declared.piece.Piece.TheVariants as piece
 use Rattle.chord_trace.specs.Tally.{IsTallyOf}
 use Rattle.chord_trace.specs.Texts.{block_text, pieces_text}
 use Rattle.chord_trace.specs.Writing.{AppendsFront}
+use Rattle.chord_window.proofs.EngineCourse.{blocks_text}
 use Rattle.chord_team.specs.declared.layout.Layout.{Layout}
 use Rattle.chord_team.specs.declared.part.Finished.{Finished}
 use Rattle.chord_team.specs.declared.part.OwnedPart.{OwnedPart}
@@ -33,11 +33,12 @@ use Rattle.chord_team.specs.Owned.{IsOwned}
 use Rattle.chord_team.specs.Teams.{AreHere, CanSend, IsHere, IsOpened, IsTeam, audits_due, audits_in, before_end, events_in, is_audit}
 use Rattle.chord_team.proofs.PartLists.{none_contained}
 use Rattle.chord_team.proofs.TeamMail.{first}
+use Rattle.chord_team.proofs.TeamShares.{only_audits}
 use Rattle.chord_team.proofs.WindowNext.{next_after}
 use Rattle.chord_team.proofs.WindowParts.{after_window, owned_with_mail, result_of, sent_by}
 use Rattle.chord_team.proofs.WindowRuns.{after_is, after_long}
 use Rattle.chord_team.proofs.Told.{told_text}
-use Rattle.chord_team.proofs.WindowTexts.{blocks_long, text_of_pieces, window_blocks, window_leaves, window_puts_out}
+use Rattle.chord_team.proofs.WindowTexts.{window_blocks, window_leaves, window_puts_out}
 
 -- what the parts that came back have for one of them is what the results have for it
 mail_of_results : (part : ℕ) (fs : List Finished) (mid : List (Option Parcel)) → AreBack fs mid → length fs ≡ length mid
@@ -103,11 +104,7 @@ module _ (sc : Scenario) (ranges : IsInRange sc) (l : Layout) (t : Team) (can : 
         let e = exchanged.each p b.0 (omega (arith, there, parts_back)) b.1 in
         (e.0, e.1, parcel_here p f b.0 e.0 inside b.2 (b.3 sc) e.2)
 
--- the audits among what a window puts out
-audits_only : (sc : Scenario) (h : List (Event Body)) (times : List ℕ) → audits_in (map (audit_at (chord sc) h) times) ≡ map (audit_at (chord sc) h) times
-audits_only sc h [] = refl
-audits_only sc h (a ∷ times) = ap (λ l. audit_at (chord sc) h a ∷ l) (audits_only sc h times)
-
+-- there are no audits among blocks
 no_audits : (bs : List Block) → audits_in (map piece.OfEvent bs) ≡ []
 no_audits [] = refl
 no_audits (b ∷ bs) = no_audits bs
@@ -137,7 +134,7 @@ module _ (sc : Scenario) (ranges : IsInRange sc) (l : Layout) (t : Team) (fs : L
       ∙ filter-append is_audit (output (chord sc) before) (new_audits ++ map piece.OfEvent blocks)
       ∙ ap (λ ps. audits_in (output (chord sc) before) ++ ps) (filter-append is_audit new_audits (map piece.OfEvent blocks)
       ∙ ap (λ ps. audits_in new_audits ++ ps) (no_audits blocks) ∙ append-nil (audits_in new_audits)
-      ∙ audits_only sc before (filter (λ a. nat_le a t.window.time) (open_audits (chord sc) before)))
+      ∙ only_audits sc before (filter (λ a. nat_le a t.window.time) (open_audits (chord sc) before)))
 
   -- the text of the audits is as it was when the parts are back
   due_of_back : (b : Team) → b ≡ record t { parcels = b.parcels; next = b.next } → b.due.items ≡ t.due.items
@@ -146,25 +143,16 @@ module _ (sc : Scenario) (ranges : IsInRange sc) (l : Layout) (t : Team) (fs : L
   -- what was written of the audits that are due
   pub begin_due : (b : Team) (x : Option (List ℕ)) (text : List ℕ) → b ≡ record t { parcels = b.parcels; next = b.next } → text ≡ b.due.items
       → AppendsFront now x text → IsBeginning sc old x
-  begin_due b x text same is front = (
-    t.count + events_in fs,
-    fronts_longer sc old x (output (chord sc) (history (chord sc) (t.count + events_in fs))) _
-        (subst (λ ps. AppendsFront old x (pieces_text sc ps)) (sym puts_out)
-        (fronts_then sc old now x (output (chord sc) before) (new_audits ++ map piece.OfEvent blocks) opened.written
-        (fronts_longer sc now x new_audits (map piece.OfEvent blocks) (subst (λ z. AppendsFront now x z) (is ∙ due_of_back b same ∙ opened.due_is) front)))),
-  )
+  begin_due b x text same is front = begun_next sc old now x t.count (t.count + events_in fs) (new_audits ++ map piece.OfEvent blocks) opened.written puts_out
+      (fronts_longer sc now x new_audits (map piece.OfEvent blocks) (subst (λ z. AppendsFront now x z) (is ∙ due_of_back b same ∙ opened.due_is) front))
 
   -- and then of the blocks
   pub begin_blocks : (b : Team) (middle x : Option (List ℕ)) (text : List ℕ) → b ≡ record t { parcels = b.parcels; next = b.next }
       → text ≡ b.due.items → Appends now middle text → AppendsFront middle x (flat_map (block_text sc) (told blocks)) → IsBeginning sc old x
-  begin_blocks b middle x text same is due front = (
-    t.count + events_in fs,
-    fronts_longer sc old x (output (chord sc) (history (chord sc) (t.count + events_in fs))) _
-        (subst (λ ps. AppendsFront old x (pieces_text sc ps)) (sym puts_out)
-        (fronts_then sc old now x (output (chord sc) before) (new_audits ++ map piece.OfEvent blocks) opened.written
-        (fronts_then sc now middle x new_audits (map piece.OfEvent blocks) (subst (λ z. Appends now middle z) (is ∙ due_of_back b same ∙ opened.due_is) due)
-        (subst (λ z. AppendsFront middle x z) (told_text sc blocks ∙ sym (text_of_pieces sc blocks)) front)))),
-  )
+  begin_blocks b middle x text same is due front =
+      begun_next sc old now x t.count (t.count + events_in fs) (new_audits ++ map piece.OfEvent blocks) opened.written puts_out
+      (fronts_then sc now middle x new_audits (map piece.OfEvent blocks) (subst (λ z. Appends now middle z) (is ∙ due_of_back b same ∙ opened.due_is) due)
+      (subst (λ z. AppendsFront middle x z) (told_text sc blocks ∙ sym (blocks_text sc blocks)) front))
 
   -- the team after the window, once its parts are back: the events are counted, the parts have their mail, and what the
   -- window puts out is written
@@ -190,25 +178,11 @@ module _ (sc : Scenario) (ranges : IsInRange sc) (l : Layout) (t : Team) (fs : L
             ∙ next_after sc ranges l t can fs results none ∙ ap (before_end sc.duration) (sym (ap (λ (z : Team). z.next) then ∙ next_time));
         audits = clock ∙ opened.audits ∙ sym (window_leaves sc ranges l t can fs results none) ∙ ap (λ k. open_audits (chord sc) (history (chord sc) k)) (sym count);
         written = subst (λ k. Appends old new (pieces_text sc (output (chord sc) (history (chord sc) k)))) (sym count)
-            (subst (λ ps. Appends old new (pieces_text sc ps)) (sym puts_out)
-            (subst (λ z. Appends old new z) (sym (texts-append sc (output (chord sc) before) (new_audits ++ map piece.OfEvent blocks)))
-            (Appends-trans old now new (pieces_text sc (output (chord sc) before)) (pieces_text sc (new_audits ++ map piece.OfEvent blocks)) opened.written
-            (subst (λ z. Appends now new z) (sym (texts-append sc new_audits (map piece.OfEvent blocks)))
-            (Appends-trans now middle new (pieces_text sc new_audits) (pieces_text sc (map piece.OfEvent blocks))
+            (subst (λ ps. Writes sc old new ps) (sym puts_out)
+            (writes_then sc old now new (output (chord sc) before) (new_audits ++ map piece.OfEvent blocks) opened.written
+            (writes_then sc now middle new new_audits (map piece.OfEvent blocks)
             (subst (λ z. Appends now middle z) (is ∙ due_of_back b same ∙ opened.due_is) due)
-            (subst (λ z. Appends middle new z) (told_text sc blocks ∙ sym (text_of_pieces sc blocks)) written))))));
+            (subst (λ z. Appends middle new z) (told_text sc blocks ∙ sym (blocks_text sc blocks)) written))));
         audited = subst (λ ps. IsTallyOf sc.profile ps u.audits) (sym (audits_are u.count count))
             (subst (IsTallyOf sc.profile (audits_in (output (chord sc) before) ++ new_audits)) (sym audits) opened.audited);
-        room = omega (
-          arith,
-          opened.room,
-          ap (λ k. length (output (chord sc) (history (chord sc) k))) count,
-          ap length puts_out,
-          length-append (output (chord sc) before) (new_audits ++ map piece.OfEvent blocks),
-          length-append new_audits (map piece.OfEvent blocks),
-          length-map blocks piece.OfEvent,
-          blocks_long sc ranges l t can fs results none,
-          ap length clock,
-          count,
-        );
       }

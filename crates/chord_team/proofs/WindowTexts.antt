@@ -1,9 +1,9 @@
 -- The texts of a window.
 use Rattle.std.proofs.Common.{◌≡◌, ◌≢◌, ◌∙◌, ◌⊎◌, ⊎_elim, inl, inr, ℕ, zero, suc, ◌+◌, ◌<◌, ◌≤◌, List, [], ◌∷◌, ◌++◌, length, map, reverse, get_or, refl, ap, sym, subst, arith}
 use Rattle.std.proofs.lemmas.Bool.{cases_eq}
-use Rattle.std.proofs.lemmas.List.{length-map, length-reverse}
+use Rattle.std.proofs.lemmas.List.{length-map}
 use Rattle.std.specs.Prelude.{nat_lt}
-use Rattle.std.specs.List.{All, AllByRecursion, AllPairs, Contains, filter, flat_map}
+use Rattle.std.specs.List.{All, AllByRecursion, AllPairs, Contains, filter}
 use Rattle.chord_event.specs.declared.block.Block.{Block}
 use Rattle.chord_event.specs.declared.body.Body.{Body}
 use Rattle.chord_event.specs.declared.event.Event.{Event}
@@ -20,12 +20,11 @@ use Rattle.chord_model.proofs.Distinct.{one_event}
 use Rattle.chord_model.proofs.Horizons.{no_audit_inside}
 use Rattle.chord_model.proofs.Parts.{part_run_in, restrict_contains}
 use Rattle.chord_model.proofs.Runs.{legal_known, possible_from_legal}
-use Rattle.chord_model.proofs.WindowCourse.{blocks_merge, in_reverse, part_in_order, window_length, window_open, window_output}
+use Rattle.chord_model.proofs.WindowCourse.{blocks_merge, in_reverse, part_in_order, window_open, window_output}
 use Rattle.chord_scenario.specs.declared.scenario.Scenario.{Scenario}
 use Rattle.chord_scenario.specs.Range.{IsInRange}
 use Rattle.chord_trace.specs.declared.piece.Piece.TheVariants as piece
 use Rattle.chord_trace.specs.Merging.{block_key}
-use Rattle.chord_trace.specs.Texts.{block_text, pieces_text}
 use Rattle.chord_window.proofs.EngineCourse.{nowhere}
 use Rattle.chord_window.proofs.WindowOutput.{block_at, blocks_from, pieces_again}
 use Rattle.chord_team.specs.declared.layout.Layout.{Layout}
@@ -71,11 +70,6 @@ sorted_ordered [] apart = tt
 sorted_ordered (b ∷ bs) apart = ordered_put block_key b (sorted bs) (sorted_ordered bs (AllPairs_rest (λ (x y : Block). x.key ≢ y.key) b bs apart))
     (all_from (λ (y : Block). y.key ≢ b.key) (sorted bs)
     (λ z c e. AllPairs_at (λ (x y : Block). x.key ≢ y.key) b bs apart z (Contains-from_IsIn bs z (in_sorted bs z c)) (sym e)))
-
--- the texts of blocks are those of their pieces
-pub text_of_pieces : (sc : Scenario) (bs : List Block) → pieces_text sc (map piece.OfEvent bs) ≡ flat_map (block_text sc) bs
-text_of_pieces sc [] = refl
-text_of_pieces sc (b ∷ bs) = ap (λ l. block_text sc b ++ l) (text_of_pieces sc bs)
 
 module _ (sc : Scenario) (ranges : IsInRange sc) (l : Layout) (t : Team) (can : CanSend sc l t) (fs : List Finished)
     (results : AreResults sc l t.count t.window.horizon fs) (none : HaveNoFault fs) where
@@ -249,14 +243,3 @@ module _ (sc : Scenario) (ranges : IsInRange sc) (l : Layout) (t : Team) (can : 
   window_leaves = ap (λ k. open_audits (chord sc) (history (chord sc) (t.count + k))) (sym (total_is sc ranges l t can fs results none))
       ∙ window_open (chord sc) (w sc ranges l t can fs results none) l.division can.layout.divides t.count t.window.time t.window.horizon
       (may sc ranges l t can fs results none) can.long lists (sealed sc ranges l t can fs results none) clear
-
-  pieces_long : (g : List (Event Body)) → length (pieces_since (chord sc) before g) ≡ length g
-  pieces_long [] = refl
-  pieces_long (e ∷ g) = ap suc (pieces_long g)
-
-  -- it has a block for each event
-  pub blocks_long : length window_blocks ≡ events_in fs
-  blocks_long = ap length blocks_are ∙ length-reverse (map (block_at nowhere) (pieces_since (chord sc) before taken))
-      ∙ length-map (pieces_since (chord sc) before taken) (block_at nowhere) ∙ pieces_long taken
-      ∙ window_length (chord sc) (w sc ranges l t can fs results none) l.division can.layout.divides t.count t.window.time t.window.horizon
-      (may sc ranges l t can fs results none) can.long lists (sealed sc ranges l t can fs results none) ∙ total_is sc ranges l t can fs results none

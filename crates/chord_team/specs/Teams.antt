@@ -6,7 +6,6 @@ use Rattle.chord_event.specs.declared.body.Body.{Body}
 use Rattle.chord_event.specs.declared.event.Event.{Event}
 use Rattle.chord_machine.specs.Chord.{chord}
 use Rattle.chord_model.specs.Histories.{history, next, audit_at, open_audits, output}
-use Rattle.chord_output.specs.Output.{most_audits}
 use Rattle.chord_scenario.specs.declared.scenario.Scenario.{Scenario}
 use Rattle.chord_scenario.specs.World.{node_count}
 use Rattle.chord_trace.specs.declared.piece.Piece.{Piece}
@@ -66,7 +65,6 @@ pub record IsTeam (sc : Scenario) (l : Layout) (old now : Option (List ℕ)) (t 
   pub audits : t.clock ≡ open_audits (chord sc) (history (chord sc) t.count)
   pub written : Appends old now (pieces_text sc (output (chord sc) (history (chord sc) t.count)))
   pub audited : IsTallyOf sc.profile (audits_in (output (chord sc) (history (chord sc) t.count))) t.audits
-  pub room : length (output (chord sc) (history (chord sc) t.count)) + length t.clock ≤ t.count + most_audits
 
 -- the next window is open, and each part that is here may be sent to a worker
 pub record CanSend (sc : Scenario) (l : Layout) (t : Team) : Type 0 where
@@ -86,5 +84,3 @@ pub record IsOpened (sc : Scenario) (l : Layout) (old now : Option (List ℕ)) (
   pub written : Appends old now (pieces_text sc (output (chord sc) (history (chord sc) t.count)))
   pub audited : IsTallyOf sc.profile (audits_in (output (chord sc) (history (chord sc) t.count))
       ++ audits_due sc (history (chord sc) t.count) t.window.time) t.audits
-  pub room : length (output (chord sc) (history (chord sc) t.count)) + length (audits_due sc (history (chord sc) t.count) t.window.time) + length t.clock
-      ≤ t.count + most_audits

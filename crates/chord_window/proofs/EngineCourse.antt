@@ -34,28 +34,26 @@ use Rattle.std.proofs.lemmas.List.{length-map, length-reverse, length-set}
 use Rattle.std.specs.Prelude.{nat_lt}
 use Rattle.std.specs.Io.KnownBytes.{Appends}
 use Rattle.std.specs.List.{All, Contains, cons_option, filter, flat_map}
-use Rattle.std.proofs.KnownBytes.{Appends-trans}
 use Rattle.chord_audit.specs.Audit.{AreStates}
 use Rattle.chord_event.specs.declared.block.Block.{Block}
 use Rattle.chord_event.specs.declared.body.Body.{Body}
 use Rattle.chord_event.specs.declared.event.Event.{Event}
 use Rattle.chord_event.proofs.Members.{All_at, All_from, contains_append, contains_none}
 use Rattle.chord_machine.specs.Chord.{chord}
-use Rattle.chord_machine.proofs.WellFormed.{well_formed}
 use Rattle.chord_model.specs.Histories.{effect_after, history, open_audits, output, state}
+use Rattle.chord_model.specs.Scribes.{due}
 use Rattle.chord_model.specs.Windows.{Division, pieces_since}
 use Rattle.chord_model.proofs.Audits.{output_next}
-use Rattle.chord_model.proofs.Distinct.{meets}
-use Rattle.chord_model.proofs.Runs.{history_is_legal, possible_from_legal}
 use Rattle.chord_node.specs.declared.state.NodeState.{NodeState}
 use Rattle.chord_node.specs.Invariant.{AllNodes}
 use Rattle.chord_scenario.specs.declared.scenario.Scenario.{Scenario}
 use Rattle.chord_scenario.specs.Blocks.{most_lines}
-use Rattle.chord_scenario.specs.Range.{IsInRange, most_events}
-use Rattle.chord_scenario.specs.World.{node_count}
-use Rattle.chord_output.specs.Runs.{IsBeginning}
-use Rattle.chord_output.specs.Output.{Adds, audits_at, due}
-use Rattle.chord_output.proofs.Outputs.{fronts_longer, fronts_then, texts-append}
+use Rattle.chord_scenario.specs.Range.{IsInRange}
+use Rattle.chord_output.specs.Runs.{IsBeginning, Writes}
+use Rattle.chord_output.specs.Output.{Adds, audits_at}
+use Rattle.chord_output.proofs.Ends.{are_states as accounted_states, due_shorter, pieces_few, states_known as known_states}
+use Rattle.chord_output.proofs.Outputs.{fronts_longer, fronts_then, writes_then}
+use Rattle.chord_output.proofs.Runs.{begun_at, begun_next}
 use Rattle.chord_trace.proofs.Fronts.{front_of_whole}
 use Rattle.chord_trace.specs.declared.piece.Piece.{Piece}
 use Rattle.chord_trace.specs.declared.piece.Piece.TheVariants as piece
@@ -75,18 +73,14 @@ use Rattle.chord_window.specs.Tallies.{AreTalliesOf, HaveTallied, blocks_at}
 use Rattle.chord_window.specs.Worlds.{IsWorldOf}
 use Rattle.chord_window.proofs.Openings.{OpensWith, opens_with}
 use Rattle.chord_window.proofs.Shares.{blocks_tallied, first_tallied, tallied_shorter}
-use Rattle.chord_window.proofs.WindowOutput.{can_merge, merged_length, window_adds, window_leaves_open}
+use Rattle.chord_window.proofs.WindowOutput.{can_merge, window_adds, window_leaves_open}
 
 pub nowhere : Block
 nowhere = record { key = record { time = 0; origin = 0; number = 0 }; target = 0; lines = [] }
 
 -- what an engine has written is the beginning of a trace
 pub begin_at : (sc : Scenario) (old now : Option (List ℕ)) (e : Engine) → IsAt sc old now e → IsBeginning sc old now
-begin_at sc old now e at = (
-  e.world.count,
-  fronts_longer sc old now (output (chord sc) (history (chord sc) e.world.count)) _
-      (front_of_whole old now (pieces_text sc (output (chord sc) (history (chord sc) e.world.count))) at.written),
-)
+begin_at sc old now e at = begun_at sc old now e.world.count at.written
 
 -- the division says nothing of the run, nor do tallies that are still empty
 pub at_divided : (sc : Scenario) (old now : Option (List ℕ)) (e f : Engine) → IsWorldOf sc f.world → f.world.count ≡ e.world.count → f.clock ≡ e.clock
@@ -99,7 +93,6 @@ at_divided sc old now e f world count clock each more at = record {
   each = each;
   tallied = subst (λ k. HaveTallied sc.profile (output (chord sc) (history (chord sc) k)) f.tallies.items) (sym count)
       (more (output (chord sc) (history (chord sc) e.world.count)) at.tallied);
-  room = omega (arith, at.room, ap (λ k. length (output (chord sc) (history (chord sc) k))) count, ap length clock, count);
 }
 
 short_lists : (sc : Scenario) (world : World) (horizon k : ℕ) (xs : List Done) → AreDoneFrom sc world horizon k xs → (b : Block)
@@ -109,7 +102,7 @@ short_lists sc world horizon k (d ∷ xs) each b c = ⊎_elim (λ m. All_at (IsS
     (λ m. short_lists sc world horizon (suc k) xs each.1 b m) (contains_append d.blocks.items (all_blocks (block_lists xs)) b c)
 
 -- the texts of blocks are those of their pieces
-blocks_text : (sc : Scenario) (bs : List Block) → pieces_text sc (map piece.OfEvent bs) ≡ flat_map (block_text sc) bs
+pub blocks_text : (sc : Scenario) (bs : List Block) → pieces_text sc (map piece.OfEvent bs) ≡ flat_map (block_text sc) bs
 blocks_text sc [] = refl
 blocks_text sc (b ∷ bs) = ap (λ l. block_text sc b ++ l) (blocks_text sc bs)
 
@@ -118,14 +111,15 @@ module _ {sc : Scenario} {old now : Option (List ℕ)} {e : Engine} (at : IsAt s
   first_tally : (before : Tally) → before ≡ get_or e.tallies.items 0 before → IsTallyOf sc.profile (at.tallied.share 0) before
   first_tally before is = subst (λ t. IsTallyOf sc.profile (at.tallied.share 0) t) (sym is) (at.tallied.each 0 before (omega (arith, some, at.each)))
 
-  pub audits_fit : sc.max_events ≤ most_events → (before : Tally) → before ≡ get_or e.tallies.items 0 before → taken before + length e.clock ≤ 2 ^ 40
-  audits_fit few before is = omega (
+  pub audits_fit : IsInRange sc → (before : Tally) → before ≡ get_or e.tallies.items 0 before → taken before + length e.clock ≤ 2 ^ 40
+  audits_fit ranges before is = omega (
     arith,
     (first_tally before is).size,
     tallied_shorter sc.profile (output (chord sc) (history (chord sc) e.world.count)) e.tallies.items at.tallied 0 (omega (arith, some, at.each)),
-    at.room,
+    pieces_few sc ranges (history (chord sc) e.world.count) e.clock at.audits,
+    at.world.long,
     at.world.within,
-    few,
+    ranges.numbers.max_events_greatest,
   )
 
   pub middle_tallied : (audits : List Piece) (before after : Tally) → before ≡ get_or e.tallies.items 0 before
@@ -133,13 +127,6 @@ module _ {sc : Scenario} {old now : Option (List ℕ)} {e : Engine} (at : IsAt s
       → HaveTallied sc.profile (output (chord sc) (history (chord sc) e.world.count) ++ audits) (set e.tallies.items 0 after)
   middle_tallied audits = first_tallied sc.profile (output (chord sc) (history (chord sc) e.world.count)) audits e.tallies.items at.tallied
       (omega (arith, some, at.each))
-
-  pub few_audits : (audits : List Piece) (before after : Tally) → before ≡ get_or e.tallies.items 0 before
-      → ((earlier : List Piece) → IsTallyOf sc.profile earlier before → IsTallyOf sc.profile (earlier ++ audits) after)
-      → (left : ℕ) → taken after + left ≡ taken before + length e.clock → length audits + left ≡ length e.clock
-  few_audits audits before after is adds left size =
-      let first = first_tally before is in
-      omega (arith, first.size, (adds (at.tallied.share 0) first).size, size, length-append (at.tallied.share 0) audits)
 
 pieces_long : (sc : Scenario) (h g : List (Event Body)) → length (pieces_since (chord sc) h g) ≡ length g
 pieces_long sc h [] = refl
@@ -177,14 +164,10 @@ module _ (sc : Scenario) (ranges : IsInRange sc) (old now : Option (List ℕ)) (
   past = history (chord sc) e.world.count
 
   pub states_known : All (λ (s : NodeState). AllNodes sc s.succ) e.world.states.items
-  states_known i d l =
-      let node : i < node_count sc = omega (arith, l, at.world.states_are.nodes_are) in
-      subst (λ s. AllNodes sc s.succ) (sym (at.world.states_are.state_at i d node))
-      ((meets (chord sc) (well_formed sc ranges) past (possible_from_legal (chord sc) past (history_is_legal (chord sc) e.world.count))).sound i
-      node).invariant.neighbours.succ_known
+  states_known = known_states sc ranges e.world.states.items e.world.count at.world.states_are
 
   pub are_states : AreStates sc e.world.states.items (state (chord sc) past)
-  are_states i l = at.world.states_are.state_at i (state (chord sc) past i) l
+  are_states = accounted_states sc ranges e.world.states.items e.world.count at.world.states_are
 
   module _ (o : Opening) (opening : e.world.opening ≡ Some o) where
     first : OpensWith sc past o
@@ -196,13 +179,8 @@ module _ (sc : Scenario) (ranges : IsInRange sc) (old now : Option (List ℕ)) (
     -- the audits that are due come before the next event
     pub begin_audits : (x : Option (List ℕ)) → AppendsFront now x (pieces_text sc (audits_at sc (state (chord sc) past) (due o.time e.clock)))
         → IsBeginning sc old x
-    begin_audits x front = (
-      e.world.count + 1,
-      fronts_longer sc old x (output (chord sc) (history (chord sc) (e.world.count + 1))) _
-          (subst (λ ps. AppendsFront old x (pieces_text sc ps)) (sym outputs)
-          (fronts_then sc old now x (output (chord sc) past) (audits_at sc (state (chord sc) past) (due o.time e.clock) ++ last) at.written
-          (fronts_longer sc now x (audits_at sc (state (chord sc) past) (due o.time e.clock)) last front))),
-    )
+    begin_audits x front = begun_next sc old now x e.world.count (e.world.count + 1) (audits_at sc (state (chord sc) past) (due o.time e.clock) ++ last)
+        at.written outputs (fronts_longer sc now x (audits_at sc (state (chord sc) past) (due o.time e.clock)) last front)
       where
         last : List Piece
         last = (effect_after (chord sc) past first.event).piece ∷ []
@@ -221,11 +199,10 @@ module _ (sc : Scenario) (ranges : IsInRange sc) (old now : Option (List ℕ)) (
     -- each tally has room for the blocks of its part
     pub blocks_fit : (dones : List Done) → AreDone sc e.world o.horizon dones → (middle : Option (List ℕ)) (before after : Tally)
         → 0 < e.world.division.parts → before ≡ get_or e.tallies.items 0 before
-        → Adds sc now middle before after (audits_at sc (state (chord sc) past) (due o.time e.clock)) → (left : ℕ)
-        → taken after + left ≡ taken before + length e.clock → e.world.count + events_in dones ≤ sc.max_events
+        → Adds sc now middle before after (audits_at sc (state (chord sc) past) (due o.time e.clock)) → e.world.count + events_in dones ≤ sc.max_events
         → (part : ℕ) (t : Tally) → part < length (set e.tallies.items 0 after)
         → taken (get_or (set e.tallies.items 0 after) part t) + length (blocks_at (block_lists dones) part) ≤ 2 ^ 40
-    blocks_fit dones a middle before after some first_is audits left size many part t l =
+    blocks_fit dones a middle before after some first_is audits many part t l =
         let new = audits_at sc (state (chord sc) past) (due o.time e.clock) in
         let has = middle_tallied at some new before after first_is audits.tallied in
         omega (
@@ -233,8 +210,9 @@ module _ (sc : Scenario) (ranges : IsInRange sc) (old now : Option (List ℕ)) (
           (has.each part t l).size,
           tallied_shorter sc.profile (output (chord sc) past ++ new) (set e.tallies.items 0 after) has part l,
           length-append (output (chord sc) past) new,
-          few_audits at some new before after first_is audits.tallied left size,
-          at.room,
+          due_shorter sc (state (chord sc) past) o.time e.clock,
+          pieces_few sc ranges past e.clock at.audits,
+          at.world.long,
           many,
           list_within sc e.world o.horizon 0 dones a.each part,
           ranges.numbers.max_events_greatest,
@@ -250,9 +228,6 @@ module _ (sc : Scenario) (ranges : IsInRange sc) (old now : Option (List ℕ)) (
           ∙ ap (λ t. output (chord sc) past ++ (audits_at sc (state (chord sc) past) (due t (open_audits (chord sc) past)) ++ map piece.OfEvent bs)) same_time
           ∙ ap (λ ts. output (chord sc) past ++ (audits_at sc (state (chord sc) past) (due o.time ts) ++ map piece.OfEvent bs)) (sym at.audits)
 
-      pub as_many : length bs ≡ events_in dones
-      as_many = merged_length sc ranges e.world at.world o.horizon dones a nowhere bs merged
-
       pub all_short : All (IsShortBlock sc) bs
       all_short = All_from (IsShortBlock sc) bs (λ b c. short_lists sc e.world o.horizon 0 dones a.each b ((merged.same b).0 c))
 
@@ -263,25 +238,19 @@ module _ (sc : Scenario) (ranges : IsInRange sc) (old now : Option (List ℕ)) (
       pub begin_blocks : (middle x : Option (List ℕ)) (before after : Tally)
           → Adds sc now middle before after (audits_at sc (state (chord sc) past) (due o.time e.clock))
           → AppendsFront middle x (flat_map (block_text sc) bs) → IsBeginning sc old x
-      begin_blocks middle x before after audits front = (
-        e.world.count + events_in dones,
-        fronts_longer sc old x (output (chord sc) (history (chord sc) (e.world.count + events_in dones))) _
-            (subst (λ ps. AppendsFront old x (pieces_text sc ps)) (sym outputs)
-            (fronts_then sc old now x (output (chord sc) past) put at.written
-            (fronts_then sc now middle x (audits_at sc (state (chord sc) past) (due o.time e.clock)) (map piece.OfEvent bs) audits.written
-            (subst (λ t. AppendsFront middle x t) (sym text_is) front)))),
-      )
+      begin_blocks middle x before after audits front = begun_next sc old now x e.world.count (e.world.count + events_in dones) put at.written outputs
+          (fronts_then sc now middle x (audits_at sc (state (chord sc) past) (due o.time e.clock)) (map piece.OfEvent bs) audits.written
+          (subst (λ t. AppendsFront middle x t) (sym text_is) front))
 
       module _ (middle : Option (List ℕ)) (before after : Tally) (some : 0 < e.world.division.parts) (first_is : before ≡ get_or e.tallies.items 0 before)
-          (audits : Adds sc now middle before after (audits_at sc (state (chord sc) past) (due o.time e.clock))) (left : ℕ)
-          (size : taken after + left ≡ taken before + length e.clock) where
+          (audits : Adds sc now middle before after (audits_at sc (state (chord sc) past) (due o.time e.clock))) where
         pub next_at : (f : Engine) (new : Option (List ℕ)) → IsWorldOf sc f.world → f.world.count ≡ e.world.count + events_in dones
             → f.world.division ≡ e.world.division
-            → f.clock ≡ filter (λ u. nat_lt o.time u) e.clock → length f.clock ≡ left → Appends middle new (flat_map (block_text sc) bs)
+            → f.clock ≡ filter (λ u. nat_lt o.time u) e.clock → Appends middle new (flat_map (block_text sc) bs)
             → length f.tallies.items ≡ length (set e.tallies.items 0 after)
             → ((share : ℕ → List Piece) → AreTalliesOf sc.profile share (set e.tallies.items 0 after)
             → AreTalliesOf sc.profile (λ part. share part ++ map piece.OfEvent (blocks_at (block_lists dones) part)) f.tallies.items) → IsAt sc old new f
-        next_at f new world count division clock left_is blocks each adds =
+        next_at f new world count division clock blocks each adds =
             let new_audits = audits_at sc (state (chord sc) past) (due o.time e.clock) in
             let pieces : output (chord sc) (history (chord sc) f.world.count) ≡ output (chord sc) past
             ++ put = ap (λ k. output (chord sc) (history (chord sc) k)) count ∙ outputs in
@@ -290,32 +259,15 @@ module _ (sc : Scenario) (ranges : IsInRange sc) (old now : Option (List ℕ)) (
               audits = clock ∙ ap (filter (λ u. nat_lt o.time u)) at.audits ∙ ap (λ t. filter (λ u. nat_lt t u) (open_audits (chord sc) past)) (sym same_time)
                   ∙ sym (window_leaves_open sc ranges e.world at.world o.horizon dones a nowhere)
                   ∙ ap (λ k. open_audits (chord sc) (history (chord sc) k)) (sym count);
-              written = subst (λ ps. Appends old new (pieces_text sc ps)) (sym pieces)
-                  (subst (λ text. Appends old new text) (sym (texts-append sc (output (chord sc) past) put))
-                  (Appends-trans old now new (pieces_text sc (output (chord sc) past)) (pieces_text sc put) at.written
-                  (subst (λ text. Appends now new text) (sym (texts-append sc (audits_at sc (state (chord sc) past) (due o.time e.clock))
-                  (map piece.OfEvent bs)))
-                  (Appends-trans now middle new (pieces_text sc (audits_at sc (state (chord sc) past) (due o.time e.clock)))
-                  (pieces_text sc (map piece.OfEvent bs)) audits.written
-                  (subst (λ t. Appends middle new t) (sym text_is) blocks)))));
+              written = subst (λ ps. Writes sc old new ps) (sym pieces)
+                  (writes_then sc old now new (output (chord sc) past) put at.written
+                  (writes_then sc now middle new new_audits (map piece.OfEvent bs) audits.written (subst (λ t. Appends middle new t) (sym text_is) blocks)));
               each = omega (arith, each, length-set e.tallies.items 0 after, at.each, ap (λ (d : Division). d.parts) division);
               tallied = subst (λ ps. HaveTallied sc.profile ps f.tallies.items) (append_assoc (output (chord sc) past) new_audits (map piece.OfEvent bs) ∙ sym pieces)
                   (blocks_tallied sc.profile (output (chord sc) past ++ new_audits) (block_lists dones) bs (set e.tallies.items 0 after) f.tallies.items
                   (middle_tallied at some new_audits before after first_is audits.tallied)
                   (can_merge sc ranges e.world at.world o.horizon dones a nowhere) merged
                   (omega (arith, length-map dones (λ (done : Done). done.blocks), a.long, at.each, length-set e.tallies.items 0 after)) each adds);
-              room = omega (
-                arith,
-                at.room,
-                ap length pieces,
-                length-append (output (chord sc) past) put,
-                length-append (audits_at sc (state (chord sc) past) (due o.time e.clock)) (map piece.OfEvent bs),
-                length-map bs piece.OfEvent,
-                as_many,
-                few_audits at some (audits_at sc (state (chord sc) past) (due o.time e.clock)) before after first_is audits.tallied left size,
-                left_is,
-                count,
-              );
             }
 
 time_in : ℕ → Option Opening → ℕ

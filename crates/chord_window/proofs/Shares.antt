@@ -67,7 +67,7 @@ use Rattle.chord_window.proofs.Tallied.{first_added, shares_up, with_first}
 
 -- Lists in another order
 
-middle_swapped : {A : Type 0} (ws xs ys zs : List A) → IsPermutation ((ws ++ xs) ++ (ys ++ zs)) ((ws ++ ys) ++ (xs ++ zs))
+pub middle_swapped : {A : Type 0} (ws xs ys zs : List A) → IsPermutation ((ws ++ xs) ++ (ys ++ zs)) ((ws ++ ys) ++ (xs ++ zs))
 middle_swapped ws xs ys zs = simp append_assoc (IsPermutation-append_right ws (xs ++ (ys ++ zs)) (ys ++ (xs ++ zs))
     (simp append_assoc at (IsPermutation-append_left zs (xs ++ ys) (ys ++ xs) (IsPermutation-append_comm xs ys))))
 
@@ -107,7 +107,7 @@ merged_moves lists blocks can merged =
 
 -- Shares one after another
 
-shares_same : (a b : ℕ → List Piece) (n : ℕ) → ((k : ℕ) → k < n → a k ≡ b k) → shares_to a n ≡ shares_to b n
+pub shares_same : (a b : ℕ → List Piece) (n : ℕ) → ((k : ℕ) → k < n → a k ≡ b k) → shares_to a n ≡ shares_to b n
 shares_same a b zero same = refl
 shares_same a b (suc n) same = ap (λ l. l ++ a n) (shares_same a b n (λ k l. same k (omega (arith, l))))
     ∙ ap (λ l. shares_to b n ++ l) (same n (omega arith))
@@ -116,7 +116,7 @@ no_shares : (n : ℕ) → shares_to (λ k. []) n ≡ []
 no_shares zero = refl
 no_shares (suc n) = append-nil (shares_to (λ k. []) n) ∙ no_shares n
 
-shares_front : (share : ℕ → List Piece) (n : ℕ) → shares_to share (suc n) ≡ share 0 ++ shares_to (λ k. share (suc k)) n
+pub shares_front : (share : ℕ → List Piece) (n : ℕ) → shares_to share (suc n) ≡ share 0 ++ shares_to (λ k. share (suc k)) n
 shares_front share zero = sym (append-nil (share 0))
 shares_front share (suc n) = ap (λ l. l ++ share (suc n)) (shares_front share n)
     ∙ append_assoc (share 0) (shares_to (λ k. share (suc k)) n) (share (suc n))

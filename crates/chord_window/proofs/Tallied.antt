@@ -9,6 +9,7 @@ use Rattle.std.proofs.Common.{
   ◌+◌,
   ◌<◌,
   ◌≤◌,
+  ◌^◌,
   List,
   [],
   ◌∷◌,
@@ -29,14 +30,19 @@ use Rattle.std.proofs.Common.{
 }
 use Rattle.std.proofs.lemmas.Bool.{cases_eq, cases_lt}
 use Rattle.std.proofs.lemmas.List.{get_or-set_same, get_or-set_other, length-set}
+use Rattle.std.proofs.lemmas.List.Sorted.{IsPermutation-sym, length_permutation}
 use Rattle.std.specs.Global.{Global}
+use Rattle.std.specs.List.Sorted.{IsPermutation}
 use Rattle.chord_event.specs.declared.block.Block.{Block}
 use Rattle.chord_model.proofs.Course.{same_read}
 use Rattle.chord_trace.specs.declared.piece.Piece.{Piece}
 use Rattle.chord_trace.specs.declared.piece.Piece.TheVariants as piece
 use Rattle.chord_trace.specs.declared.tally.Tally.{Tally}
+use Rattle.chord_trace.specs.declared.report.Report.{Report}
+use Rattle.chord_trace.specs.Report.{IsReportOf}
 use Rattle.chord_trace.specs.Tally.{IsTallyOf}
-use Rattle.chord_window.specs.Tallies.{AreTalliesOf, blocks_at, shares_to}
+use Rattle.chord_trace.proofs.Reports.{reordered}
+use Rattle.chord_window.specs.Tallies.{AreTalliesOf, HaveTallied, blocks_at, shares_to}
 
 -- the list of a part is the one in its place
 pub blocks_at_is : (lists : List (Vec Block Global)) (k : ℕ) (v : Vec Block Global) → k < length lists → v ≡ get_or lists k v → blocks_at lists k ≡ v.items
@@ -140,3 +146,23 @@ joined_more profile share done all t joined both are inside place joins is = sub
   where
     more : suc (length done) ≡ length (done ++ t ∷ [])
     more = omega (arith, length-append done (t ∷ []))
+
+-- tallies of few pieces can be joined, and the report of what they are together is that of the pieces
+module _ {profile : ℕ} {pieces : List Piece} {tallies : List Tally} (h : HaveTallied profile pieces tallies) (p : ℕ) (is : p ≡ profile) (ts : List Tally)
+    (same : ts ≡ tallies) where
+  abbrev all : List Piece
+  all = shares_to h.share (length ts)
+
+  each : AreTalliesOf p h.share ts
+  each = subst (λ q. AreTalliesOf q h.share ts) (sym is) (subst (AreTalliesOf profile h.share) (sym same) h.each)
+
+  moved : IsPermutation pieces all
+  moved = subst (λ (l : List Tally). IsPermutation pieces (shares_to h.share (length l))) (sym same) h.all
+
+  pub can_join : length pieces ≤ 2 ^ 40 → (share : ℕ → List Piece) × AreTalliesOf p share ts × (length (shares_to share (length ts)) ≤ 2 ^ 40)
+  can_join few = (h.share, each, omega (arith, length_permutation pieces all moved, few))
+
+  pub joined_report : (joined : Tally) (report : Report) → ((share : ℕ → List Piece) → AreTalliesOf p share ts → IsTallyOf p (shares_to share (length ts)) joined)
+      → ((others : List Piece) → IsTallyOf profile others joined → IsReportOf profile others report) → IsReportOf profile pieces report
+  joined_report joined report joins reports = reordered profile all pieces report (IsPermutation-sym pieces all moved)
+      (reports all (subst (λ q. IsTallyOf q all joined) is (joins h.share each)))

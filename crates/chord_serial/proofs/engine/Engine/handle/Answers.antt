@@ -8,7 +8,6 @@ use Rattle.chord_queue.proofs.Inserting.{AreApart}
 use Rattle.std.specs.List.{All}
 use Rattle.chord_serial.proofs.Course.{
   audits_add,
-  audits_room,
   begin_audits,
   begin_front,
   begin_middle,
@@ -18,6 +17,7 @@ use Rattle.chord_serial.proofs.Course.{
   next_at,
   state_has_room,
   state_is_sound,
+  taken_few,
   taken_known,
   taken_long,
   taken_read,
@@ -38,7 +38,7 @@ put_audits-requires-clause-succ g c =
 
 pub put_audits-requires-clause-room : goal.put_audits-requires-clause-room
 put_audits-requires-clause-room g c =
-    audits_room c.args.scenario.now c.recall_range.ensures c.requires.taken.0 _ c.args.self.now c.args.event.now c.requires.taken.1
+    omega (arith, taken_few c.args.scenario.now c.recall_range.ensures c.requires.taken.0 _ c.args.self.now c.args.event.now c.requires.taken.1)
 
 pub returns-in_err-put_audits-clause-front : goal.returns-in_err-put_audits-clause-front
 returns-in_err-put_audits-clause-front g c = λ old t.
@@ -108,8 +108,8 @@ returns-in_err-insert_from-clause-front g c = λ old t.
 
 pub put_block-requires-clause-room : goal.put_block-requires-clause-room
 put_block-requires-clause-room g c =
-    let most = c.recall_range.ensures.numbers.max_events_greatest in
-    omega (arith, c.requires.taken.1.at.room, c.requires.taken.1.allowed, c.in_ok-put_audits.ensures.size, most)
+    let few = taken_few c.args.scenario.now c.recall_range.ensures c.requires.taken.0 _ c.args.self.now c.args.event.now c.requires.taken.1 in
+    omega (arith, few, c.in_ok-put_audits.ensures.size)
 
 pub returns-in_err-put_block-clause-front : goal.returns-in_err-put_block-clause-front
 returns-in_err-put_block-clause-front g c = λ old t.
@@ -131,7 +131,7 @@ returns-clause-at g c = λ old t.
     c.into_vec-events.result.items (c.into_vec-events.ensures ∙ c.in_ok-events.ensures.events)
     _ _ _ c.put_audits.new.tally c.in_ok-events.field-0.block c.in_ok-events.ensures.block set_state
     c.in_ok-insert_from.ensures.same c.in_ok-insert_from.ensures.ordered c.in_ok-put_audits.ensures.left refl
-    audits c.in_ok-put_block.ensures.adds c.in_ok-put_audits.ensures.size c.in_ok-put_block.ensures.size
+    audits c.in_ok-put_block.ensures.adds
 
 pub returns-clause-front : goal.returns-clause-front
 returns-clause-front g c = λ old t.

@@ -1,6 +1,5 @@
 use Rattle.std.proofs.Common.{ap, arith, rules, Err}
-use Rattle.chord_output.proofs.Runs.{run_failed, run_stopped}
-use Rattle.chord_serial.proofs.Course.{begin_at}
+use Rattle.chord_output.proofs.Runs.{begun_at, run_failed, run_stopped}
 use Rattle.chord_serial.proofs.engine.Engine.run.Goals as goal
 
 pub loop-event-init : goal.loop-event-init
@@ -10,7 +9,7 @@ pub returns-in_err-event-clause-run : goal.returns-in_err-event-clause-run
 returns-in_err-event-clause-run g c = run_stopped c.args.scenario.now _ _ _ c.in_err-event.field-0.0
     (search (rules, c.from_residual.ensures))
     (λ is. c.in_err-event.ensures.over (ap Err is) _ _ c.loop-event.invariant.at)
-    (begin_at c.args.scenario.now _ _ c.loop-event.self c.loop-event.invariant.at)
+    (begun_at c.args.scenario.now _ _ c.loop-event.self.count c.loop-event.invariant.at.written)
 
 pub returns-clause-run : goal.returns-clause-run
 returns-clause-run g c = search rules

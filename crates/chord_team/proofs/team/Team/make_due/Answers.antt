@@ -1,15 +1,17 @@
-use Rattle.std.proofs.Common.{◌∙◌, ◌++◌, List, length, ap, refl, subst, sym}
+use Rattle.std.proofs.Common.{◌∙◌, ◌++◌, List, length, ap, subst, sym}
 use Rattle.std.specs.List.{All}
 use Rattle.chord_audit.specs.Audit.{AreStates}
 use Rattle.chord_machine.specs.Chord.{chord}
 use Rattle.chord_model.specs.Histories.{history, state}
 use Rattle.chord_node.specs.declared.state.NodeState.{NodeState}
 use Rattle.chord_node.specs.Invariant.{AllNodes}
-use Rattle.chord_output.specs.Output.{audits_at, due}
+use Rattle.chord_model.specs.Scribes.{due}
+use Rattle.chord_output.specs.Output.{audits_at}
+use Rattle.chord_output.proofs.Ends.{are_states, states_known}
 use Rattle.chord_trace.specs.Texts.{pieces_text}
 use Rattle.chord_team.specs.Swaps.{CanSwap, HaveSwapped}
-use Rattle.chord_team.proofs.OpenWindows.{audits_fit, opened_at}
-use Rattle.chord_team.proofs.Swaps.{can_swap, can_swap_back, here_again, states_known, whole_is, whole_states}
+use Rattle.chord_team.proofs.OpenWindows.{audits_fit, opened_at, together_after}
+use Rattle.chord_team.proofs.Swaps.{can_swap, can_swap_back, here_again}
 use Rattle.chord_team.proofs.team.Team.make_due.Goals as goal
 
 pub swap_states-requires : goal.swap_states-requires
@@ -24,12 +26,9 @@ put_audits-made-requires-clause-succ c =
     let t = c.args.self.now in
     let at = c.requires.at.2 in
     let sc = c.args.course.now.scenario.now in
-    let past = history (chord sc) t.count in
     subst (λ (ss : List NodeState). All (λ (s : NodeState). AllNodes sc s.succ) ss) (sym c.as_slice.ensures.value)
-    (states_known sc c.recall_range.ensures c.args.course.now.layout.now at.layout past t.parcels.items at.here t.count refl
-    c.swap_states.new.whole.items (c.swap_states.ensures.got_long ∙ at.whole_long)
-    (whole_is sc c.recall_range.ensures c.args.course.now.layout.now at.layout past t.parcels.items at.here (length t.whole.items) at.whole_long
-    t.whole.items c.swap_states.new.parcels.items c.swap_states.new.whole.items c.swap_states.ensures))
+    (states_known sc c.recall_range.ensures c.swap_states.new.whole.items t.count (together_after sc c.recall_range.ensures c.args.course.now.layout.now _ _ t at
+    c.swap_states.new.parcels.items c.swap_states.new.whole.items c.swap_states.ensures))
 
 pub put_audits-made-requires-clause-room : goal.put_audits-made-requires-clause-room
 put_audits-made-requires-clause-room c = audits_fit c.args.course.now.scenario.now c.recall_range.ensures c.args.course.now.layout.now _ _ c.args.self.now
@@ -58,8 +57,8 @@ returns-clause-at c = λ old now at.
     let again = subst (λ k. HaveSwapped l k c.swap_states.new.parcels.items c.swap_states.new.whole.items c.swap_states-2.new.parcels.items
     c.swap_states-2.new.whole.items) first.got_long c.swap_states-2.ensures in
     let are = subst (λ (ss : List NodeState). AreStates sc ss (state (chord sc) past)) (sym c.as_slice.ensures.value)
-    (whole_states sc ranges l at.layout past t.parcels.items at.here n at.whole_long t.whole.items c.swap_states.new.parcels.items
-    c.swap_states.new.whole.items first) in
+    (are_states sc ranges c.swap_states.new.whole.items t.count (together_after sc ranges l old now t at c.swap_states.new.parcels.items
+    c.swap_states.new.whole.items first)) in
     let adds = c.in_default.ensures.adds (state (chord sc) past) are in
     let more = pieces_text sc (audits_at sc (state (chord sc) past) (due t.window.time t.clock)) in
     opened_at sc ranges l old now t at t.window c.requires.window c.swap_states-2.new.parcels c.put_audits-made.new.clock c.put_audits-made.new.tally
@@ -72,4 +71,3 @@ returns-clause-at c = λ old now at.
     (ap (λ v. v.items) c.into_inner.ensures ∙ adds.written
     ∙ ap (λ v. v.items ++ more) (c.new-writer.ensures.wrapped ∙ c.replace-text.ensures.value) ∙ ap (λ z. z ++ more) c.requires.none)
     adds.tallied
-    c.in_default.ensures.size

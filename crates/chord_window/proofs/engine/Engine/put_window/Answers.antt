@@ -53,7 +53,7 @@ put_audits-requires-clause-succ g c = subst (λ (ss : List NodeState). All (λ (
     (states_known c.args.scenario.now c.recall_range.ensures c.requires.at.0 _ c.args.self.now c.requires.at.1)
 
 pub put_audits-requires-clause-room : goal.put_audits-requires-clause-room
-put_audits-requires-clause-room g c = audits_fit c.requires.at.1 c.recall_division.ensures.few.0 c.recall_range.ensures.numbers.max_events_greatest
+put_audits-requires-clause-room g c = audits_fit c.requires.at.1 c.recall_division.ensures.few.0 c.recall_range.ensures
     c.index_mut.result.now c.index_mut.ensures.value
 
 pub returns-in_err-put_audits-clause-front : goal.returns-in_err-put_audits-clause-front
@@ -114,7 +114,7 @@ tally_parts-requires-clause-room g c = λ part t l.
       blocks_fit sc ranges c.requires.at.0 _ e c.requires.at.1 o c.requires.opening c.args.dones.items c.requires.done _ c.index_mut.result.now
           c.put_audits.new.tally c.recall_division.ensures.few.0 c.index_mut.ensures.value
           (c.in_ok-put_audits.ensures.adds S (subst (λ (ss : List NodeState). AreStates sc ss S) (sym c.as_slice-2.ensures.value)
-          (are_states sc ranges c.requires.at.0 _ e c.requires.at.1))) (length c.put_audits.new.clock) c.in_ok-put_audits.ensures.size
+          (are_states sc ranges c.requires.at.0 _ e c.requires.at.1)))
           (omega (arith, c.in_ok-lists.ensures.world.within, c.in_ok-lists.ensures.count)) part t l,
     )
 
@@ -183,8 +183,8 @@ returns-clause-at g c = λ old t.
     next_at sc ranges old _ e t o c.requires.opening c.args.dones.items c.requires.done time c.in_ok-blocks.blocks.items merged _
     c.index_mut.result.now c.put_audits.new.tally c.recall_division.ensures.few.0 c.index_mut.ensures.value
     (c.in_ok-put_audits.ensures.adds S (subst (λ (ss : List NodeState). AreStates sc ss S) (sym c.as_slice-2.ensures.value)
-    (are_states sc ranges old _ e t))) (length c.put_audits.new.clock) c.in_ok-put_audits.ensures.size f _ c.in_ok-lists.ensures.world
-    c.in_ok-lists.ensures.count c.in_ok-lists.ensures.division c.in_ok-put_audits.ensures.left refl
+    (are_states sc ranges old _ e t))) f _ c.in_ok-lists.ensures.world c.in_ok-lists.ensures.count c.in_ok-lists.ensures.division
+    c.in_ok-put_audits.ensures.left
     (subst (λ (bs : List Block). Appends (g.W.Write.contents c.put_audits.new.writer.inner) (g.W.Write.contents c.write_blocks.new.writer.inner)
     (flat_map (block_text sc) bs)) c.as_slice-4.ensures.value c.in_ok-write_blocks.ensures.whole)
     c.in_ok-tally_parts.ensures.each
