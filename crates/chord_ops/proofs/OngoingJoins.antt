@@ -1,19 +1,18 @@
 -- What a node waits for stays pending while it comes up, joins and goes down.
-use Rattle.std.proofs.Common.{◌≡◌, ◌≢◌, ◌==◌, ◌*◌, ◌⊎◌, inl, inr, ℕ, ◌+◌, ◌-◌, ◌<◌, ◌≤◌, Bool, true, false, cond, nat_lt, List, [], ◌∷◌, ◌++◌, Option, Some, None, option_map, refl, sym, ◌∙◌, ap, subst, arith}
+use Rattle.std.proofs.Common.{◌≡◌, ◌≢◌, ◌==◌, ◌*◌, ℕ, ◌+◌, ◌-◌, ◌<◌, ◌≤◌, Bool, true, false, cond, nat_lt, List, [], ◌∷◌, ◌++◌, Option, Some, None, option_map, refl, sym, ◌∙◌, ap, subst, arith}
 use Rattle.std.proofs.lemmas.Bool.Decides.{nat_tests}
 use Rattle.std.specs.List.{AllByRecursion}
 use Rattle.std.specs.Prelude.{IfSome, IsSome, is_some, replicate, if◌then◌else◌}
 use Rattle.chord_event.specs.declared.body.Body.{Body}
 use Rattle.chord_event.specs.declared.body.Body.TheVariants as body
 use Rattle.chord_event.specs.declared.event.Event.{Event}
-use Rattle.chord_event.specs.declared.line.Line.{Line}
 use Rattle.chord_event.specs.declared.line.Line.TheVariants as line
 use Rattle.chord_scenario.specs.declared.scenario.Scenario.{Scenario}
 use Rattle.chord_scenario.specs.declared.setting.Churn.{Churn}
 use Rattle.chord_scenario.specs.declared.setting.Span.{Span}
 use Rattle.chord_scenario.specs.Draws.{delay}
 use Rattle.chord_scenario.specs.Range.{IsInRange}
-use Rattle.chord_scenario.specs.Start.{at_first, check_timer, finger_timer, jittered, life_timer, stabilize_timer, timer_table, traffic_timer}
+use Rattle.chord_scenario.specs.Start.{at_first, check_timer, jittered, life_timer, timer_table, traffic_timer}
 use Rattle.chord_scenario.specs.World.{is_churn_node}
 use Rattle.chord_node.specs.declared.state.Attempt.{Attempt}
 use Rattle.chord_node.specs.declared.state.Call.{Call}
@@ -23,44 +22,16 @@ use Rattle.chord_node.specs.declared.state.Status.TheVariants as status
 use Rattle.chord_node.specs.Invariant.{calls_for, is_for_join}
 use Rattle.chord_node.specs.Limits.{most_failures}
 use Rattle.chord_ops.specs.declared.turn.Turn.{Turn}
-use Rattle.chord_ops.specs.Procedures.{
-  alone,
-  armed,
-  as_member,
-  came_up,
-  created,
-  for_attempt,
-  fresh_attempt,
-  gone_down,
-  is_founder,
-  join_begun,
-  join_ended,
-  join_failed,
-  join_given_up,
-  join_paused,
-  join_retried,
-  other_via,
-  own_step,
-  rise_armed,
-  risen,
-  row_armed,
-  rows_armed,
-  stranded,
-  stranded_lines,
-  via_after,
-  via_moved,
-  with_attempt,
-  without_attempt,
-}
+use Rattle.chord_ops.specs.Procedures.{alone, armed, as_member, came_up, created, for_attempt, fresh_attempt, gone_down, is_founder, join_begun, join_ended, join_failed, join_given_up, join_paused, join_retried, other_via, own_step, rise_armed, risen, rows_armed, stranded, stranded_lines, via_after, via_moved, with_attempt, without_attempt}
 use Rattle.chord_ops.specs.Timers.{Timer, is_timer, wanted}
 use Rattle.chord_ops.specs.Timers.Timer.{Stabilize, Finger, Traffic, Life, Check, Rejoin, Timeout}
-use Rattle.chord_ops.specs.Turns.{after_words, made, noted, timer_made, when_some}
+use Rattle.chord_ops.specs.Turns.{after_words, made, noted, timer_made}
 use Rattle.chord_ops.proofs.KeptRules.{none_of}
 use Rattle.chord_ops.proofs.Growing.{known}
 use Rattle.chord_ops.proofs.KeptJoins.{same_armed, same_rows_armed}
 use Rattle.chord_ops.proofs.TimerTable.{IfSome-if, IfSome-map}
 use Rattle.chord_ops.specs.Ongoing.{FitsJoin, FitsTick, IsOngoing, is_lived, is_tick, waits}
-use Rattle.chord_ops.proofs.Ongoing.{going_called, going_if, going_made, going_when, going_with, is_set, joins_alike, not_set, same_node, other_node, set_elsewhere, set_for-push, set_here, tick_lived, ticks_alike}
+use Rattle.chord_ops.proofs.Ongoing.{going_called, going_if, going_made, going_when, going_with, joins_alike, not_set, same_node, other_node, set_elsewhere, set_for-push, set_here, tick_lived, ticks_alike}
 
 module _ (sc : Scenario) (claim : Timer → ℕ) (rest : List (Event Body)) where
   -- a joining node becomes a member

@@ -1,6 +1,6 @@
 -- What a node waits for stays pending while it looks up.
-use Rattle.std.proofs.Common.{◌≡◌, ◌==◌, ◌&&◌, ℕ, ◌<◌, false, cond, nat_lt, length, List, ◌∷◌, Option, Some, None, refl, sym, ap, subst}
-use Rattle.std.specs.Prelude.{position, slice_get, if◌then◌else◌}
+use Rattle.std.proofs.Common.{◌≡◌, ◌==◌, ◌&&◌, ℕ, false, cond, nat_lt, length, List, Option, Some, None, refl, sym, ap, subst}
+use Rattle.std.specs.Prelude.{position, slice_get}
 use Rattle.std.specs.List.{count_by}
 use Rattle.chord_event.specs.declared.body.Answer.{Answer}
 use Rattle.chord_event.specs.declared.body.Answer.TheVariants as answer

@@ -1,8 +1,8 @@
 -- What a node waits for stays pending at each row of the rule table.
-use Rattle.std.proofs.Common.{◌≡◌, ◌≢◌, ◌==◌, ◌⊎◌, inl, inr, ⊎_elim, ℕ, ◌+◌, ◌-◌, ◌<◌, ◌≤◌, ◌&&◌, ◌||◌, not, Bool, true, false, cond, List, [], ◌∷◌, ◌++◌, nat_lt, map, max, replicate, take, Option, Some, None, option_map, refl, sym, ◌∙◌, ap, subst, arith}
+use Rattle.std.proofs.Common.{◌≡◌, ◌≢◌, ◌==◌, ◌⊎◌, inl, inr, ℕ, ◌+◌, ◌-◌, ◌<◌, ◌≤◌, ◌&&◌, ◌||◌, not, Bool, true, false, cond, List, [], ◌∷◌, ◌++◌, nat_lt, map, max, replicate, take, Option, Some, None, option_map, refl, sym, ◌∙◌, ap, subst, arith}
 use Rattle.std.proofs.lemmas.Bool.Decides.{nat_tests}
 use Rattle.std.proofs.lemmas.List.Sums.{sum_by-cons}
-use Rattle.std.specs.List.{AllPairs, find, filter, count_by, list_any}
+use Rattle.std.specs.List.{AllPairs, find, count_by, list_any}
 use Rattle.std.specs.Prelude.{IsSome, is_some, slice_get, if◌then◌else◌}
 use Rattle.chord_circle.specs.Circle.{between, finger_start}
 use Rattle.chord_event.specs.declared.body.Answer.{Answer}
@@ -11,7 +11,6 @@ use Rattle.chord_event.specs.declared.body.Body.{Body}
 use Rattle.chord_event.specs.declared.body.Body.TheVariants as body
 use Rattle.chord_event.specs.declared.event.Event.{Event}
 use Rattle.chord_event.specs.declared.key.Key.{Key}
-use Rattle.chord_event.specs.declared.line.CommandKind.TheVariants as command
 use Rattle.chord_event.specs.declared.line.MessageKind.{MessageKind}
 use Rattle.chord_event.specs.declared.line.MessageKind.TheVariants as kind
 use Rattle.chord_event.specs.declared.line.Line.{Line}
@@ -21,7 +20,7 @@ use Rattle.chord_scenario.specs.declared.setting.Churn.{Churn}
 use Rattle.chord_scenario.specs.declared.setting.Span.{Span}
 use Rattle.chord_scenario.specs.Draws.{delay, leave_number}
 use Rattle.chord_scenario.specs.Range.{IsInRange}
-use Rattle.chord_scenario.specs.Start.{check_timer, jittered, traffic_timer}
+use Rattle.chord_scenario.specs.Start.{jittered}
 use Rattle.chord_scenario.specs.World.{ident_of, is_churn_node}
 use Rattle.chord_node.specs.declared.state.Aim.TheVariants as aim
 use Rattle.chord_node.specs.declared.state.Attempt.{Attempt}
@@ -32,160 +31,23 @@ use Rattle.chord_node.specs.declared.state.Purpose.{Purpose}
 use Rattle.chord_node.specs.declared.state.Purpose.TheVariants as purpose
 use Rattle.chord_node.specs.declared.state.Status.{Status}
 use Rattle.chord_node.specs.declared.state.Status.TheVariants as status
-use Rattle.chord_node.specs.Invariant.{FitsStatus, IsJoiningState, IsNodeState, asking, calls_for, is_for_join, is_for_lookup, waiting}
+use Rattle.chord_node.specs.Invariant.{FitsStatus, IsJoiningState, IsNodeState, calls_for, is_for_join, is_for_lookup, waiting}
 use Rattle.chord_node.specs.Limits.{most_steps}
 use Rattle.chord_ops.specs.Detail.{detailed}
-use Rattle.chord_ops.specs.declared.turn.Request.{Request}
 use Rattle.chord_ops.specs.declared.turn.Request.TheVariants as request
 use Rattle.chord_ops.specs.declared.turn.Turn.{Turn}
-use Rattle.chord_ops.specs.Procedures.{
-  as_member,
-  call_of,
-  came_up,
-  check_armed,
-  departed,
-  finger_armed,
-  gone_down,
-  head_told,
-  holds,
-  join_failed,
-  join_retried,
-  own_step,
-  row_armed,
-  stabilize_armed,
-  stranded,
-  told,
-  traffic_armed,
-  with_attempt,
-  without_attempt,
-  without_call,
-}
-use Rattle.chord_ops.specs.Rules.{
-  acted,
-  answered_call,
-  answered_for,
-  answers,
-  arrived,
-  asked_again,
-  avoiding,
-  call_given_up,
-  call_over,
-  call_repeated,
-  call_timed_out,
-  check_tick,
-  check_timed_out,
-  checked,
-  cleaned,
-  cmd_crash,
-  cmd_join,
-  cmd_leave,
-  cmd_lookup,
-  dropped,
-  dropped_by,
-  effect,
-  finger_after,
-  finger_rotated,
-  finger_tick,
-  finger_turned,
-  first_in_turn,
-  has_finger_lookup,
-  has_join_call,
-  has_ping_call,
-  has_repair_call,
-  head,
-  head_asked,
-  head_met,
-  head_notified,
-  heard,
-  is_down,
-  is_down_status,
-  is_handed_over,
-  is_joining,
-  is_joining_status,
-  is_member,
-  is_stuck,
-  is_void,
-  join_answered,
-  join_asked,
-  join_followed,
-  join_list_answered,
-  join_list_taken,
-  join_timed_out,
-  joined,
-  key_words,
-  leave_heard,
-  life_end,
-  life_over,
-  list_after,
-  list_answered,
-  list_answered_for,
-  list_asked,
-  list_left,
-  list_replied,
-  lookup_answered,
-  lookup_timed_out,
-  near_covered,
-  notified,
-  notifier_met,
-  once_more,
-  opening,
-  owner_answered,
-  ping_timed_out,
-  pinged,
-  place_found,
-  ponged,
-  predecessor_told,
-  predecessor_weighed,
-  random_key,
-  random_lookup,
-  rejoin,
-  replied,
-  request_again,
-  rescue_lines,
-  rescuer,
-  rise,
-  sent_once_more,
-  stabilize_tick,
-  state_answered,
-  state_answered_for,
-  state_asked,
-  state_replied,
-  state_timed_out,
-  step_asked,
-  step_replied,
-  successors_taken,
-  timed_out,
-  timeout,
-  traffic_tick,
-  with_heirs,
-  without_head,
-}
+use Rattle.chord_ops.specs.Procedures.{call_of, came_up, check_armed, departed, finger_armed, gone_down, head_told, holds, join_failed, join_retried, own_step, row_armed, stabilize_armed, stranded, told, traffic_armed, with_attempt, without_attempt, without_call}
+use Rattle.chord_ops.specs.Rules.{acted, answered_call, answered_for, answers, arrived, asked_again, avoiding, call_given_up, call_over, call_repeated, call_timed_out, check_tick, check_timed_out, cleaned, cmd_crash, cmd_join, cmd_leave, cmd_lookup, dropped, dropped_by, effect, finger_after, finger_rotated, finger_tick, finger_turned, first_in_turn, has_finger_lookup, has_join_call, has_ping_call, has_repair_call, head, head_asked, head_met, head_notified, heard, is_down, is_down_status, is_handed_over, is_joining, is_joining_status, is_member, is_stuck, is_void, join_answered, join_asked, join_followed, join_list_answered, join_list_taken, join_timed_out, joined, key_words, leave_heard, life_end, life_over, list_after, list_answered, list_answered_for, list_asked, list_left, list_replied, lookup_answered, lookup_timed_out, near_covered, notified, notifier_met, once_more, opening, owner_answered, ping_timed_out, pinged, place_found, ponged, predecessor_told, predecessor_weighed, random_key, random_lookup, rejoin, replied, request_again, rescue_lines, rescuer, rise, sent_once_more, stabilize_tick, state_answered, state_answered_for, state_asked, state_replied, state_timed_out, step_asked, step_replied, successors_taken, timed_out, timeout, traffic_tick, with_heirs, without_head}
 use Rattle.chord_ops.specs.Timers.{Timer, is_timer, wanted}
-use Rattle.chord_ops.specs.Timers.Timer.{Stabilize, Finger, Traffic, Life, Check, Rejoin, Timeout}
+use Rattle.chord_ops.specs.Timers.Timer.{Traffic, Life, Check, Rejoin, Timeout}
 use Rattle.chord_ops.specs.Turns.{after_words, asked, kind_of, noted, timer_made, when_some}
-use Rattle.chord_ops.proofs.KeptRules.{count_by-none, not_false, or_false}
+use Rattle.chord_ops.proofs.KeptRules.{not_false, or_false}
 use Rattle.chord_ops.proofs.KeptJoins.{count_down, down_by, joins_by, purpose_of_found}
-use Rattle.chord_ops.proofs.KeptTable.{IsAnswered, and_both, answered_is, for_pong, found_number, member_is, member_with}
+use Rattle.chord_ops.proofs.KeptTable.{IsAnswered, and_both, answered_is, found_number, member_is, member_with}
 use Rattle.chord_ops.proofs.Removed.{asking_found}
-use Rattle.chord_ops.specs.Ongoing.{FitsJoin, FitsTick, IsOngoing, is_lived, is_tick, numbered, waits}
+use Rattle.chord_ops.specs.Ongoing.{FitsJoin, FitsTick, IsOngoing, is_tick, numbered, waits}
 use Rattle.chord_ops.proofs.Ongoing.{going_again, going_asked, going_called, going_if, going_over, going_past, going_sent, going_when, going_with, going_without, is_set, joins_alike, lived_no_timeout, none_found, numbered_same, other_node, owes, same_node, set_for-cons, set_here, ticks_alike}
-use Rattle.chord_ops.proofs.OngoingJoins.{
-  IsTickOf,
-  check_is,
-  finger_is,
-  going_as_member,
-  going_came_up,
-  going_cleared,
-  going_down,
-  going_for_attempt,
-  going_join_failed,
-  going_join_retried,
-  going_rise_armed,
-  going_stranded,
-  life_is,
-  stabilize_is,
-  traffic_is,
-}
+use Rattle.chord_ops.proofs.OngoingJoins.{check_is, finger_is, going_as_member, going_came_up, going_cleared, going_down, going_for_attempt, going_join_failed, going_join_retried, going_rise_armed, going_stranded, life_is, stabilize_is, traffic_is}
 use Rattle.chord_ops.proofs.OngoingProcedures.{
   going_called_else,
   going_lookup_asked,

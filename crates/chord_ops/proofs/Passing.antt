@@ -1,6 +1,5 @@
 -- With `join_asks` a joining node becomes a member only when its first successor replies, or as it makes a ring.
-use Rattle.std.proofs.Common.{◌≡◌, ◌≢◌, ◌==◌, ◌*◌, ◌⊎◌, inl, inr, ⊎_elim, ℕ, ◌+◌, ◌-◌, ◌<◌, ◌≤◌, ◌&&◌, ◌||◌, not, Bool, true, false, cond, List, [], ◌∷◌, ◌++◌, nat_lt, Option, Some, None, refl, sym, ◌∙◌, ap, subst, arith}
-use Rattle.std.specs.List.{Contains}
+use Rattle.std.proofs.Common.{◌≡◌, ◌==◌, ◌*◌, ◌⊎◌, inl, inr, ⊎_elim, ℕ, ◌+◌, ◌-◌, ◌&&◌, ◌||◌, not, Bool, true, false, List, [], ◌∷◌, nat_lt, Option, Some, None, refl, sym, ◌∙◌, ap}
 use Rattle.std.specs.Prelude.{is_some, if◌then◌else◌}
 use Rattle.chord_circle.specs.Circle.{between}
 use Rattle.chord_event.specs.declared.body.Answer.{Answer}
@@ -9,7 +8,6 @@ use Rattle.chord_event.specs.declared.body.Body.{Body}
 use Rattle.chord_event.specs.declared.body.Body.TheVariants as body
 use Rattle.chord_event.specs.declared.event.Event.{Event}
 use Rattle.chord_event.specs.declared.line.CommandKind.TheVariants as command
-use Rattle.chord_event.specs.declared.line.Line.{Line}
 use Rattle.chord_event.specs.declared.line.Line.TheVariants as line
 use Rattle.chord_event.specs.declared.line.MessageKind.{MessageKind}
 use Rattle.chord_event.specs.declared.line.MessageKind.TheVariants as kind
@@ -32,9 +30,9 @@ use Rattle.chord_ops.specs.declared.turn.Request.{Request}
 use Rattle.chord_ops.specs.declared.turn.Request.TheVariants as request
 use Rattle.chord_ops.specs.declared.turn.Turn.{Turn}
 use Rattle.chord_ops.specs.Procedures.{call_of, check_armed, created, departed, finger_armed, for_attempt, fresh_attempt, gone_down, is_founder, join_begun, join_ended, join_failed, join_given_up, join_paused, join_retried, own_step, rise_armed, stabilize_armed, traffic_armed, via_moved, with_attempt, without_attempt, without_call}
-use Rattle.chord_ops.specs.Rules.{acted, answered_call, answered_for, answers, asked_again, avoiding, call_given_up, call_over, call_repeated, call_timed_out, check_tick, cleaned, cmd_crash, cmd_join, cmd_leave, cmd_lookup, crashed, departed_or_crashed, effect, finger_tick, has_finger_lookup, has_join_call, has_ping_call, has_repair_call, heard, is_down, is_down_status, is_joining, is_joining_status, is_member, is_member_status, is_void, join_answered, join_asked, join_followed, join_list_answered, join_list_taken, join_timed_out, leave_heard, life_end, life_over, list_answered_for, list_asked, list_replied, notified, opening, pinged, place_found, ponged, rejoin, replied, request_again, rise, sent_once_more, stabilize_tick, state_answered_for, state_asked, state_replied, step_asked, step_replied, timed_out, timeout, traffic_tick}
-use Rattle.chord_ops.specs.Turns.{called, kind_of, made, noted, timer_made, when_some}
-use Rattle.chord_ops.proofs.KeptJoins.{joins_by, purpose_of_found, same_check_armed, same_traffic_armed}
+use Rattle.chord_ops.specs.Rules.{acted, answered_call, answered_for, answers, asked_again, avoiding, call_given_up, call_repeated, call_timed_out, check_tick, cleaned, cmd_crash, cmd_join, cmd_leave, cmd_lookup, crashed, effect, finger_tick, has_finger_lookup, has_join_call, has_ping_call, has_repair_call, heard, is_down, is_down_status, is_joining, is_joining_status, is_member, is_member_status, is_void, join_answered, join_asked, join_followed, join_list_answered, join_list_taken, join_timed_out, leave_heard, life_end, life_over, list_answered_for, list_asked, list_replied, notified, opening, pinged, place_found, ponged, rejoin, replied, request_again, rise, sent_once_more, stabilize_tick, state_answered_for, state_asked, state_replied, step_asked, step_replied, timed_out, timeout, traffic_tick}
+use Rattle.chord_ops.specs.Turns.{called, kind_of, noted, timer_made, when_some}
+use Rattle.chord_ops.proofs.KeptJoins.{purpose_of_found, same_check_armed, same_traffic_armed}
 use Rattle.chord_ops.proofs.KeptRules.{not_false, or_false}
 use Rattle.chord_ops.proofs.KeptTable.{IsAnswered, answered_is}
 use Rattle.chord_ops.proofs.Ongoing.{going_if, going_when}

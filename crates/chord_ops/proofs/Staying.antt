@@ -1,5 +1,5 @@
 -- A member that has a predecessor keeps one, unless it forgets a silent one, the predecessor leaves, or the member is stranded.
-use Rattle.std.proofs.Common.{◌≡◌, ◌≢◌, ◌==◌, ◌&&◌, ◌||◌, ◌⊎◌, inl, inr, ⊎_elim, not, Bool, true, false, ℕ, ◌+◌, ◌-◌, ◌<◌, ◌≤◌, cond, nat_lt, length, map, max, List, [], ◌∷◌, ◌++◌, Option, Some, None, refl, sym, ◌∙◌, ap, subst, arith}
+use Rattle.std.proofs.Common.{◌≡◌, ◌==◌, ◌&&◌, ◌||◌, ◌⊎◌, inl, inr, not, Bool, true, false, ℕ, ◌-◌, ◌≤◌, nat_lt, length, map, max, List, [], ◌∷◌, ◌++◌, Option, Some, None, refl, sym, ◌∙◌, ap, subst, arith}
 use Rattle.std.proofs.lemmas.Bool.Decides.{nat_tests}
 use Rattle.std.specs.Prelude.{IsSome, is_some, position, slice_get, if◌then◌else◌}
 use Rattle.std.specs.List.{Contains, count_by}
@@ -32,49 +32,15 @@ use Rattle.chord_node.specs.Limits.{most_lookup_steps, most_user_lookups}
 use Rattle.chord_ops.specs.declared.turn.Request.{Request}
 use Rattle.chord_ops.specs.declared.turn.Request.TheVariants as request
 use Rattle.chord_ops.specs.declared.turn.Turn.{Turn}
-use Rattle.chord_ops.specs.Procedures.{
-  alone,
-  call_of,
-  check_armed,
-  created,
-  departed,
-  finger_armed,
-  fresh_lookup,
-  gone_down,
-  holds,
-  join_begun,
-  other_via,
-  own_step,
-  rise_armed,
-  stabilize_armed,
-  stranded,
-  stranded_lines,
-  traffic_armed,
-  without_call,
-  lookup_asked,
-  lookup_begun,
-  lookup_diverted,
-  lookup_failed,
-  lookup_finished,
-  lookup_finished_for,
-  lookup_followed,
-  lookup_led,
-  lookup_request,
-  lookup_resumed,
-  lookup_walked,
-  past,
-  user_lookup,
-  with_lookup,
-  without_lookup,
-}
+use Rattle.chord_ops.specs.Procedures.{alone, call_of, check_armed, created, departed, finger_armed, fresh_lookup, holds, join_begun, other_via, own_step, rise_armed, stabilize_armed, stranded, stranded_lines, traffic_armed, without_call, lookup_asked, lookup_begun, lookup_diverted, lookup_failed, lookup_finished, lookup_finished_for, lookup_followed, lookup_led, lookup_request, lookup_resumed, lookup_walked, past, user_lookup, with_lookup, without_lookup}
 use Rattle.chord_ops.specs.Search.{step_answer}
 use Rattle.chord_ops.specs.Detail.{detailed, message_lines}
 use Rattle.chord_ops.specs.Passages.{ForgetsSilent, IsStranded, PredecessorLeaves}
-use Rattle.chord_ops.specs.Rules.{acted, answered_call, answered_for, answers, arrived, asked_again, call_given_up, call_over, call_repeated, call_timed_out, check_tick, check_timed_out, cmd_crash, cmd_join, cmd_leave, cmd_lookup, crashed, dropped, dropped_by, effect, finger_after, finger_rotated, finger_tick, finger_turned, first_in_turn, has_finger_lookup, has_join_call, has_ping_call, has_repair_call, head, head_asked, head_notified, inherited, is_down, is_down_status, is_handed_over, is_joining, is_joining_status, is_member, is_member_status, is_stuck, is_void, key_words, leave_heard, life_end, life_over, list_after, list_answered, list_answered_for, list_asked, list_left, list_replied, lookup_answered, lookup_timed_out, near_covered, notified, notifier_met, once_more, opening, owner_answered, ping_timed_out, pinged, ponged, predecessor_told, predecessor_weighed, random_key, random_lookup, rejoin, replied, request_again, rescue_lines, rescuer, rise, sent_once_more, stabilize_tick, state_answered, state_answered_for, state_asked, state_replied, state_timed_out, step_asked, step_replied, successors_taken, taken_over, timed_out, timeout, traffic_tick, with_heirs, without_head}
+use Rattle.chord_ops.specs.Rules.{acted, answered_call, answered_for, arrived, asked_again, call_given_up, call_over, call_repeated, call_timed_out, check_tick, check_timed_out, cmd_crash, cmd_join, cmd_leave, cmd_lookup, dropped, dropped_by, effect, finger_after, finger_rotated, finger_tick, finger_turned, first_in_turn, has_finger_lookup, has_join_call, has_ping_call, has_repair_call, head, head_asked, head_notified, inherited, is_down, is_down_status, is_handed_over, is_joining, is_joining_status, is_member, is_stuck, is_void, key_words, leave_heard, life_end, life_over, list_after, list_answered, list_answered_for, list_asked, list_left, list_replied, lookup_answered, lookup_timed_out, near_covered, notified, notifier_met, once_more, opening, owner_answered, ping_timed_out, pinged, ponged, predecessor_told, predecessor_weighed, random_key, random_lookup, rejoin, replied, request_again, rescue_lines, rescuer, rise, sent_once_more, stabilize_tick, state_answered, state_answered_for, state_asked, state_replied, state_timed_out, step_asked, step_replied, successors_taken, taken_over, timed_out, timeout, traffic_tick, with_heirs, without_head}
 use Rattle.chord_ops.specs.Turns.{after_words, called, kind_of, noted, sent, timer_made, when_some}
 use Rattle.chord_ops.proofs.KeptJoins.{purpose_of_found, same_check_armed, same_traffic_armed}
 use Rattle.chord_ops.proofs.KeptRules.{not_false, or_false}
-use Rattle.chord_ops.proofs.KeptTable.{IsAnswered, answered_is}
+use Rattle.chord_ops.proofs.KeptTable.{answered_is}
 use Rattle.chord_ops.proofs.Ongoing.{going_if, going_when}
 use Rattle.chord_ops.proofs.Sending.{asked_as, called_as, sent_as}
 

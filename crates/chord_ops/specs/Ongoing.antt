@@ -8,7 +8,7 @@ use Rattle.chord_node.specs.declared.state.Status.{Status}
 use Rattle.chord_node.specs.declared.state.Status.TheVariants as status
 use Rattle.chord_node.specs.Invariant.{calls_for, is_for_join}
 use Rattle.chord_ops.specs.Timers.{Timer, set_for}
-use Rattle.chord_ops.specs.Timers.Timer.{Stabilize, Finger, Traffic, Life, Check, Rejoin, Timeout}
+use Rattle.chord_ops.specs.Timers.Timer.{Rejoin, Timeout}
 use Rattle.chord_ops.specs.declared.turn.Turn.{Turn}
 
 -- how many timers of a kind and a number a node has among the events that are pending beside those of a turn, and those of the turn

@@ -1,5 +1,5 @@
 -- What a node sets for itself, and how many of its settings a list of events has.
-use Rattle.std.specs.Prelude.{◌==◌, ℕ, Bool, true, false, ◌&&◌, List, count_by, is_some, not, if◌then◌else◌}
+use Rattle.std.specs.Prelude.{◌==◌, ℕ, Bool, false, ◌&&◌, List, count_by, is_some, if◌then◌else◌}
 use Rattle.chord_event.specs.declared.body.Body.{Body}
 use Rattle.chord_event.specs.declared.body.Body.TheVariants as body
 use Rattle.chord_event.specs.declared.event.Event.{Event}
