@@ -7,7 +7,6 @@ use Rattle.std.proofs.lemmas.List.Kept.{AllPairs-filter}
 use Rattle.std.proofs.lemmas.List.Sums.{sum_by-append, sum_by-cons}
 use Rattle.std.specs.List.{AllPairs, Contains, count_by, filter}
 use Rattle.chord_event.specs.declared.event.Event.{Event}
-use Rattle.chord_event.specs.declared.key.Key.{Key}
 use Rattle.chord_event.specs.Keys.{is_same_key}
 use Rattle.chord_event.proofs.Members.{AllPairs_at, AllPairs_rest, contains_cons, contains_here, contains_none, contains_there}
 use Rattle.chord_event.proofs.Order.{is_same_key-true, same_key-self}

@@ -1,8 +1,8 @@
 -- What the nodes wait for at the start is pending.
-use Rattle.std.proofs.Common.{◌≡◌, ◌≢◌, ◌==◌, ◌&&◌, ◌⊎◌, ⊎_elim, inl, inr, ℕ, ◌+◌, ◌<◌, ◌≤◌, Bool, true, false, cond, List, [], ◌∷◌, ◌++◌, Option, Some, None, refl, sym, ◌∙◌, ap, subst, arith}
+use Rattle.std.proofs.Common.{◌≡◌, ◌≢◌, ◌==◌, ◌⊎◌, ⊎_elim, inl, inr, ℕ, ◌+◌, ◌<◌, Bool, true, false, cond, List, [], ◌∷◌, ◌++◌, Option, Some, None, refl, sym, ◌∙◌, ap, subst, arith}
 use Rattle.std.proofs.lemmas.Bool.{cases_eq}
 use Rattle.std.proofs.lemmas.List.Sums.{sum_by-append, sum_by-cons}
-use Rattle.std.specs.List.{AllByRecursion, Contains, count_by, enumerate_from, filter_map, range_with_len}
+use Rattle.std.specs.List.{AllByRecursion, Contains, enumerate_from, filter_map, range_with_len}
 use Rattle.std.specs.Prelude.{flat_map}
 use Rattle.chord_event.specs.declared.body.Body.{Body}
 use Rattle.chord_event.specs.declared.event.Event.{Event}
@@ -13,14 +13,14 @@ use Rattle.chord_node.specs.declared.state.Status.TheVariants as status
 use Rattle.chord_node.specs.Ring.{first_member, initial_state, never_up}
 use Rattle.chord_node.proofs.Rings.{filter-apart, range-apart, range-has}
 use Rattle.chord_node.proofs.Sorting.{AreApart}
-use Rattle.chord_ops.specs.FirstTurns.{IsNew, first_turn}
+use Rattle.chord_ops.specs.FirstTurns.{first_turn}
 use Rattle.chord_ops.specs.Procedures.{armed}
 use Rattle.chord_ops.specs.Timers.{Timer, is_timer, set_for, wanted}
-use Rattle.chord_ops.specs.Timers.Timer.{Stabilize, Finger, Traffic, Life, Check, Rejoin, Timeout}
+use Rattle.chord_ops.specs.Timers.Timer.{Rejoin, Timeout}
 use Rattle.chord_ops.proofs.FirstTimers.{timers_armed}
 use Rattle.chord_ops.proofs.KeptJoins.{same_armed}
 use Rattle.chord_ops.proofs.KeptRules.{none_of}
-use Rattle.chord_ops.specs.Ongoing.{FitsTick, IsOngoing, is_lived, is_tick, waits}
+use Rattle.chord_ops.specs.Ongoing.{FitsTick, IsOngoing, is_tick, waits}
 use Rattle.chord_ops.proofs.Ongoing.{is_set, not_set, other_node, set_elsewhere}
 use Rattle.chord_ops.proofs.OngoingJoins.{HasTickOf, IsTickOf, going_armed, table_of_life}
 use Rattle.chord_scenario.specs.declared.scenario.Scenario.{Scenario}
@@ -31,7 +31,7 @@ use Rattle.chord_scenario.specs.declared.setting.Span.{Span}
 use Rattle.chord_scenario.specs.Range.{IsInRange}
 use Rattle.chord_scenario.specs.Start.{command_body, command_event, command_events, first_timers, initial_nodes, start_events, timer_event, timer_table, timers}
 use Rattle.chord_scenario.specs.World.{is_initial, node_count}
-use Rattle.chord_machine.proofs.StartEvents.{From, IsFirstTimer, mapped-from, numbered, timers-are}
+use Rattle.chord_machine.proofs.StartEvents.{From, mapped-from, numbered, timers-are}
 
 -- Counts
 
