@@ -1,9 +1,9 @@
 -- What the nodes wait for is pending after each possible history.
-use Rattle.std.proofs.Common.{◌≡◌, ◌≢◌, ◌==◌, ◌&&◌, Bool, true, ◌⊎◌, inl, inr, ℕ, ◌+◌, ◌<◌, ◌≤◌, cond, List, [], ◌∷◌, Option, Some, None, refl, sym, ◌∙◌, ap, subst, arith}
+use Rattle.std.proofs.Common.{◌≡◌, ◌≢◌, ◌==◌, ◌&&◌, Bool, true, ◌⊎◌, inl, inr, ℕ, ◌+◌, ◌<◌, ◌≤◌, cond, List, [], ◌∷◌, refl, sym, ◌∙◌, ap, subst, arith}
 use Rattle.std.proofs.lemmas.Bool.{cases_eq}
 use Rattle.std.proofs.lemmas.List.Sums.{sum_by-cons}
-use Rattle.std.specs.List.{All, Contains, count_by}
-use Rattle.std.specs.Prelude.{get_or, length}
+use Rattle.std.specs.List.{Contains}
+use Rattle.std.specs.Prelude.{get_or}
 use Rattle.chord_event.specs.declared.body.Body.{Body}
 use Rattle.chord_event.specs.declared.event.Event.{Event}
 use Rattle.chord_event.proofs.Members.{contains_at, contains_cons, contains_none}
@@ -29,7 +29,7 @@ use Rattle.chord_scenario.specs.declared.scenario.Scenario.{Scenario}
 use Rattle.chord_scenario.specs.Range.{IsInRange}
 use Rattle.chord_scenario.specs.World.{node_count}
 use Rattle.chord_machine.specs.Chord.{chord}
-use Rattle.chord_machine.specs.Ongoing.{AreLive, RetriesAreLimited, CallsAreTimed, JoinsGoOn, TimersLive}
+use Rattle.chord_machine.specs.Ongoing.{RetriesAreLimited, CallsAreTimed, JoinsGoOn, TimersLive}
 use Rattle.chord_machine.specs.Sound.{IsStateOf}
 use Rattle.chord_machine.proofs.Counted.{beside, counted_after, counted_before, pending_first}
 use Rattle.chord_machine.proofs.OngoingStarts.{starts_go_on}
