@@ -1,5 +1,33 @@
 -- The parts share what a run puts out, and the audits are the rest.
-use Rattle.std.proofs.Common.{◌≡◌, ◌≢◌, ◌∙◌, ℕ, zero, suc, ◌<◌, ◌==◌, List, [], ◌∷◌, ◌++◌, Option, None, Some, length, map, get_or, ap, sym, refl, subst, arith, append_assoc, append-nil, eq-eqb, ⊎_elim}
+use Rattle.std.proofs.Common.{
+  ◌≡◌,
+  ◌≢◌,
+  ◌∙◌,
+  ℕ,
+  zero,
+  suc,
+  ◌<◌,
+  ◌==◌,
+  List,
+  [],
+  ◌∷◌,
+  ◌++◌,
+  Option,
+  None,
+  Some,
+  length,
+  map,
+  get_or,
+  ap,
+  sym,
+  refl,
+  subst,
+  arith,
+  append_assoc,
+  append-nil,
+  eq-eqb,
+  ⊎_elim,
+}
 use Rattle.std.proofs.lemmas.Bool.{cases_eq, cond-true, cond-false, ne_eqb}
 use Rattle.std.proofs.lemmas.List.Elements.{filter-append}
 use Rattle.std.proofs.lemmas.List.Sorted.{
