@@ -52,6 +52,7 @@ complete -c chordsim-generate -l seed -x -d 'of the simulated streams, and of al
 complete -c chordsim-generate -l churn-uniform -x -d 'lives and down times that the program draws: two spans of 1us to 1000s'
 complete -c chordsim-generate -l lifetime -x -d 'lives drawn here: exp:MEAN, pareto:ALPHA:MIN or uniform:MIN..MAX, times 1us to 1000000s, ALPHA 0.1 to 100'
 complete -c chordsim-generate -l down -x -d 'down times drawn here, in the same forms (exp:10s)'
+complete -c chordsim-generate -l leaves -x -d 'profile 4 alone: of a million ends of these lives so many are leaves and not crashes, 0 to 1000000 (0)'
 complete -c chordsim-generate -l stationary -d 'start in equilibrium: who is up is drawn, and what is left of its life or down time; with --lifetime'
 complete -c chordsim-generate -l stay -x -d 'how many nodes, the first ones, do not churn: 0 to NODES - 1 (2)'
 complete -c chordsim-generate -l arrivals -x -d 'new nodes that join at this rate and never return: NUMBER/s, /m, /h or /d, as 0.2/s, the number above 0 with at most nine digits after the point (none)'

@@ -50,6 +50,7 @@ pub enum Subject {
     Message = 7,
     CheckTick = 8,
     FirstFinger = 9,
+    Leave = 10,
 }
 
 /// Where a node takes the words of its draws from.

@@ -23,6 +23,7 @@ pub enum MessageKind {
     GetList,
     Ping,
     Notify,
+    Leave,
     StepReply,
     StateReply,
     ListReply,
@@ -45,6 +46,7 @@ impl fmt::Display for MessageKind {
             MessageKind::GetList => "get-list",
             MessageKind::Ping => "ping",
             MessageKind::Notify => "notify",
+            MessageKind::Leave => "leave",
             MessageKind::StepReply => "step-reply",
             MessageKind::StateReply => "state-reply",
             MessageKind::ListReply => "list-reply",
@@ -60,6 +62,7 @@ pub enum Body {
         via: u32,
     },
     CmdCrash,
+    CmdLeave,
     CmdLookup {
         key: Ident,
     },
@@ -102,6 +105,10 @@ pub enum Body {
         call: u64,
     },
     Notify,
+    Leave {
+        predecessor: Option<u32>,
+        successors: Vec<u32>,
+    },
     StepReply {
         call: u64,
         answer: Answer,

@@ -6,6 +6,7 @@ mod circle;
 mod draws;
 mod events;
 mod joins;
+mod leaves;
 mod lookups;
 mod queue;
 mod report;

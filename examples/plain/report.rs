@@ -32,6 +32,7 @@ pub struct Report {
     losses: u64,
     again: u64,
     forgotten: u64,
+    leaves: u64,
     rescues: u64,
     creates: u64,
     timeouts_sum: u64,
@@ -56,6 +57,7 @@ impl Report {
             Line::Lose { .. } => self.losses += 1,
             Line::Again { .. } => self.again += 1,
             Line::Forget { .. } => self.forgotten += 1,
+            Line::Leave => self.leaves += 1,
             Line::Rescue { .. } => self.rescues += 1,
             Line::Create => self.creates += 1,
             Line::Lookup { .. } => self.lookups += 1,
@@ -126,6 +128,7 @@ impl Report {
             rows.extend([
                 ("again", self.again),
                 ("forgotten", self.forgotten),
+                ("leaves", self.leaves),
                 ("rescues", self.rescues),
                 ("creates", self.creates),
                 ("timeouts-sum", self.timeouts_sum),

@@ -15,6 +15,7 @@ impl Turn<'_> {
         match body {
             Body::CmdJoin { via } => self.on_cmd_join(via),
             Body::CmdCrash => self.on_cmd_crash(),
+            Body::CmdLeave => self.on_cmd_leave(),
             Body::CmdLookup { key } => self.on_cmd_lookup(key),
             Body::StabilizeTick { epoch } => self.on_stabilize_tick(epoch),
             Body::FingerTick { epoch } => self.on_finger_tick(epoch),
@@ -29,6 +30,10 @@ impl Turn<'_> {
             Body::GetList { call } => self.on_get_list(sender, call),
             Body::Ping { call } => self.on_ping(sender, call),
             Body::Notify => self.on_notify(sender),
+            Body::Leave {
+                predecessor,
+                successors,
+            } => self.on_leave(sender, predecessor, &successors),
             Body::StepReply { call, answer } => self.on_step_reply(sender, call, answer),
             Body::StateReply {
                 call,
@@ -156,10 +161,15 @@ impl Turn<'_> {
 
     /// The end of a churn node's life.
     fn on_life_end(&mut self, epoch: u64) {
-        if !self.node.is_void(epoch) && self.churns() {
-            self.crash();
-            self.arm_rise();
+        if self.node.is_void(epoch) || !self.churns() {
+            return;
         }
+        if self.ends_with_leave(epoch) {
+            self.leave();
+        } else {
+            self.crash();
+        }
+        self.arm_rise();
     }
 
     /// A churn node comes up again.
@@ -233,9 +243,9 @@ impl Turn<'_> {
         Some(self.node.calls.remove(index))
     }
 
-    /// Forgets a node that is silent, in the successor list and among the fingers. If no other node is
-    /// left in the list, the nearest finger is. Returns whether the node is not stranded.
-    fn drop_node(&mut self, silent: u32) -> bool {
+    /// Forgets a node that is silent or has left, in the successor list and among the fingers. If no
+    /// other node is left in the list, the nearest finger is. Returns whether the node is not stranded.
+    pub fn drop_node(&mut self, silent: u32) -> bool {
         let me = self.node.me;
         self.node.successors.retain(|&other| other != silent);
         if self.node.successors.iter().all(|&other| other == me) {
@@ -284,7 +294,7 @@ impl Turn<'_> {
     }
 
     /// Whether the node is a member. If not, the message leaves a line.
-    fn accepts(&mut self, kind: MessageKind, sender: u32) -> bool {
+    pub fn accepts(&mut self, kind: MessageKind, sender: u32) -> bool {
         let is_member = self.node.is_member();
         if !is_member {
             self.note_drop(kind, sender);

@@ -36,16 +36,18 @@ pub struct Ways {
     pub create_alone: bool,
 }
 
-/// How long a churn node is up, and then down.
+/// How long a churn node is up, and then down. Of a million of its lives `leave_ppm` end with a leave.
 pub struct Churn {
     pub life: Span,
     pub down: Span,
+    pub leave_ppm: u64,
 }
 
 /// What a command does to its node.
 pub enum Action {
     Join { via: u32 },
     Crash,
+    Leave,
     Lookup { key: Ident },
 }
 
@@ -303,6 +305,7 @@ impl<'a> Words<'a> {
         self.flag().then(|| Churn {
             life: self.span(),
             down: self.span(),
+            leave_ppm: self.next(),
         })
     }
 
@@ -361,6 +364,7 @@ impl<'a> Words<'a> {
         let action = match self.word() {
             "join" => Action::Join { via: self.next() },
             "crash" => Action::Crash,
+            "leave" => Action::Leave,
             _ => Action::Lookup { key: self.next() },
         };
         Command {

@@ -139,6 +139,7 @@ fn event_of(command: &Command) -> Event {
     let body = match command.action {
         Action::Join { via } => Body::CmdJoin { via },
         Action::Crash => Body::CmdCrash,
+        Action::Leave => Body::CmdLeave,
         Action::Lookup { key } => Body::CmdLookup { key },
     };
     Event {

@@ -23,6 +23,7 @@ pub enum Line<'a> {
     JoinFailed,
     Create,
     Crash,
+    Leave,
     Stranded {
         via: &'a str,
     },
@@ -94,6 +95,7 @@ impl fmt::Display for Line<'_> {
             Line::JoinFailed => write!(out, "join-failed"),
             Line::Create => write!(out, "create"),
             Line::Crash => write!(out, "crash"),
+            Line::Leave => write!(out, "leave"),
             Line::Stranded { via } => write!(out, "stranded {via}"),
             Line::Drop { kind, sender } => write!(out, "drop {kind} {sender}"),
             Line::Late { kind, sender } => write!(out, "late {kind} {sender}"),

@@ -47,6 +47,8 @@ STRETCHES = (10, 50, 90)
 """The percentiles of stretch.toml."""
 SILENT = "20, `drop_silent = false`"
 """The third setting under churn, beside those of 24 and 20 bits."""
+CRASHES, LEAVES = ("churn", "churn_silent"), ("churn_leaves",)
+"""The studies under churn, by how nodes depart."""
 AS_ARTICLE, NOT_ASKED, LIMITED, DEFAULTS = "false, 64, true", "false, 64, false", "false, 32, true", "true, 32, true"
 """Settings of drop_silent, lookup_timeouts and ask_owner."""
 
@@ -226,20 +228,23 @@ def print_distribution() -> None:
             [*rows, ["mean", *(told(mean(one, "hops"), 3) for one in runs), "6"]])
 
 
-def churn() -> dict[str, dict[float, list[Row]]]:
-    """The runs under churn, by setting and by the rate of joins."""
+def churn(studies: tuple[str, ...] = CRASHES) -> dict[str, dict[float, list[Row]]]:
+    """The runs of these studies under churn, by setting and by the rate of joins."""
     found: dict[str, dict[float, list[Row]]] = defaultdict(lambda: defaultdict(list))
-    for row in table("churn/runs.csv") + table("churn_silent/runs.csv"):
-        found[row.get(BITS, SILENT)][float(row[RATE].removesuffix("/s"))].append(row)
+    for row in (row for study in studies for row in table(f"{study}/runs.csv")):
+        setting = SILENT if row.get("drop_silent") == "false" else row.get(BITS, SILENT)
+        found[setting][float(row[RATE].removesuffix("/s"))].append(row)
     return found
 
 
-def print_churn() -> None:
-    """The tables of lookups under churn, for each setting; where lookups failed; and how the rings were."""
+def print_churn(studies: tuple[str, ...], departures: str) -> None:
+    """The tables of lookups under churn, for each setting; where lookups failed; and how the rings were.
+
+    The number of the report that counts departures is `crashes` or `leaves`."""
     hops, timeouts = published("hops under churn"), published("timeouts under churn")
     failed = published("failures of 10,000 under churn")
     each, rings = [], []
-    for bits, by_rate in churn().items():
+    for bits, by_rate in churn(studies).items():
         rows = []
         for rate, runs in by_rate.items():
             lost, wrong, ended = bad(runs)
@@ -254,14 +259,15 @@ def print_churn() -> None:
                          ", ".join(str(sum(bad([row])[:2])) for row in runs)])
             members = interval([float(row["mean-members"]) for row in runs])
             rings.append([bits, f"{rate:g}",
-                          *(f"{total(runs, number):,}" for number in ("members", "crashes", "join-failed")),
+                          *(f"{total(runs, number):,}" for number in ("members", departures, "join-failed")),
                           told(members, 0), f"{total(runs, 'judged-audits'):,}",
                           *(total(runs, number) for number in ("torn-rings", "stranded", "rescues"))])
         columns("R | hops: published | hops | timeouts: published | timeouts | of each seed "
                 "| failures of 10,000: published | failures of 10,000 | lost | wrong | lookups", rows)
-    columns("bits | R | names a node that has crashed | misses a newcomer | of both: right while the lookup ran | lost "
+    gone = "crashed" if departures == "crashes" else "left"
+    columns(f"bits | R | names a node that has {gone} | misses a newcomer | of both: right while the lookup ran | lost "
             "| failures of each seed", each)
-    columns("bits | R | joins | crashes | failed joins | members | audits | torn | stranded | rescues", rings)
+    columns(f"bits | R | joins | {departures} | failed joins | members | audits | torn | stranded | rescues", rings)
 
 
 def print_churn_rules() -> None:
@@ -515,7 +521,9 @@ def print_tables() -> None:
     """All tables."""
     print_failure()
     print_rules()
-    print_churn()
+    print_churn(CRASHES, "crashes")
+    if (FOLDER / LEAVES[0] / "runs.csv").exists():
+        print_churn(LEAVES, "leaves")
     print_churn_rules()
     print_repair()
     print_length()

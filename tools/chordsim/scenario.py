@@ -89,6 +89,10 @@ class Scenario:
         """The scenario in which these nodes also crash at a time."""
         return self._with_commands(nodes, at, "crash")
 
+    def leave(self, nodes: Nodes, at: Time) -> "Scenario":
+        """The scenario in which these nodes also leave at a time. Profile 4 alone has this command."""
+        return self._with_commands(nodes, at, "leave")
+
     def join(self, nodes: Nodes, at: Time, via: str) -> "Scenario":
         """The scenario in which these nodes also join through another one at a time."""
         self._check_nodes("via", [via])

@@ -20,12 +20,12 @@ The flat form:
   join_asks and create_alone as 1 or 0 (in profiles 1 and 2 these are 0 0 0 8 0 0 0 0 0 0)
   the jitters of stabilize_us, finger_us and check_us
   bits, list, seed, duration_us, timeout_us, audit_us, stabilize_us, finger_us, max_events, latency_us
-  1 and life_min_us, life_max_us, down_min_us, down_max_us, or 0 if there is no [churn]
+  1 and life_min_us, life_max_us, down_min_us, down_max_us, leave_ppm, or 0 if there is no [churn]
   1 and gap_min_us, gap_max_us, or 0 if there is no [lookups]
   the number of nodes; for each its name, its identifier, initial, churn and bootstrap as 1 or 0
   the number of latency rows; for each its two nodes by number and its microseconds
   1 and for each node its x_us, y_us and height_us, or 0 if nodes have no coordinates
-  the number of commands; for each its time, its node by number and `join VIA`, `crash` or `lookup KEY`
+  the number of commands; for each its time, its node by number and `join VIA`, `crash`, `leave` or `lookup KEY`
 Nodes are numbered from 0. Numbers are decimal.
 
 example:
@@ -59,7 +59,7 @@ def lines_of(scenario: Scenario) -> Iterator[list[int | str]]:
     yield [s.bits, s.list, s.seed, s.duration_us, s.timeout_us, s.audit_us, s.stabilize_us, s.finger_us, s.max_events,
            s.latency_us]
     c = s.churn
-    yield [0] if c is None else [1, c.life_min_us, c.life_max_us, c.down_min_us, c.down_max_us]
+    yield [0] if c is None else [1, c.life_min_us, c.life_max_us, c.down_min_us, c.down_max_us, c.leave_ppm]
     yield [0] if s.lookups is None else [1, s.lookups.gap_min_us, s.lookups.gap_max_us]
     yield [len(s.nodes)]
     for node in s.nodes:
@@ -85,7 +85,7 @@ def action_of(command: Command) -> list[int | str]:
         case "lookup":
             return ["lookup", known(command.key)]
         case _:
-            return ["crash"]
+            return [command.do]
 
 
 def write(scenario: str, latency: str | None, file: str | None) -> None:

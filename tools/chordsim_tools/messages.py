@@ -3,11 +3,11 @@
 from collections import Counter
 
 MESSAGES = (
-    "step", "get-state", "get-list", "ping", "notify", "step-reply", "state-reply", "list-reply", "pong",
+    "step", "get-state", "get-list", "ping", "notify", "leave", "step-reply", "state-reply", "list-reply", "pong",
 )
 REQUESTS = MESSAGES[:4]
 """The kinds that ask for a reply."""
-REPLIES = dict(zip(REQUESTS, MESSAGES[5:], strict=True))
+REPLIES = dict(zip(REQUESTS, MESSAGES[-4:], strict=True))
 """The kind of reply to each of these."""
 
 

@@ -282,8 +282,8 @@ class SendAgainTest(TestCase):
             name.write_text(extended("loss_ppm = 20387", "retries = 1"))
             status, out, _ = ended(main, str(name), "--report", "--messages")
             lines = out.splitlines()
-            assert (status, len(lines)) == (0, 30 + 9 + 9)
-            assert lines[24:31] == ["losses 1", "again 1", *(f"{word} 0" for word in LATER[2:]), "sent step 2"]
+            assert (status, len(lines)) == (0, 31 + 10 + 10)
+            assert lines[24:32] == ["losses 1", "again 1", *(f"{word} 0" for word in LATER[2:]), "sent step 2"]
             assert "sent step-reply 1" in lines and "lost step 1" in lines
 
 
@@ -459,7 +459,7 @@ class RandomScenariosTest(TestCase):
     """What the random scenarios of the extended profile have."""
 
     def test_pauses_and_checks(self) -> None:
-        """Pauses, joins that go on, checks, and predecessors that are forgotten are in many of them."""
+        """Pauses, joins that go on, checks, predecessors that are forgotten, and leaves are in many of them."""
         counts: Counter[str] = Counter()
         for seed in range(4, 120, 6):
             toml, csv = scenario_files(seed)
@@ -470,7 +470,10 @@ class RandomScenariosTest(TestCase):
                     counts[line.split(" ")[2]] += 1
                     counts["went on"] += scenario.join_forever and line.endswith("join-failed")
             counts.update({"pauses": scenario.join_pause_us > 0, "checks": scenario.check_us > 0})
-        assert min(counts[word] for word in ("pauses", "checks", "went on", "forget")) > 5, counts
+            counts["leave_ppm"] += scenario.churn is not None and 0 < scenario.churn.leave_ppm < 1_000_000
+            counts["leave by command"] += sum(command.do == "leave" for command in scenario.commands)
+        words = ("pauses", "checks", "went on", "forget", "leave", "leave by command")
+        assert min(counts[word] for word in words) > 5 and counts["leave_ppm"] > 2, counts
 
     def test_coordinates(self) -> None:
         """Some of them have coordinates, and no latency file then."""

@@ -19,7 +19,7 @@ FOUND_BY_PLACE = Example(
         "lookups 1\nfound 1\nlost 0\nbusy 0\nignored 0\nunfinished 0\nhops-sum 1\nhops-greatest 1\n"
         "us-sum 28\nus-least 28\nus-median 28\nus-greatest 28\naudits 1\nringless 0\nunordered 0\n"
         "insufficient 0\nlosses 0\nagain 0\nforgotten 0\n"
-        "rescues 0\ncreates 0\ntimeouts-sum 0\n"
+        "leaves 0\nrescues 0\ncreates 0\ntimeouts-sum 0\n"
     ),
 )
 """From n3 to n0 it is 7 + 5 and the root of 8, which is 2 rounded down: 14 each way."""

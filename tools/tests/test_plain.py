@@ -193,7 +193,7 @@ class FlattenTest(TestCase):
         commands = '[[command]]\nat_us = 110\ndo = "crash"\nnode = "n1"\n'
         commands += '[[command]]\nat_us = 120\ndo = "join"\nnode = "n1"\nvia = "n3"\n'
         flat = flat_form(ring(("[[node]]", f"{tables}[[node]]"), ("[[command]]", f"{commands}[[command]]")))
-        self.assertIn("\n1 1 2 3 4\n1 5 6\n3\nn0", flat)
+        self.assertIn("\n1 1 2 3 4 0\n1 5 6\n3\nn0", flat)
         self.assertTrue(flat.endswith("\n0\n0\n3\n110 1 crash\n120 1 join 2\n100 0 lookup 1\n"))
 
     def test_coordinates(self) -> None:
@@ -207,6 +207,14 @@ class FlattenTest(TestCase):
         flat = flat_form(ring(*changes, ("window_us = 10", "window_us = 8"), ("height_us = 8", "")))
         self.assertTrue(flat.startswith("4 0 0 1 70 1 90 1\n1 1 1 32 1 1 1 1 1 0\n0 7 0\n3 2 1"))
         self.assertIn("\nn3 3 1 0 0\n0\n1\n1 2 9\n3 2 10\n5 2 0\n1\n100 0", flat)
+
+    def test_leaves(self) -> None:
+        """The flat form of a leave by command, and of leaves at ends of lives."""
+        churn = "[churn]\nlife_min_us = 1\nlife_max_us = 2\ndown_min_us = 3\ndown_max_us = 4\nleave_ppm = 5\n"
+        changes = [("profile = 1", "profile = 4"), ("[[node]]", f"{churn}[[node]]"), ('"lookup"', '"leave"')]
+        flat = flat_form(ring(*changes))
+        self.assertIn("\n1 1 2 3 4 5\n0\n3\nn0", flat)
+        self.assertTrue(flat.endswith("\n1\n100 0 leave\n"))
 
     def test_bootstrap_nodes(self) -> None:
         """The flat form of a bootstrap node, and of the key of those that make rings."""

@@ -54,7 +54,8 @@ class PageTest(TestCase):
             for cell in notebook["cells"]:
                 if cell["cell_type"] != "code":
                     continue
-                self.assertEqual([output["output_type"] for output in cell["outputs"]], ["stream"] * len(cell["outputs"]))
+                outputs = cell["outputs"]
+                self.assertEqual([output["output_type"] for output in outputs], ["stream"] * len(outputs))
                 kept.append("".join(text for output in cell["outputs"] for text in output["text"]))
                 self.assertEqual(printed("".join(cell["source"]), names), kept[-1])
         self.assertIn("drop_silent", "".join(kept))

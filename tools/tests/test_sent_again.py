@@ -23,7 +23,7 @@ FOUND_AGAIN = Example(
         "lookups 1\nfound 1\nlost 0\nbusy 0\nignored 0\nunfinished 0\nhops-sum 1\nhops-greatest 1\n"
         "us-sum 60\nus-least 60\nus-median 60\nus-greatest 60\naudits 1\nringless 0\nunordered 0\n"
         "insufficient 0\nlosses 1\nagain 1\nforgotten 0\n"
-        "rescues 0\ncreates 0\ntimeouts-sum 0\n"
+        "leaves 0\nrescues 0\ncreates 0\ntimeouts-sum 0\n"
     ),
 )
 """Of a million, 20387 are lost: the number of n3's third message is 20386. It is the step of the lookup. The step that
@@ -56,7 +56,7 @@ TAKEN_FOR_DEAD = Example(
         "lookups 1\nfound 1\nlost 0\nbusy 0\nignored 0\nunfinished 0\nhops-sum 0\nhops-greatest 0\n"
         "us-sum 90\nus-least 90\nus-median 90\nus-greatest 90\naudits 1\nringless 0\nunordered 0\n"
         "insufficient 1\nlosses 0\nagain 2\nforgotten 0\n"
-        "rescues 0\ncreates 0\ntimeouts-sum 1\n"
+        "leaves 0\nrescues 0\ncreates 0\ntimeouts-sum 1\n"
     ),
 )
 """n0 has crashed. The step comes to it at 90, 120 and 150; at 170 it is taken for dead."""
@@ -79,7 +79,7 @@ LATE_REPLY = Example(
         "lookups 1\nfound 1\nlost 0\nbusy 0\nignored 0\nunfinished 0\nhops-sum 1\nhops-greatest 1\n"
         "us-sum 20\nus-least 20\nus-median 20\nus-greatest 20\naudits 1\nringless 0\nunordered 0\n"
         "insufficient 0\nlosses 0\nagain 1\nforgotten 0\n"
-        "rescues 0\ncreates 0\ntimeouts-sum 0\n"
+        "leaves 0\nrescues 0\ncreates 0\ntimeouts-sum 0\n"
     ),
 )
 """The timeout is shorter than the way to n0 and back. The reply to the first step ends the lookup, and the reply to

@@ -32,7 +32,7 @@ SILENT_PREDECESSOR = Example(
         "lookups 0\nfound 0\nlost 0\nbusy 0\nignored 0\nunfinished 0\nhops-sum 0\nhops-greatest 0\n"
         "us-sum 0\nus-least 0\nus-median 0\nus-greatest 0\naudits 1\nringless 0\nunordered 0\n"
         "insufficient 1\nlosses 0\nagain 0\nforgotten 1\n"
-        "rescues 0\ncreates 0\ntimeouts-sum 0\n"
+        "leaves 0\nrescues 0\ncreates 0\ntimeouts-sum 0\n"
     ),
 )
 """n0 has crashed. n1 asks it for a sign of life at 100, and forgets it at 140. At 160 n3 asks n1 for its state, which
@@ -61,7 +61,7 @@ PAUSE_IN_A_JOIN = Example(
         "lookups 0\nfound 0\nlost 0\nbusy 0\nignored 0\nunfinished 0\nhops-sum 0\nhops-greatest 0\n"
         "us-sum 0\nus-least 0\nus-median 0\nus-greatest 0\naudits 1\nringless 0\nunordered 0\n"
         "insufficient 1\nlosses 0\nagain 0\nforgotten 0\n"
-        "rescues 0\ncreates 0\ntimeouts-sum 0\n"
+        "leaves 0\nrescues 0\ncreates 0\ntimeouts-sum 0\n"
     ),
 )
 """Each attempt fails 40 us after it began, and the next begins 25 us later, the last at 295."""
@@ -101,7 +101,7 @@ JOIN_WITHOUT_END = Example(
         "lookups 0\nfound 0\nlost 0\nbusy 0\nignored 0\nunfinished 0\nhops-sum 0\nhops-greatest 0\n"
         "us-sum 0\nus-least 0\nus-median 0\nus-greatest 0\naudits 1\nringless 0\nunordered 0\n"
         "insufficient 1\nlosses 0\nagain 0\nforgotten 0\n"
-        "rescues 0\ncreates 0\ntimeouts-sum 0\n"
+        "leaves 0\nrescues 0\ncreates 0\ntimeouts-sum 0\n"
     ),
 )
 """The eighth attempt fails at 255. Eight pauses later, at 295, the node begins again."""
@@ -133,7 +133,7 @@ PAUSE_OF_AN_EARLIER_LIFE = Example(
         "lookups 0\nfound 0\nlost 0\nbusy 0\nignored 0\nunfinished 0\nhops-sum 0\nhops-greatest 0\n"
         "us-sum 0\nus-least 0\nus-median 0\nus-greatest 0\naudits 1\nringless 0\nunordered 0\n"
         "insufficient 1\nlosses 0\nagain 0\nforgotten 0\n"
-        "rescues 0\ncreates 0\ntimeouts-sum 0\n"
+        "leaves 0\nrescues 0\ncreates 0\ntimeouts-sum 0\n"
     ),
 )
 """The pause that begins at 140 ends at 240, in the node's next life, and starts nothing. The next one ends at 300."""

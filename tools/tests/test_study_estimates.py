@@ -40,7 +40,8 @@ class EstimatesTest(TestCase):
 
     def test_bytes(self) -> None:
         """With one size they are off by as much as messages. If a group alone has a size they are off by its bound."""
-        assert sorted(kind for kinds in GROUPS for kind in kinds) == sorted(MESSAGES)
+        # Nodes of the profiles whose messages are estimated do not leave.
+        assert sorted(kind for kinds in GROUPS for kind in kinds) == sorted({*MESSAGES} - {"leave"})
         assert abs(most_off(ONE_SIZE) - 100 * MOST_ERROR) < 1e-9
         nothing = dict.fromkeys(MESSAGES, 0)
         for kinds, error in GROUPS.items():

@@ -177,7 +177,7 @@ class StudyMessagesTest(TestCase):
     def test_detail(self) -> None:
         """The lines of a run with detail give the numbers themselves, also after a warm-up."""
         text = shortened("lossy64.toml", 12_000_000).replace("profile = 2", "profile = 4\ndetail = true", 1)
-        text = text.replace("life_min_us = 20", "life_min_us = 2")
+        text = text.replace("life_min_us = 20", "leave_ppm = 500000\nlife_min_us = 2")
         for warmup in (0, 5_000_000):
             found, made = counted(text, warmup)
             assert found == made and min(made.values()) > 0, (found, made)

@@ -63,7 +63,8 @@ def thirty() -> Tables:
 def plane_states(*settings: tuple[list[tuple[float, float]], bool], most_lost: float = 0) -> list[str]:
     """The states of settings with a cost and a gain for each seed; of some the first seed's ring was lost."""
     rows = [
-        {"list": str(number), "seed": str(seed), "c": str(x), "g": str(y), "lost-at-us": "5" if lost and seed == 0 else ""}
+        {"list": str(number), "seed": str(seed), "c": str(x), "g": str(y),
+         "lost-at-us": "5" if lost and seed == 0 else ""}
         for number, (values, lost) in enumerate(settings) for seed, (x, y) in enumerate(values)
     ]
     tables = made({"list": list(range(len(settings)))}, rows)

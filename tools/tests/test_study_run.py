@@ -144,7 +144,7 @@ def naive_right(scenario: str, trace: list[str]) -> int:
         words = line.split(" ")
         if words[2] == "member":
             members.add(words[1])
-        elif words[2] in ("crash", "stranded"):
+        elif words[2] in ("crash", "leave", "stranded"):
             members.discard(words[1])
         elif words[2] == "found":
             ways = {(idents[name] - int(words[3])) % 65536: name for name in members}
@@ -403,7 +403,7 @@ class StudyRunTest(TestCase):
                 words = [str(chordsim), "run", "--scenario", str(folder / "one.toml"), "--serial"]
                 lines = subprocess.run(words, capture_output=True, text=True, check=True).stdout.splitlines()
                 report = dict(line.split(" ") for line in lines if not line[0].isdigit())
-                assert len(report) == 30 and {word: row[word] for word in report} == report
+                assert len(report) == 31 and {word: row[word] for word in report} == report
                 for column, word in (("again", "again"), ("forgotten", "forget")):
                     assert len([line for line in lines if line.split(" ")[2:3] == [word]]) == int(row[column])
                 assert (row["again"] == "0") == (row["retries"] == "0") and "0" not in (row["losses"], row["forgotten"])

@@ -98,7 +98,7 @@ class TroubleTest(TestCase):
                 _, name, word, *_ = line.split(" ")
                 if word == "member":
                     members.add(name)
-                elif word in ("crash", "stranded"):
+                elif word in ("crash", "leave", "stranded"):
                     members.remove(name)
                 if asked is not None:
                     asked.read(f"{line}\n".encode())

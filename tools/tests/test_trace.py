@@ -86,7 +86,8 @@ class Answers(TestCase):
             "90 b found 5 a hops=1 timeouts=0 us=20", "95 b lookup 5", audit(500, 3), audit(1000, 3),
         )
         self.assertEqual(facts["lookups"], {
-            "begun": 4, "found": 1, "lost": 0, "cut_by_crash": 2, "cut_by_end": 1, "busy": 0, "ignored_commands": 0,
+            "begun": 4, "found": 1, "lost": 0, "cut_by_crash": 2, "cut_by_leave": 0, "cut_by_end": 1, "busy": 0,
+            "ignored_commands": 0,
         })
 
     def test_lookups_at_one_time(self) -> None:
@@ -147,8 +148,8 @@ class Nodes(TestCase):
             "10 d join a", "40 d member c", "50 d crash", "60 d join a", "70 d crash", "80 d join a",
             "90 d join-failed", "95 d join a",
         )["joins"]
-        self.assertEqual(joins, {"begun": 4, "done": 1, "failed": 1, "cut_by_crash": 1, "open_at_end": 1, "went_on": 0,
-                                 "times_us": {"p50": 30, "p90": 30, "p99": 30}})
+        self.assertEqual(joins, {"begun": 4, "done": 1, "failed": 1, "cut_by_crash": 1, "cut_by_leave": 0,
+                                 "open_at_end": 1, "went_on": 0, "times_us": {"p50": 30, "p90": 30, "p99": 30}})
 
     def test_joins_that_go_on(self) -> None:
         """d fails at 40 and at 70 and is a member after 80; b is stranded, fails once, and crashes."""
@@ -159,8 +160,10 @@ class Nodes(TestCase):
         forever = SCENARIO.replace("profile = 1", "profile = 4\njoin_forever = true")
         run = run_of_text(text, forever)
         facts = summary(run)
-        self.assertEqual(facts["joins"], {"begun": 1, "done": 1, "failed": 0, "cut_by_crash": 0, "open_at_end": 0,
-                                          "went_on": 2, "times_us": {"p50": 80, "p90": 80, "p99": 80}})
+        self.assertEqual(facts["joins"], {
+            "begun": 1, "done": 1, "failed": 0, "cut_by_crash": 0, "cut_by_leave": 0, "open_at_end": 0, "went_on": 2,
+            "times_us": {"p50": 80, "p90": 80, "p99": 80},
+        })
         words = ("begun", "cut_by_crash", "went_on")
         self.assertEqual([facts["stranded"][word] for word in words], [1, 1, 1])
         told = list(summary_text(facts))

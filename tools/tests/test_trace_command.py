@@ -96,13 +96,14 @@ class Commands(TestCase):
         self.assertIsNone(json.loads(self.trace("--json"))["report_of_lines"])
 
     def test_cut_trace_of_the_extended_profile(self) -> None:
-        """The six numbers that it has more."""
+        """The seven numbers that it has more."""
         self.write("a.toml", SCENARIO.replace("profile = 1", "profile = 4"))
         self.write("a.trace", "10 a lookup 5\n10 a lose step b\n50 a again step b\n90 a timeout b\n90 a forget b\n"
                    "90 a rescue c\n100 a found 5 c hops=1 timeouts=1 us=90\n")
         out = self.trace()
         self.assertIn("\n  losses          1\n  again           1, requests sent again\n"
                       "  forgotten       1, predecessors that did not reply to a check\n"
+                      "  leaves          0, nodes that told their neighbours, and went\n"
                       "  rescues         1, members that took a finger as successor\n"
                       "  creates         0, nodes that made a ring of their own\n"
                       "  timeouts-sum    1 (1.00 a lookup), timeouts of found lookups\n", out)

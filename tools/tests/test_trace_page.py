@@ -61,7 +61,7 @@ class Data(TestCase):
         self.assertEqual([page["kinds"][code] for code in unpacked(page["lines"]["kind"], "B")],
                          ["join", "lookup", "timeout", "drop step", "member", "found", "busy", "crash"])
         self.assertEqual(unpacked(page["lines"]["other"], "i"), [0, 0, 1, 0, 2, 0, 0, -1])
-        self.assertEqual(unpacked(page["lookups"]["flags"], "B"), [8 + 16])
+        self.assertEqual(unpacked(page["lookups"]["flags"], "B"), [16 + 32])
         self.assertEqual(unpacked(page["lookups"]["trueOwner"], "i"), [3])
         self.assertFalse(page["joinForever"])
         self.assertEqual((page["worst"]["wrong"], page["worst"]["counts"]), ([0], {"wrong": 1, "lost": 0}))

@@ -25,7 +25,7 @@ def right_answers(scenario: Scenario, text: str) -> tuple[int, int]:
         match fields[2]:
             case "member" | "create":
                 states.append((time, members | {fields[1]}))
-            case "crash" | "stranded":
+            case "crash" | "leave" | "stranded":
                 states.append((time, members - {fields[1]}))
             case "found":
                 owners = owners_since(states, time - int(fields[7].removeprefix("us=")), int(fields[3]), idents)

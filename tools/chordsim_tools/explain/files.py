@@ -7,7 +7,7 @@ from typing import Any
 from chordsim_tools.explain.hints import shown
 from chordsim_tools.explain.positions import Path, Position, Positions
 from chordsim_tools.scenario.faults import Document
-from chordsim_tools.scenario.tables import ACTIONS, GREATEST_INTEGER, Key, Place, Row
+from chordsim_tools.scenario.tables import GREATEST_INTEGER, Key, Place, Row
 
 
 @dataclass
@@ -100,8 +100,8 @@ def integers_at(key: Key) -> str:
 
 def allowed_at(key: Key, bits: int | None) -> str:
     """What is allowed at a key."""
-    if key.name == "do":
-        return "one of " + ", ".join(f'"{word}"' for word in ACTIONS)
+    if key.among:
+        return "one of " + ", ".join(f'"{word}"' for word in key.among)
     if key.name == "name":
         return "a text of 1 to 32 letters, digits, `.`, `_` and `-`, but not \"audit\""
     if key.kind == "integer":

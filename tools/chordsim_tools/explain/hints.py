@@ -188,6 +188,16 @@ def of_profile(value: Any, key: Key, place: str) -> list[str]:
     return []
 
 
+def of_word(value: str, key: Key, place: str) -> list[str]:
+    """The word that is most like one that is not allowed, or the profile that allows this one."""
+    for number, other in PROFILES.items():
+        wider = next(one for one in other.tables[place.split()[0]] if one.name == key.name)
+        if value in wider.among:
+            return [f'profile {number} has "{value}": write profile = {number}']
+    meant = close_to(value, key.among)
+    return [] if meant is None else [f'did you mean "{meant}"?']
+
+
 def of_range(value: int, key: Key) -> list[str]:
     """A number that is out of its key's range."""
     if value > key.greatest == BILLION:

@@ -9,7 +9,7 @@ from chordsim_tools.explain.hints import heading_of, shown
 from chordsim_tools.explain.positions import Position
 from chordsim_tools.known import known
 from chordsim_tools.scenario.faults import Fault
-from chordsim_tools.scenario.tables import ACTIONS, BILLION, COORDINATES, Key, is_in_own_range
+from chordsim_tools.scenario.tables import BILLION, COORDINATES, Key, is_in_own_range
 
 Parts = tuple[str, str, str, list[str]]
 """What is wrong, what is there, what is allowed, and what was likely meant."""
@@ -88,9 +88,8 @@ def out_of_range(fault: Fault, files: Files) -> Parts:
     wider = hints.of_profile(value, key, fault.place)
     if key.kind == "tables":
         return f"there are too {'few' if len(value) < key.least else 'many'}", f"{len(value)} tables", allowed, wider
-    if key.name == "do":
-        meant = hints.close_to(value, ACTIONS)
-        return "`do` is no such word", written, allowed, [] if meant is None else [f'did you mean "{meant}"?']
+    if key.among:
+        return f"`{key.name}` is no such word", written, allowed, hints.of_word(value, key, fault.place)
     if key.kind == "id":
         likely = hints.of_id(value, files.document.top.usable("bits"), key.greatest)
         return f"`{key.name}` is no identifier on this circle", written, allowed, likely + wider

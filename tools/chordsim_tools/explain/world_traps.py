@@ -10,6 +10,8 @@ from chordsim_tools.scenario.reading import jitters_of
 
 RARE = 0.001
 """A share of the time that is no trap."""
+GOES = ("crash", "leave")
+"""The commands after which a node is down."""
 
 
 def finger_period(top: dict[str, Any]) -> int:
@@ -53,21 +55,21 @@ def round_told(top: dict[str, Any]) -> str:
 
 
 def mean_life(top: dict[str, Any]) -> float | None:
-    """The mean life in microseconds: of [churn], or the time that nodes are up by the commands for each crash."""
+    """The mean life in microseconds: of [churn], or the time that nodes are up by the commands, for each end of one."""
     churn = top.get("churn")
     if churn and any(node.get("churn") is True for node in top["node"]):
         return float(churn["life_min_us"] + churn["life_max_us"]) / 2
     since = {node["name"]: 0 for node in top["node"] if node.get("initial") is True}
-    ups, crashes = 0, 0
+    ups, ends = 0, 0
     for command in commands_of(top):
         node, time = command["node"], int(command["at_us"])
         if command["do"] == "join":
             since.setdefault(node, time)
-        elif command["do"] == "crash" and node in since:
+        elif command["do"] in GOES and node in since:
             ups += time - since.pop(node)
-            crashes += 1
+            ends += 1
     ups += sum(int(top["duration_us"]) - time for time in since.values())
-    return ups / crashes if crashes else None
+    return ups / ends if ends else None
 
 
 def round_traps(top: dict[str, Any]) -> list[str]:
@@ -179,7 +181,7 @@ def all_gone_at(top: dict[str, Any], names: set[Any]) -> int | None:
         if command["do"] == "join" and node in names:
             up.add(node)
             gone = None if via == node or via not in names else gone
-        elif command["do"] == "crash" and node in up:
+        elif command["do"] in GOES and node in up:
             up.discard(node)
             gone = gone if up else int(command["at_us"])
     return gone
@@ -192,7 +194,7 @@ def first_up(top: dict[str, Any]) -> set[Any]:
 
 def move(up: set[Any], command: dict[str, Any]) -> None:
     """Does to the nodes that are up what a command says."""
-    if command["do"] == "crash":
+    if command["do"] in GOES:
         up.discard(command["node"])
     elif command["do"] == "join":
         up.add(command["node"])
@@ -208,7 +210,15 @@ def empty_from(top: dict[str, Any]) -> int | None:
     return None
 
 
+def leave_traps(top: dict[str, Any]) -> list[str]:
+    """Leaves of nodes that churn by themselves, of which there are none."""
+    ppm = top.get("churn", {}).get("leave_ppm", 0)
+    if ppm == 0 or any(node.get("churn") is True for node in top["node"]):
+        return []
+    return [f"leave_ppm = {ppm}, and no node has churn = true: only lives of such nodes end so, so it changes nothing"]
+
+
 def world_traps(top: dict[str, Any]) -> list[str]:
     """All of them."""
     traps = [*round_traps(top), *join_traps(top), *alone_traps(top), *second_ring_traps(top)]
-    return [*traps, *lone_maker_traps(top), *bootstrap_traps(top)]
+    return [*traps, *lone_maker_traps(top), *bootstrap_traps(top), *leave_traps(top)]

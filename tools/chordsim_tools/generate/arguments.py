@@ -21,6 +21,7 @@ from chordsim_tools.quantities import BILLION, span_of, whole_of
 
 PROG = tool("generate")
 LOSS = "messages lost per million, 0 to 1000000 (5000 is 0.5 %)"
+LEAVES = "ends of lives per million that are leaves, 0 to 1000000 (500000 is half of them)"
 LENGTH = duration(1, BILLION)
 LIFE = value(distribution_of, LIVES)
 OPTIONS = (
@@ -94,6 +95,8 @@ OPTIONS = (
      "lives and down times that the program draws: two spans of 1us to 1000s"),
     ("lifetime", "LAW", LIFE, f"lives drawn here: {LIVES}"),
     ("down", "LAW", LIFE, "down times drawn here, in the same forms (exp:10s)"),
+    ("leaves", "N", value(within(whole_of, 0, 1_000_000), LEAVES),
+     "profile 4 alone: of a million ends of these lives so many are leaves and not crashes, 0 to 1000000 (0)"),
     ("stationary", "", None,
      "start in equilibrium: who is up is drawn, and what is left of its life or down time; with --lifetime"),
     ("stay", "N", a_whole(), "how many nodes, the first ones, do not churn: 0 to NODES - 1 (2)"),

@@ -10,7 +10,9 @@ LONG = 10_000
 SHORT = 1_000
 """The same for times of the network."""
 FEW = 100
-"""So many messages lost per million, or fewer, are told."""
+"""So many of a million, or fewer, are told."""
+OF_A_MILLION = {"loss": "messages are lost", "leaves": "lives end with a leave"}
+"""The options that are parts of a million, and what these are."""
 LIMITS = {
     **dict.fromkeys(("duration", "audit", "stabilize", "finger", "churn-uniform", "lifetime", "down", "arrive"), LONG),
     **dict.fromkeys(("lookup-gap", "timeout", "join-pause", "check", "crash", "back"), LONG),
@@ -31,17 +33,17 @@ def bare_traps(args: Namespace, limits: Mapping[str, int]) -> list[str]:
             units = f"write {bare}ms, {bare}s or {bare}m, or {bare}us for this"
             told = f"{bare} microsecond{'' if int(bare) == 1 else 's'}"
             traps.append(f"--{name} {' '.join(texts)}: {bare} without a unit is {told}; {units}")
-    return traps + loss_traps(args)
+    return traps + [trap for name, told in OF_A_MILLION.items() for trap in share_traps(args, name, told)]
 
 
-def loss_traps(args: Namespace) -> list[str]:
-    """A loss of a few messages in a million: per cent were meant."""
-    loss: Given[int] | None = getattr(args, "loss", None)
-    if loss is None or not 0 < loss.value <= FEW:
+def share_traps(args: Namespace, name: str, told: str) -> list[str]:
+    """An option with a few of a million: per cent were meant."""
+    given: Given[int] | None = getattr(args, name, None)
+    if given is None or not 0 < given.value <= FEW:
         return []
-    share = f"{loss.value / 10_000:.4f}".rstrip("0")
-    return [f"--loss {loss.value}: {loss.value} of a million messages are lost, {share} %; {loss.value} % are "
-            f"{10_000 * loss.value}"]
+    share = f"{given.value / 10_000:.4f}".rstrip("0")
+    return [f"--{name} {given.value}: {given.value} of a million {told}, {share} %; {given.value} % are "
+            f"{10_000 * given.value}"]
 
 
 def bare_numbers(text: str, limit: int) -> list[str]:

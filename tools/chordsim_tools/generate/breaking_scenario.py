@@ -1,13 +1,14 @@
 """Random scenarios of the extended profile in which rings break and heal, the same for the same seed.
 
-Calls have time for a reply. Neighbours crash together, at times more of them than a list has entries, and join again.
+Calls have time for a reply. Neighbours crash or leave together, at times more of them than a list has entries, and
+join again.
 At times a node is told to look up more keys at once than it may.
 """
 
 from random import Random
 
 from chordsim_tools.generate.random_scenario import (
-    JOINS, WAYS, distinct, jitters_of, ways_of, with_bootstraps, with_few_initial, with_own_joins,
+    JOINS, WAYS, distinct, jitters_of, ways_of, with_bootstraps, with_few_initial, with_leaves, with_own_joins,
 )
 
 
@@ -25,9 +26,11 @@ def breaking_scenario(seed: int) -> str:
     rest = tables(dice)
     node_tables = [node_table(dice, place, ident, place in initial, share) for place, ident in enumerate(idents)]
     commands = commands_of(dice, idents, entries, duration, 2**bits)
-    # Joins are drawn last, so that a seed gives the same ring, crashes and lookups with and without their rules.
+    # What came later is drawn last, so that a seed gives the same ring, departures and lookups with and without it.
     top |= ways_of(dice, JOINS)
-    rest += "".join(with_few_initial(dice, with_bootstraps(dice, node_tables))) + with_own_joins(dice, commands)
+    node_tables = with_few_initial(dice, with_bootstraps(dice, node_tables))
+    rest, commands = with_leaves(dice, rest, with_own_joins(dice, commands))
+    rest += "".join(node_tables) + commands
     return "".join(f"{key} = {value}\n" for key, value in top.items()) + rest
 
 

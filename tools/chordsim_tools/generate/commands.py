@@ -1,4 +1,4 @@
-"""The commands that tools/generate draws: crashes, joins and lookups."""
+"""The commands that tools/generate draws: crashes, leaves, joins and lookups."""
 
 from bisect import bisect_right
 from collections.abc import Iterator
@@ -14,8 +14,14 @@ from chordsim_tools.generate.outages import Life
 from chordsim_tools.generate.plan import Plan
 
 GREATEST_COUNT = 100_000
-CRASH, JOIN, LOOKUP = range(3)
+CRASH, LEAVE, JOIN, LOOKUP = range(4)
 """What commands do, in the order in which commands of one time stand in the file."""
+
+
+STREAM = 10
+"""Which stream of a seed says whether a life ends with a leave."""
+Ends = frozenset[tuple[int, int]]
+"""Ends of lives: the node and the time."""
 
 
 class Command(NamedTuple):
@@ -38,10 +44,12 @@ class Streams:
         self.lookups = lookups.split(nodes)
 
 
-def commands_of(plan: Plan, lives: list[list[Life]], streams: Streams) -> list[Command]:
-    """All commands of a plan with these lives, in the order of the file."""
+def commands_of(
+    plan: Plan, lives: list[list[Life]], streams: Streams, leaves: Ends = frozenset()
+) -> list[Command]:
+    """All commands of a plan with these lives, some of which end with leaves, in the order of the file."""
     check_initial(plan, lives)
-    commands = moves_of(plan, lives, streams.via)
+    commands = moves_of(plan, lives, streams.via, leaves)
     if plan.rate is not None:
         commands += drawn_lookups(plan, plan.rate, lives, streams, GREATEST_COUNT - len(commands))
     return sorted(commands)
@@ -98,6 +106,17 @@ def lives_in_equilibrium(host: Host, duration: int, draws: Draws, most: int) -> 
     return [first, *drawn_lives(host, duration, end + host.down.draw(draws), draws, most)]
 
 
+def leaves_of(plan: Plan, lives: list[list[Life]]) -> Ends:
+    """The ends of lives that are leaves. A number is drawn for each life. Lives that outages cut end otherwise."""
+    if plan.leaves == 0:
+        return frozenset()
+    streams = Draws(plan.top["seed"]).split(STREAM)[-1].split(plan.nodes)
+    return frozenset(
+        (node, life.end) for node, spans in enumerate(lives) for life in spans
+        if streams[node].below(1_000_000) < plan.leaves
+    )
+
+
 def initial_nodes(plan: Plan, lives: list[list[Life]]) -> set[int]:
     """The nodes that are members at the start."""
     if not plan.stationary and not plan.is_traced:
@@ -119,12 +138,13 @@ def check_initial(plan: Plan, lives: list[list[Life]]) -> None:
         raise Failure(2, f"{option}: {count} nodes are up at the start, and --list needs {least}; {more}")
 
 
-def moves_of(plan: Plan, lives: list[list[Life]], draws: Draws) -> list[Command]:
-    """The crashes and joins, in the order of their times."""
+def moves_of(plan: Plan, lives: list[list[Life]], draws: Draws, leaves: Ends) -> list[Command]:
+    """The crashes, leaves and joins, in the order of their times."""
     moves: list[Command] = []
     initial = initial_nodes(plan, lives)
     for node, spans in enumerate(lives):
-        moves += [Command(life.end, CRASH, node) for life in spans if life.end < plan.top["duration_us"]]
+        ends = [life.end for life in spans if life.end < plan.top["duration_us"]]
+        moves += [Command(end, LEAVE if (node, end) in leaves else CRASH, node) for end in ends]
         moves += [Command(life.begin, JOIN, node) for life in spans[1 if node in initial else 0 :]]
     if len(moves) > GREATEST_COUNT:
         raise too_many("--lifetime")
@@ -159,7 +179,7 @@ class Doors:
     def open(self, move: Command) -> Command:
         """The command with its door, if it is a join; and what it changes of the doors."""
         self.settle(move.at_us - self.plan.top["timeout_us"])
-        if move.do == CRASH:
+        if move.do != JOIN:
             if move.node in self.settled:
                 self.settled.remove(move.node)
             self.fresh.pop(move.node, None)

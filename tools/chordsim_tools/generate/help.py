@@ -26,6 +26,8 @@ their own (lifetime=none: none). --nodes counts all nodes; those that are in no 
 are in groups.
 Arrivals: --arrivals 0.2/s, or arrivals=0.2/s of a group. New nodes come at the times of a Poisson process, live one
 life of their law, and never return. Without a law they stay.
+Leaves: --leaves 900000: of a million ends of lives so many are leaves and not crashes, of both forms of churn and of a
+churn trace. With --churn-uniform this is `leave_ppm`, and otherwise some commands are `leave`.
 Outages: --crash 25%@360s, --crash eu@360s, --crash eu:50%@360s: a share of the nodes that are up by the commands, a
 group, or a share of a group crashes at that time. With --back they join again that much later (of a span each node
 draws its own time), but for those whose own life has ended by then: these come with their next life. Without --back
@@ -74,6 +76,7 @@ examples:
   tools/generate --profile 4 --loss 20000 --retries 2           the same loss, and requests that are sent again
   tools/generate --profile 4 --lifetime exp:10m --join-pause 5s --no-join-forever --check 0
                                                                 joins that end, and no checks of predecessors
+  tools/generate --profile 4 --lifetime exp:10m --leaves 1000000 every node that goes tells its neighbours
   tools/generate --profile 4 --no-goes-on --lookup-timeouts 8   lookups begin again at their node after each silent one
   tools/generate --profile 4 --nodes 4096 --coordinates king --timeout 1s
   tools/generate --lookups 0.5 --keys zipf:0.9:1000 --seed 3

@@ -30,7 +30,8 @@ class Plan:
     """A scenario to be made: the keys of its top table, its nodes, and what happens to them.
 
     The nodes below `initial` begin as members, unless the start is drawn or a churn trace says it. Those below
-    `bootstraps` are bootstrap nodes. The nodes have coordinates, or the list is empty.
+    `bootstraps` are bootstrap nodes. Of a million lives that commands end, `leaves` end with a leave. The nodes have
+    coordinates, or the list is empty.
     """
 
     top: dict[str, int]
@@ -49,6 +50,7 @@ class Plan:
     back: Span | None = None
     are_names: bool = False
     bootstraps: int = 0
+    leaves: int = 0
     notes: tuple[str, ...] = ()
 
     @property
@@ -81,7 +83,7 @@ def check(args: Namespace, parser: Parser) -> Plan:
         hosts=hosts,
         initial=initial,
         stay=stay_of(options, len(first)),
-        churn=churn_of(args.churn_uniform),
+        churn=churn_of(args.churn_uniform, leaves_of(options, profile)),
         via=options.get("via", "random"),
         arrive=arrive_of(options, duration),
         lookups=lookups_of(options),
@@ -93,6 +95,7 @@ def check(args: Namespace, parser: Parser) -> Plan:
         back=options.get("back", None),
         are_names=options.get("ids", "random") == "names",
         bootstraps=bootstraps_of(options, profile, len(first)),
+        leaves=0 if options.has("churn-uniform") else leaves_of(options, profile),
         notes=notes_of(options),
     )
 
@@ -176,12 +179,20 @@ def stay_of(options: Options, nodes: int) -> int:
     return options.whole("stay", min(2, nodes - 1), 0, nodes - 1, " (below --nodes)")
 
 
-def churn_of(spans: list[Given[Span]] | None) -> Churn | None:
-    """The table [churn], from two spans."""
+def leaves_of(options: Options, profile: int) -> int:
+    """Of a million lives how many end with a leave."""
+    options.only_with("leaves", profile == 4, "--profile 4")
+    is_churning = churns(options) or options.has("churn-trace")
+    options.only_with("leaves", is_churning, "--churn-uniform, --lifetime or --churn-trace")
+    return options.get("leaves", 0)
+
+
+def churn_of(spans: list[Given[Span]] | None, leaves: int) -> Churn | None:
+    """The table [churn], from two spans and a number of leaves."""
     if spans is None:
         return None
     life, down = spans
-    return Churn(*life.value, *down.value)
+    return Churn(*life.value, *down.value, leaves)
 
 
 def arrive_of(options: Options, duration: int) -> Span:

@@ -54,6 +54,7 @@ def scenario_files(seed: int) -> tuple[str, str]:
         top |= ways_of(dice, WAYS) | jitters_of(dice) | ways_of(dice, JOINS)
         node_tables = with_few_initial(dice, with_bootstraps(dice, node_tables))
         commands = with_own_joins(dice, commands)
+        rest, commands = with_leaves(dice, rest, commands)
     head = "".join(f"{key} = {value}\n" for key, value in top.items())
     return head + rest + "".join(node_tables) + commands, links
 
@@ -149,6 +150,15 @@ def with_own_joins(dice: Random, commands: str) -> str:
         r'(node = "(n\d+)"\n)via = "n\d+"',
         lambda found: f'{found[1]}via = "{found[2]}"' if dice.random() < share else found[0], commands,
     )
+
+
+def with_leaves(dice: Random, rest: str, commands: str) -> tuple[str, str]:
+    """The tables and commands, by which none, some or all nodes that go leave: by commands, and at ends of lives."""
+    share = dice.choice([0, 0.3, 0.3, 1])
+    commands = re.sub('"crash"', lambda _: '"leave"' if dice.random() < share else '"crash"', commands)
+    ppm = dice.choice([0, 1_000_000, dice.randint(1, 999_999), 500_000])
+    is_written = dice.random() < 0.8
+    return re.sub(r"(down_max_us = \d+\n)", rf"\1leave_ppm = {ppm}\n", rest) if is_written else rest, commands
 
 
 def coordinates(dice: Random, window: int) -> str:

@@ -8,11 +8,12 @@ from typing import Any
 
 from chordsim_tools.draws import Draws
 from chordsim_tools.explain.world_traps import round_told
-from chordsim_tools.generate.commands import CRASH, JOIN, LOOKUP, Command
+from chordsim_tools.generate.commands import CRASH, JOIN, LEAVE, LOOKUP, Command
 from chordsim_tools.generate.idents import of_names, seeded
 from chordsim_tools.generate.plan import Plan
+from chordsim_tools.scenario.reading import Churn
 
-DOES = {CRASH: "crash", JOIN: "join", LOOKUP: "lookup"}
+DOES = {CRASH: "crash", LEAVE: "leave", JOIN: "join", LOOKUP: "lookup"}
 
 
 @dataclass(frozen=True)
@@ -29,12 +30,17 @@ def text_of(plan: Plan, made: Made, arguments: list[str]) -> str:
     """The whole file."""
     tables = [head(plan, made, arguments), table("", plan.top)]
     if plan.churn is not None:
-        tables.append(table("[churn]\n", asdict(plan.churn)))
+        tables.append(table("[churn]\n", churn_of(plan.churn)))
     if plan.lookups is not None:
         tables.append(table("[lookups]\n", asdict(plan.lookups)))
     tables += [node_table(plan, node, made.idents, node in made.initial) for node in range(plan.nodes)]
     tables += [command_table(plan, command) for command in made.commands]
     return "\n".join(tables)
+
+
+def churn_of(churn: Churn) -> dict[str, int]:
+    """The keys of the table [churn]. A scenario whose nodes do not leave has none of leaves."""
+    return {key: value for key, value in asdict(churn).items() if key != "leave_ppm" or value > 0}
 
 
 def document_of(plan: Plan, made: Made) -> dict[str, Any]:
@@ -50,7 +56,7 @@ def document_of(plan: Plan, made: Made) -> dict[str, Any]:
         {"at_us": command.at_us, "do": DOES[command.do], "node": command.node}
         for command in made.commands if command.do != LOOKUP
     ]
-    churn = {} if plan.churn is None else {"churn": asdict(plan.churn)}
+    churn = {} if plan.churn is None else {"churn": churn_of(plan.churn)}
     return {**plan.top, **churn, "node": nodes, "command": moves}
 
 
@@ -58,7 +64,8 @@ def head(plan: Plan, made: Made, arguments: list[str]) -> str:
     """The comment at the head: the arguments, and what they made."""
     command = shlex.join(["tools/generate", *arguments])
     asked = textwrap.wrap(command, 110, break_long_words=False, break_on_hyphens=False)
-    counts = [f"{len([1 for command in made.commands if command.do == do])} {word}" for do, word in DOES.items()]
+    does = [do for do in DOES if do != LEAVE or plan.leaves > 0]
+    counts = [f"{len([1 for command in made.commands if command.do == do])} {DOES[do]}" for do in does]
     lines = [
         "A scenario made by tools/generate. The same words make the same bytes:",
         "",

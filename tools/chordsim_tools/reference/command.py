@@ -11,7 +11,7 @@ from chordsim_tools.files import check_output, read_input
 from chordsim_tools.place import tool
 from chordsim_tools.reference.report import Report
 from chordsim_tools.reference.simulation import Simulation
-from chordsim_tools.reference.state import KINDS
+from chordsim_tools.reference.state import KINDS, Leave
 from chordsim_tools.scenario.reading import Scenario, read_scenario
 from chordsim_tools.scenario.tables import GREATEST_SIZE
 
@@ -69,9 +69,10 @@ def simulate(scenario: Scenario, trace: TextIO | None, messages: bool) -> None:
 def messages_text(simulation: Simulation, report: Report) -> str:
     """Counts the messages made by kind, the lost ones with them; after the first profile also the lost ones alone."""
     lost = report.lost_messages
-    text = "".join(f"sent {kind} {simulation.messages[kind] + lost[kind]}\n" for kind in KINDS.values())
+    kinds = [kind for kind in KINDS.values() if kind != KINDS[Leave] or report.profile == 4]
+    text = "".join(f"sent {kind} {simulation.messages[kind] + lost[kind]}\n" for kind in kinds)
     if report.profile >= 2:
-        text += "".join(f"lost {kind} {lost[kind]}\n" for kind in KINDS.values())
+        text += "".join(f"lost {kind} {lost[kind]}\n" for kind in kinds)
     return text
 
 

@@ -1,8 +1,8 @@
-"""The procedures (docs/rules.md, sections 8.4 to 8.9)."""
+"""The procedures (docs/rules.md, sections 8.4 to 8.10)."""
 
 from chordsim_tools.known import known
 from chordsim_tools.reference.state import (
-    Answer, Attempt, Drawn, GetState, Lookup, Next, Owner, Purpose, Rejoin, Rise, Status, Step, Stuck,
+    Answer, Attempt, Drawn, GetState, Leave, Lookup, Next, Owner, Purpose, Rejoin, Rise, Status, Step, Stuck,
 )
 from chordsim_tools.reference.turn import Turn
 
@@ -13,7 +13,7 @@ JOIN_STEPS = 128
 
 
 class Procedures(Turn):
-    """Node n acts: it searches, looks up, joins, drops silent nodes, and refreshes fingers."""
+    """Node n acts: it searches, looks up, joins, drops silent nodes, refreshes fingers, and leaves."""
 
     # 8.4 Step answer
 
@@ -318,6 +318,16 @@ class Procedures(Turn):
         if self.ways.random_start and first <= last:
             [number] = self.numbers_below(Drawn.FIRST_FINGER, 0, last - first + 1)
             self.n.next_finger = first + number
+
+    # 8.10 Leaves
+
+    def leave(self) -> None:
+        """Leave: n tells its predecessor and its head, unless these are n itself or one node, and is down."""
+        self.line("leave")
+        told = dict.fromkeys(x for x in (self.n.prdc, *self.n.succ[:1]) if x is not None and x != self.n.me)
+        for x in told:
+            self.send(x, Leave(self.n.prdc, list(self.n.succ)))
+        self.down()
 
     # What the rules ask of lists
 

@@ -9,7 +9,9 @@ LINES = (
     ("lost", "lost"), ("busy", "busy"), ("ignored", "ignored"),
 )
 """The numbers that count lines of one kind, and the word of these lines."""
-EXTENDED_LINES = (("again", "again"), ("forgotten", "forget"), ("rescues", "rescue"), ("creates", "create"))
+EXTENDED_LINES = (
+    ("again", "again"), ("forgotten", "forget"), ("leaves", "leave"), ("rescues", "rescue"), ("creates", "create"),
+)
 """Those that the extended profile alone has."""
 
 
@@ -44,7 +46,7 @@ class Report:
             self.times.append(int(fields[7].removeprefix("us=")))
 
     def numbers(self, events: int) -> dict[str, int]:
-        """The 24 numbers, in their order; in the second profile a 25th, in the extended one also the 26th to 30th."""
+        """The 24 numbers, in their order; in the second profile a 25th, in the extended one also the 26th to 31st."""
         numbers = {"events": events}
         for word, kind in LINES:
             numbers[word] = self.lines[kind]

@@ -6,9 +6,9 @@ from typing import cast
 from chordsim_tools.known import known
 from chordsim_tools.reference.procedures import JOIN_STEPS, Procedures
 from chordsim_tools.reference.state import (
-    ASKS_FOR, KINDS, Body, Call, CheckTick, CmdCrash, CmdJoin, CmdLookup, Event, FingerTick, GetList, GetState, LifeEnd,
-    ListReply, Lookup, Next, Node, Notify, Owner, Ping, Pong, Purpose, Rejoin, Reply, Request, Rise, StabilizeTick,
-    StateReply, Status, Step, StepReply, Timeout, TrafficTick,
+    ASKS_FOR, KINDS, Body, Call, CheckTick, CmdCrash, CmdJoin, CmdLeave, CmdLookup, Drawn, Event, FingerTick, GetList,
+    GetState, Leave, LifeEnd, ListReply, Lookup, Next, Node, Notify, Owner, Ping, Pong, Purpose, Rejoin, Reply, Request,
+    Rise, StabilizeTick, StateReply, Status, Step, StepReply, Timeout, TrafficTick,
 )
 from chordsim_tools.reference.turn import World
 
@@ -32,6 +32,13 @@ class Rules(Procedures):
         else:
             self.line("crash")
             self.down()
+
+    def cmd_leave(self, _: CmdLeave) -> None:
+        """CmdLeave. No Rise is set."""
+        if self.n.status == Status.DOWN:
+            self.line("ignored leave")
+        else:
+            self.leave()
 
     def cmd_lookup(self, body: CmdLookup) -> None:
         """CmdLookup, with a key."""
@@ -86,11 +93,21 @@ class Rules(Procedures):
     def life_end(self, body: LifeEnd) -> None:
         """LifeEnd."""
         if body.epoch != self.n.epoch or self.n.status == Status.DOWN or not self.is_churn():
-            pass
+            return
+        if self.is_leave(body.epoch):
+            self.leave()
         else:
             self.line("crash")
             self.down()
-            self.set_rise()
+        self.set_rise()
+
+    def is_leave(self, epoch: int) -> bool:
+        """Whether the end of the life of this epoch is a leave. Nothing is drawn if leave_ppm is 0."""
+        leave_ppm = known(self.world.scenario.churn).leave_ppm
+        if leave_ppm == 0:
+            return False
+        [number] = self.numbers_below(Drawn.LEAVE, epoch, 1_000_000)
+        return number < leave_ppm
 
     def rise(self, body: Rise) -> None:
         """Rise."""
@@ -169,7 +186,7 @@ class Rules(Procedures):
     # Requests
 
     def request(self, body: Request, q: int) -> None:
-        """A request or notify: dropped if n is not a Member."""
+        """A request, notify or leave: dropped if n is not a Member."""
         if self.n.status != Status.MEMBER:
             self.line(f"drop {KINDS[type(body)]} {self.name(q)}")
         else:
@@ -198,6 +215,16 @@ class Rules(Procedures):
             self.n.prdc = q
         elif q != prdc and not self.has_call(Purpose.PING, Purpose.CHECK):
             self.call(Ping, prdc, Purpose.PING, because=q)
+
+    def left(self, body: Leave, q: int) -> None:
+        """Leave, with a predecessor or none, and a list."""
+        n = self.n
+        if q in n.succ:
+            others = [x for x in n.succ if x != q]
+            n.succ = self.cut([*others, *(x for x in body.succ if x != q and x not in others)])
+        if n.prdc == q:
+            n.prdc = None if body.prdc == q else body.prdc
+        self.drop(q)
 
     # Replies
 
@@ -264,6 +291,7 @@ class Rules(Procedures):
 COMMANDS_AND_TIMERS: dict[type, Callable[..., None]] = {
     CmdJoin: Rules.cmd_join,
     CmdCrash: Rules.cmd_crash,
+    CmdLeave: Rules.cmd_leave,
     CmdLookup: Rules.cmd_lookup,
     StabilizeTick: Rules.stabilize_tick,
     FingerTick: Rules.finger_tick,
@@ -280,6 +308,7 @@ REQUESTS: dict[type, Callable[..., None]] = {
     GetList: Rules.get_list,
     Ping: Rules.ping,
     Notify: Rules.notify,
+    Leave: Rules.left,
 }
 REPLIES: dict[type, Callable[..., None]] = {
     StepReply: Rules.step_reply,

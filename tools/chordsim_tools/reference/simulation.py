@@ -10,7 +10,7 @@ from chordsim_tools.known import known
 from chordsim_tools.reference.audits import audit_line, audit_times
 from chordsim_tools.reference.procedures import Procedures
 from chordsim_tools.reference.rules import act
-from chordsim_tools.reference.state import KINDS, Body, CmdCrash, CmdJoin, CmdLookup, Event, Node, Status
+from chordsim_tools.reference.state import KINDS, Body, CmdCrash, CmdJoin, CmdLeave, CmdLookup, Event, Node, Status
 from chordsim_tools.reference.turn import World
 from chordsim_tools.scenario.reading import Command, Scenario
 
@@ -77,6 +77,8 @@ def body_of(command: Command) -> Body:
             return CmdJoin(known(command.via))
         case "crash":
             return CmdCrash()
+        case "leave":
+            return CmdLeave()
         case _:
             return CmdLookup(known(command.key))
 

@@ -39,6 +39,7 @@ class Drawn(IntEnum):
     MESSAGE = 7
     CHECK_TICK = 8
     FIRST_FINGER = 9
+    LEAVE = 10
 
 
 @dataclass(slots=True)
@@ -135,6 +136,11 @@ class CmdJoin:
 @dataclass(slots=True)
 class CmdCrash:
     """Crash."""
+
+
+@dataclass(slots=True)
+class CmdLeave:
+    """Leave."""
 
 
 @dataclass(slots=True)
@@ -241,6 +247,14 @@ class Notify:
     """I may be your predecessor."""
 
 
+@dataclass(slots=True)
+class Leave:
+    """I leave, and this is my predecessor, if I have one, and my successor list."""
+
+    prdc: int | None
+    succ: list[int]
+
+
 # Replies.
 
 
@@ -276,9 +290,9 @@ class Pong:
     call: int
 
 
-Command = CmdJoin | CmdCrash | CmdLookup
+Command = CmdJoin | CmdCrash | CmdLeave | CmdLookup
 Timer = StabilizeTick | FingerTick | TrafficTick | LifeEnd | Rise | CheckTick | Rejoin | Timeout
-Request = Step | GetState | GetList | Ping | Notify
+Request = Step | GetState | GetList | Ping | Notify | Leave
 Reply = StepReply | StateReply | ListReply | Pong
 Message = Request | Reply
 Body = Command | Timer | Message
@@ -289,6 +303,7 @@ KINDS: dict[type, str] = {
     GetList: "get-list",
     Ping: "ping",
     Notify: "notify",
+    Leave: "leave",
     StepReply: "step-reply",
     StateReply: "state-reply",
     ListReply: "list-reply",

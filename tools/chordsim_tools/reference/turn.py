@@ -4,8 +4,8 @@ from chordsim_tools.known import known
 from chordsim_tools.reference.chacha import Stream
 from chordsim_tools.reference.circle import Circle
 from chordsim_tools.reference.state import (
-    KINDS, REQUEST_OF, Body, Call, CheckTick, Drawn, Event, FingerTick, LifeEnd, ListReply, Lookup, Message, Node,
-    Notify, Pong, Purpose, StabilizeTick, StateReply, StepReply, Timeout, TrafficTick,
+    KINDS, REQUEST_OF, Body, Call, CheckTick, Drawn, Event, FingerTick, Leave, LifeEnd, ListReply, Lookup, Message,
+    Node, Notify, Pong, Purpose, StabilizeTick, StateReply, StepReply, Timeout, TrafficTick,
 )
 from chordsim_tools.scenario.reading import Scenario
 
@@ -162,13 +162,15 @@ class Turn:
     # 8.2 Telling of messages
 
     def tell(self) -> None:
-        """Tells of the messages that the event made, if `detail = true`: a line for each Timeout, reply and notify."""
+        """Tells of the messages that the event made, if `detail = true`: of each request, reply, notify and leave.
+
+        The line of a request is that of its Timeout."""
         if not self.world.scenario.detail:
             return
         for event in self.events:
             if isinstance(event.body, Timeout):
                 self.tell_of_request(self.n.calls[event.body.call])
-            elif isinstance(event.body, StepReply | StateReply | ListReply | Pong | Notify):
+            elif isinstance(event.body, (StepReply, StateReply, ListReply, Pong, Notify, Leave)):
                 self.line(f"send {KINDS[type(event.body)]} {self.name(event.target)}")
 
     def tell_of_request(self, call: Call) -> None:

@@ -42,6 +42,7 @@ class Churn:
     life_max_us: int
     down_min_us: int
     down_max_us: int
+    leave_ppm: int = 0
 
 
 @dataclass(frozen=True)

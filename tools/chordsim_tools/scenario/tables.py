@@ -14,6 +14,8 @@ BILLION = 1_000_000_000
 GREATEST_INTEGER = 2**63 - 1
 GREATEST_SIZE = 16_777_216
 ACTIONS = ("join", "crash", "lookup")
+EXTENDED_ACTIONS = (*ACTIONS, "leave")
+"""What commands do in the extended profile."""
 
 
 class NotToml(Refused):
@@ -31,7 +33,7 @@ class NotToml(Refused):
 class Key:
     """A key of a table: its type, its range (of an ID: how many digits its text has) and whether it is required.
 
-    `missing` are the numbers of the range that are not allowed.
+    `missing` are the numbers of the range that are not allowed. `among` are the texts that are, if not all are.
     """
 
     name: str
@@ -40,6 +42,7 @@ class Key:
     greatest: int = GREATEST_INTEGER
     required: bool = True
     missing: tuple[int, ...] = ()
+    among: tuple[str, ...] = ()
 
 
 @dataclass
@@ -125,6 +128,8 @@ COORDINATES = [
 OF_NODES = [Key("bootstrap", "boolean", required=False), *COORDINATES]
 """The keys of a node that the extended profile alone has."""
 CHURN = [Key(f"{word}_us", "integer", 1, BILLION) for word in ("life_min", "life_max", "down_min", "down_max")]
+LEAVES = [Key("leave_ppm", "integer", 0, 1_000_000, required=False)]
+"""The key of [churn] that the extended profile alone has."""
 LOOKUPS = [Key(f"{word}_us", "integer", 1, BILLION) for word in ("gap_min", "gap_max")]
 
 
@@ -155,11 +160,11 @@ def node_keys(digits: int, further: list[Key]) -> list[Key]:
     ]
 
 
-def command_keys(digits: int) -> list[Key]:
-    """The keys of a command, whose key has at most this number of hexadecimal digits."""
+def command_keys(digits: int, actions: tuple[str, ...]) -> list[Key]:
+    """The keys of a command that does one of these, and whose key has at most this number of hexadecimal digits."""
     return [
         Key("at_us", "integer", 0, 1000 * BILLION),
-        Key("do", "text"),
+        Key("do", "text", among=actions),
         Key("node", "text"),
         Key("via", "text", required=False),
         Key("key", "id", 1, digits, required=False),
@@ -169,14 +174,16 @@ def command_keys(digits: int) -> list[Key]:
 class Profile:
     """The keys of all tables in a profile: `tables` has them by the kind of the table."""
 
-    def __init__(self, top: list[Key], digits: int, of_nodes: list[Key]) -> None:
-        """The profile with these keys at the top, these digits of an identifier, and these further keys of a node."""
+    def __init__(self, top: list[Key], digits: int, of_nodes: list[Key], has_leaves: bool = False) -> None:
+        """The profile with these keys at the top, these digits of an identifier, and these further keys of a node.
+
+        Nodes may leave, or only crash."""
         self.tables = {
             "top": top,
-            "churn": CHURN,
+            "churn": [*CHURN, *LEAVES] if has_leaves else CHURN,
             "lookups": LOOKUPS,
             "node": node_keys(digits, of_nodes),
-            "command": command_keys(digits),
+            "command": command_keys(digits, EXTENDED_ACTIONS if has_leaves else ACTIONS),
         }
 
     def greatest(self, name: str) -> int:
@@ -187,7 +194,7 @@ class Profile:
 FIRST = Profile(top_keys(64, 16, 512, 50_000_000, []), 16, [])
 SECOND = Profile(top_keys(128, 16, 4096, 50_000_000, NETWORK), 32, [])
 EXTENDED = Profile(
-    top_keys(128, 32, 65_536, 100_000_000_000, [*NETWORK, *PATIENCE, *WAYS]), 32, OF_NODES
+    top_keys(128, 32, 65_536, 100_000_000_000, [*NETWORK, *PATIENCE, *WAYS]), 32, OF_NODES, has_leaves=True
 )
 PROFILES = {1: FIRST, 2: SECOND, 4: EXTENDED}
 
@@ -269,7 +276,7 @@ def is_in_own_range(value: Any, key: Key) -> bool:
         return bool(key.least <= len(value) <= key.greatest)
     if key.kind == "id":
         return value >= 0 if isinstance(value, int) else is_hexadecimal(value, key.greatest)
-    return key.name != "do" or value in ACTIONS
+    return not key.among or value in key.among
 
 
 def is_hexadecimal(text: str, digits: int) -> bool:

@@ -7,9 +7,10 @@ from dataclasses import dataclass
 
 LINE = re.compile(
     rb"^(\d+) ([^ \n]+) (?:ask (?:step|(get-state)) ([^ \n]+) call=(\d+)(?: (key=[^\n]+))?"
-    rb"|lookup (\d+)|(?:found|lost) (\d+)[^\n]* timeouts=(\d+) us=(\d+)|(crash))$", re.MULTILINE
+    rb"|lookup (\d+)|(?:found|lost) (\d+)[^\n]* timeouts=(\d+) us=(\d+)|(crash|leave))$", re.MULTILINE
 )
-"""A request for a step or a state, with the lookup that it is of; begin and end of a lookup; a crash of its asker."""
+"""A request for a step or a state, with the lookup that it is of; begin and end of a lookup; the end of its asker's
+life."""
 
 
 @dataclass(slots=True)
@@ -34,7 +35,7 @@ class AskLines:
     def read(self, lines: bytes) -> int:
         """Takes whole lines of a trace; gives how many messages they add."""
         count, nobody = 0, Asked()
-        for time, node, state, asked, call, lookup, begun, ended, timeouts, taken, crash in LINE.findall(lines):
+        for time, node, state, asked, call, lookup, begun, ended, timeouts, taken, goes in LINE.findall(lines):
             if lookup:
                 one = self.open.get(node, {}).get(lookup)
                 if one is not None:
@@ -49,7 +50,7 @@ class AskLines:
                 begin = int(time) - int(taken)
                 one = self.open.get(node, {}).pop(b"key=%b since=%d" % (ended, begin), nobody)
                 count += max(0, one.calls - int(timeouts))
-            elif crash:
+            elif goes:
                 self.open.pop(node, None)
         return count
 

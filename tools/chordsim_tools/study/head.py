@@ -80,7 +80,7 @@ def bytes_told(found: list[Summary]) -> str:
 def warnings(manifest: dict[str, Any], found: list[Summary]) -> list[str]:
     """What a reader has to know before the table."""
     told = []
-    moves = [f"{manifest['commands'][do]} {do}" for do in ("crash", "join") if manifest["commands"].get(do)]
+    moves = [f"{manifest['commands'][do]} {do}" for do in ("crash", "leave", "join") if manifest["commands"].get(do)]
     if moves and manifest["generate"] is None:
         told.append(f"The commands ({listed(moves)}) are the same in all seeds: intervals leave the churn out.")
     if min(one.seeds for one in found) < LEAST_SEEDS:
@@ -96,7 +96,7 @@ def warnings(manifest: dict[str, Any], found: list[Summary]) -> list[str]:
         told.append(estimated(found))
     told += [*churn_trap(manifest["generate"], manifest["vary"]), *round_traps(manifest)]
     if manifest["warmup_us"] == 0 and (manifest["own_churn"] or moves):
-        told.append("Without warmup_us the time before the first crashes is judged too.")
+        told.append("Without warmup_us the time before the first departures is judged too.")
     return told
 
 

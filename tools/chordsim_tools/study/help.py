@@ -81,13 +81,13 @@ Runs `chordsim run --serial` for each setting and seed and writes into FOLDER:
                  judged-found, judged-lost    ... of these, answered and given up
                  right, wrong     answers of these: right is the first member at or after the key, clockwise, at the
                                   time of the answer. Members are the initial nodes and those with a line `member`,
-                                  until their line `crash` or `stranded`.
+                                  until their line `crash`, `leave` or `stranded`.
                  us-p50 ... hops-p99    percentiles 50, 90, 99 of time and hops of the found ones (nearest rank)
                  all-us-p50 ...   percentiles 50, 90, 99, 99.9 of the time of all (Kaplan-Meier; given up is `never`)
                  ended-us, ended-hops, ended-timeouts    sums of the lookups that were answered or given up
                  right-defensible right at some instant while the lookup ran
                  wrong-down, wrong-newcomer    wrong answers that name no member, or miss a nearer one
-                 cut-by-crash, cut-by-end      lookups whose asker crashed, and those that the end cut off
+                 cut-by-crash, cut-by-end      lookups whose asker crashed or left, and those that the end cut off
                  judged-audits    audits after warmup_us
                  mean-members     the mean number of members in these
                  whole-rings      ... with a ring of all members that goes once around

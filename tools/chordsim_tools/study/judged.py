@@ -84,8 +84,8 @@ class Judged:
         self.ended_us += taken
         return hops
 
-    def crash(self, time: int, name: str) -> None:
-        """A node crashes: its lookups are cut off."""
+    def go(self, time: int, name: str) -> None:
+        """A node crashes or leaves: its lookups are cut off."""
         self.cut_by_crash += self.cut(time, self.open.pop(name, []))
 
     def cut(self, time: int, begins: Iterable[int]) -> int:

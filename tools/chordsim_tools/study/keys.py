@@ -10,7 +10,7 @@ from chordsim_tools.explain.hints import close_to
 from chordsim_tools.generate.arguments import OPTIONS
 from chordsim_tools.place import tool
 from chordsim_tools.quantities import UNITS, time_of
-from chordsim_tools.scenario.tables import CHURN, EXTENDED, GREATEST_INTEGER, LOOKUPS, Key
+from chordsim_tools.scenario.tables import EXTENDED, GREATEST_INTEGER, Key
 
 Value = int | str
 """A value that is varied: an integer, or a text: of an option of tools/generate, or `true` or `false`."""
@@ -27,7 +27,7 @@ def varied_keys() -> set[str]:
         """The integers among these keys."""
         return [key.name for key in keys if key.kind == "integer"]
 
-    tables = {f"{table}.{name}" for table, keys in (("churn", CHURN), ("lookups", LOOKUPS)) for name in names(keys)}
+    tables = {f"{table}.{name}" for table in ("churn", "lookups") for name in names(EXTENDED.tables[table])}
     return (set(names(EXTENDED.tables["top"])) | tables | BOOLEANS) - {"seed"}
 
 

@@ -177,7 +177,8 @@ def estimate(traffic: Traffic, span: Span) -> dict[str, int]:
     rest = span.events - span.timers(traffic) - notifies + traffic.lines["lose notify"]
     lost_replies = traffic.sum_of("lose", tuple(REPLIES.values()))
     calls = (rest + 2 * lost + dropped + lost_replies) / (2 + span.timed_out(traffic))
-    requests = {"notify": notifies, "ping": float(traffic.unanswered("ping"))}
+    # Nodes of these profiles do not leave.
+    requests = {"notify": notifies, "ping": float(traffic.unanswered("ping")), "leave": 0.0}
     # A new member asks for a list, and the one before it does.
     lists = 2.0 * traffic.lines["member"] + traffic.found_again()
     for kind, answered in (("get-state", notifies), ("get-list", lists)):

@@ -25,7 +25,7 @@ NOTES = {
         "**served**: right answers, of the lookups wanted. No seed is left out: rings that were lost count with what "
         "they served. Wanted are the lookups begun or refused, "
         "and those that were planned for a node that is up but no member. Such a node also wants one for each mean gap "
-        "of `[lookups]`. A node is up from the start or a join until its crash, even if its join has failed.",
+        "of `[lookups]`. A node is up from the start or a join until its crash or leave, even if its join has failed.",
     "right_of_begun":
         "**right of begun**: lookups whose answer names the right owner at the time of the answer (the strict view), "
         "of those that ended while their asker was up.",
@@ -34,8 +34,8 @@ NOTES = {
         "as right of begun.",
     "given_up": "**given up**: lookups that ended without an answer, of the same ones as right of begun.",
     "cut_off":
-        "**cut off**: lookups whose asker crashed before they ended, of all lookups begun. They are in none of right "
-        "of begun, defensible and given up, but count as wanted.",
+        "**cut off**: lookups whose asker crashed or left before they ended, of all lookups begun. They are in none of "
+        "right of begun, defensible and given up, but count as wanted.",
     "mean_ms":
         "**mean time**: the mean time of the lookups that ended while their asker was up. One that was given up counts "
         "with the time until it was given up.",

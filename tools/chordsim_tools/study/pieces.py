@@ -25,7 +25,7 @@ def cell_of(values: Iterable[int]) -> str:
 
 
 class Pieces:
-    """Reads the lines of a trace. Lookups count by their begin; those that a crash or the end cuts off are left out."""
+    """Reads the lines of a trace. Lookups count by their begin; those that are cut off are left out."""
 
     def __init__(self, scope: Scope, members: Members) -> None:
         """No lookups yet. The members are those of the reader of the trace, which reads each line before."""
@@ -39,7 +39,7 @@ class Pieces:
     def read(self, line: str) -> None:
         """Takes one line."""
         fields = line.split(" ")
-        if fields[2] in ("member", "create", "crash", "stranded"):
+        if fields[2] in ("member", "create", "crash", "leave", "stranded"):
             self.member_time.change(int(fields[0]), len(self.members.places) - self.member_time.count)
         elif fields[2] in ("found", "lost"):
             self.end(int(fields[0]), fields)

@@ -25,7 +25,7 @@ from chordsim_tools.study.progress import RunProgress
 from chordsim_tools.study.record import write_record
 from chordsim_tools.study.refused import refusal
 from chordsim_tools.study.setting_traps import tell_traps
-from chordsim_tools.study.sizes import check_not_negative
+from chordsim_tools.study.sizes import check_leaves, check_not_negative
 from chordsim_tools.study.starts import start_traps
 from chordsim_tools.study.task import Task, result_of
 from chordsim_tools.study.worlds import argument_traps, latency_of, scenario_of
@@ -248,4 +248,6 @@ def check_settings(runs: list[Run], program: Path) -> None:
                 Program(program, run.scenario(), run.latency()).check()
             except Failure as fault:
                 raise refusal(run.study, run.setting, run.task, fault) from None
-            check_not_negative(run.study.path, run.study.sizes, tomllib.loads(run.task.scenario))
+            top = tomllib.loads(run.task.scenario)
+            check_not_negative(run.study.path, run.study.sizes, top)
+            check_leaves(run.study.path, run.study.sizes, top)

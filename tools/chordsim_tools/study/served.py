@@ -1,7 +1,8 @@
 """What the world wanted of a ring: nodes that are up, members among them, and the lookups that these would begin.
 
-A node is up from the start if it is initial, or from its line `join`, until its line `crash` or `ignored crash`: so one
-whose join has failed is up until the crash that was planned for it, and its demand does not vanish."""
+A node is up from the start if it is initial, or from its line `join`, until its line `crash` or `leave`, or until one
+of these is `ignored`: so one whose join has failed is up until the departure that was planned for it, and its demand
+does not vanish."""
 
 from collections.abc import Iterable
 from dataclasses import dataclass, replace
@@ -107,11 +108,11 @@ class Population:
                 set_state(self.is_member, self.members, time, name, False)
             case "join-failed" if not self.join_forever:
                 set_state(self.is_alive, self.alive, time, name, False)
-            case "crash":
+            case "crash" | "leave":
                 set_state(self.is_up, self.up, time, name, False)
                 set_state(self.is_alive, self.alive, time, name, False)
                 set_state(self.is_member, self.members, time, name, False)
-            case "ignored" if rest == "crash":
+            case "ignored" if rest in ("crash", "leave"):
                 set_state(self.is_up, self.up, time, name, False)
 
     def end(self, time: int) -> None:

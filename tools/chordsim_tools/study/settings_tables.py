@@ -68,7 +68,7 @@ def span_numbers(tables: Tables, span: str) -> list[str]:
 
 
 def cut_off(cells: Cells) -> float | None:
-    """The share of a run's lookups that were cut off by a crash."""
+    """The share of a run's lookups that were cut off by a crash or a leave."""
     return ratio(cells, "cut-by-crash", "judged-lookups")
 
 

@@ -11,14 +11,18 @@ from chordsim_tools.study.estimates import most_off
 from chordsim_tools.study.formula import ALLOWED, BadFormula, value_of
 
 Sizes = dict[str, int | str]
+LEAVE = "leave"
+NEEDED = tuple(kind for kind in MESSAGES if kind != LEAVE)
+"""The kinds that need a size in each study. A study in which no node leaves may do without that of a leave."""
 LEAST_KEYS = {"list": 1, "bits": 3}
 """The least values of the keys that formulas name. They are as good as any to read a formula with."""
 
 
 def sizes_of(path: Path, table: Any) -> Sizes:
-    """The table of a study file: empty, or a size of each kind."""
-    if not isinstance(table, dict) or (table and set(table) != set(MESSAGES)):
-        raise Refused(f"{path}: [sizes] has to give the bytes of a message of each kind: {', '.join(MESSAGES)}")
+    """The table of a study file: empty, or a size of each kind; `check_leaves` sees to that of a leave."""
+    if not isinstance(table, dict) or (table and set(table) - {LEAVE} != set(NEEDED)):
+        told = f"{', '.join(NEEDED)}, and {LEAVE} if nodes leave"
+        raise Refused(f"{path}: [sizes] has to give the bytes of a message of each kind: {told}")
     for kind, size in table.items():
         check_size(path, kind, size)
     return dict(table)
@@ -50,6 +54,14 @@ def check_not_negative(path: Path, sizes: Sizes, top: Mapping[str, Any]) -> None
             raise Refused(f"{path}: [sizes] {kind} = {size!r} is below 0 with {where}")
 
 
+def check_leaves(path: Path, sizes: Sizes, top: Mapping[str, Any]) -> None:
+    """Fails if nodes of a scenario leave, and sizes have none of a leave."""
+    by_command = any(one["do"] == "leave" for one in top.get("command", []))
+    by_itself = top.get("churn", {}).get("leave_ppm", 0) > 0
+    if sizes and LEAVE not in sizes and (by_command or by_itself):
+        raise Refused(f"{path}: [sizes] {LEAVE} is required: the bytes of a message of this kind, since nodes leave")
+
+
 def sizes_in(sizes: Sizes, numbers: Mapping[str, Any]) -> dict[str, int]:
     """The sizes in a run with these numbers."""
     # Older tables do not have these two, and their sizes are numbers.
@@ -59,7 +71,8 @@ def sizes_in(sizes: Sizes, numbers: Mapping[str, Any]) -> dict[str, int]:
 
 def bytes_of(sizes: Sizes, numbers: Mapping[str, Any]) -> int:
     """The bytes of a run with these numbers."""
-    return sum(size * int(numbers[f"sent-{kind}"]) for kind, size in sizes_in(sizes, numbers).items())
+    # Older tables do not have the leaves, of which their runs have none.
+    return sum(size * int(numbers.get(f"sent-{kind}", 0)) for kind, size in sizes_in(sizes, numbers).items())
 
 
 def bytes_error(sizes: Sizes, numbers: Mapping[str, Any]) -> int:

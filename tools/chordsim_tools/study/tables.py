@@ -22,7 +22,7 @@ VERSION = 2
 FRESH = "confirm.csv"
 SERIES = ("lookups", "found", "right", "members", "ended", "right-of-ended", "wanted")
 """The columns of series.csv."""
-LATER = ("losses", "again", "forgotten", "rescues", "creates", "timeouts-sum")
+LATER = ("losses", "again", "forgotten", "leaves", "rescues", "creates", "timeouts-sum")
 """The numbers that only reports of later profiles have, in their order."""
 OWN_FILES = ("tools/study", "tools/chordsim_tools/study")
 Row = tuple[Setting, int, dict[str, Any]]

@@ -49,7 +49,7 @@ class TraceReader:
                 self.lost(time, fields)
             case "busy":
                 self.refuse(time, fields[1])
-            case "join" | "member" | "create" | "crash" | "stranded" | "join-failed" | "ignored":
+            case "join" | "member" | "create" | "crash" | "leave" | "stranded" | "join-failed" | "ignored":
                 self.move(time, fields)
 
     def lookup(self, time: int, name: str) -> None:
@@ -101,7 +101,7 @@ class TraceReader:
             view.move(time, fields)
         if word in ("member", "create"):
             self.members.add(name, time)
-        elif word in ("crash", "stranded"):
+        elif word in ("crash", "leave", "stranded"):
             self.members.remove(name, time)
         if word == "stranded" and self.stranded_at is None:
             self.stranded_at = time

@@ -26,8 +26,8 @@ class View:
         if word == "ignored" and rest == ["lookup"]:
             self.judged.refuse(time, name, self.population)
         self.population.read(time, name, word, rest[0] if rest else None)
-        if word == "crash":
-            self.judged.crash(time, name)
+        if word in ("crash", "leave"):
+            self.judged.go(time, name)
 
     def end(self) -> None:
         """The run ends."""

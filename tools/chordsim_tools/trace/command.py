@@ -30,9 +30,10 @@ it prints a summary. docs/trace.md says what each number means.
 
 An answer is right, strictly, if the node that it names is the first member at or after the key, clockwise, when the
 answer arrives. It is defensible if the node was that at some instant while the lookup ran. Members are the initial
-nodes and those with a line `member`, until their line `crash` or `stranded`. A trace that ends early, as that of a run
-that failed, is told as far as it goes, with a report of its lines: all numbers of the report but `events`. A trace with
-a line that cannot be of a run of the scenario is refused, and so is a report that is empty or of another run.
+nodes and those with a line `member`, until their line `crash`, `leave` or `stranded`. A trace that ends early, as that
+of a run that failed, is told as far as it goes, with a report of its lines: all numbers of the report but `events`. A
+trace with a line that cannot be of a run of the scenario is refused, and so is a report that is empty or of another
+run.
 
 If the scenario has `detail = true`, the summary counts the messages of each kind, and the stories name each request."""
 EXAMPLES = """\

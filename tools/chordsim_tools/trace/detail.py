@@ -7,16 +7,17 @@ from chordsim_tools.messages import REPLIES
 from chordsim_tools.quantities import time_of
 from chordsim_tools.trace.history import Join
 from chordsim_tools.trace.lines import (
-    CHANGES, CODES, COMES_IN, CRASH, FOUND, JOIN, JOIN_FAILED, LOOKUP, LOST, STRANDED, TIMEOUT, Lookup,
+    CHANGES, CODES, COMES_IN, FOUND, GOES, JOIN, JOIN_FAILED, LOOKUP, LOST, STRANDED, TIMEOUT, Lookup,
 )
 from chordsim_tools.trace.reading import Run
 from chordsim_tools.trace.requests import Call, calls_of
 from chordsim_tools.trace.wording import counted, seconds, timed
 
 JOINED = {
-    "done": "is a member", "failed": "gives up", "crash": "crashes", "open": "still joins when the trace ends",
+    "done": "is a member", "failed": "gives up", "crash": "crashes", "leave": "leaves",
+    "open": "still joins when the trace ends",
 }
-ENDS = {"done": COMES_IN, "failed": {JOIN_FAILED}, "crash": {CRASH}}
+ENDS = {"done": COMES_IN, "failed": {JOIN_FAILED}, **{word: {kind} for word, kind in GOES.items()}}
 OF_JOINS = frozenset(
     CODES[f"{word} {kind}"] for word in ("again", "lose") for kind in ("step", "get-list", "get-state")
 )
@@ -79,7 +80,7 @@ def lookup_requests(run: Run, one: Lookup) -> Iterator[str]:
         if (call.key, call.start) == (one.key, one.begin) and begin < call.sendings[0].at < max(end)
     ]
     known = [begin, *(at for at in end if at < len(run.history.lines.times))]
-    yield from search_story(run, known, calls, one.end, one.outcome == "crash" or len(end) > 1)
+    yield from search_story(run, known, calls, one.end, one.outcome in GOES or len(end) > 1)
     same = [other for other in run.history.lines.lookups if (other.node, other.key, other.begin) == (
         one.node, one.key, one.begin)]
     if len(same) > 1:
@@ -96,7 +97,7 @@ def lookup_places(run: Run, one: Lookup) -> tuple[int, list[int]]:
             begin = at
         elif kind in (FOUND, LOST) and other == one.number:
             return begin, [*stranding(run, at), at]
-        elif kind == CRASH and one.outcome == "crash" and lines.times[at] == one.end:
+        elif kind == GOES.get(one.outcome) and lines.times[at] == one.end:
             return begin, [at]
     return begin, [len(lines.times)]
 
@@ -155,7 +156,7 @@ def join_story(run: Run, spec: str) -> list[str]:
         without = "(the scenario has no `detail = true`: the trace does not say which nodes it asked)"
         return [*told, *marked_lines(run, own, []), "", without]
     calls = [call for call in calls_of(run, join.node) if begin < call.sendings[0].at < last]
-    return [*told, *search_story(run, own, calls, join.end, join.outcome == "crash")]
+    return [*told, *search_story(run, own, calls, join.end, join.outcome in GOES)]
 
 
 def removal_story(run: Run, name: str) -> list[str]:

@@ -5,7 +5,7 @@ from dataclasses import dataclass
 
 from chordsim_tools.members import Members
 from chordsim_tools.scenario.reading import Scenario
-from chordsim_tools.trace.lines import CHANGES, CODES, NOBODY, Audit, Lines, Lookup
+from chordsim_tools.trace.lines import CHANGES, CODES, GOES, NOBODY, Audit, Lines, Lookup
 
 DOWN, JOINING, MEMBER, STRANDED = range(4)
 OF_LOOKUPS = ("step", "get-state")
@@ -14,7 +14,7 @@ OF_LOOKUPS = ("step", "get-state")
 
 @dataclass(slots=True)
 class Join:
-    """A node joins, by a line `join`, or again by a line `stranded`. It is done, failed, crash or open.
+    """A node joins, by a line `join`, or again by a line `stranded`. It is done, failed, crash, leave or open.
 
     If joins do not end by failures, a line `join-failed` leaves it open, and `went_on` counts these lines."""
 
@@ -28,7 +28,7 @@ class Join:
 
 @dataclass(slots=True)
 class Life:
-    """A node is up: from the start or a line `join` until a line `crash`, or a `join-failed` that ends the join."""
+    """A node is up: from the start or a line `join` until its crash or leave, or a `join-failed` that ends the join."""
 
     begin: int
     end: int | None = None
@@ -107,7 +107,7 @@ class History:
         """A line that changes what a node is."""
         if CODES[kind] not in CHANGES:
             raise ValueError(f"{kind} needs more words")
-        alone = kind in ("crash", "join-failed", "create")
+        alone = kind in ("crash", "leave", "join-failed", "create")
         self.keep(time, node, kind, fields, 3 if alone else 4, NOBODY if alone else None)
         name = self.names[node]
         match kind:
@@ -125,11 +125,11 @@ class History:
                 self.begins_to_join(time, node, STRANDED)
             case "join-failed":
                 self.join_failed(time, node)
-            case "crash":
+            case "crash" | "leave":
                 self.members.remove(name, time)
-                self.ends_to_join(time, node, "crash", DOWN)
+                self.ends_to_join(time, node, kind, DOWN)
                 self.lives[node][-1].end = time
-                self.asker_crashes(time, node)
+                self.asker_goes(time, node, kind)
 
     def begins_to_join(self, time: int, node: int, status: int) -> None:
         """A node joins, or joins again."""
@@ -143,7 +143,7 @@ class History:
     def ends_to_join(self, time: int, node: int, outcome: str, status: int) -> None:
         """A node joins no longer, if it did."""
         before = self.status[node]
-        if before == DOWN or (before == MEMBER and outcome != "crash"):
+        if before == DOWN or (before == MEMBER and outcome not in GOES):
             raise ValueError(f"the node was {'down' if before == DOWN else 'a member'}")
         self.status[node] = status
         join = self.joining.pop(node, None)
@@ -166,11 +166,11 @@ class History:
             self.lives[node][-1].end = None
         self.ends_to_join(time, node, "done", MEMBER)
 
-    def asker_crashes(self, time: int, node: int) -> None:
-        """The lookups of a node are cut off."""
+    def asker_goes(self, time: int, node: int, outcome: str) -> None:
+        """The lookups of a node are cut off, by a crash or a leave."""
         for waiting in self.open[node].values():
             for one in waiting:
-                one.end, one.outcome = time, "crash"
+                one.end, one.outcome = time, outcome
         self.open[node].clear()
 
     def lookup(self, time: int, node: int, fields: list[str]) -> None:

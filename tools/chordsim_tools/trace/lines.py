@@ -8,13 +8,13 @@ from chordsim_tools.messages import MESSAGES, REQUESTS
 
 PLAIN = (
     "join", "member", "join-failed", "crash", "stranded", "timeout", "lookup", "found", "lost", "busy",
-    "ignored join", "ignored crash", "ignored lookup", "audit",
+    "ignored join", "ignored crash", "ignored lookup", "ignored leave", "audit",
 )
 KINDS = (
     *PLAIN,
     *(f"{word} {message}" for word in ("drop", "late", "lose") for message in MESSAGES),
     *(f"again {message}" for message in REQUESTS),
-    "forget", "rescue", "create",
+    "forget", "rescue", "create", "leave",
     *(f"ask {message}" for message in REQUESTS),
     *(f"send {message}" for message in MESSAGES[4:]),
 )
@@ -23,10 +23,12 @@ CODES = {kind: code for code, kind in enumerate(KINDS)}
 JOIN, MEMBER, JOIN_FAILED, CRASH, STRANDED, TIMEOUT, LOOKUP, FOUND, LOST, BUSY = range(10)
 AUDIT = CODES["audit"]
 ASKS = frozenset(CODES[f"ask {message}"] for message in REQUESTS)
-CREATE = CODES["create"]
+CREATE, LEAVE = CODES["create"], CODES["leave"]
 COMES_IN = frozenset((MEMBER, CREATE))
 """The kinds of lines that make a node a member."""
-CHANGES = frozenset((JOIN, JOIN_FAILED, CRASH, STRANDED)) | COMES_IN
+GOES = {"crash": CRASH, "leave": LEAVE}
+"""The kinds of lines by which a node is down, whatever it was, by their words. These are also what cuts lookups off."""
+CHANGES = frozenset((JOIN, JOIN_FAILED, STRANDED, *GOES.values())) | COMES_IN
 """The kinds of lines that change what a node is."""
 NOBODY = -1
 
@@ -35,7 +37,7 @@ NOBODY = -1
 class Lookup:
     """A lookup. Nodes are numbers of the scenario. What is not there is None, or NOBODY for a node.
 
-    The outcome is found, lost, crash (its asker crashed) or end (the trace ended)."""
+    The outcome is found, lost, crash (its asker crashed), leave (its asker left) or end (the trace ended)."""
 
     number: int
     node: int

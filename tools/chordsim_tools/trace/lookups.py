@@ -8,7 +8,7 @@ from chordsim_tools.files import write_whole
 from chordsim_tools.trace.lines import NOBODY, Lookup
 from chordsim_tools.trace.reading import Run
 
-ENDS = {"lost": "lost", "crash": "cut-by-crash", "end": "cut-by-end"}
+ENDS = {"lost": "lost", "crash": "cut-by-crash", "leave": "cut-by-leave", "end": "cut-by-end"}
 
 
 class LookupRow(NamedTuple):
@@ -46,7 +46,7 @@ def lookup_rows(run: Run) -> list[LookupRow]:
 
 def row_of(names: list[str], one: Lookup) -> LookupRow:
     """The row of a lookup. One that was cut off has no hops and timeouts, and one that the end cut off has no end."""
-    is_cut = one.outcome in ("crash", "end")
+    is_cut = one.outcome in ("crash", "leave", "end")
     ended = (None, None) if one.end is None else (one.end, one.taken(0))
     counts = (None, None) if is_cut else (one.hops, one.timeouts)
     named, right_owner = (None if node == NOBODY else names[node] for node in (one.owner, one.true_owner))

@@ -113,7 +113,7 @@ REPORT_WORDS = {
     "members": "member", "join-failed": "join-failed", "crashes": "crash", "stranded": "stranded", "drops": "drop",
     "late": "late", "timeouts": "timeout", "lookups": "lookup", "found": "found", "lost": "lost", "busy": "busy",
     "ignored": "ignored", "audits": "audit", "losses": "lose",
-    "again": "again", "forgotten": "forget", "rescues": "rescue", "creates": "create",
+    "again": "again", "forgotten": "forget", "leaves": "leave", "rescues": "rescue", "creates": "create",
 }
 """The numbers of the report that count lines, with the first word of these."""
 

@@ -95,6 +95,7 @@ def answer_story(run: Run, one: Lookup) -> Iterator[str]:
         yield {
             "lost": f"it was lost after {one.hops} hops and {one.timeouts} timeouts",
             "crash": "its asker crashed before it ended",
+            "leave": "its asker left before it ended",
             "end": "it had not ended when the trace did",
         }[one.outcome]
         return

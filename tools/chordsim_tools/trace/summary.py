@@ -38,6 +38,7 @@ def summary(run: Run) -> Facts:
         "hops": percentiles([one.hops for one in lookups if one.outcome == "found"]),
         "timeouts": lines["timeout"],
         "crashes": lines["crash"],
+        "leaves": lines["leave"] if history.scenario.profile == 4 else None,
         "joins": join_facts([join for join in history.joins if not join.is_again]),
         "stranded": join_facts([join for join in history.joins if join.is_again]),
         "audits": audit_facts(run),
@@ -82,6 +83,7 @@ def lookup_facts(lookups: list[Lookup], lines: Counter[str]) -> Facts:
         "found": outcomes["found"],
         "lost": outcomes["lost"],
         "cut_by_crash": outcomes["crash"],
+        "cut_by_leave": outcomes["leave"],
         "cut_by_end": outcomes["end"],
         "busy": lines["busy"],
         "ignored_commands": lines["ignored"],
@@ -124,7 +126,7 @@ def join_facts(joins: Iterable[Join]) -> Facts:
             taken.append(join.end - join.begin)
     return {
         "begun": sum(by.values()), "done": by["done"], "failed": by["failed"], "cut_by_crash": by["crash"],
-        "open_at_end": by["open"], "went_on": went_on, "times_us": percentiles(taken),
+        "cut_by_leave": by["leave"], "open_at_end": by["open"], "went_on": went_on, "times_us": percentiles(taken),
     }
 
 

@@ -5,12 +5,15 @@ from typing import Any
 from chordsim_tools.cli import Failure
 from chordsim_tools.quantities import time_text
 from chordsim_tools.study.survival import Times
-from chordsim_tools.trace.lines import COMES_IN, CRASH, NOBODY, TIMEOUT, Lookup
+from chordsim_tools.trace.lines import COMES_IN, CRASH, LEAVE, NOBODY, TIMEOUT, Lookup
 from chordsim_tools.trace.reading import Run
 from chordsim_tools.trace.wording import counted, seconds, share, table
 
 Rows = list[dict[str, Any]]
 MOST_STEPS = 100_000
+STEP_WORDS = ("begun", "found", "right", "lost", "timeouts", "members", "crashes", "joined")
+"""The counts of each step that a table always has."""
+CUT_OFF = {"crash": "cut off by a crash", "leave": "cut off by a leave", "end": "cut off by the end"}
 PERCENTILES = {"p50_us": (50, 1), "p99_us": (99, 100), "p999_us": (99.9, 1000)}
 """The percentiles of a step, and of how many lookups each is one."""
 
@@ -23,7 +26,7 @@ def step_rows(run: Run, width: int) -> Rows:
     count = -(-end // width)
     if count > MOST_STEPS:
         raise Failure(2, f"--over-time: {count} steps of {time_text(width)}; {MOST_STEPS} at most")
-    words = ("begun", "found", "right", "lost", "timeouts", "members", "crashes", "joined")
+    words = (*STEP_WORDS, "leaves")
     rows: Rows = [{"from_us": at * width, **dict.fromkeys(words, 0)} for at in range(count)]
     for one in run.history.lines.lookups:
         rows[one.begin // width]["begun"] += 1
@@ -32,7 +35,7 @@ def step_rows(run: Run, width: int) -> Rows:
             row[one.outcome] += 1
             row["right"] += one.is_right
     lines = run.history.lines
-    for word, kinds in (("timeouts", [TIMEOUT]), ("crashes", [CRASH]), ("joined", COMES_IN)):
+    for word, kinds in (("timeouts", [TIMEOUT]), ("crashes", [CRASH]), ("joined", COMES_IN), ("leaves", [LEAVE])):
         for time in lines.of_kind(*kinds):
             rows[time // width][word] += 1
     members = run.history.members
@@ -60,8 +63,8 @@ def add_time(times: Times, one: Lookup, reached: int) -> None:
 
 
 def step_table(rows: Rows) -> list[str]:
-    """The same for readers."""
-    words = ("begun", "found", "right", "lost", "timeouts", "members", "crashes", "joined")
+    """The same for readers. Without leaves there is no column of them."""
+    words = [*STEP_WORDS, *(["leaves"] if any(row["leaves"] for row in rows) else [])]
     cells = [
         [seconds(row["from_us"]), *(counted(row[word]) for word in words), share(row["right"], row["found"]),
          *(seconds(row[word]) for word in PERCENTILES)]
@@ -157,7 +160,7 @@ def worst_table(rows: dict[str, Rows]) -> list[str]:
 def verdict(one: Lookup) -> str:
     """What became of a lookup, in a word or two."""
     if one.outcome != "found":
-        return {"lost": "lost", "crash": "cut off by a crash", "end": "cut off by the end"}[one.outcome]
+        return CUT_OFF.get(one.outcome, "lost")
     if one.is_right:
         return "right"
     kind = "misses a member" if one.names_member else "names no member"

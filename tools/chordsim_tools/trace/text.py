@@ -8,7 +8,10 @@ from chordsim_tools.trace.wording import counted, seconds, share
 
 WIDTH = 24
 MOST_NAMES = 40
-JOINED = {"done": "done", "failed": "failed", "cut_by_crash": "cut off by a crash", "open_at_end": "open at the end"}
+JOINED = {
+    "done": "done", "failed": "failed", "cut_by_crash": "cut off by a crash", "cut_by_leave": "cut off by a leave",
+    "open_at_end": "open at the end",
+}
 
 
 def line(head: str, *told: str) -> str:
@@ -51,9 +54,10 @@ def lookup_text(facts: Facts) -> Iterator[str]:
     yield line("lookups begun", counted(begun))
     for key, head in (
         ("found", "  found"), ("lost", "  lost"), ("cut_by_crash", "  cut off by a crash"),
-        ("cut_by_end", "  cut off by the end"),
+        ("cut_by_leave", "  cut off by a leave"), ("cut_by_end", "  cut off by the end"),
     ):
-        yield line(head, f"{counted(lookups[key])} ({share(lookups[key], begun)})")
+        if lookups[key] or key != "cut_by_leave":
+            yield line(head, f"{counted(lookups[key])} ({share(lookups[key], begun)})")
     for key, head in (("busy", "refused as busy"), ("ignored_commands", "commands ignored")):
         if lookups[key]:
             yield line(head, counted(lookups[key]))
@@ -83,7 +87,7 @@ def time_text(facts: Facts) -> Iterator[str]:
 
 
 def join_text(facts: Facts) -> Iterator[str]:
-    """Crashes, joins and strandings."""
+    """Crashes, leaves, joins and strandings."""
     yield ""
     yield line("timeouts", counted(facts["timeouts"]))
     yield line("drops, late replies", f"{counted(facts['drops'])} and {counted(facts['late'])}")
@@ -98,6 +102,8 @@ def join_text(facts: Facts) -> Iterator[str]:
     if facts["creates"]:
         yield line("rings made", counted(facts["creates"]), "by nodes that joined through themselves or had no answer")
     yield line("crashes", counted(facts["crashes"]))
+    if facts["leaves"]:
+        yield line("leaves", counted(facts["leaves"]), "nodes that told their neighbours, and went")
     for key, head in (("joins", "joins begun"), ("stranded", "stranded, join again")):
         joins = facts[key]
         told = [f"{counted(joins[word])} {name}" for word, name in JOINED.items() if joins[word] or word == "done"]
@@ -142,12 +148,13 @@ MEANS = {
     "members": "joins that succeeded", "join-failed": "times that a join had failed eight times",
     "drops": "messages that were not handled", "late": "replies for which no call was out",
     "again": "requests sent again", "forgotten": "predecessors that did not reply to a check",
+    "leaves": "nodes that told their neighbours, and went",
     "rescues": "members that took a finger as successor", "creates": "nodes that made a ring of their own",
     "timeouts-sum": "timeouts of found lookups",
     "hops-greatest": "most hops of a found lookup", "us-least": "least time of a found lookup",
     "us-median": "median time of found lookups", "us-greatest": "greatest time of a found lookup",
     "unordered": "audits whose ring is out of order", "ringless": "audits without a ring",
-    "insufficient": "audits that are not sufficient", "unfinished": "lookups that a crash or the end cut off",
+    "insufficient": "audits that are not sufficient", "unfinished": "lookups that a crash, a leave or the end cut off",
 }
 """What numbers of the report are, if their words do not say it."""
 

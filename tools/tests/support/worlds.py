@@ -27,7 +27,7 @@ def of_joins() -> dict[str, str]:
 
 SWITCHED_OFF = "".join(f"{key} = {value}\n" for key, value in OFF_WITH_TIMES.items())
 """These as lines."""
-LATER = ("losses", "again", "forgotten", "rescues", "creates", "timeouts-sum")
+LATER = ("losses", "again", "forgotten", "leaves", "rescues", "creates", "timeouts-sum")
 """The numbers of the report that the extended profile has after the first 24."""
 
 

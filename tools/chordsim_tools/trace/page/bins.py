@@ -6,7 +6,7 @@ from itertools import accumulate
 from typing import Any
 
 from chordsim_tools.study.survival import Times
-from chordsim_tools.trace.lines import COMES_IN, CRASH, JOIN_FAILED, STRANDED, TIMEOUT
+from chordsim_tools.trace.lines import COMES_IN, CRASH, GOES, JOIN_FAILED, LEAVE, STRANDED, TIMEOUT
 from chordsim_tools.trace.reading import Run
 from chordsim_tools.trace.tables import step_times
 
@@ -33,7 +33,7 @@ def bins(run: Run) -> dict[str, Any]:
 
     lines, lookups = run.history.lines, run.history.lines.lookups
     found = [one for one in lookups if one.outcome == "found"]
-    alone = {"timeouts": TIMEOUT, "crashes": CRASH, "joinsFailed": JOIN_FAILED, "stranded": STRANDED}
+    alone = {"timeouts": TIMEOUT, "crashes": CRASH, "leaves": LEAVE, "joinsFailed": JOIN_FAILED, "stranded": STRANDED}
     kinds = {"joined": COMES_IN} | {word: frozenset((kind,)) for word, kind in alone.items()}
     members = run.history.members
     return {
@@ -43,7 +43,7 @@ def bins(run: Run) -> dict[str, Any]:
         "right": until(one.end or 0 for one in found if one.is_right),
         "defensible": until(one.end or 0 for one in found if one.is_defensible),
         "lost": until(one.end or 0 for one in lookups if one.outcome == "lost"),
-        "cut": until(one.end or 0 for one in lookups if one.outcome == "crash"),
+        "cut": until(one.end or 0 for one in lookups if one.outcome in GOES),
         "members": [members.count_before(at * width + 1) for at in range(count)],
         **{word: until(lines.of_kind(*codes)) for word, codes in kinds.items()},
     }

@@ -19,7 +19,7 @@ MOST_LINES = 200_000
 MOST_CHANGES = 1_000_000
 MOST_AUDITS = 2_000
 WORST = 100
-OUTCOMES = ("found", "lost", "crash", "end")
+OUTCOMES = ("found", "lost", "crash", "end", "leave")
 LOOKUPS = frozenset((LOOKUP, FOUND, LOST))
 Facts = dict[str, Any]
 
@@ -164,4 +164,4 @@ def lookup_columns(lookups: list[Lookup], size: int, bits: int) -> Facts:
 
 def flags_of(one: Lookup) -> int:
     """Outcome, and whether the answer was right, defensible, and named a member."""
-    return OUTCOMES.index(one.outcome) + 4 * one.is_right + 8 * one.is_defensible + 16 * one.names_member
+    return OUTCOMES.index(one.outcome) + 8 * one.is_right + 16 * one.is_defensible + 32 * one.names_member

@@ -3,7 +3,8 @@ const AROUND = 14;
 const COUNTS = [
   ["members", "members"], ["begun", "lookups begun"], ["joining", "joining"], ["found", "found"],
   ["stranded", "stranded"], ["right", "right, strict"], ["down", "down"], ["defensible", "right, defensible"],
-  ["crashes", "crashes"], ["lost", "lost"], ["joined", "joins done"], ["timeouts", "timeouts"],
+  ["crashes", "crashes"], ["lost", "lost"], ["leaves", "leaves"], ["cut", "cut off"],
+  ["joined", "joins done"], ["timeouts", "timeouts"],
 ];
 
 function makeCounts() {

@@ -28,10 +28,10 @@ const CODE = Object.fromEntries(run.kinds.map((kind, code) => [kind, code]));
 const DOWN = 0, JOINING = 1, MEMBER = 2, STRANDED = 3;
 const STATUS_WORDS = ["down", "joining", "member", "stranded, joins again"];
 const CHANGES = new Map([[CODE.join, JOINING], [CODE.member, MEMBER], [CODE["join-failed"], DOWN], [CODE.crash, DOWN],
-  [CODE.stranded, STRANDED], [CODE.create, MEMBER]]);
+  [CODE.leave, DOWN], [CODE.stranded, STRANDED], [CODE.create, MEMBER]]);
 // A node whose join goes on after failures stays as it is.
 if (run.joinForever) CHANGES.delete(CODE["join-failed"]);
-const OUTCOMES = ["found", "lost", "cut off by a crash", "cut off by the end"];
+const OUTCOMES = ["found", "lost", "cut off by a crash", "cut off by the end", "cut off by a leave"];
 
 // Short runs are told to the microsecond.
 const DIGITS = run.bins.end < 1e7 ? 6 : 3;
@@ -127,15 +127,15 @@ function statusCounts() {
 
 // A lookup that is open at the trace's end has -1.
 function endOf(lookup) { return run.lookups.end[lookup] < 0 ? run.reached : run.lookups.end[lookup]; }
-function isRight(lookup) { return (run.lookups.flags[lookup] & 4) !== 0; }
-function isDefensible(lookup) { return (run.lookups.flags[lookup] & 8) !== 0; }
-function outcomeOf(lookup) { return run.lookups.flags[lookup] & 3; }
+function isRight(lookup) { return (run.lookups.flags[lookup] & 8) !== 0; }
+function isDefensible(lookup) { return (run.lookups.flags[lookup] & 16) !== 0; }
+function outcomeOf(lookup) { return run.lookups.flags[lookup] & 7; }
 
 function verdict(lookup) {
   const outcome = outcomeOf(lookup);
   if (outcome !== 0) return OUTCOMES[outcome];
   if (isRight(lookup)) return "right";
   if (isDefensible(lookup)) return "defensible";
-  return run.lookups.flags[lookup] & 16 ? "misses a member" : "names no member";
+  return run.lookups.flags[lookup] & 32 ? "misses a member" : "names no member";
 }
 restart();
