@@ -110,11 +110,6 @@ joining_is status.Down is = absurd (cc)
 joining_is status.Joining is = refl
 joining_is status.Member is = absurd (cc)
 
--- what is owed by a call is what its purpose says
-owed_as : (sc : Scenario) (claim : Timer → ℕ) (rest : List (Event Body)) (call : Call) (wanted : Purpose) (turn : Turn) → call.purpose ≡ wanted
-    → IsOngoing sc claim (owes call.purpose) rest turn → IsOngoing sc claim (owes wanted) rest turn
-owed_as sc claim rest call wanted turn is h = subst (λ (p : Purpose). IsOngoing sc claim (owes p) rest turn) is h
-
 via_of_member : (sc : Scenario) (s : Status) (via : Option ℕ) (succ fingers : List ℕ) (join : Option Attempt) → s ≡ status.Member
     → FitsStatus sc s via succ fingers join → IsSome via
 via_of_member sc status.Down via succ fingers join is fits = absurd (cc)

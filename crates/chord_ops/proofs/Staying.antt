@@ -41,6 +41,7 @@ use Rattle.chord_ops.specs.Turns.{after_words, called, kind_of, noted, sent, tim
 use Rattle.chord_ops.proofs.KeptJoins.{purpose_of_found, same_check_armed, same_traffic_armed}
 use Rattle.chord_ops.proofs.KeptRules.{not_false, or_false}
 use Rattle.chord_ops.proofs.KeptTable.{answered_is}
+use Rattle.chord_ops.proofs.Leavers.{not_inherited}
 use Rattle.chord_ops.proofs.Ongoing.{going_if, going_when}
 use Rattle.chord_ops.proofs.Sending.{asked_as, called_as, sent_as}
 
@@ -372,9 +373,8 @@ module _ (sc : Scenario) (s : NodeState) (e : Event Body) (prdc : ℕ) (known : 
           let this : prdc ≡ sender = grind (arith, nat_tests) in
           λ forgets none. inr (inl (record { heir = heir; list = list; is = is; from = sym from ∙ sym this }))
       by false other =
-          let keeps : inherited sender heir s.prdc ≡ s.prdc =
-          ap (λ (b : Bool). if b then (if holds heir sender then None else heir) else s.prdc) other in
-          let g : StaysWith s.status (inherited sender heir s.prdc) = subst (λ (o : Option ℕ). StaysWith s.status o) (sym keeps) stays_opening in
+          let g : StaysWith s.status (inherited sender heir s.prdc) =
+          subst (λ (o : Option ℕ). StaysWith s.status o) (sym (not_inherited sender heir s.prdc other)) stays_opening in
           ends_dropped sc sender (λ t. t) Out (with_heirs sc sender heir list (opening s e)) g out_ends
           (λ succ fingers lines. out_has (record (with_heirs sc sender heir list (opening s e)) {
             state = record (with_heirs sc sender heir list
