@@ -19,7 +19,7 @@ use Rattle.chord_ops.specs.FirstTurns.{first_turn}
 use Rattle.chord_ops.specs.Rules.{effect, opening}
 use Rattle.chord_ops.specs.Sound.{IsSoundEvent}
 use Rattle.chord_ops.specs.Timers.{Timer, is_timer, set_for, wanted}
-use Rattle.chord_ops.specs.Timers.Timer.{Stabilize, Finger, Traffic, Life, Check, Rejoin, Timeout}
+use Rattle.chord_ops.specs.Timers.Timer.{Rejoin, Timeout}
 use Rattle.chord_ops.specs.declared.turn.Turn.{Turn}
 use Rattle.chord_ops.proofs.GrowingRules.{grows_effect}
 use Rattle.chord_ops.specs.Ongoing.{FitsJoin, FitsTick, IsOngoing, is_tick, numbered}
@@ -156,21 +156,11 @@ ticks_of_up status.Joining have claim up fits = fits
 ticks_of_up status.Member have claim up fits = fits
 
 pub timers_live : (sc : Scenario) → IsInRange sc → TimersLive sc
-timers_live sc ranges h p n inside up =
-    record {
-      stabilize = tick Stabilize refl;
-      finger = tick Finger refl;
-      traffic = tick Traffic refl;
-      life = tick Life refl;
-      check = tick Check refl;
-    }
-  where
-    tick : (t : Timer) → is_tick t ≡ true → set_for n t (state (chord sc) h n).epoch (pending (chord sc) h) ≡ wanted sc n t
-    tick t is =
-        let g = all_go_on sc ranges h p n inside in
-        let s : NodeState = state (chord sc) h n in
-        let me : s.me ≡ n = ((meets (chord sc) (well_formed sc ranges) h p).sound n inside).me in
-        let here : set_for s.me t s.epoch (pending (chord sc) h) ≡ set_for n t s.epoch (pending (chord sc) h) =
-        ap (λ (m : ℕ). set_for m t s.epoch (pending (chord sc) h)) me in
-        let fits : set_for s.me t s.epoch (pending (chord sc) h) + 0 ≡ wanted sc n t = ticks_of_up s.status _ (wanted sc n t) up (g.ticks t is) in
-        omega (arith, fits, here)
+timers_live sc ranges h p n inside up t is =
+    let g = all_go_on sc ranges h p n inside in
+    let s : NodeState = state (chord sc) h n in
+    let me : s.me ≡ n = ((meets (chord sc) (well_formed sc ranges) h p).sound n inside).me in
+    let here : set_for s.me t s.epoch (pending (chord sc) h) ≡ set_for n t s.epoch (pending (chord sc) h) =
+    ap (λ (m : ℕ). set_for m t s.epoch (pending (chord sc) h)) me in
+    let fits : set_for s.me t s.epoch (pending (chord sc) h) + 0 ≡ wanted sc n t = ticks_of_up s.status _ (wanted sc n t) up (g.ticks t is) in
+    omega (arith, fits, here)

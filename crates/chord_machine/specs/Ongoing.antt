@@ -1,15 +1,16 @@
--- What goes on at each node, in whatever order events are taken: whatever a node waits for is pending, once.
-use Rattle.std.specs.Prelude.{ℕ, ◌≡◌, ◌≢◌, ◌+◌, ◌<◌, ◌≤◌, ◌==◌, All, List, is_some, if◌then◌else◌}
+-- Whatever a node waits for is pending exactly once, in whatever order events are taken.
+use Rattle.std.specs.Prelude.{ℕ, ◌≡◌, ◌≢◌, ◌+◌, ◌<◌, ◌≤◌, All, List, true}
 use Rattle.chord_event.specs.declared.body.Body.{Body}
 use Rattle.chord_event.specs.declared.event.Event.{Event}
 use Rattle.chord_model.specs.Histories.{IsPossible, pending, state}
 use Rattle.chord_node.specs.declared.state.NodeState.{NodeState}
 use Rattle.chord_node.specs.declared.state.Status.TheVariants as status
 use Rattle.chord_node.specs.Invariant.{calls_for, is_for_join}
-use Rattle.chord_ops.specs.Timers.{Timer, set_for}
-use Rattle.chord_ops.specs.Timers.Timer.{Stabilize, Finger, Traffic, Life, Check, Rejoin, Timeout}
+use Rattle.chord_ops.specs.Ongoing.{is_tick}
+use Rattle.chord_ops.specs.Timers.{Timer, set_for, wanted}
+use Rattle.chord_ops.specs.Timers.Timer.{Rejoin, Timeout}
 use Rattle.chord_scenario.specs.declared.scenario.Scenario.{Scenario}
-use Rattle.chord_scenario.specs.World.{is_churn_node, node_count}
+use Rattle.chord_scenario.specs.World.{node_count}
 use Rattle.chord_machine.specs.Chord.{chord}
 
 -- how many timers of a kind and a number node n has pending after a history
@@ -32,14 +33,6 @@ RetriesAreLimited sc = Always sc (λ h n s. All (λ call. call.resent ≤ sc.ret
 abbrev pub JoinsGoOn : Scenario → Type 0
 JoinsGoOn sc = Always sc (λ h n s. s.status ≡ status.Joining → calls_for is_for_join s.calls + pending_at sc h n Rejoin s.epoch ≡ 1)
 
--- a node has each tick of its life pending exactly once, if the scenario wants it
-pub record AreLive (sc : Scenario) (h : List (Event Body)) (n epoch : ℕ) : Type 0 where
-  pub stabilize : pending_at sc h n Stabilize epoch ≡ 1
-  pub finger : pending_at sc h n Finger epoch ≡ 1
-  pub traffic : pending_at sc h n Traffic epoch ≡ (if is_some sc.lookups then 1 else 0)
-  pub life : pending_at sc h n Life epoch ≡ (if is_churn_node sc n then 1 else 0)
-  pub check : pending_at sc h n Check epoch ≡ (if sc.check == 0 then 0 else 1)
-
--- so it is with each node that is not down
+-- a node that is not down has each tick of its life pending as often as the scenario wants it: once or never
 abbrev pub TimersLive : Scenario → Type 0
-TimersLive sc = Always sc (λ h n s. s.status ≢ status.Down → AreLive sc h n s.epoch)
+TimersLive sc = Always sc (λ h n s. s.status ≢ status.Down → (t : Timer) → is_tick t ≡ true → pending_at sc h n t s.epoch ≡ wanted sc n t)

@@ -94,7 +94,7 @@ pub fn events_close_audits()
     ensures { (sc : Scenario) → IsInRange sc → EventsCloseAudits (chord sc) }
 {}
 
-/// Each outstanding call has exactly one timeout pending: it is answered, or times out.
+/// Each outstanding call has exactly one timeout pending. So it gets a reply in time, or times out.
 pub fn calls_are_timed()
     ensures { (sc : Scenario) → IsInRange sc → CallsAreTimed sc }
 {}
@@ -110,7 +110,8 @@ pub fn joins_go_on()
     ensures { (sc : Scenario) → IsInRange sc → JoinsGoOn sc }
 {}
 
-/// A node that is not down has each tick of its life pending exactly once, if the scenario wants it.
+/// A node that is not down has each tick of its life pending exactly once, if the scenario wants that
+/// tick.
 pub fn timers_live()
     ensures { (sc : Scenario) → IsInRange sc → TimersLive sc }
 {}
