@@ -1,5 +1,6 @@
--- What a run leaves in a scribe, which writes its pieces down. Of two states of a scribe `Adds` says which pieces went in
--- between them, and `Fronts` of which pieces a beginning did. `Tells` says which report is that of some pieces.
+-- What a run leaves in a scribe, which is whatever writes the pieces of a run down.
+-- `Adds old new pieces` says that these pieces went in between two states of the scribe, and `Fronts old new pieces` that a
+-- beginning of them did. `Tells pieces report` says that the report is that of these pieces.
 use Rattle.std.specs.Prelude.{ℕ, ◌≡◌, ◌≤◌, List, [], ◌++◌, map, length, None, Result, Err, IfOk, OnOk, nat_le}
 use Rattle.std.specs.List.{filter}
 use Rattle.chord_event.specs.declared.error.RunError.{RunError}
@@ -7,10 +8,13 @@ use Rattle.chord_event.specs.declared.error.RunError.TheVariants as run
 use Rattle.chord_model.specs.Histories.{IsOverLimit, full_history, history, next, open_audits, output, trace}
 use Rattle.chord_model.specs.Machine.{Machine}
 
--- the laws of a scribe: what goes in one after another went in together, and the whole has each of its beginnings
+-- the laws of a scribe
 pub record AreLaws {S Piece : Type 0} (Adds Fronts : S → S → List Piece → Type 0) : Type 0 where
+  -- nothing has gone in if nothing has changed, and pieces that go in one after another go in together
   pub adds_none : (a : S) → Adds a a []
   pub adds_then : (a b c : S) (xs ys : List Piece) → Adds a b xs → Adds b c ys → Adds a c (xs ++ ys)
+  -- a beginning of some pieces went in if all of them did, if some did and then a beginning of the others, and if it is a
+  -- beginning of the first of them
   pub fronts_whole : (a b : S) (xs : List Piece) → Adds a b xs → Fronts a b xs
   pub fronts_then : (a b c : S) (xs ys : List Piece) → Adds a b xs → Fronts b c ys → Fronts a c (xs ++ ys)
   pub fronts_longer : (a b : S) (xs ys : List Piece) → Fronts a b xs → Fronts a b (xs ++ ys)
