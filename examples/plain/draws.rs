@@ -12,7 +12,7 @@ const BLOCK_WORDS: usize = 16;
 const OWN_WORDS: usize = 4;
 const BLOCK_DRAWS: u64 = (BLOCK_WORDS / OWN_WORDS) as u64;
 
-/// The chance of a loss is given in parts of this.
+/// The chances of a loss and of a leave are given in parts of this.
 const MILLION: u32 = 1_000_000;
 
 /// The constants that the state of the cipher begins with.
@@ -79,6 +79,11 @@ impl Draws {
             }
         };
         span.least + u64::from(number)
+    }
+
+    /// A number below a million, for this occasion.
+    pub fn chance(&mut self, subject: Subject, occasion: u64) -> u64 {
+        self.time(Span::new(0, u64::from(MILLION) - 1), subject, occasion)
     }
 
     /// A key, from as many words as its bits need, the highest word first.

@@ -1,12 +1,9 @@
 //! Leaves: how a node tells its neighbours that it goes, and what they do then.
 
-use crate::draws::{Span, Subject};
+use crate::draws::Subject;
 use crate::events::{Body, MessageKind};
 use crate::trace::Line;
 use crate::turn::Turn;
-
-/// The chance of a leave is given in parts of this.
-const MILLION: u64 = 1_000_000;
 
 impl Turn<'_> {
     /// A command to leave.
@@ -41,11 +38,10 @@ impl Turn<'_> {
     pub fn ends_with_leave(&mut self, epoch: u64) -> bool {
         let churn = self.scenario.churn.as_ref();
         let leave_ppm = churn.map_or(0, |churn| churn.leave_ppm);
-        let span = Span::new(0, MILLION - 1);
-        leave_ppm > 0 && self.node.draws.time(span, Subject::Leave, epoch) < leave_ppm
+        leave_ppm > 0 && self.node.draws.chance(Subject::Leave, epoch) < leave_ppm
     }
 
-    /// A neighbour has left, which had this predecessor and these successors.
+    /// A node has left that had this predecessor and these successors.
     pub fn on_leave(&mut self, sender: u32, predecessor: Option<u32>, list: &[u32]) {
         if !self.accepts(MessageKind::Leave, sender) {
             return;
