@@ -181,6 +181,9 @@ class OutageTest(TestCase):
         assert without([Life(0, 25), Life(28, 50)], 20, 30) == [Life(0, 20), Life(30, 50)]
         assert without([Life(0, 10), Life(22, 28), Life(40, 50)], 20, 30) == [Life(0, 10), Life(40, 50)]
         assert without([Life(0, 10), Life(15, 25), Life(40, 50)], 20, None) == [Life(0, 10), Life(15, 20)]
+        # What the span does not cut still ends with a leave.
+        lives = [Life(0, 10, True), Life(15, 20, True), Life(22, 40, True)]
+        assert without(lives, 20, 30) == [Life(0, 10, True), Life(15, 20), Life(30, 40, True)]
 
     def test_refused(self) -> None:
         """One line that names the option and what is allowed, and status 2."""

@@ -1,8 +1,7 @@
 """Random scenarios of the extended profile in which rings break and heal, the same for the same seed.
 
 Calls have time for a reply. Neighbours crash or leave together, at times more of them than a list has entries, and
-join again.
-At times a node is told to look up more keys at once than it may.
+join again. At times a node is told to look up more keys at once than it may.
 """
 
 from random import Random
@@ -26,7 +25,7 @@ def breaking_scenario(seed: int) -> str:
     rest = tables(dice)
     node_tables = [node_table(dice, place, ident, place in initial, share) for place, ident in enumerate(idents)]
     commands = commands_of(dice, idents, entries, duration, 2**bits)
-    # What came later is drawn last, so that a seed gives the same ring, departures and lookups with and without it.
+    # Newer rules are drawn last, so that a seed gives the same ring, departures and lookups with and without them.
     top |= ways_of(dice, JOINS)
     node_tables = with_few_initial(dice, with_bootstraps(dice, node_tables))
     rest, commands = with_leaves(dice, rest, with_own_joins(dice, commands))

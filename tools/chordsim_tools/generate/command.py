@@ -11,7 +11,7 @@ from chordsim_tools.explain.world_traps import world_traps
 from chordsim_tools.files import check_output, check_apart, put
 from chordsim_tools.generate.arguments import OPTIONS, PROG, arguments_again, parser_of
 from chordsim_tools.generate.bare import LIMITS, bare_traps
-from chordsim_tools.generate.commands import Streams, commands_of, initial_nodes, leaves_of, lives_of
+from chordsim_tools.generate.commands import Streams, commands_of, initial_nodes, lives_of
 from chordsim_tools.generate.outages import struck
 from chordsim_tools.generate.plan import Plan, check
 from chordsim_tools.generate.random_scenario import scenario_files
@@ -32,9 +32,9 @@ def made_of(plan: Plan) -> Made:
     seed = plan.top["seed"]
     streams = Streams(seed, plan.nodes)
     lives = lives_of(plan, streams)
-    initial, leaves = initial_nodes(plan, lives), leaves_of(plan, lives)
+    initial = initial_nodes(plan, lives)
     told = struck(plan.hosts, lives, plan.outages, plan.back, seed)
-    return Made(commands_of(plan, lives, streams, leaves), initial, told, idents_of(plan, streams.idents))
+    return Made(commands_of(plan, lives, streams), initial, told, idents_of(plan, streams.idents))
 
 
 def text_of_arguments(arguments: Sequence[str], parser: Parser, folder: Path) -> str:

@@ -16,12 +16,8 @@ from chordsim_tools.generate.plan import Plan
 GREATEST_COUNT = 100_000
 CRASH, LEAVE, JOIN, LOOKUP = range(4)
 """What commands do, in the order in which commands of one time stand in the file."""
-
-
 STREAM = 10
 """Which stream of a seed says whether a life ends with a leave."""
-Ends = frozenset[tuple[int, int]]
-"""Ends of lives: the node and the time."""
 
 
 class Command(NamedTuple):
@@ -42,14 +38,13 @@ class Streams:
         self.arrive = arrive.split(nodes)
         self.churn = churn.split(nodes)
         self.lookups = lookups.split(nodes)
+        self.leaves = Draws(seed).split(STREAM)[-1].split(nodes)
 
 
-def commands_of(
-    plan: Plan, lives: list[list[Life]], streams: Streams, leaves: Ends = frozenset()
-) -> list[Command]:
-    """All commands of a plan with these lives, some of which end with leaves, in the order of the file."""
+def commands_of(plan: Plan, lives: list[list[Life]], streams: Streams) -> list[Command]:
+    """All commands of a plan with these lives, in the order of the file."""
     check_initial(plan, lives)
-    commands = moves_of(plan, lives, streams.via, leaves)
+    commands = moves_of(plan, lives, streams.via)
     if plan.rate is not None:
         commands += drawn_lookups(plan, plan.rate, lives, streams, GREATEST_COUNT - len(commands))
     return sorted(commands)
@@ -61,7 +56,7 @@ def lives_of(plan: Plan, streams: Streams) -> list[list[Life]]:
     room = GREATEST_COUNT
     with Progress("nodes whose lives are drawn", plan.nodes) as progress:
         for node in range(plan.nodes):
-            lives.append(lives_of_node(plan, node, streams, room))
+            lives.append(with_leaves(lives_of_node(plan, node, streams, room), plan.leaves, streams.leaves[node]))
             room -= len(lives[-1])
             progress.one_more()
     return lives
@@ -84,7 +79,7 @@ def lives_of_node(plan: Plan, node: int, streams: Streams, most: int) -> list[Li
 
 
 def drawn_lives(host: Host, duration: int, begin: int, draws: Draws, most: int) -> list[Life]:
-    """The lives of a node that crashes and comes up by commands."""
+    """The lives of a node that goes and comes up by commands."""
     assert host.lifetime is not None
     lives: list[Life] = []
     while begin < duration:
@@ -106,15 +101,11 @@ def lives_in_equilibrium(host: Host, duration: int, draws: Draws, most: int) -> 
     return [first, *drawn_lives(host, duration, end + host.down.draw(draws), draws, most)]
 
 
-def leaves_of(plan: Plan, lives: list[list[Life]]) -> Ends:
-    """The ends of lives that are leaves. A number is drawn for each life. Lives that outages cut end otherwise."""
-    if plan.leaves == 0:
-        return frozenset()
-    streams = Draws(plan.top["seed"]).split(STREAM)[-1].split(plan.nodes)
-    return frozenset(
-        (node, life.end) for node, spans in enumerate(lives) for life in spans
-        if streams[node].below(1_000_000) < plan.leaves
-    )
+def with_leaves(lives: list[Life], leaves: int, draws: Draws) -> list[Life]:
+    """The lives of a node, of a million of which so many end with a leave. A number is drawn for each life."""
+    if leaves == 0:
+        return lives
+    return [life._replace(leaves=draws.below(1_000_000) < leaves) for life in lives]
 
 
 def initial_nodes(plan: Plan, lives: list[list[Life]]) -> set[int]:
@@ -138,13 +129,13 @@ def check_initial(plan: Plan, lives: list[list[Life]]) -> None:
         raise Failure(2, f"{option}: {count} nodes are up at the start, and --list needs {least}; {more}")
 
 
-def moves_of(plan: Plan, lives: list[list[Life]], draws: Draws, leaves: Ends) -> list[Command]:
+def moves_of(plan: Plan, lives: list[list[Life]], draws: Draws) -> list[Command]:
     """The crashes, leaves and joins, in the order of their times."""
     moves: list[Command] = []
     initial = initial_nodes(plan, lives)
     for node, spans in enumerate(lives):
-        ends = [life.end for life in spans if life.end < plan.top["duration_us"]]
-        moves += [Command(end, LEAVE if (node, end) in leaves else CRASH, node) for end in ends]
+        ended = [life for life in spans if life.end < plan.top["duration_us"]]
+        moves += [Command(life.end, LEAVE if life.leaves else CRASH, node) for life in ended]
         moves += [Command(life.begin, JOIN, node) for life in spans[1 if node in initial else 0 :]]
     if len(moves) > GREATEST_COUNT:
         raise too_many("--lifetime")
@@ -162,7 +153,7 @@ class Doors:
     """The nodes that others may join through, as time goes on.
 
     These are the nodes that are up by the commands; those that have been up for a timeout or from the start come
-    first, since a node that is still joining itself replies to no one. Of nodes that crash by themselves nothing is
+    first, since a node that is still joining itself replies to no one. Of nodes that churn by themselves nothing is
     known, so that they are no doors."""
 
     def __init__(self, plan: Plan, draws: Draws, initial: set[int]) -> None:

@@ -17,10 +17,11 @@ BACKS = "a time or a span MIN..MAX, above 0us"
 
 
 class Life(NamedTuple):
-    """A time from which on a node is up, and the time at which it is up no longer."""
+    """A time from which on a node is up, and the time at which it is up no longer: it leaves or crashes then."""
 
     begin: int
     end: int
+    leaves: bool = False
 
 
 @dataclass(frozen=True)
@@ -98,8 +99,8 @@ def chosen(nodes: list[int], share: Decimal, draws: Draws) -> list[int]:
 
 
 def without(lives: list[Life], begin: int, end: int | None) -> list[Life]:
-    """The lives of a node that is down in a span. A life that began before or in the span goes on behind it."""
-    before = [Life(life.begin, min(life.end, begin)) for life in lives if life.begin < begin]
+    """The lives of a node that crashes and is down in a span. A life that began before or in it goes on behind it."""
+    before = [life if life.end < begin else Life(life.begin, begin) for life in lives if life.begin < begin]
     if end is None:
         return before
-    return before + [Life(max(life.begin, end), life.end) for life in lives if life.end > end]
+    return before + [life._replace(begin=max(life.begin, end)) for life in lives if life.end > end]

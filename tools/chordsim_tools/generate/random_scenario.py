@@ -153,12 +153,13 @@ def with_own_joins(dice: Random, commands: str) -> str:
 
 
 def with_leaves(dice: Random, rest: str, commands: str) -> tuple[str, str]:
-    """The tables and commands, by which none, some or all nodes that go leave: by commands, and at ends of lives."""
+    """The tables and commands, with leaves in place of none, some or all crashes by command, and mostly `leave_ppm`."""
     share = dice.choice([0, 0.3, 0.3, 1])
     commands = re.sub('"crash"', lambda _: '"leave"' if dice.random() < share else '"crash"', commands)
     ppm = dice.choice([0, 1_000_000, dice.randint(1, 999_999), 500_000])
-    is_written = dice.random() < 0.8
-    return re.sub(r"(down_max_us = \d+\n)", rf"\1leave_ppm = {ppm}\n", rest) if is_written else rest, commands
+    if dice.random() < 0.8:
+        rest = re.sub(r"(down_max_us = \d+\n)", rf"\1leave_ppm = {ppm}\n", rest)
+    return rest, commands
 
 
 def coordinates(dice: Random, window: int) -> str:
