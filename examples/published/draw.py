@@ -522,8 +522,7 @@ def print_tables() -> None:
     print_failure()
     print_rules()
     print_churn(CRASHES, "crashes")
-    if (FOLDER / LEAVES[0] / "runs.csv").exists():
-        print_churn(LEAVES, "leaves")
+    print_churn(LEAVES, "leaves")
     print_churn_rules()
     print_repair()
     print_length()

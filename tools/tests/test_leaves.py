@@ -111,7 +111,7 @@ class NeighbourTest(TestCase):
         assert self.told(1, Leave(0, [2, 0])) == ([], 2, [2, 0], {2: 2, 3: 0})
 
     def test_predecessor(self) -> None:
-        """n3 is both neighbours' neighbour: n1 takes its place as predecessor and as finger, and its list follows."""
+        """n3 is also the second successor. n1 takes its place as predecessor and as finger, and n0 itself in the list."""
         assert self.told(2, Leave(1, [0, 1])) == ([], 1, [1, 0], {2: 1, 3: 0})
 
     def test_no_other_predecessor(self) -> None:
@@ -480,6 +480,7 @@ class WorkedTest(TestCase):
         assert self.numbers(WHILE_JOINING) == {
             "events": 6, "drops": 1, "ignored": 1, "audits": 1, "insufficient": 1, "leaves": 1,
         }
+        # Two ends of lives, four leaves, a rise, four requests with their replies and timeouts, and a notify.
         assert self.numbers(AT_THE_END_OF_A_LIFE) == {
             "events": 20, "members": 1, "audits": 1, "insufficient": 1, "leaves": 2,
         }

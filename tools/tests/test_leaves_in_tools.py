@@ -1,10 +1,12 @@
 """Leaves in the tools: what explain, generate, trace, study and the Python package say and make of them."""
 
+import shutil
 import tomllib
 from collections import Counter
 from pathlib import Path
+from tempfile import TemporaryDirectory
 from typing import Any
-from unittest import TestCase
+from unittest import TestCase, skipUnless
 
 from chordsim import Scenario
 from chordsim.errors import Refused
@@ -18,6 +20,7 @@ from chordsim_tools.study.messages import Traffic, in_pieces
 from chordsim_tools.study.pieces import Pieces
 from chordsim_tools.study.served import Scope
 from chordsim_tools.study.sizes import bytes_of, check_leaves, sizes_of
+from chordsim_tools.study.worlds import scenario_of
 from chordsim_tools.trace.detail import join_story
 from chordsim_tools.trace.lookups import lookup_rows
 from chordsim_tools.trace.messages import message_counts
@@ -29,13 +32,16 @@ from chordsim_tools.trace.tables import node_rows, step_rows, step_table, verdic
 from chordsim_tools.trace.text import report_text, summary_text
 from tests.support.programs import ended
 from tests.support.worlds import RING
+from tests.test_churn_trace import TRACE, written
+from tests.test_churn_trace import made as of_arguments
 from tests.test_explain import SOUND, faults
 from tests.test_explain_time import TOP, command, nodes
 from tests.test_explain_traps import spoken
 from tests.test_generate import churn_of, made, text_of
+from tests.test_study_plan import SEEDS, in_folder
 from tests.test_study_trace import numbers_of, reader
 from tests.test_trace import SCENARIO, audit, run_of_text
-from tests.test_trace_detail import requests
+from tests.test_trace_detail import LINES_OF_PAGE, NO_NODE, printed_by_page, requests
 from tests.test_trace_detail import run_of as detailed
 
 EXTENDED = SCENARIO.replace("profile = 1", "profile = 4")
@@ -86,7 +92,7 @@ class ExplainTest(TestCase):
     def test_trap(self) -> None:
         """Without a node that churns by itself it changes nothing. With one it does, and 0 is none."""
         text = SOUND.replace("profile = 1", "profile = 4").replace("[churn]\n", "[churn]\nleave_ppm = 7\n")
-        told = "leave_ppm = 7, and no node has churn = true: only lives of such nodes end so, so it changes nothing"
+        told = "leave_ppm = 7, and no node has churn = true: only such nodes leave by themselves, so it changes nothing"
         assert spoken(text) == [told]
         assert leave_traps({"churn": {"leave_ppm": 7}, "node": nodes(2, 1)}) == []
         assert leave_traps({"churn": {"leave_ppm": 0}, "node": nodes(2)}) == leave_traps({"node": nodes(2)}) == []
@@ -132,9 +138,7 @@ class GenerateTest(TestCase):
             assert sorted(gone + stay) == sorted(crashes)
             assert least * len(crashes) <= len(gone) <= most * len(crashes)
             others = [[one for one in each.commands if one.do in ("join", "lookup")] for each in (ring, plain)]
-            assert [(one.at_us, one.node, one.via) for one in others[0]] == [
-                (one.at_us, one.node, one.via) for one in others[1]
-            ]
+            assert others[0] == others[1]
 
     def test_lives_of_one_node(self) -> None:
         """Leaves and joins take turns."""
@@ -154,6 +158,28 @@ class GenerateTest(TestCase):
             for each in (ring, made(arguments))
         ]
         assert ends[0] == ends[1] and len(ends[0]) > 5
+
+    def test_churn_trace(self) -> None:
+        """A session that ends within the run ends with a leave, unless an outage cuts it. That of b ends the run.
+
+        The one that ends at the time of an outage ends with a crash too."""
+        with TemporaryDirectory() as folder:
+            words = ("--profile", "4", "--churn-trace", written(folder, TRACE), "--leaves", "1000000")
+            rings = [of_arguments(*words, *more) for more in ((), ("--crash", "x@15s"), ("--crash", "x@20s"))]
+        moves = [[(one.at_us // 10**6, one.do, ring.nodes[one.node].name) for one in ring.commands] for ring in rings]
+        of_a = [(30, "leave", "a"), (45, "join", "a"), (60, "leave", "a")]
+        assert moves[0] == [(10, "join", "x-1"), (20, "leave", "x-1"), *of_a]
+        assert moves[1] == [(10, "join", "x-1"), (15, "crash", "x-0"), (15, "crash", "x-1"), *of_a]
+        assert moves[2] == [(10, "join", "x-1"), (20, "crash", "x-0"), (20, "crash", "x-1"), *of_a]
+
+    def test_groups(self) -> None:
+        """A group with lives of 3 s and down times of 1 s leaves at 3, 7 and 11 s, and the one without stays."""
+        groups = "--group a:4:lifetime=uniform:3s..3s,down=uniform:1s..1s --group b:4 --stay 0"
+        ring = made(f"--profile 4 {groups} --duration 12s --leaves 1000000")
+        moves = Counter((one.at_us // 10**6, one.do, ring.nodes[one.node].name[0]) for one in ring.commands)
+        assert moves == {
+            **{(second, "leave", "a"): 4 for second in (3, 7, 11)}, **{(second, "join", "a"): 4 for second in (4, 8)},
+        }
 
     def test_head(self) -> None:
         """It names the option and counts the leaves, if there may be some."""
@@ -192,7 +218,7 @@ class TraceTest(TestCase):
         assert [facts["joins"][word] for word in ("begun", "done", "cut_by_leave")] == [2, 1, 1]
         assert (facts["answers"]["wrong_names_no_member"], facts["answers"]["right_defensible"]) == (1, 0)
         told = list(summary_text(facts))
-        assert "leaves                  2; nodes that told their neighbours, and went" in told
+        assert "leaves                  2; nodes that told their neighbours before they went" in told
         assert "  cut off by a leave    1 (33.33 %)" in told
         assert "joins begun             2; 1 done, 1 cut off by a leave" in told
 
@@ -221,7 +247,7 @@ class TraceTest(TestCase):
         wrong = "has `leaves 3`, and the trace 2"
         self.assertRaisesRegex(RefusedFile, wrong, run_of_text, text + "leaves 3\n", EXTENDED)
         told = "".join(report_text("report", {"leaves": 2}))
-        assert told.endswith("  leaves          2, nodes that told their neighbours, and went")
+        assert told.endswith("  leaves          2, nodes that told their neighbours before they went")
 
     def test_over_time(self) -> None:
         """The steps count leaves. Without any there is no column."""
@@ -247,6 +273,17 @@ class TraceTest(TestCase):
         assert page["bins"]["leaves"][-1] == 2 and page["bins"]["cut"][-1] == 1 and page["bins"]["crashes"][-1] == 0
         run = run_of(*LINES)
         assert [data.flags_of(one) for one in run.history.lines.lookups] == [4, 0, 3]
+
+    @skipUnless(shutil.which("node"), NO_NODE)
+    def test_script_of_a_page(self) -> None:
+        """It shows the lines as they are, what became of the lookups, and how many are down, joining and members."""
+        run = run_of(*LINES)
+        assert printed_by_page(run, LINES_OF_PAGE) == [line for line in LINES if " audit " not in line]
+        verdicts = printed_by_page(run, "for (const one of [0, 1, 2]) console.log(verdict(one));")
+        assert verdicts == ["cut off by a leave", "names no member", "cut off by the end"]
+        counts = "goTo(time); console.log(...statusCounts().slice(0, 3));"
+        told = printed_by_page(run, f"for (const time of [0, 20, 25, 30, 50, 80]) {{ {counts} }}")
+        assert told == ["1 0 3", "0 1 3", "1 0 3", "2 0 2", "1 1 2", "1 0 3"]
 
     def test_detail(self) -> None:
         """Lines `send leave` count as messages, as lost ones do. A story ends with the leave."""
@@ -288,7 +325,9 @@ class StudyTest(TestCase):
         assert [numbers[word] for word in ("right", "wrong", "wrong-down")] == [2, 1, 1]
 
     def test_time_up(self) -> None:
-        """b is up until 30. d is up until the leave that it does not need, since its join has failed."""
+        """The run ends at 250. b is up until 30. d is up from 10 on, and until a leave at 50 if there is one.
+
+        This leave is ignored, since the join of d has failed."""
         plain, left = numbers_of(), numbers_of("30 b leave")
         assert int(plain["up-us"] or 0) - int(left["up-us"] or 0) == 220
         assert int(plain["member-us"] or 0) - int(left["member-us"] or 0) == 220
@@ -344,8 +383,14 @@ class StudyTest(TestCase):
         assert bytes_of(dict.fromkeys(MESSAGES, 10), numbers) == 9 * 20
 
     def test_key_that_is_varied(self) -> None:
-        """It is one of [churn]."""
+        """It is one of [churn], also if the base does not have it."""
         assert "churn.leave_ppm" in varied_keys() and "leave_ppm" not in varied_keys()
+        words = '["--profile", "4", "--nodes", "5", "--churn-uniform", "5s..9s", "1s..2s"]'
+        study = in_folder(f'question = "?"\ngenerate = {words}\n{SEEDS}[vary]\n"churn.leave_ppm" = [0, 7]\n')
+        churns = [tomllib.loads(scenario_of(study, setting, 1))["churn"] for setting in study.settings()]
+        assert [list(churn.items())[3:] for churn in churns] == [
+            [("down_max_us", 2_000_000), ("leave_ppm", ppm)] for ppm in (0, 7)
+        ]
 
 
 class PythonTest(TestCase):

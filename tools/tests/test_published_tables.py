@@ -205,7 +205,10 @@ class PublishedPageTest(TestCase):
 
     def test_results(self) -> None:
         """They are those of their manifests, which name the study files as they are."""
-        for name in ("failure", "rules", "churn", "churn_silent", "churn_rules", "repair", "length", "circle"):
-            digests = json.loads((FOLDER / name / "manifest.json").read_text(encoding="utf-8"))["sha256"]
-            for file in (FOLDER / f"{name}.toml", FOLDER / name / "runs.csv"):
+        studies = sorted(FOLDER.glob("*.toml"))
+        assert len(studies) > 10
+        for study in studies:
+            results = FOLDER / study.stem
+            digests = json.loads((results / "manifest.json").read_text(encoding="utf-8"))["sha256"]
+            for file in (study, results / "runs.csv"):
                 assert hashlib.sha256(file.read_bytes()).hexdigest() == digests[file.name], file

@@ -103,7 +103,7 @@ class Commands(TestCase):
         out = self.trace()
         self.assertIn("\n  losses          1\n  again           1, requests sent again\n"
                       "  forgotten       1, predecessors that did not reply to a check\n"
-                      "  leaves          0, nodes that told their neighbours, and went\n"
+                      "  leaves          0, nodes that told their neighbours before they went\n"
                       "  rescues         1, members that took a finger as successor\n"
                       "  creates         0, nodes that made a ring of their own\n"
                       "  timeouts-sum    1 (1.00 a lookup), timeouts of found lookups\n", out)

@@ -54,11 +54,23 @@ REMOVAL = (
     "130 a again get-state c", "130 a ask get-state c call=8", "140 c lose state-reply a",
     "170 a timeout c", "170 a stranded b", "170 a ask step b call=12", "180 b drop step a",
 )
+LINES_OF_PAGE = "run.lines.time.forEach((_, at) => console.log(lineText(at)));"
+"""What prints all lines that a page has."""
+NO_NODE = "node is not there: apt-get install nodejs"
 
 
 def run_of(*lines: str, scenario: str = DETAIL) -> Run:
     """A run with detail, from its lines."""
     return run_of_text("".join(line + "\n" for line in lines), scenario)
+
+
+def printed_by_page(run: Run, script: str) -> list[str]:
+    """The lines that a script prints which follows run.js on the page of a run."""
+    page = json.dumps(data.page_data(run, "ring.toml"))
+    head = f"const document = {{getElementById: () => ({{textContent: {json.dumps(page)}}})}};"
+    before = (Path(writing.__file__).parent / "run.js").read_text(encoding="utf-8")
+    done = subprocess.run(["node", "-e", head + before + script], capture_output=True, text=True, check=True)
+    return done.stdout.splitlines()
 
 
 def requests(*lines: str, scenario: str = DETAIL, number: int = 0) -> tuple[list[str], list[str]]:
@@ -109,16 +121,11 @@ class Lines(TestCase):
         page = data.page_data(run_of(*JOIN), "ring.toml")
         self.assertEqual(page["asks"], [" call=3", " call=5", " call=5", " call=9"])
 
-    @skipUnless(shutil.which("node"), "node is not there: apt-get install nodejs")
+    @skipUnless(shutil.which("node"), NO_NODE)
     def test_lines_of_a_page(self) -> None:
         """The page shows the lines as the trace has them."""
-        script = (Path(writing.__file__).parent / "run.js").read_text(encoding="utf-8")
         for lines in (LOOKUP, JOIN, REMOVAL):
-            page = json.dumps(data.page_data(run_of(*lines), "ring.toml"))
-            head = f"const document = {{getElementById: () => ({{textContent: {json.dumps(page)}}})}};"
-            tail = "run.lines.time.forEach((_, at) => console.log(lineText(at)));"
-            done = subprocess.run(["node", "-e", head + script + tail], capture_output=True, text=True, check=True)
-            self.assertEqual(done.stdout.splitlines(), list(lines))
+            self.assertEqual(printed_by_page(run_of(*lines), LINES_OF_PAGE), list(lines))
 
 
 class Messages(TestCase):

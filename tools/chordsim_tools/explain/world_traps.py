@@ -55,7 +55,7 @@ def round_told(top: dict[str, Any]) -> str:
 
 
 def mean_life(top: dict[str, Any]) -> float | None:
-    """The mean life in microseconds: of [churn], or the time that nodes are up by the commands, for each end of one."""
+    """The mean life in microseconds: of [churn], or the time that nodes are up by the commands, for each that goes."""
     churn = top.get("churn")
     if churn and any(node.get("churn") is True for node in top["node"]):
         return float(churn["life_min_us"] + churn["life_max_us"]) / 2
@@ -211,11 +211,12 @@ def empty_from(top: dict[str, Any]) -> int | None:
 
 
 def leave_traps(top: dict[str, Any]) -> list[str]:
-    """Leaves of nodes that churn by themselves, of which there are none."""
+    """`leave_ppm` without a node that churns by itself."""
     ppm = top.get("churn", {}).get("leave_ppm", 0)
     if ppm == 0 or any(node.get("churn") is True for node in top["node"]):
         return []
-    return [f"leave_ppm = {ppm}, and no node has churn = true: only lives of such nodes end so, so it changes nothing"]
+    told = f"leave_ppm = {ppm}, and no node has churn = true"
+    return [f"{told}: only such nodes leave by themselves, so it changes nothing"]
 
 
 def world_traps(top: dict[str, Any]) -> list[str]:

@@ -322,7 +322,7 @@ class Procedures(Turn):
     # 8.10 Leaves
 
     def leave(self) -> None:
-        """Leave: n tells its predecessor and its head, unless these are n itself or one node, and is down."""
+        """Leave: n tells its predecessor and its head, each of them once and never itself, and is down."""
         self.line("leave")
         told = dict.fromkeys(x for x in (self.n.prdc, *self.n.succ[:1]) if x is not None and x != self.n.me)
         for x in told:

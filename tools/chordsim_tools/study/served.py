@@ -1,8 +1,8 @@
 """What the world wanted of a ring: nodes that are up, members among them, and the lookups that these would begin.
 
-A node is up from the start if it is initial, or from its line `join`, until its line `crash` or `leave`, or until one
-of these is `ignored`: so one whose join has failed is up until the departure that was planned for it, and its demand
-does not vanish."""
+A node is up from the start if it is initial, or from its line `join`, until its line `crash`, `leave`, `ignored crash`
+or `ignored leave`: so one whose join has failed is up until the departure that was planned for it, and its demand does
+not vanish."""
 
 from collections.abc import Iterable
 from dataclasses import dataclass, replace

@@ -27,7 +27,8 @@ CREATE, LEAVE = CODES["create"], CODES["leave"]
 COMES_IN = frozenset((MEMBER, CREATE))
 """The kinds of lines that make a node a member."""
 GOES = {"crash": CRASH, "leave": LEAVE}
-"""The kinds of lines by which a node is down, whatever it was, by their words. These are also what cuts lookups off."""
+"""The kinds of lines after which a node is down, whatever it was, by their words. A word is also the outcome of the
+lookups and joins that such a line cuts off."""
 CHANGES = frozenset((JOIN, JOIN_FAILED, STRANDED, *GOES.values())) | COMES_IN
 """The kinds of lines that change what a node is."""
 NOBODY = -1

@@ -103,7 +103,7 @@ def join_text(facts: Facts) -> Iterator[str]:
         yield line("rings made", counted(facts["creates"]), "by nodes that joined through themselves or had no answer")
     yield line("crashes", counted(facts["crashes"]))
     if facts["leaves"]:
-        yield line("leaves", counted(facts["leaves"]), "nodes that told their neighbours, and went")
+        yield line("leaves", counted(facts["leaves"]), MEANS["leaves"])
     for key, head in (("joins", "joins begun"), ("stranded", "stranded, join again")):
         joins = facts[key]
         told = [f"{counted(joins[word])} {name}" for word, name in JOINED.items() if joins[word] or word == "done"]
@@ -148,7 +148,7 @@ MEANS = {
     "members": "joins that succeeded", "join-failed": "times that a join had failed eight times",
     "drops": "messages that were not handled", "late": "replies for which no call was out",
     "again": "requests sent again", "forgotten": "predecessors that did not reply to a check",
-    "leaves": "nodes that told their neighbours, and went",
+    "leaves": "nodes that told their neighbours before they went",
     "rescues": "members that took a finger as successor", "creates": "nodes that made a ring of their own",
     "timeouts-sum": "timeouts of found lookups",
     "hops-greatest": "most hops of a found lookup", "us-least": "least time of a found lookup",
