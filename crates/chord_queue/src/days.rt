@@ -21,6 +21,9 @@ const DAY: u64 = 1024;
 /// The number of events that one day may have.
 const MOST: usize = 8192;
 
+/// The most room that a list keeps when it is emptied.
+const KEPT: usize = 256;
+
 /// Events, and those of later days by day. A list has the places of the events of one day, and only
 /// days after the last opened one have any.
 #[derive(Drop)]
@@ -170,8 +173,20 @@ impl Days {
         let at = (self.today % DAYS) as usize;
         if at < self.lists.len() {
             add_entries(&self.events, &self.lists[at], due);
-            self.lists[at].clear();
+            empty_list(&mut self.lists[at]);
         }
+    }
+}
+
+/// Empties a list. One with much room gives its memory back: otherwise each list would keep the room
+/// for the most events that one of its days has had.
+fn empty_list(places: &mut Vec<usize>)
+    ensures { places.new.items ≡ [] }
+{
+    if places.capacity() > KEPT {
+        *places = Vec::new(*places.allocator());
+    } else {
+        places.clear();
     }
 }
 

@@ -32,21 +32,21 @@ add_entries-requires-clause-room c =
 
 pub returns-then-at-len-clause-days : goal.returns-then-at-len-clause-days
 returns-then-at-len-clause-days c =
-    let d = c.args.self.now in let at = (d.today + 1) % list_count in let s = get d.events in let l = c.clear.new.self in
+    let d = c.args.self.now in let at = (d.today + 1) % list_count in let s = get d.events in let l = c.empty_list.new.places in
     let Q = IsListed s (d.today + 1) d.latest in let room = vec_capacity c.add_entries.new.entries in record {
       placed = placed_set (IsListed s d.today d.latest) Q 0 at d.lists.items l
           (λ j n ne is. next_day s d.today d.latest j n (λ q. ne (q ∙ omega arith)) is) c.requires.days.placed
-          (subst (λ ps. AllByRecursion (Q (0 + at)) ps) (sym c.clear.ensures.items) tt);
+          (subst (λ ps. AllByRecursion (Q (0 + at)) ps) (sym c.empty_list.ensures) tt);
       fit = all_set (λ (m : PlaceList). length m.items ≤ room) d.lists.items at l
           (fit_more (vec_capacity c.args.due.now) room d.lists.items c.add_entries.ensures.capacity c.requires.days.fit)
-          (subst (λ ps. length ps ≤ room) (sym c.clear.ensures.items) (omega arith));
+          (subst (λ ps. length ps ≤ room) (sym c.empty_list.ensures) (omega arith));
     }
 
 pub returns-then-at-len-clause-moved : goal.returns-then-at-len-clause-moved
 returns-then-at-len-clause-moved c =
     let d = c.args.self.now in let at = (d.today + 1) % list_count in let s = get d.events in let l = c.index.result.now in
     taken_entries s (joined d.lists.items) (slice_index_or d.lists.items at l).items _ c.add_entries.new.entries.items
-    (joined_taken d.lists.items at l c.clear.new.self (omega (arith, c.if-at-len.true, c.len.ensures, d.lists.ok.0)) c.clear.ensures.items)
+    (joined_taken d.lists.items at l c.empty_list.new.places (omega (arith, c.if-at-len.true, c.len.ensures, d.lists.ok.0)) c.empty_list.ensures)
     (c.add_entries.ensures.added ∙ ap (λ (ws : List Entry). ws ++ map (entry_at s) l.items) c.requires.empty
     ∙ ap (λ (m : PlaceList). map (entry_at s) m.items) c.index.ensures)
 
