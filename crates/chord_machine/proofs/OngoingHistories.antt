@@ -1,5 +1,5 @@
 -- What the nodes wait for is pending after each possible history.
-use Rattle.std.proofs.Common.{◌≡◌, ◌≢◌, ◌==◌, ◌&&◌, Bool, true, ◌⊎◌, inl, inr, ℕ, ◌+◌, ◌<◌, ◌≤◌, cond, List, [], ◌∷◌, refl, sym, ◌∙◌, ap, subst, arith}
+use Rattle.std.proofs.Common.{◌≡◌, ◌≢◌, ◌==◌, ◌&&◌, Bool, ◌⊎◌, inl, inr, ℕ, ◌+◌, ◌<◌, ◌≤◌, cond, List, [], ◌∷◌, refl, sym, ◌∙◌, ap, subst, arith}
 use Rattle.std.proofs.lemmas.Bool.{cases_eq}
 use Rattle.std.proofs.lemmas.List.Sums.{sum_by-cons}
 use Rattle.std.specs.List.{Contains}
@@ -22,7 +22,7 @@ use Rattle.chord_ops.specs.Timers.{Timer, is_timer, set_for, wanted}
 use Rattle.chord_ops.specs.Timers.Timer.{Rejoin, Timeout}
 use Rattle.chord_ops.specs.declared.turn.Turn.{Turn}
 use Rattle.chord_ops.proofs.GrowingRules.{grows_effect}
-use Rattle.chord_ops.specs.Ongoing.{FitsJoin, FitsTick, IsOngoing, is_tick, numbered}
+use Rattle.chord_ops.specs.Ongoing.{FitsJoin, FitsTick, IsOngoing, numbered}
 use Rattle.chord_ops.proofs.Ongoing.{is_set, other_node, recounted, same_node, set_elsewhere, set_for-cons}
 use Rattle.chord_ops.proofs.OngoingRules.{going_effect}
 use Rattle.chord_scenario.specs.declared.scenario.Scenario.{Scenario}

@@ -1,5 +1,6 @@
 //! Laws of the simulated world: its histories, its states and its trace.
 
+ghost use Rattle.chord_machine.specs.Accounts.{LookupsAreAccountedFor, ReportsAddUp};
 ghost use Rattle.chord_machine.specs.Chord.{chord};
 ghost use Rattle.chord_machine.specs.AuditTimes.{AreAuditsInTime};
 ghost use Rattle.chord_machine.specs.Ongoing.{RetriesAreLimited, CallsAreTimed, JoinsGoOn, TimersLive};
@@ -114,4 +115,15 @@ pub fn joins_go_on()
 /// tick.
 pub fn timers_live()
     ensures { (sc : Scenario) → IsInRange sc → TimersLive sc }
+{}
+
+/// Each lookup that a user has begun at a node is found, lost, in progress there, or cut off as the
+/// node went down, in whatever order events are taken.
+pub fn lookups_are_accounted_for()
+    ensures { (sc : Scenario) → IsInRange sc → LookupsAreAccountedFor sc }
+{}
+
+/// The lookups that a report counts as found, as lost and as unfinished add up to all that it counts.
+pub fn reports_add_up()
+    ensures { (sc : Scenario) → IsInRange sc → ReportsAddUp sc }
 {}
