@@ -136,10 +136,33 @@ more_lines start beside after f more same h =
     )
 
 module _ (sc : Scenario) (s : NodeState) (message : Body) (known : IsNodeState sc s) where
-  adds_up : Carries sc s message (Adds (in_progress s) 0) (λ lookup f. Adds (in_progress s) (cond (is_user lookup) 1 0) f)
+  -- each lookup of a stranded node is lost
+  strands : (f : Facts) (via : ℕ) → f.is ≡ status.Member → Adds (in_progress s) 0 f
+      → Adds (in_progress s) 0 (record f { is = status.Joining; lookups = []; calls = []; lines = f.lines ++ stranded_lines via f.time f.lookups })
+  strands f via member h =
+      let all = all_stranded via f.time f.lookups in
+      let lines : List Line = stranded_lines via f.time f.lookups in
+      omega (
+        arith,
+        h,
+        off_none f.is status.Member (in_progress s) member refl,
+        all.none_begun,
+        all.none_found,
+        all.all_lost,
+        counted_append tells_begun f.lines lines,
+        counted_append tells_found f.lines lines,
+        counted_append tells_lost f.lines lines,
+      )
+
+  adds_up : Carries sc s message (Adds (in_progress s) 0) (Adds (in_progress s) 0) (λ lookup f. Adds (in_progress s) (cond (is_user lookup) 1 0) f)
   adds_up =
       let n : ℕ = in_progress s in
       record {
+        opens = λ f other h. h;
+        absent = λ f number is none h. h;
+        noted = λ f more still h. more_lines n 0 0 f more (omega (arith, kinds more, still)) h;
+        over = λ f number is h. h;
+        leaves = strands;
         made = λ f h. h;
         quiet = λ f more still h. more_lines n 0 0 f more (omega (arith, kinds more, still)) h;
         called = λ f call number resent h. h;
@@ -148,20 +171,7 @@ module _ (sc : Scenario) (s : NodeState) (message : Body) (known : IsNodeState s
         member = λ f joining h. omega (arith, h, off_none f.is status.Joining n joining refl);
         rises = λ f down h. omega (arith, h, down_is_idle sc s known down, off_most f.is n);
         falls = λ f still h. omega (arith, kinds f.lines, still);
-        strands = λ f via member h.
-            let all = all_stranded via f.time f.lookups in
-            let lines : List Line = stranded_lines via f.time f.lookups in
-            omega (
-              arith,
-              h,
-              off_none f.is status.Member n member refl,
-              all.none_begun,
-              all.none_found,
-              all.all_lost,
-              counted_append tells_begun f.lines lines,
-              counted_append tells_found f.lines lines,
-              counted_append tells_lost f.lines lines,
-            );
+        strands = strands;
         begun = λ f key h. more_lines n 0 1 f (line.Lookup key ∷ []) refl h;
         turned = λ f key index h. h;
         taken = λ f number place lookup first is its within here h.
@@ -198,5 +208,5 @@ accounted_for sc s e known =
     let n : ℕ = in_progress s in
     omega (
       arith,
-      on_effect sc s e (Adds n 0) (λ lookup f. Adds n (cond (is_user lookup) 1 0) f) (adds_up sc s e.body known) known (opens sc s known),
+      on_effect sc s e (Adds n 0) (Adds n 0) (λ lookup f. Adds n (cond (is_user lookup) 1 0) f) (adds_up sc s e.body known) known (opens sc s known),
     )

@@ -4,7 +4,7 @@ use Rattle.std.proofs.lemmas.Option.{get_or_from_slice_get}
 use Rattle.std.proofs.lemmas.List.Quantifiers.{position-Some}
 use Rattle.std.proofs.lemmas.List.Sums.{sum_by-cons}
 use Rattle.std.specs.List.{cons_option, count_by, filter, find, insert, remove}
-use Rattle.std.specs.Prelude.{is_some, option_and_then, option_map, option_to_list, position, slice_get, if◌then◌else◌}
+use Rattle.std.specs.Prelude.{IsSome, is_some, option_and_then, option_map, option_to_list, position, slice_get, if◌then◌else◌}
 use Rattle.chord_circle.specs.Circle.{between, finger_start}
 use Rattle.chord_event.specs.declared.body.Answer.{Answer}
 use Rattle.chord_event.specs.declared.body.Answer.TheVariants as answer
@@ -34,20 +34,22 @@ use Rattle.chord_node.specs.declared.state.Status.{Status}
 use Rattle.chord_node.specs.declared.state.Status.TheVariants as status
 use Rattle.chord_node.specs.Invariant.{IsNodeState, is_for_join, is_user}
 use Rattle.chord_node.specs.Limits.{most_failures, most_lookup_steps, most_steps, most_user_lookups}
+use Rattle.chord_ops.specs.Ends.{concerns}
 use Rattle.chord_ops.specs.Accounts.{tells_begun, tells_found, tells_lost}
 use Rattle.chord_ops.specs.Detail.{detailed, line_for, message_lines, request_line}
 use Rattle.chord_ops.specs.declared.turn.Request.{Request}
 use Rattle.chord_ops.specs.declared.turn.Request.TheVariants as request
 use Rattle.chord_ops.specs.declared.turn.Turn.{Turn}
 use Rattle.chord_ops.specs.Procedures.{armed, call_of, came_up, check_armed, created, departed, finger_armed, for_attempt, fresh_attempt, fresh_lookup, gone_down, head_told, holds, is_founder, join_begun, join_ended, join_failed, join_given_up, join_paused, join_retried, lookup_asked, lookup_begun, lookup_diverted, lookup_failed, lookup_finished, lookup_finished_for, lookup_followed, lookup_led, lookup_request, lookup_resumed, lookup_walked, lost_line, other_via, own_step, past, rise_armed, risen, row_armed, rows_armed, stabilize_armed, stranded, stranded_lines, taken_time, told, traffic_armed, user_lookup, via_moved, with_attempt, with_lookup, with_lookup_at, without_attempt, without_call, without_lookup}
-use Rattle.chord_ops.specs.Rules.{acted, answered_call, answered_for, answers, arrived, avoiding, call_given_up, call_over, call_repeated, check_tick, check_timed_out, cleaned, cmd_crash, cmd_join, cmd_leave, cmd_lookup, crashed, dropped, dropped_by, effect, finger_after, finger_rotated, finger_tick, finger_turned, first_in_turn, has_finger_lookup, has_join_call, has_ping_call, has_repair_call, head, head_asked, head_met, head_notified, heard, is_down, is_handed_over, is_joining, is_joining_status, is_member, is_stuck, is_void, join_answered, join_asked, join_followed, join_list_answered, join_list_taken, join_timed_out, joined, key_words, leave_heard, life_end, life_over, list_after, list_answered, list_answered_for, list_asked, list_left, list_replied, lookup_answered, lookup_timed_out, near_covered, notified, notifier_met, once_more, opening, owner_answered, ping_timed_out, pinged, place_found, ponged, predecessor_told, random_key, random_lookup, rejoin, replied, request_again, rescue_lines, rescuer, rise, sent_once_more, stabilize_tick, state_answered, state_answered_for, state_asked, state_replied, state_timed_out, step_asked, step_replied, successors_taken, timed_out, timeout, traffic_tick, with_heirs, without_silent}
+use Rattle.chord_ops.specs.Rules.{acted, answered_call, answered_for, answers, arrived, asked_again, avoiding, call_given_up, call_over, call_repeated, call_timed_out, check_tick, check_timed_out, cleaned, cmd_crash, cmd_join, cmd_leave, cmd_lookup, crashed, dropped, dropped_by, effect, finger_after, finger_rotated, finger_tick, finger_turned, first_in_turn, has_finger_lookup, has_join_call, has_ping_call, has_repair_call, head, head_asked, head_met, head_notified, heard, is_down, is_handed_over, is_joining, is_joining_status, is_member, is_stuck, is_void, join_answered, join_asked, join_followed, join_list_answered, join_list_taken, join_timed_out, joined, key_words, leave_heard, life_end, life_over, list_after, list_answered, list_answered_for, list_asked, list_left, list_replied, lookup_answered, lookup_timed_out, near_covered, notified, notifier_met, once_more, opening, owner_answered, ping_timed_out, pinged, place_found, ponged, predecessor_told, random_key, random_lookup, rejoin, replied, request_again, rescue_lines, rescuer, rise, sent_once_more, stabilize_tick, state_answered, state_answered_for, state_asked, state_replied, state_timed_out, step_asked, step_replied, successors_taken, timed_out, timeout, traffic_tick, with_heirs, without_silent}
 use Rattle.chord_ops.specs.Search.{step_answer}
 use Rattle.chord_ops.specs.Turns.{after_words, called, kind_of, noted, sent, timer_made, when_some}
 use Rattle.chord_ops.proofs.Kept.{count_by-push}
 use Rattle.chord_ops.proofs.KeptRules.{not_false, or_false}
 use Rattle.chord_ops.proofs.KeptJoins.{down_by, joins_by, purpose_of_found, same_armed}
-use Rattle.chord_ops.proofs.KeptTable.{IsAnswered, answered_is, found_number, member_is, member_with}
+use Rattle.chord_ops.proofs.KeptTable.{IsAnswered, answered_is, found_number, member_is}
 use Rattle.chord_ops.proofs.Ongoing.{going_if, going_when, same_node}
+use Rattle.chord_ops.proofs.OngoingRules.{IsAsked, asked_by, request_known}
 use Rattle.chord_ops.proofs.Sending.{asked_as, called_as, new_call, sent_as}
 
 -- what a turn has to do with lookups
@@ -77,12 +79,9 @@ tells text = tells_begun text || tells_found text || tells_lost text
 abbrev pub telling : List Line → ℕ
 telling lines = count_by tells lines
 
--- whether an event is the timeout of a call or a reply to it
-abbrev pub concerns : Body → (number : ℕ) → Bool
-concerns (body.Timeout n) number = n == number
-concerns (body.StepReply n a) number = n == number
-concerns (body.StateReply n prdc list) number = n == number
-concerns _ number = false
+abbrev pub is_timeout : Body → Bool
+is_timeout (body.Timeout n) = true
+is_timeout _ = false
 
 -- a lookup for the same, that has gone as far
 pub record IsSame (old new : Lookup) : Type 0 where
@@ -92,13 +91,19 @@ pub record IsSame (old new : Lookup) : Type 0 where
   pub steps : new.steps ≡ old.steps
 
 -- Each step of an event keeps Q. While a lookup is taken out of the list and worked on, R holds in its place. The event is of body
--- `message`, and found the node in state s.
-pub record Carries (sc : Scenario) (s : NodeState) (message : Body) (Q : Facts → Type 0) (R : Lookup → Facts → Type 0) : Type 0 where
+-- `message`, and found the node in state s. P holds at first, and if the event is the timeout of a call, until that call is taken out.
+pub record Carries (sc : Scenario) (s : NodeState) (message : Body) (P Q : Facts → Type 0) (R : Lookup → Facts → Type 0) : Type 0 where
+  pub opens : (f : Facts) → is_timeout message ≡ false → P f → Q f
+  pub absent : (f : Facts) (number : ℕ) → message ≡ body.Timeout number → call_of number s ≡ None → P f → Q f
+  pub noted : (f : Facts) (more : List Line) → telling more ≡ 0 → P f → P (record f { lines = f.lines ++ more })
+  pub over : (f : Facts) (number : ℕ) → message ≡ body.Timeout number → P f → Q (record f { calls = filter (λ c. not (c.number == number)) f.calls })
+  pub leaves : (f : Facts) (via : ℕ) → f.is ≡ status.Member → P f
+      → Q (record f { is = status.Joining; lookups = []; calls = []; lines = f.lines ++ stranded_lines via f.time f.lookups })
   pub made : (f : Facts) → Q f → Q (record f { count = f.count + 1 })
   pub quiet : (f : Facts) (more : List Line) → telling more ≡ 0 → Q f → Q (record f { lines = f.lines ++ more })
   pub called : (f : Facts) (call : Call) → call.number ≡ f.count + 1 → call.resent ≡ 0 → Q f
       → Q (record f { count = f.count + 1 + 1; calls = f.calls ++ call ∷ [] })
-  pub again : (f : Facts) (number : ℕ) (call : Call) → message ≡ body.Timeout number → call_of number s ≡ Some call → Q f
+  pub again : (f : Facts) (number : ℕ) (call : Call) → message ≡ body.Timeout number → call_of number s ≡ Some call → P f
       → Q (record f { count = f.count + 1 + 1; calls = filter (λ c. not (c.number == number)) f.calls ++ sent_once_more number call ∷ [] })
   pub without : (f : Facts) (number : ℕ) → Q f → Q (record f { calls = filter (λ c. not (c.number == number)) f.calls })
   pub member : (f : Facts) → f.is ≡ status.Joining → Q f → Q (record f { is = status.Member })
@@ -136,6 +141,10 @@ joining_is : (s : Status) → is_joining_status s ≡ true → s ≡ status.Join
 joining_is status.Down is = absurd (cc)
 joining_is status.Joining is = refl
 joining_is status.Member is = absurd (cc)
+
+has_none : {A : Type 0} (o : Option A) → o ≡ None → IsSome o → ⊥
+has_none None none some = cc
+has_none (Some a) none some = cc
 
 not_both : (s : Status) → s ≡ status.Joining → s ≡ status.Member → ⊥
 not_both status.Down joining member = cc
@@ -192,7 +201,7 @@ detail_is_still s (x ∷ xs) = with_first (line_for s x.target x.body) (line_is_
         let one : ◌≡◌ {A = ℕ} (cond (tells text) 1 0) 0 = ap (λ (b : Bool). cond b 1 0) is in
         omega (arith, sum_by-cons (λ (l : Line). cond (tells l) 1 0) text (message_lines s xs), still, one)
 
-module _ (sc : Scenario) (s : NodeState) (e : Event Body) (Q : Facts → Type 0) (R : Lookup → Facts → Type 0) (c : Carries sc s e.body Q R) where
+module _ (sc : Scenario) (s : NodeState) (e : Event Body) (P Q : Facts → Type 0) (R : Lookup → Facts → Type 0) (c : Carries sc s e.body P Q R) where
   abbrev Holds : Turn → Type 0
   Holds turn = Q (facts turn)
 
@@ -416,11 +425,13 @@ module _ (sc : Scenario) (s : NodeState) (e : Event Body) (Q : Facts → Type 0)
       (λ again. on_join_paused sc.join_pause (record attempt { failures = attempt.failures + 1 }) (via_moved sc turn) joining h)
       (λ over. on_join_ended attempt (via_moved sc turn) joining still h)
 
-  on_stranded : (via : ℕ) (turn : Turn) → turn.state.status ≡ status.Member → Holds turn → Holds (stranded sc via turn)
+  on_stranded : (X : Facts → Type 0)
+      → ((f : Facts) (via : ℕ) → f.is ≡ status.Member → X f
+      → Q (record f { is = status.Joining; lookups = []; calls = []; lines = f.lines ++ stranded_lines via f.time f.lookups }))
+      → (via : ℕ) (turn : Turn) → turn.state.status ≡ status.Member → X (facts turn) → Holds (stranded sc via turn)
   unfolding stranded
-  on_stranded via turn member h =
-      let next : ℕ = other_via sc turn.state.me via in
-      on_join_begun [] next _ refl (c.strands (facts turn) next member h)
+  on_stranded X strands via turn member h =
+      let next : ℕ = other_via sc turn.state.me via in on_join_begun [] next _ refl (strands (facts turn) next member h)
 
   -- the step with an attempt to join
   on_for_attempt : (step : Attempt → Turn → Turn) (turn : Turn) → Holds turn → ((attempt : Attempt) → Holds (step attempt (without_attempt turn)))
@@ -614,7 +625,7 @@ module _ (sc : Scenario) (s : NodeState) (e : Event Body) (Q : Facts → Type 0)
       (λ attempt. on_join_failed (avoiding silent turn.state attempt) (without_attempt turn) joining still h)
 
   on_head_asked : (first : Option ℕ) (turn : Turn) → turn.state.status ≡ status.Member → Holds turn → Holds (head_asked sc first turn)
-  on_head_asked None turn member h = going_when Holds turn.state.via (stranded sc) turn h (λ via set. on_stranded via turn member h)
+  on_head_asked None turn member h = going_when Holds turn.state.via (stranded sc) turn h (λ via set. on_stranded Q c.strands via turn member h)
   on_head_asked (Some first) turn member h = on_called first request.GetState purpose.State turn h
 
   on_state_timed_out : (silent : ℕ) (turn : Turn) → turn.state.status ≡ status.Member → Holds turn → Holds (state_timed_out sc silent turn)
@@ -651,67 +662,75 @@ module _ (sc : Scenario) (s : NodeState) (e : Event Body) (Q : Facts → Type 0)
   on_timed_out number silent purpose.Check turn first is joins others still h = on_check_timed_out silent turn h
   on_timed_out number silent (purpose.Ping notifier) turn first is joins others still h = on_ping_timed_out silent notifier turn h
 
-  -- a rescue is no news of a lookup
-  on_rescue : (o : Option ℕ) (f : Facts) → Q f → Q (record f { lines = f.lines ++ rescue_lines o })
-  on_rescue None f h = c.quiet f [] refl h
-  on_rescue (Some finger) f h = c.quiet f (line.Rescue finger ∷ []) refl h
-
   -- a member drops a node, and goes on with a step
-  on_dropped : (silent : ℕ) (step : Turn → Turn) (turn : Turn) → turn.state.status ≡ status.Member → Holds turn
+  on_dropped : (X : Facts → Type 0) → ((f : Facts) (more : List Line) → telling more ≡ 0 → X f → X (record f { lines = f.lines ++ more }))
+      → ((f : Facts) (via : ℕ) → f.is ≡ status.Member → X f
+      → Q (record f { is = status.Joining; lookups = []; calls = []; lines = f.lines ++ stranded_lines via f.time f.lookups }))
+      → (silent : ℕ) (step : Turn → Turn) (turn : Turn) → turn.state.status ≡ status.Member
+      → (turn.state.via ≡ None → X (facts (list_left sc silent turn)) → Holds (list_left sc silent turn)) → X (facts turn)
       → ((succ fingers : List ℕ) (lines : List Line)
-      → Holds (record turn { state = record turn.state { succ = succ; fingers = fingers }; lines = lines })
+      → X (facts (record turn { state = record turn.state { succ = succ; fingers = fingers }; lines = lines }))
       → Holds (step (record turn { state = record turn.state { succ = succ; fingers = fingers }; lines = lines })))
       → Holds (dropped sc silent step turn)
   unfolding dropped list_left
-  on_dropped silent step turn member h go = by (slice_get (list_after sc silent turn.state) 0)
+  on_dropped X notes strands silent step turn member none h go = by (slice_get (list_after sc silent turn.state) 0)
     where
-      rescued : Holds (list_left sc silent turn)
-      rescued = on_rescue (rescuer sc silent turn.state) (facts turn) h
+      rescue : (o : Option ℕ) → X (record (facts turn) { lines = turn.lines ++ rescue_lines o })
+      rescue None = notes (facts turn) [] refl h
+      rescue (Some finger) = notes (facts turn) (line.Rescue finger ∷ []) refl h
+
+      rescued : X (facts (list_left sc silent turn))
+      rescued = rescue (rescuer sc silent turn.state)
+
+      by_via : (o : Option ℕ) → turn.state.via ≡ o → Holds (when_some o (stranded sc) (list_left sc silent turn))
+      by_via None is = none is rescued
+      by_via (Some via) is = on_stranded X strands via (list_left sc silent turn) member rescued
 
       by : (o : Option ℕ) → Holds (dropped_by sc silent step o (list_left sc silent turn))
-      by None =
-          going_when Holds turn.state.via (stranded sc) (list_left sc silent turn) rescued
-          (λ via set. on_stranded via (list_left sc silent turn) member rescued)
+      by None = by_via turn.state.via refl
       by (Some first) =
           go (list_after sc silent turn.state) (map (λ x. if x == silent then first else x) turn.state.fingers)
           (turn.lines ++ rescue_lines (rescuer sc silent turn.state)) rescued
 
-  on_call_repeated : (number : ℕ) (call : Call) → e.body ≡ body.Timeout number → call_of number s ≡ Some call → Holds (opening s e)
-      → Holds (call_repeated sc number call (opening s e))
+  on_call_repeated : (number : ℕ) (call : Call) → e.body ≡ body.Timeout number → call_of number s ≡ Some call → IsSome (request_again sc number call.purpose s)
+      → P (facts (opening s e)) → Holds (call_repeated sc number call (opening s e))
   unfolding call_repeated
-  on_call_repeated number call is found h =
-      going_when Holds (request_again sc number call.purpose s) _ (opening s e) h
-      (λ again set.
-      let out : Turn = noted (line.Again (kind_of again) call.to) (without_call number (opening s e)) in
-      let sent : Facts = record (facts (opening s e)) {
-        count = s.count + 1 + 1;
-        calls = filter (λ c. not (c.number == number)) s.calls ++ sent_once_more number call ∷ [];
-      } in
-      let g : Q sent = c.again (facts (opening s e)) number call is found h in
-      let told : Q (record sent { lines = [] ++ line.Again (kind_of again) call.to ∷ [] }) =
-      c.quiet sent (line.Again (kind_of again) call.to ∷ []) refl g in
-      asked_as Holds sc again (sent_once_more number call) out
-      (λ delay place late near. told)
-      (λ place near.
-      c.quiet (record sent { lines = [] ++ line.Again (kind_of again) call.to ∷ [] }) (line.Lose (kind_of again) call.to ∷ []) refl told))
+  on_call_repeated number call is found asks h = by (request_again sc number call.purpose s) asks
+    where
+      by : (o : Option Request) → IsSome o → Holds (when_some o (asked_again sc number call) (opening s e))
+      by None has = absurd (cc)
+      by (Some again) has =
+          let out : Turn = noted (line.Again (kind_of again) call.to) (without_call number (opening s e)) in
+          let sent : Facts = record (facts (opening s e)) {
+            count = s.count + 1 + 1;
+            calls = filter (λ c. not (c.number == number)) s.calls ++ sent_once_more number call ∷ [];
+          } in
+          let told : Q (record sent { lines = [] ++ line.Again (kind_of again) call.to ∷ [] }) =
+          c.quiet sent (line.Again (kind_of again) call.to ∷ []) refl (c.again (facts (opening s e)) number call is found h) in
+          asked_as Holds sc again (sent_once_more number call) out
+          (λ delay place late near. told)
+          (λ place near.
+          c.quiet (record sent { lines = [] ++ line.Again (kind_of again) call.to ∷ [] }) (line.Lose (kind_of again) call.to ∷ []) refl told)
 
   -- a call that is given up
-  on_call_given_up : (number : ℕ) (call : Call) → concerns e.body number ≡ true → (is_for_join call.purpose ≡ true → s.status ≡ status.Joining)
-      → (is_for_join call.purpose ≡ false → s.status ≡ status.Member) → Holds (opening s e) → Holds (call_given_up sc number call (opening s e))
+  on_call_given_up : (number : ℕ) (call : Call) → e.body ≡ body.Timeout number → (is_for_join call.purpose ≡ true → s.status ≡ status.Joining)
+      → (is_for_join call.purpose ≡ false → s.status ≡ status.Member) → (s.status ≡ status.Member → IsSome s.via) → P (facts (opening s e))
+      → Holds (call_given_up sc number call (opening s e))
   unfolding call_given_up
-  on_call_given_up number call is joins others h =
+  on_call_given_up number call is joins others has_via h =
+      let its : concerns e.body number ≡ true = ap (λ (b : Body). concerns b number) is ∙ same_node number in
       let mid : Turn = noted (line.Timeout call.to) (opening s e) in
-      let g : Holds mid = on_line (line.Timeout call.to) (opening s e) refl h in
+      let g : P (facts mid) = c.noted (facts (opening s e)) (line.Timeout call.to ∷ []) refl h in
       going_if Holds (sc.rules.drop_silent && is_member s) _ _
       (λ drops.
       let member : s.status ≡ status.Member = member_is s.status (and_right sc.rules.drop_silent (is_member s) drops) in
-      on_dropped call.to (call_over sc number call) mid member g
+      on_dropped P c.noted c.leaves call.to (call_over sc number call) mid member (λ none. absurd (has_none s.via none (has_via member))) g
       (λ succ fingers lines k.
       on_timed_out number call.to call.purpose
-      (without_call number (record mid { state = record mid.state { succ = succ; fingers = fingers }; lines = lines })) refl is joins others
+      (without_call number (record mid { state = record mid.state { succ = succ; fingers = fingers }; lines = lines })) refl its joins others
       (λ join. absurd (not_both s.status (joins join) member))
-      (c.without (record (facts mid) { lines = lines }) number k)))
-      (λ keeps. on_timed_out number call.to call.purpose (without_call number mid) refl is joins others (λ join. refl) (c.without (facts mid) number g))
+      (c.over (record (facts mid) { lines = lines }) number is k)))
+      (λ keeps. on_timed_out number call.to call.purpose (without_call number mid) refl its joins others (λ join. refl) (c.over (facts mid) number is g))
 
   -- Requests
 
@@ -753,7 +772,9 @@ module _ (sc : Scenario) (s : NodeState) (e : Event Body) (Q : Facts → Type 0)
   unfolding leave_heard
   on_leave_heard sender prdc list turn h =
       going_if Holds (is_member turn.state) _ _
-      (λ is. on_dropped sender (λ t. t) (with_heirs sc sender prdc list turn) (member_is turn.state.status is) h (λ succ fingers lines k. k))
+      (λ is.
+      on_dropped Q c.quiet c.strands sender (λ t. t) (with_heirs sc sender prdc list turn) (member_is turn.state.status is) (λ none k. k) h
+      (λ succ fingers lines k. k))
       (λ other. on_line (line.Drop kind.Leave sender) turn refl h)
 
   -- Replies
@@ -891,15 +912,17 @@ module _ (sc : Scenario) (s : NodeState) (e : Event Body) (Q : Facts → Type 0)
     joins_with : (number : ℕ) (call : Call) → call_of number s ≡ Some call → is_for_join call.purpose ≡ true → s.status ≡ status.Joining
     joins_with number call found is = joins_by s.status call.purpose is (purpose_of_found sc number call s found known.calls)
 
-    on_timeout : (number : ℕ) → e.body ≡ body.Timeout number → Holds (opening s e) → Holds (timeout sc number (opening s e))
+    on_timeout : (number : ℕ) → e.body ≡ body.Timeout number → P (facts (opening s e)) → Holds (timeout sc number (opening s e))
     unfolding timeout
-    on_timeout number is h =
-        let its : concerns e.body number ≡ true = ap (λ (b : Body). concerns b number) is ∙ same_node number in
-        going_when Holds (call_of number s) _ (opening s e) h
-        (λ call found. going_if Holds (nat_lt call.resent sc.retries) _ _
-        (λ again. on_call_repeated number call is found h)
-        (λ over. on_call_given_up number call its (joins_with number call found)
-        (λ other. member_with s.status call.purpose other (purpose_of_found sc number call s found known.calls)) h))
+    on_timeout number is h = by (call_of number s) refl
+      where
+        by : (o : Option Call) → call_of number s ≡ o → Holds (when_some o (call_timed_out sc number) (opening s e))
+        by None found = c.absent (facts (opening s e)) number is found h
+        by (Some call) found =
+            let asked : IsAsked number call s.calls s.status s.via s.join = asked_by sc number call s found known in
+            going_if Holds (nat_lt call.resent sc.retries) _ _
+            (λ again. on_call_repeated number call is found (request_known sc number call call.purpose s refl asked known) h)
+            (λ over. on_call_given_up number call is asked.joins asked.others (λ member. asked.has_via) h)
 
     on_step_replied : (sender number : ℕ) (a : Answer) → e.body ≡ body.StepReply number a → Holds (opening s e)
         → Holds (step_replied sc sender number a (opening s e))
@@ -937,29 +960,30 @@ module _ (sc : Scenario) (s : NodeState) (e : Event Body) (Q : Facts → Type 0)
 
     -- The whole table
 
-    on_acted : (sender : ℕ) (message : Body) → e.body ≡ message → Holds (opening s e) → Holds (acted sc sender message (opening s e))
-    on_acted sender (body.CmdJoin via) is h = on_cmd_join via h
-    on_acted sender body.CmdCrash is h = on_cmd_crash h
-    on_acted sender body.CmdLeave is h = on_cmd_leave h
-    on_acted sender (body.CmdLookup key) is h = on_cmd_lookup key (opening s e) h
-    on_acted sender (body.StabilizeTick epoch) is h = on_stabilize_tick epoch (opening s e) h
-    on_acted sender (body.FingerTick epoch) is h = on_finger_tick epoch (opening s e) h
-    on_acted sender (body.TrafficTick epoch) is h = on_traffic_tick epoch (opening s e) h
-    on_acted sender (body.LifeEnd epoch) is h = on_life_end epoch h
-    on_acted sender (body.Rise epoch) is h = on_rise epoch h
-    on_acted sender (body.CheckTick epoch) is h = on_check_tick epoch (opening s e) h
-    on_acted sender (body.Rejoin epoch) is h = on_rejoin epoch (opening s e) h
-    on_acted sender (body.Timeout number) is h = on_timeout number is h
-    on_acted sender (body.Step number key avoid) is h = on_step_asked sender number key avoid (opening s e) h
-    on_acted sender (body.GetState number) is h = on_state_asked sender number (opening s e) h
-    on_acted sender (body.GetList number) is h = on_list_asked sender number (opening s e) h
-    on_acted sender (body.Ping number) is h = on_pinged sender number (opening s e) h
-    on_acted sender body.Notify is h = on_notified sender (opening s e) h
-    on_acted sender (body.Leave prdc list) is h = on_leave_heard sender prdc list (opening s e) h
-    on_acted sender (body.StepReply number a) is h = on_step_replied sender number a is h
-    on_acted sender (body.StateReply number prdc list) is h = on_state_replied sender number prdc list is h
-    on_acted sender (body.ListReply number list) is h = on_list_replied sender number list h
-    on_acted sender (body.Pong number) is h = on_ponged sender number h
+    on_acted : (sender : ℕ) (message : Body) → e.body ≡ message → (is_timeout message ≡ false → Holds (opening s e)) → P (facts (opening s e))
+        → Holds (acted sc sender message (opening s e))
+    on_acted sender (body.CmdJoin via) is h p = on_cmd_join via (h refl)
+    on_acted sender body.CmdCrash is h p = on_cmd_crash (h refl)
+    on_acted sender body.CmdLeave is h p = on_cmd_leave (h refl)
+    on_acted sender (body.CmdLookup key) is h p = on_cmd_lookup key (opening s e) (h refl)
+    on_acted sender (body.StabilizeTick epoch) is h p = on_stabilize_tick epoch (opening s e) (h refl)
+    on_acted sender (body.FingerTick epoch) is h p = on_finger_tick epoch (opening s e) (h refl)
+    on_acted sender (body.TrafficTick epoch) is h p = on_traffic_tick epoch (opening s e) (h refl)
+    on_acted sender (body.LifeEnd epoch) is h p = on_life_end epoch (h refl)
+    on_acted sender (body.Rise epoch) is h p = on_rise epoch (h refl)
+    on_acted sender (body.CheckTick epoch) is h p = on_check_tick epoch (opening s e) (h refl)
+    on_acted sender (body.Rejoin epoch) is h p = on_rejoin epoch (opening s e) (h refl)
+    on_acted sender (body.Timeout number) is h p = on_timeout number is p
+    on_acted sender (body.Step number key avoid) is h p = on_step_asked sender number key avoid (opening s e) (h refl)
+    on_acted sender (body.GetState number) is h p = on_state_asked sender number (opening s e) (h refl)
+    on_acted sender (body.GetList number) is h p = on_list_asked sender number (opening s e) (h refl)
+    on_acted sender (body.Ping number) is h p = on_pinged sender number (opening s e) (h refl)
+    on_acted sender body.Notify is h p = on_notified sender (opening s e) (h refl)
+    on_acted sender (body.Leave prdc list) is h p = on_leave_heard sender prdc list (opening s e) (h refl)
+    on_acted sender (body.StepReply number a) is h p = on_step_replied sender number a is (h refl)
+    on_acted sender (body.StateReply number prdc list) is h p = on_state_replied sender number prdc list is (h refl)
+    on_acted sender (body.ListReply number list) is h p = on_list_replied sender number list (h refl)
+    on_acted sender (body.Pong number) is h p = on_ponged sender number (h refl)
 
     on_detailed : (turn : Turn) → Holds turn → Holds (detailed sc turn)
     unfolding detailed
@@ -969,6 +993,8 @@ module _ (sc : Scenario) (s : NodeState) (e : Event Body) (Q : Facts → Type 0)
         (λ silent. h)
 
     -- what each step keeps holds at the end of the event
-    pub on_effect : Holds (opening s e) → Q (facts (effect sc s e))
+    pub on_effect : P (facts (opening s e)) → Q (facts (effect sc s e))
     unfolding effect
-    on_effect h = on_detailed (acted sc (e.key.origin - 2) e.body (opening s e)) (on_acted (e.key.origin - 2) e.body refl h)
+    on_effect h =
+        on_detailed (acted sc (e.key.origin - 2) e.body (opening s e))
+        (on_acted (e.key.origin - 2) e.body refl (λ other. c.opens (facts (opening s e)) other h) h)

@@ -11,7 +11,6 @@ use Rattle.chord_ops.specs.declared.turn.Turn.{Turn}
 use Rattle.chord_ops.specs.Gone.{IsGone}
 use Rattle.chord_ops.specs.Procedures.{created, holds, join_begun, other_via, own_step, stranded}
 use Rattle.chord_ops.specs.Rules.{dropped, dropped_by, followed_by, inherited, list_after, list_left, mended, others_left, taken_over, with_heirs}
-use Rattle.chord_ops.specs.Turns.{called}
 use Rattle.chord_ops.proofs.Going.{gone}
 use Rattle.chord_ops.proofs.Ongoing.{going_if, going_when, same_node}
 use Rattle.chord_ops.proofs.Sending.{called_as}

@@ -70,7 +70,7 @@ pub record IsAsked (number : ℕ) (call : Call) (calls : List Call) (is : Status
   pub has_via : IsSome via
   pub has_attempt : is_for_join call.purpose ≡ true → IsSome join
 
-asked_by : (sc : Scenario) (number : ℕ) (call : Call) (s : NodeState) → call_of number s ≡ Some call → IsNodeState sc s
+pub asked_by : (sc : Scenario) (number : ℕ) (call : Call) (s : NodeState) → call_of number s ≡ Some call → IsNodeState sc s
     → IsAsked number call s.calls s.status s.via s.join
 asked_by sc number call s found k =
     let allowed = purpose_of_found sc number call s found k.calls in
@@ -756,7 +756,7 @@ going_call_given_up sc claim rest key target number call turn known asked h =
     (λ keeps. going_call_over sc claim rest key target number call mid asked h)
 
 -- a call that waits knows what it has asked for
-request_known : (sc : Scenario) (number : ℕ) (call : Call) (wanted : Purpose) (s : NodeState) → call.purpose ≡ wanted
+pub request_known : (sc : Scenario) (number : ℕ) (call : Call) (wanted : Purpose) (s : NodeState) → call.purpose ≡ wanted
     → IsAsked number call s.calls s.status s.via s.join → IsNodeState sc s → IsSome (request_again sc number wanted s)
 request_known sc number call purpose.Lookup s is asked known = by (find (λ (l : Lookup). l.call == number) s.lookups) refl
   where
