@@ -110,7 +110,7 @@ module _ {State Body Piece : Type 0} (m : Machine State Body Piece) {Sound : ℕ
       (⊎_elim (λ s. subst (λ z. Contains (all_events m h) z) s (waits_from m h e possible.1).known) (λ r. possible_known m h possible.0 found.0 r)
       (contains_cons found.0 e h found.1)) (sym found.2)))
 
-  pending_after : pending m (e ∷ h) ≡ (effect_after m h e).events ++ beside e (pending m h)
+  pub pending_after : pending m (e ∷ h) ≡ (effect_after m h e).events ++ beside e (pending m h)
   pending_after =
       filter-append (λ (x : Event Body). not (has_key x.key (e ∷ h))) (effect_after m h e).events (all_events m h)
       ∙ ap (λ ys. ys ++ filter (λ (x : Event Body). not (has_key x.key (e ∷ h))) (all_events m h))

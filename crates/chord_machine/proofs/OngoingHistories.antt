@@ -36,7 +36,7 @@ use Rattle.chord_machine.proofs.OngoingStarts.{starts_go_on}
 use Rattle.chord_machine.proofs.WellFormed.{well_formed}
 
 -- what node n waits for after a history is pending
-abbrev GoesOn : Scenario → List (Event Body) → ℕ → Type 0
+abbrev pub GoesOn : Scenario → List (Event Body) → ℕ → Type 0
 GoesOn sc h n = IsOngoing sc (wanted sc n) 0 (pending (chord sc) h) (first_turn (state (chord sc) h n))
 
 module _ (sc : Scenario) (ranges : IsInRange sc) (h : List (Event Body)) (e : Event Body) (possible : IsPossible (chord sc) (e ∷ h)) where
@@ -96,7 +96,7 @@ module _ (sc : Scenario) (ranges : IsInRange sc) (h : List (Event Body)) (e : Ev
       (λ t number. omega (arith, count_before s.me t number, count_after s.me t number, made_elsewhere t number, no_event t number))
       refl (omega arith) refl refl refl (λ m t number other. refl) own
 
-all_go_on : (sc : Scenario) → IsInRange sc → (h : List (Event Body)) → IsPossible (chord sc) h → (n : ℕ) → n < node_count sc → GoesOn sc h n
+pub all_go_on : (sc : Scenario) → IsInRange sc → (h : List (Event Body)) → IsPossible (chord sc) h → (n : ℕ) → n < node_count sc → GoesOn sc h n
 all_go_on sc ranges [] p n inside =
     subst (λ (es : List (Event Body)). IsOngoing sc (wanted sc n) 0 es (first_turn (state (chord sc) [] n))) (sym (pending_first (chord sc)))
     (starts_go_on sc n ranges inside)
@@ -110,6 +110,13 @@ all_go_on sc ranges (e ∷ h) p n inside = go (cases_eq e.target n) (all_go_on s
     go (inr apart) ih =
         subst (λ (s : NodeState). IsOngoing sc (wanted sc n) 0 (pending (chord sc) (e ∷ h)) (first_turn s)) (sym (state_other (chord sc) e h n apart))
         (goes_on_there sc ranges h e p n apart (ih e.target (known sc ranges h e p).target) inside (ih n inside))
+
+-- an event makes no timer for another node than its target
+pub made_elsewhere : (sc : Scenario) → IsInRange sc → (h : List (Event Body)) (e : Event Body) → IsPossible (chord sc) (e ∷ h) → (n : ℕ) → e.target ≢ n
+    → (t : Timer) (number : ℕ) → set_for n t number (effect sc (state (chord sc) h e.target) e).events ≡ 0
+made_elsewhere sc ranges h e p n apart t number =
+    (acts sc ranges h e p (all_go_on sc ranges h p.0 e.target (known sc ranges h e p).target)).own n t number
+    (λ same. apart (sym (same ∙ same_me sc ranges h e p)))
 
 -- The laws
 

@@ -3,6 +3,7 @@
 ghost use Rattle.chord_machine.specs.Accounts.{LookupsAreAccountedFor, ReportsAddUp};
 ghost use Rattle.chord_machine.specs.Chord.{chord};
 ghost use Rattle.chord_machine.specs.AuditTimes.{AreAuditsInTime};
+ghost use Rattle.chord_machine.specs.Ends.{LookupsAreInTime, LookupsAreShort};
 ghost use Rattle.chord_machine.specs.Ongoing.{RetriesAreLimited, CallsAreTimed, JoinsGoOn, TimersLive};
 ghost use Rattle.chord_machine.specs.Room.{RoomIsLeft};
 ghost use Rattle.chord_machine.specs.Sound.{HistoriesAreSound};
@@ -126,4 +127,11 @@ pub fn lookups_are_accounted_for()
 /// The lookups that a report counts as found, as lost and as unfinished add up to all that it counts.
 pub fn reports_add_up()
     ensures { (sc : Scenario) → IsInRange sc → ReportsAddUp sc }
+{}
+
+/// A lookup in progress ends in time: its next timeout comes no later than one `timeout` after it began
+/// for each request that it has sent, and so no later than one for each that it may send.
+pub fn lookups_are_in_time()
+    ensures sent { (sc : Scenario) → IsInRange sc → LookupsAreInTime sc }
+    ensures most { (sc : Scenario) → IsInRange sc → LookupsAreShort sc }
 {}

@@ -163,10 +163,10 @@ module _ (sc : Scenario) (s : NodeState) (message : Body) (known : IsNodeState s
         noted = λ f more still h. more_lines n 0 0 f more (omega (arith, kinds more, still)) h;
         over = λ f number is h. h;
         leaves = strands;
-        made = λ f h. h;
+        made = λ f es timely h. h;
         quiet = λ f more still h. more_lines n 0 0 f more (omega (arith, kinds more, still)) h;
-        called = λ f call number resent h. h;
-        again = λ f number call is found h. h;
+        called = λ f call es timely number resent h. h;
+        again = λ f number call es timely is found h. h;
         without = λ f number h. h;
         member = λ f joining h. omega (arith, h, off_none f.is status.Joining n joining refl);
         rises = λ f down h. omega (arith, h, down_is_idle sc s known down, off_most f.is n);
@@ -178,7 +178,7 @@ module _ (sc : Scenario) (s : NodeState) (message : Body) (known : IsNodeState s
             omega (arith, h, count_by-remove is_user f.lookups place lookup within here);
         same = λ f old new alike h.
             subst (λ (wanted : Aim). Adds n (cond (is_user_aim wanted) 1 0) f) (sym alike.aim) h;
-        asked = λ f call place lookup number resent h.
+        asked = λ f call place lookup es timely number resent h.
             let next : Lookup = record lookup { call = f.count + 1; steps = lookup.steps + 1 } in
             omega (arith, h, count_by-insert is_user f.lookups place next);
         failed = λ f lookup h.

@@ -3,8 +3,9 @@ use Rattle.std.proofs.Common.{◌≡◌, ◌==◌, ◌*◌, ℕ, ◌+◌, ◌-�
 use Rattle.std.proofs.lemmas.Option.{get_or_from_slice_get}
 use Rattle.std.proofs.lemmas.List.Quantifiers.{position-Some}
 use Rattle.std.proofs.lemmas.List.Sums.{sum_by-cons}
-use Rattle.std.specs.List.{cons_option, count_by, filter, find, insert, remove}
-use Rattle.std.specs.Prelude.{IsSome, is_some, option_and_then, option_map, option_to_list, position, slice_get, if◌then◌else◌}
+use Rattle.std.proofs.lemmas.List.Elements.{All-push}
+use Rattle.std.specs.List.{All, AllByRecursion, cons_option, count_by, filter, find, insert, remove}
+use Rattle.std.specs.Prelude.{IfSome, IsSome, is_some, option_and_then, option_map, option_to_list, position, slice_get, if◌then◌else◌}
 use Rattle.chord_circle.specs.Circle.{between, finger_start}
 use Rattle.chord_event.specs.declared.body.Answer.{Answer}
 use Rattle.chord_event.specs.declared.body.Answer.TheVariants as answer
@@ -19,8 +20,8 @@ use Rattle.chord_event.specs.declared.line.Line.TheVariants as line
 use Rattle.chord_scenario.specs.declared.scenario.Scenario.{Scenario}
 use Rattle.chord_scenario.specs.declared.setting.Churn.{Churn}
 use Rattle.chord_scenario.specs.declared.setting.Span.{Span}
-use Rattle.chord_scenario.specs.Draws.{leave_number}
-use Rattle.chord_scenario.specs.Start.{check_timer, finger_timer, stabilize_timer, timer_table, traffic_timer}
+use Rattle.chord_scenario.specs.Draws.{delay, leave_number}
+use Rattle.chord_scenario.specs.Start.{jittered, check_timer, finger_timer, stabilize_timer, timer_table, traffic_timer}
 use Rattle.chord_scenario.specs.World.{ident_of, is_churn_node}
 use Rattle.chord_node.specs.declared.state.Aim.{Aim}
 use Rattle.chord_node.specs.declared.state.Aim.TheVariants as aim
@@ -43,12 +44,17 @@ use Rattle.chord_ops.specs.declared.turn.Turn.{Turn}
 use Rattle.chord_ops.specs.Procedures.{armed, call_of, came_up, check_armed, created, departed, finger_armed, for_attempt, fresh_attempt, fresh_lookup, gone_down, head_told, holds, is_founder, join_begun, join_ended, join_failed, join_given_up, join_paused, join_retried, lookup_asked, lookup_begun, lookup_diverted, lookup_failed, lookup_finished, lookup_finished_for, lookup_followed, lookup_led, lookup_request, lookup_resumed, lookup_walked, lost_line, other_via, own_step, past, rise_armed, risen, row_armed, rows_armed, stabilize_armed, stranded, stranded_lines, taken_time, told, traffic_armed, user_lookup, via_moved, with_attempt, with_lookup, with_lookup_at, without_attempt, without_call, without_lookup}
 use Rattle.chord_ops.specs.Rules.{acted, answered_call, answered_for, answers, arrived, asked_again, avoiding, call_given_up, call_over, call_repeated, call_timed_out, check_tick, check_timed_out, cleaned, cmd_crash, cmd_join, cmd_leave, cmd_lookup, crashed, dropped, dropped_by, effect, finger_after, finger_rotated, finger_tick, finger_turned, first_in_turn, has_finger_lookup, has_join_call, has_ping_call, has_repair_call, head, head_asked, head_met, head_notified, heard, is_down, is_handed_over, is_joining, is_joining_status, is_member, is_stuck, is_void, join_answered, join_asked, join_followed, join_list_answered, join_list_taken, join_timed_out, joined, key_words, leave_heard, life_end, life_over, list_after, list_answered, list_answered_for, list_asked, list_left, list_replied, lookup_answered, lookup_timed_out, near_covered, notified, notifier_met, once_more, opening, owner_answered, ping_timed_out, pinged, place_found, ponged, predecessor_told, random_key, random_lookup, rejoin, replied, request_again, rescue_lines, rescuer, rise, sent_once_more, stabilize_tick, state_answered, state_answered_for, state_asked, state_replied, state_timed_out, step_asked, step_replied, successors_taken, timed_out, timeout, traffic_tick, with_heirs, without_silent}
 use Rattle.chord_ops.specs.Search.{step_answer}
-use Rattle.chord_ops.specs.Turns.{after_words, called, kind_of, noted, sent, timer_made, when_some}
+use Rattle.chord_ops.specs.Turns.{after_words, body_of, called, kind_of, noted, sent, timer_made, when_some}
 use Rattle.chord_ops.proofs.Kept.{count_by-push}
 use Rattle.chord_ops.proofs.KeptRules.{not_false, or_false}
 use Rattle.chord_ops.proofs.KeptJoins.{down_by, joins_by, purpose_of_found, same_armed}
 use Rattle.chord_ops.proofs.KeptTable.{IsAnswered, answered_is, found_number, member_is}
 use Rattle.chord_ops.proofs.Ongoing.{going_if, going_when, same_node}
+use Rattle.chord_ops.specs.Timers.{is_timer}
+use Rattle.chord_ops.specs.Timers.Timer.{Timeout}
+use Rattle.chord_ops.proofs.Growing.{known}
+use Rattle.chord_ops.proofs.OngoingJoins.{HasTickOf, IsTickOf, table_of_life}
+use Rattle.chord_ops.proofs.TimerTable.{IfSome-map}
 use Rattle.chord_ops.proofs.OngoingRules.{IsAsked, asked_by, request_known}
 use Rattle.chord_ops.proofs.Sending.{asked_as, called_as, new_call, sent_as}
 
@@ -60,6 +66,7 @@ pub record Facts : Type 0 where
   pub calls : List Call
   pub count : ℕ
   pub is : Status
+  pub events : List (Event Body)
 
 abbrev pub facts : Turn → Facts
 facts turn = record {
@@ -69,6 +76,7 @@ facts turn = record {
   calls = turn.state.calls;
   count = turn.state.count;
   is = turn.state.status;
+  events = turn.events;
 }
 
 -- whether a line tells of a user's lookup that begins or ends
@@ -82,6 +90,13 @@ telling lines = count_by tells lines
 abbrev pub is_timeout : Body → Bool
 is_timeout (body.Timeout n) = true
 is_timeout _ = false
+
+-- each timeout comes when its call has waited as long as the scenario says
+abbrev pub IsTimely : Scenario → (time : ℕ) → Event Body → Type 0
+IsTimely sc time x = is_timeout x.body ≡ true → x.key.time ≡ time + sc.timeout
+
+abbrev pub AreTimely : Scenario → (time : ℕ) → List (Event Body) → Type 0
+AreTimely sc time events = All (IsTimely sc time) events
 
 -- a lookup for the same, that has gone as far
 pub record IsSame (old new : Lookup) : Type 0 where
@@ -99,12 +114,15 @@ pub record Carries (sc : Scenario) (s : NodeState) (message : Body) (P Q : Facts
   pub over : (f : Facts) (number : ℕ) → message ≡ body.Timeout number → P f → Q (record f { calls = filter (λ c. not (c.number == number)) f.calls })
   pub leaves : (f : Facts) (via : ℕ) → f.is ≡ status.Member → P f
       → Q (record f { is = status.Joining; lookups = []; calls = []; lines = f.lines ++ stranded_lines via f.time f.lookups })
-  pub made : (f : Facts) → Q f → Q (record f { count = f.count + 1 })
+  pub made : (f : Facts) (es : List (Event Body)) → (AreTimely sc f.time f.events → AreTimely sc f.time es) → Q f
+      → Q (record f { count = f.count + 1; events = es })
   pub quiet : (f : Facts) (more : List Line) → telling more ≡ 0 → Q f → Q (record f { lines = f.lines ++ more })
-  pub called : (f : Facts) (call : Call) → call.number ≡ f.count + 1 → call.resent ≡ 0 → Q f
-      → Q (record f { count = f.count + 1 + 1; calls = f.calls ++ call ∷ [] })
-  pub again : (f : Facts) (number : ℕ) (call : Call) → message ≡ body.Timeout number → call_of number s ≡ Some call → P f
-      → Q (record f { count = f.count + 1 + 1; calls = filter (λ c. not (c.number == number)) f.calls ++ sent_once_more number call ∷ [] })
+  pub called : (f : Facts) (call : Call) (es : List (Event Body)) → (AreTimely sc f.time f.events → AreTimely sc f.time es)
+      → call.number ≡ f.count + 1 → call.resent ≡ 0 → Q f
+      → Q (record f { count = f.count + 1 + 1; calls = f.calls ++ call ∷ []; events = es })
+  pub again : (f : Facts) (number : ℕ) (call : Call) (es : List (Event Body)) → (AreTimely sc f.time f.events → AreTimely sc f.time es)
+      → message ≡ body.Timeout number → call_of number s ≡ Some call → P f
+      → Q (record f { count = f.count + 1 + 1; calls = filter (λ c. not (c.number == number)) f.calls ++ sent_once_more number call ∷ []; events = es })
   pub without : (f : Facts) (number : ℕ) → Q f → Q (record f { calls = filter (λ c. not (c.number == number)) f.calls })
   pub member : (f : Facts) → f.is ≡ status.Joining → Q f → Q (record f { is = status.Member })
   pub rises : (f : Facts) → s.status ≡ status.Down → Q f → Q (record f { is = status.Joining })
@@ -117,16 +135,48 @@ pub record Carries (sc : Scenario) (s : NodeState) (message : Body) (P Q : Facts
   pub taken : (f : Facts) (number place : ℕ) (lookup : Lookup) → f.lookups ≡ s.lookups → concerns message number ≡ true → (lookup.call == number) ≡ true
       → place < length f.lookups → lookup ≡ get_or f.lookups place lookup → Q f → R lookup (record f { lookups = remove f.lookups place })
   pub same : (f : Facts) (old new : Lookup) → IsSame old new → R old f → R new f
-  pub asked : (f : Facts) (call : Call) (place : ℕ) (lookup : Lookup) → call.number ≡ f.count + 1 → call.resent ≡ 0 → R lookup f
+  pub asked : (f : Facts) (call : Call) (place : ℕ) (lookup : Lookup) (es : List (Event Body)) → (AreTimely sc f.time f.events → AreTimely sc f.time es)
+      → call.number ≡ f.count + 1 → call.resent ≡ 0 → R lookup f
       → Q (record f {
         count = f.count + 1 + 1;
         calls = f.calls ++ call ∷ [];
         lookups = insert f.lookups place (record lookup { call = f.count + 1; steps = lookup.steps + 1 });
+        events = es;
       })
   pub failed : (f : Facts) (lookup : Lookup) → R lookup f → Q (record f { lines = f.lines ++ option_to_list (lost_line f.time lookup) })
   pub found : (f : Facts) (lookup : Lookup) (owner : ℕ) → lookup.aim ≡ aim.User → R lookup f
       → Q (record f { lines = f.lines ++ line.Found lookup.key owner lookup.hops lookup.timeouts (taken_time f.time lookup) ∷ [] })
   pub fixed : (f : Facts) (lookup : Lookup) (index : ℕ) → lookup.aim ≡ aim.Finger index → R lookup f → Q f
+
+-- an event that a turn makes
+abbrev event_of : (delay target : ℕ) → Body → Turn → Event Body
+event_of delay target message turn = record {
+  key = record { time = turn.time + delay; origin = 2 + turn.state.me; number = turn.state.count + 1 };
+  target = target;
+  body = message;
+}
+
+-- the timeout of a call, after its request
+abbrev timeout_of : Scenario → (number : ℕ) → Turn → Event Body
+timeout_of sc number turn = record {
+  key = record { time = turn.time + sc.timeout; origin = 2 + turn.state.me; number = turn.state.count + 1 + 1 };
+  target = turn.state.me;
+  body = body.Timeout number;
+}
+
+other_timely : (sc : Scenario) (time : ℕ) (events : List (Event Body)) (x : Event Body) → is_timeout x.body ≡ false → AreTimely sc time events
+    → AreTimely sc time (events ++ x ∷ [])
+other_timely sc time events x other all = All-push (IsTimely sc time) events x all (λ is. absurd (cc))
+
+timeout_timely : (sc : Scenario) (number : ℕ) (turn : Turn) (events : List (Event Body)) → AreTimely sc turn.time events
+    → AreTimely sc turn.time (events ++ timeout_of sc number turn ∷ [])
+timeout_timely sc number turn events all = All-push (IsTimely sc turn.time) events (timeout_of sc number turn) all (λ is. refl)
+
+no_timeout : (asked : Request) (number : ℕ) → is_timeout (body_of asked number) ≡ false
+no_timeout (request.Step key avoid) number = refl
+no_timeout request.GetState number = refl
+no_timeout request.GetList number = refl
+no_timeout request.Ping number = refl
 
 -- one line more tells nothing
 still_push : (lines : List Line) (text : Line) → telling lines ≡ 0 → tells text ≡ false → telling (lines ++ text ∷ []) ≡ 0
@@ -201,6 +251,40 @@ detail_is_still s (x ∷ xs) = with_first (line_for s x.target x.body) (line_is_
         let one : ◌≡◌ {A = ℕ} (cond (tells text) 1 0) 0 = ap (λ (b : Bool). cond b 1 0) is in
         omega (arith, sum_by-cons (λ (l : Line). cond (tells l) 1 0) text (message_lines s xs), still, one)
 
+-- no timer of a life is the timeout of a call
+
+tick_is_quiet : (epoch : ℕ) (message : Body) → IsTickOf epoch message → is_timeout message ≡ false
+tick_is_quiet epoch message is = by (is_timeout message) refl message refl
+  where
+    by : (b : Bool) → is_timeout message ≡ b → (m : Body) → message ≡ m → is_timeout message ≡ false
+    by false test m same = test
+    by true test (body.Timeout n) same =
+        let none : is_timer message Timeout n ≡ false = is.no_timeout n in
+        let some : is_timer message Timeout n ≡ true = ap (λ (b : Body). is_timer b Timeout n) same ∙ same_node n in
+        absurd (cc)
+    by true test _ same = ap is_timeout same
+
+traffic_is_quiet : (sc : Scenario) (epoch : ℕ) → IfSome (traffic_timer sc epoch) (λ timer. is_timeout timer.1 ≡ false)
+traffic_is_quiet sc epoch =
+    IfSome-map (λ _. Unit {0}) (λ timer. is_timeout timer.1 ≡ false) (λ gap. (gap, body.TrafficTick epoch)) sc.lookups (known sc.lookups) (λ gap _. refl)
+
+check_is_quiet : (sc : Scenario) (epoch : ℕ) → IfSome (check_timer sc epoch) (λ timer. is_timeout timer.1 ≡ false)
+check_is_quiet sc epoch = by (sc.check == 0)
+  where
+    by : (b : Bool) → IfSome {T = Span × Body} (if b then None else Some (jittered sc.check sc.jitters.check, body.CheckTick epoch))
+        (λ timer. is_timeout timer.1 ≡ false)
+    by true = tt
+    by false = refl
+
+quiet_rows : (epoch : ℕ) (rows : List (Option (Span × Body))) → AllByRecursion (HasTickOf epoch) rows
+    → AllByRecursion (λ row. IfSome row (λ timer. is_timeout timer.1 ≡ false)) rows
+quiet_rows epoch [] all = tt
+quiet_rows epoch (None ∷ rows) all = (tt, quiet_rows epoch rows all.1)
+quiet_rows epoch (Some row ∷ rows) all = (tick_is_quiet epoch row.1 all.0, quiet_rows epoch rows all.1)
+
+table_is_quiet : (sc : Scenario) (n epoch : ℕ) → AllByRecursion (λ row. IfSome row (λ timer. is_timeout timer.1 ≡ false)) (timer_table sc n epoch)
+table_is_quiet sc n epoch = quiet_rows epoch (timer_table sc n epoch) (table_of_life sc n epoch)
+
 module _ (sc : Scenario) (s : NodeState) (e : Event Body) (P Q : Facts → Type 0) (R : Lookup → Facts → Type 0) (c : Carries sc s e.body P Q R) where
   abbrev Holds : Turn → Type 0
   Holds turn = Q (facts turn)
@@ -210,20 +294,47 @@ module _ (sc : Scenario) (s : NodeState) (e : Event Body) (P Q : Facts → Type 
   on_line : (text : Line) (turn : Turn) → telling (text ∷ []) ≡ 0 → Holds turn → Holds (noted text turn)
   on_line text turn other h = c.quiet (facts turn) (text ∷ []) other h
 
-  on_sent : (k : MessageKind) (to : ℕ) (message : Body) (turn : Turn) → Holds turn → Holds (sent sc k to message turn)
-  on_sent k to message turn h =
+  on_made : (delay target : ℕ) (message : Body) (turn : Turn) → is_timeout message ≡ false → Holds turn
+      → Q (record (facts turn) { count = turn.state.count + 1; events = turn.events ++ event_of delay target message turn ∷ [] })
+  on_made delay target message turn other h =
+      c.made (facts turn) (turn.events ++ event_of delay target message turn ∷ [])
+      (other_timely sc turn.time turn.events (event_of delay target message turn) other) h
+
+  on_sent : (k : MessageKind) (to : ℕ) (message : Body) (turn : Turn) → is_timeout message ≡ false → Holds turn → Holds (sent sc k to message turn)
+  on_sent k to message turn other h =
       sent_as Holds sc k to message turn
-      (λ delay place late near. c.made (facts turn) h)
-      (λ place near. c.quiet (record (facts turn) { count = turn.state.count + 1 }) (line.Lose k to ∷ []) refl (c.made (facts turn) h))
+      (λ delay place late near. on_made delay to message turn other h)
+      (λ place near.
+      c.quiet (record (facts turn) { count = turn.state.count + 1 }) (line.Lose k to ∷ []) refl (c.made (facts turn) turn.events (λ all. all) h))
+
+  -- the events of a call whose request arrives, and of one whose request is lost
+  abbrev arrived_events : (number delay to : ℕ) → Request → Turn → List (Event Body)
+  arrived_events number delay to asked turn = (turn.events ++ event_of delay to (body_of asked number) turn ∷ []) ++ timeout_of sc number turn ∷ []
+
+  abbrev lost_events : (number : ℕ) → Turn → List (Event Body)
+  lost_events number turn = turn.events ++ timeout_of sc number turn ∷ []
+
+  arrived_timely : (number delay to : ℕ) (asked : Request) (turn : Turn) → AreTimely sc turn.time turn.events
+      → AreTimely sc turn.time (arrived_events number delay to asked turn)
+  arrived_timely number delay to asked turn all =
+      timeout_timely sc number turn (turn.events ++ event_of delay to (body_of asked number) turn ∷ [])
+      (other_timely sc turn.time turn.events (event_of delay to (body_of asked number) turn) (no_timeout asked number) all)
 
   on_called : (to : ℕ) (asked : Request) (wanted : Purpose) (turn : Turn) → Holds turn → Holds (called sc to asked wanted turn)
   on_called to asked wanted turn h =
-      let g = c.called (facts turn) (new_call to wanted turn) refl refl h in
+      let number : ℕ = turn.state.count + 1 in
       called_as Holds sc to asked wanted turn
-      (λ delay place late near. g)
+      (λ delay place late near.
+      c.called (facts turn) (new_call to wanted turn) (arrived_events number delay to asked turn) (arrived_timely number delay to asked turn) refl refl h)
       (λ place near.
-      c.quiet (record (facts turn) { count = turn.state.count + 1 + 1; calls = turn.state.calls ++ new_call to wanted turn ∷ [] })
-      (line.Lose (kind_of asked) to ∷ []) refl g)
+      c.quiet
+      (record (facts turn) {
+        count = turn.state.count + 1 + 1;
+        calls = turn.state.calls ++ new_call to wanted turn ∷ [];
+        events = lost_events number turn;
+      })
+      (line.Lose (kind_of asked) to ∷ []) refl
+      (c.called (facts turn) (new_call to wanted turn) (lost_events number turn) (timeout_timely sc number turn turn.events) refl refl h))
 
   -- Lookups
 
@@ -244,19 +355,24 @@ module _ (sc : Scenario) (s : NodeState) (e : Event Body) (P Q : Facts → Type 
       → Holds (lookup_asked sc place lookup to wanted turn)
   unfolding lookup_asked
   on_lookup_asked place lookup to wanted turn r =
-      let next : Lookup = record lookup { call = turn.state.count + 1; steps = lookup.steps + 1 } in
-      let g = c.asked (facts turn) (new_call to wanted turn) place lookup refl refl r in
+      let number : ℕ = turn.state.count + 1 in
+      let next : Lookup = record lookup { call = number; steps = lookup.steps + 1 } in
+      let asked : Request = lookup_request wanted lookup in
       going_if Holds (nat_lt lookup.steps (most_lookup_steps sc)) _ (lookup_failed lookup turn)
-      (λ few. called_as (λ out. Holds (with_lookup_at place next out)) sc to (lookup_request wanted lookup) wanted turn
-      (λ delay spot late near. g)
+      (λ few. called_as (λ out. Holds (with_lookup_at place next out)) sc to asked wanted turn
+      (λ delay spot late near.
+      c.asked (facts turn) (new_call to wanted turn) place lookup (arrived_events number delay to asked turn)
+      (arrived_timely number delay to asked turn) refl refl r)
       (λ spot near.
       c.quiet
       (record (facts turn) {
         count = turn.state.count + 1 + 1;
         calls = turn.state.calls ++ new_call to wanted turn ∷ [];
         lookups = insert turn.state.lookups place next;
+        events = lost_events number turn;
       })
-      (line.Lose (kind_of (lookup_request wanted lookup)) to ∷ []) refl g))
+      (line.Lose (kind_of asked) to ∷ []) refl
+      (c.asked (facts turn) (new_call to wanted turn) place lookup (lost_events number turn) (timeout_timely sc number turn turn.events) refl refl r)))
       (λ many. on_lookup_failed lookup turn r)
 
   on_lookup_led : (place : ℕ) (lookup : Lookup) (owner : ℕ) (turn : Turn) → R lookup (facts turn) → Holds (lookup_led sc place lookup owner turn)
@@ -326,39 +442,47 @@ module _ (sc : Scenario) (s : NodeState) (e : Event Body) (P Q : Facts → Type 
 
   -- Timers
 
-  on_row_armed : (row : Option (Span × Body)) (turn : Turn) → Holds turn → Holds (row_armed sc row turn)
+  on_row_armed : (row : Option (Span × Body)) (turn : Turn) → IfSome row (λ timer. is_timeout timer.1 ≡ false) → Holds turn → Holds (row_armed sc row turn)
   unfolding timer_made
-  on_row_armed row turn h = going_when Holds row _ turn h (λ timer set. c.made (facts turn) h)
+  on_row_armed None turn other h = h
+  on_row_armed (Some timer) turn other h =
+      on_made (delay sc turn.state.me turn.state.place turn.time timer.0 timer.1) turn.state.me timer.1
+      (record turn { state = after_words 1 turn.state }) other h
 
-  on_rows_armed : (rows : List (Option (Span × Body))) (turn : Turn) → Holds turn → Holds (rows_armed sc rows turn)
-  on_rows_armed [] turn h = h
-  on_rows_armed (row ∷ rows) turn h = on_rows_armed rows (row_armed sc row turn) (on_row_armed row turn h)
+  on_rows_armed : (rows : List (Option (Span × Body))) (turn : Turn) → AllByRecursion (λ row. IfSome row (λ timer. is_timeout timer.1 ≡ false)) rows
+      → Holds turn → Holds (rows_armed sc rows turn)
+  on_rows_armed [] turn others h = h
+  on_rows_armed (row ∷ rows) turn others h = on_rows_armed rows (row_armed sc row turn) others.1 (on_row_armed row turn others.0 h)
 
   on_armed : (turn : Turn) → Holds turn → Holds (armed sc turn)
   unfolding armed
-  on_armed turn h = on_rows_armed (timer_table sc turn.state.me turn.state.epoch) turn h
+  on_armed turn h =
+      on_rows_armed (timer_table sc turn.state.me turn.state.epoch) turn (table_is_quiet sc turn.state.me turn.state.epoch) h
 
   on_stabilize_armed : (turn : Turn) → Holds turn → Holds (stabilize_armed sc turn)
   unfolding stabilize_armed
-  on_stabilize_armed turn h = on_row_armed (Some (stabilize_timer sc turn.state.epoch)) turn h
+  on_stabilize_armed turn h = on_row_armed (Some (stabilize_timer sc turn.state.epoch)) turn refl h
 
   on_finger_armed : (turn : Turn) → Holds turn → Holds (finger_armed sc turn)
   unfolding finger_armed
-  on_finger_armed turn h = on_row_armed (Some (finger_timer sc turn.state.epoch)) turn h
+  on_finger_armed turn h = on_row_armed (Some (finger_timer sc turn.state.epoch)) turn refl h
 
   on_traffic_armed : (turn : Turn) → Holds turn → Holds (traffic_armed sc turn)
   unfolding traffic_armed
-  on_traffic_armed turn h = on_row_armed (traffic_timer sc turn.state.epoch) turn h
+  on_traffic_armed turn h = on_row_armed (traffic_timer sc turn.state.epoch) turn (traffic_is_quiet sc turn.state.epoch) h
 
   on_check_armed : (turn : Turn) → Holds turn → Holds (check_armed sc turn)
   unfolding check_armed
-  on_check_armed turn h = on_row_armed (check_timer sc turn.state.epoch) turn h
+  on_check_armed turn h = on_row_armed (check_timer sc turn.state.epoch) turn (check_is_quiet sc turn.state.epoch) h
 
   on_rise_armed : (turn : Turn) → Holds turn → Holds (rise_armed sc turn)
   unfolding rise_armed timer_made
   on_rise_armed turn h =
       going_if Holds (is_churn_node sc turn.state.me) _ turn
-      (λ churns. going_when Holds sc.churn _ turn h (λ churn set. c.made (facts turn) h))
+      (λ churns. going_when Holds sc.churn _ turn h
+      (λ churn set.
+      on_made (delay sc turn.state.me turn.state.place turn.time churn.down (body.Rise turn.state.epoch)) turn.state.me (body.Rise turn.state.epoch)
+      (record turn { state = after_words 1 turn.state }) refl h))
       (λ stays. h)
 
   -- Joins
@@ -396,7 +520,7 @@ module _ (sc : Scenario) (s : NodeState) (e : Event Body) (P Q : Facts → Type 
       → Holds (join_paused sc pause attempt turn)
   unfolding join_paused
   on_join_paused pause attempt turn joining h =
-      going_if Holds (pause == 0) _ _ (λ at_once. on_join_retried attempt turn joining h) (λ after. c.made (facts turn) h)
+      going_if Holds (pause == 0) _ _ (λ at_once. on_join_retried attempt turn joining h) (λ after. on_made pause turn.state.me (body.Rejoin turn.state.epoch) turn refl h)
 
   on_down : (turn : Turn) → telling turn.lines ≡ 0 → Holds turn → Holds (gone_down sc turn)
   on_down turn still h = c.falls (facts turn) still h
@@ -446,7 +570,7 @@ module _ (sc : Scenario) (s : NodeState) (e : Event Body) (P Q : Facts → Type 
   on_told to turn h =
       going_if Holds (to == turn.state.me) turn _
       (λ own. h)
-      (λ other. on_sent kind.Leave to (body.Leave turn.state.prdc turn.state.succ) turn h)
+      (λ other. on_sent kind.Leave to (body.Leave turn.state.prdc turn.state.succ) turn refl h)
 
   still_told : (to : ℕ) (turn : Turn) → telling turn.lines ≡ 0 → telling (told sc to turn).lines ≡ 0
   still_told to turn still =
@@ -634,7 +758,7 @@ module _ (sc : Scenario) (s : NodeState) (e : Event Body) (P Q : Facts → Type 
 
   on_head_notified : (turn : Turn) → Holds turn → Holds (head_notified sc turn)
   unfolding head_notified
-  on_head_notified turn h = going_when Holds (head turn.state) _ turn h (λ first set. on_sent kind.Notify first body.Notify turn h)
+  on_head_notified turn h = going_when Holds (head turn.state) _ turn h (λ first set. on_sent kind.Notify first body.Notify turn refl h)
 
   on_ping_timed_out : (silent notifier : ℕ) (turn : Turn) → Holds turn → Holds (ping_timed_out silent notifier turn)
   unfolding ping_timed_out
@@ -701,16 +825,19 @@ module _ (sc : Scenario) (s : NodeState) (e : Event Body) (P Q : Facts → Type 
       by None has = absurd (cc)
       by (Some again) has =
           let out : Turn = noted (line.Again (kind_of again) call.to) (without_call number (opening s e)) in
-          let sent : Facts = record (facts (opening s e)) {
+          let sent : List (Event Body) → Facts = λ es. record (facts (opening s e)) {
             count = s.count + 1 + 1;
             calls = filter (λ c. not (c.number == number)) s.calls ++ sent_once_more number call ∷ [];
+            events = es;
           } in
-          let told : Q (record sent { lines = [] ++ line.Again (kind_of again) call.to ∷ [] }) =
-          c.quiet sent (line.Again (kind_of again) call.to ∷ []) refl (c.again (facts (opening s e)) number call is found h) in
+          let told : (es : List (Event Body)) → (AreTimely sc e.key.time [] → AreTimely sc e.key.time es)
+          → Q (record (sent es) { lines = [] ++ line.Again (kind_of again) call.to ∷ [] }) = λ es timely.
+          c.quiet (sent es) (line.Again (kind_of again) call.to ∷ []) refl (c.again (facts (opening s e)) number call es timely is found h) in
           asked_as Holds sc again (sent_once_more number call) out
-          (λ delay place late near. told)
+          (λ delay place late near. told (arrived_events number delay call.to again out) (arrived_timely number delay call.to again out))
           (λ place near.
-          c.quiet (record sent { lines = [] ++ line.Again (kind_of again) call.to ∷ [] }) (line.Lose (kind_of again) call.to ∷ []) refl told)
+          c.quiet (record (sent (lost_events number out)) { lines = [] ++ line.Again (kind_of again) call.to ∷ [] }) (line.Lose (kind_of again) call.to ∷ []) refl
+          (told (lost_events number out) (timeout_timely sc number out [])))
 
   -- a call that is given up
   on_call_given_up : (number : ℕ) (call : Call) → e.body ≡ body.Timeout number → (is_for_join call.purpose ≡ true → s.status ≡ status.Joining)
@@ -741,19 +868,19 @@ module _ (sc : Scenario) (s : NodeState) (e : Event Body) (P Q : Facts → Type 
 
   on_step_asked : (sender number key : ℕ) (avoid : List ℕ) (turn : Turn) → Holds turn → Holds (step_asked sc sender number key avoid turn)
   unfolding step_asked
-  on_step_asked sender number key avoid turn h = on_at_member kind.Step sender turn _ (on_sent kind.StepReply sender _ turn h) h
+  on_step_asked sender number key avoid turn h = on_at_member kind.Step sender turn _ (on_sent kind.StepReply sender _ turn refl h) h
 
   on_state_asked : (sender number : ℕ) (turn : Turn) → Holds turn → Holds (state_asked sc sender number turn)
   unfolding state_asked
-  on_state_asked sender number turn h = on_at_member kind.GetState sender turn _ (on_sent kind.StateReply sender _ turn h) h
+  on_state_asked sender number turn h = on_at_member kind.GetState sender turn _ (on_sent kind.StateReply sender _ turn refl h) h
 
   on_list_asked : (sender number : ℕ) (turn : Turn) → Holds turn → Holds (list_asked sc sender number turn)
   unfolding list_asked
-  on_list_asked sender number turn h = on_at_member kind.GetList sender turn _ (on_sent kind.ListReply sender _ turn h) h
+  on_list_asked sender number turn h = on_at_member kind.GetList sender turn _ (on_sent kind.ListReply sender _ turn refl h) h
 
   on_pinged : (sender number : ℕ) (turn : Turn) → Holds turn → Holds (pinged sc sender number turn)
   unfolding pinged
-  on_pinged sender number turn h = on_at_member kind.Ping sender turn _ (on_sent kind.Pong sender _ turn h) h
+  on_pinged sender number turn h = on_at_member kind.Ping sender turn _ (on_sent kind.Pong sender _ turn refl h) h
 
   on_notifier_met : (sender : ℕ) (o : Option ℕ) (turn : Turn) → Holds turn → Holds (notifier_met sc sender o turn)
   on_notifier_met sender None turn h = h

@@ -18,10 +18,11 @@ use Rattle.chord_node.specs.declared.state.NodeState.{NodeState}
 use Rattle.chord_node.specs.Invariant.{IsNodeState, asking, is_for_lookup, waiting}
 use Rattle.chord_node.specs.Limits.{most_lookup_steps}
 use Rattle.chord_ops.specs.Ends.{Proceeds, concerns, most_sends, sends, times_again}
+use Rattle.chord_ops.specs.Ongoing.{numbered}
 use Rattle.chord_ops.specs.Procedures.{call_of}
 use Rattle.chord_ops.specs.Rules.{effect, sent_once_more}
 use Rattle.chord_ops.specs.Sound.{IsSoundEvent}
-use Rattle.chord_ops.proofs.Carried.{Carries, Facts, IsSame, facts, is_timeout, on_effect}
+use Rattle.chord_ops.proofs.Carried.{AreTimely, IsTimely, Carries, Facts, IsSame, facts, is_timeout, on_effect}
 use Rattle.chord_ops.proofs.Found.{IfSome-find}
 use Rattle.chord_ops.proofs.Kept.{All-insert}
 use Rattle.chord_ops.proofs.KeptRules.{none_of}
@@ -123,18 +124,20 @@ Comes s e lookup =
 abbrev Stems : NodeState → Event Body → Lookup → Type 0
 Stems s e lookup = ((lookup.started ≡ e.key.time) × (lookup.steps ≡ 0)) ⊎ IsNext s e.body 0 lookup
 
-record Follows (s : NodeState) (e : Event Body) (C : Call → Type 0) (now number : ℕ) (list : List Lookup) (waited : List Call) : Type 0 where
+record Follows (sc : Scenario) (s : NodeState) (e : Event Body) (C : Call → Type 0) (now number : ℕ) (list : List Lookup) (waited : List Call) (es : List (Event Body))
+    : Type 0 where
   pub lookups : All (Comes s e) list
   pub calls : All C waited
   pub count : s.count ≤ number
   pub time : now ≡ e.key.time
+  pub events : AreTimely sc now es
 
-module _ (s : NodeState) (e : Event Body) where
+module _ (sc : Scenario) (s : NodeState) (e : Event Body) where
   abbrev Before : Facts → Type 0
-  Before f = Follows s e (Seen s) f.time f.count f.lookups f.calls
+  Before f = Follows sc s e (Seen s) f.time f.count f.lookups f.calls f.events
 
   abbrev After : Facts → Type 0
-  After f = Follows s e (Arises s e.body) f.time f.count f.lookups f.calls
+  After f = Follows sc s e (Arises s e.body) f.time f.count f.lookups f.calls f.events
 
   abbrev Taken : Lookup → Facts → Type 0
   Taken lookup f = After f × Stems s e lookup
@@ -177,8 +180,8 @@ module _ (s : NodeState) (e : Event Body) where
       let parts = filter_contains (λ (c : Call). not (c.number == number)) calls call r in
       inl (All_at (Seen s) calls call seen parts.0, λ timed. not_itself call.number number (ap number_of (sym timed ∙ is)) parts.1))
 
-  carries : (sc : Scenario) → Carries sc s e.body Before After Taken
-  carries sc =
+  carries : Carries sc s e.body Before After Taken
+  carries =
       record {
         opens = λ f other h. record {
           lookups = h.lookups;
@@ -186,6 +189,7 @@ module _ (s : NodeState) (e : Event Body) where
               inl (h.calls k d within, λ timed. let yes : is_timeout e.body ≡ true = ap is_timeout timed in absurd (cc));
           count = h.count;
           time = h.time;
+          events = h.events;
         };
         absent = λ f number is none h. record {
           lookups = h.lookups;
@@ -200,22 +204,30 @@ module _ (s : NodeState) (e : Event Body) where
               );
           count = h.count;
           time = h.time;
+          events = h.events;
         };
         noted = λ f more still h. h;
         over = λ f number is h.
-            record { lookups = h.lookups; calls = others_stay number f.calls is h.calls; count = h.count; time = h.time };
+            record { lookups = h.lookups; calls = others_stay number f.calls is h.calls; count = h.count; time = h.time; events = h.events };
         leaves = λ f via member h.
-            record { lookups = none_of (Comes s e); calls = none_of (Arises s e.body); count = h.count; time = h.time };
-        made = λ f h. record { lookups = h.lookups; calls = h.calls; count = omega (arith, h.count); time = h.time };
+            record { lookups = none_of (Comes s e); calls = none_of (Arises s e.body); count = h.count; time = h.time; events = h.events };
+        made = λ f es timely h. record {
+          lookups = h.lookups;
+          calls = h.calls;
+          count = omega (arith, h.count);
+          time = h.time;
+          events = timely h.events;
+        };
         quiet = λ f more still h. h;
-        called = λ f call number resent h. record {
+        called = λ f call es timely number resent h. record {
           lookups = h.lookups;
           calls =
               All-push (Arises s e.body) f.calls call h.calls (inr (inl (record { above = omega (arith, number, h.count); once = resent })));
           count = omega (arith, h.count);
           time = h.time;
+          events = timely h.events;
         };
-        again = λ f number call is found h. record {
+        again = λ f number call es timely is found h. record {
           lookups = h.lookups;
           calls =
               All-push (Arises s e.body) (filter (λ (c : Call). not (c.number == number)) f.calls) (sent_once_more number call)
@@ -223,26 +235,28 @@ module _ (s : NodeState) (e : Event Body) where
               (inr (inr (record { old = call; was = found; timed = is; resent = refl })));
           count = omega (arith, h.count);
           time = h.time;
+          events = timely h.events;
         };
         without = λ f number h. record {
           lookups = h.lookups;
           calls = All-filter (λ (c : Call). not (c.number == number)) (Arises s e.body) f.calls h.calls;
           count = h.count;
           time = h.time;
+          events = h.events;
         };
         member = λ f joining h. h;
         rises = λ f down h. h;
         falls = λ f still h.
-            record { lookups = none_of (Comes s e); calls = none_of (Arises s e.body); count = h.count; time = h.time };
+            record { lookups = none_of (Comes s e); calls = none_of (Arises s e.body); count = h.count; time = h.time; events = h.events };
         strands = λ f via member h.
-            record { lookups = none_of (Comes s e); calls = none_of (Arises s e.body); count = h.count; time = h.time };
+            record { lookups = none_of (Comes s e); calls = none_of (Arises s e.body); count = h.count; time = h.time; events = h.events };
         begun = λ f key h. (h, inl (h.time, refl));
         turned = λ f key index h. (h, inl (h.time, refl));
         taken = λ f number place lookup first is its within here h.
             let here_is : Contains f.lookups lookup =
             subst (λ (l : Lookup). Contains f.lookups l) (sym here) (contains_at f.lookups place lookup within) in
             let number_is : number ≡ lookup.call = call_is lookup number its in (
-              record { lookups = All-remove (Comes s e) f.lookups place h.lookups; calls = h.calls; count = h.count; time = h.time },
+              record { lookups = All-remove (Comes s e) f.lookups place h.lookups; calls = h.calls; count = h.count; time = h.time; events = h.events },
               inr (record {
                 old = lookup;
                 was = subst (λ (ls : List Lookup). Contains ls lookup) first here_is;
@@ -254,7 +268,7 @@ module _ (s : NodeState) (e : Event Body) where
               }),
             );
         same = λ f old new alike r. (r.0, stems_on old new alike r.1);
-        asked = λ f call place lookup number resent r. record {
+        asked = λ f call place lookup es timely number resent r. record {
           lookups =
               All-insert (Comes s e) f.lookups place (record lookup { call = f.count + 1; steps = lookup.steps + 1 }) r.0.lookups
               (comes_on lookup f.count r.0.count r.1);
@@ -263,6 +277,7 @@ module _ (s : NodeState) (e : Event Body) where
               (inr (inl (record { above = omega (arith, number, r.0.count); once = resent })));
           count = omega (arith, r.0.count);
           time = r.0.time;
+          events = timely r.0.events;
         };
         failed = λ f lookup r. r.0;
         found = λ f lookup owner is r. r.0;
@@ -326,6 +341,11 @@ module _ (sc : Scenario) (s : NodeState) (known : IsNodeState sc s) where
       let asks : asking lookup.call s.calls ≤ count_by (λ (x : Call). x.number == lookup.call) s.calls = fewer_asked lookup.call s.calls in
       omega (arith, asks, none_found (λ (x : Call). x.number == lookup.call) s.calls none, known.matched lookup.call, waits_itself lookup s.lookups c)
 
+-- a lookup's call is counted
+pub call_counted : (sc : Scenario) (s : NodeState) → IsNodeState sc s → (lookup : Lookup) → Contains s.lookups lookup → 1 ≤ numbered lookup.call s.calls
+call_counted sc s known lookup c =
+    omega (arith, fewer_asked lookup.call s.calls, known.matched lookup.call, waits_itself lookup s.lookups c)
+
 pub few_requests : (sc : Scenario) (s : NodeState) → IsNodeState sc s → All (λ (c : Call). c.resent ≤ sc.retries) s.calls
     → All (λ (lookup : Lookup). sends sc s lookup ≤ most_sends sc) s.lookups
 few_requests sc s known seldom = λ k d within.
@@ -339,15 +359,20 @@ module _ (sc : Scenario) (s : NodeState) (e : Event Body) (ranges : IsInRange sc
   abbrev after : NodeState
   after = (effect sc s e).state
 
-  ends : After s e (facts (effect sc s e))
+  ends : After sc s e (facts (effect sc s e))
   ends =
-      on_effect sc s e (Before s e) (After s e) (Taken s e) (carries s e sc) known
+      on_effect sc s e (Before sc s e) (After sc s e) (Taken sc s e) (carries sc s e) known
       (record {
         lookups = λ k d within. inl (contains_at s.lookups k d within);
         calls = λ k d within. found_own s.calls (get_or s.calls k d) known.calls.distinct (contains_at s.calls k d within);
         count = omega arith;
         time = refl;
+        events = none_of (IsTimely sc e.key.time);
       })
+
+  -- each timeout that the event makes is as late as the scenario says
+  pub all_timely : AreTimely sc e.key.time (effect sc s e).events
+  all_timely = subst (λ (time : ℕ). AreTimely sc time (effect sc s e).events) ends.time ends.events
 
   known_after : IsNodeState sc after
   known_after = (kept_effect sc s e ranges known sound).state
@@ -379,6 +404,7 @@ module _ (sc : Scenario) (s : NodeState) (e : Event Body) (ranges : IsInRange sc
   proceeds : (lookup : Lookup) → Contains after.lookups lookup → Comes s e lookup → Proceeds sc e s after lookup
   proceeds lookup here (inr (inl first)) =
       inr (inl (record {
+        new_call = first.above;
         started = first.started;
         one = omega (arith, sends_first lookup.steps (sc.retries + 1) first.steps, new_once lookup.call first.above);
       }))
@@ -398,6 +424,7 @@ module _ (sc : Scenario) (s : NodeState) (e : Event Body) (ranges : IsInRange sc
               sends_next old.steps lookup.steps (sc.retries + 1) (times_again (call_of old.call s)) next.1.further (steps_some old next.1.was) again,
               new_once lookup.call next.0,
             );
+        asks = inl next.0;
       }))
   proceeds lookup here (inl was) = by (call_of lookup.call after) refl
     where
@@ -425,6 +452,7 @@ module _ (sc : Scenario) (s : NodeState) (e : Event Body) (ranges : IsInRange sc
             started = refl;
             its_call = ap (λ (b : Body). concerns b lookup.call) timed ∙ same_node lookup.call;
             more = omega (arith, ap times_again before, ap times_again found, again.resent);
+            asks = inr timed;
           }))
 
       by : (o : Option Call) → call_of lookup.call after ≡ o → Proceeds sc e s after lookup

@@ -37,12 +37,14 @@ pub record StillWaits (message : Body) (before after : NodeState) (lookup : Look
   pub same_call : call_of lookup.call after ≡ call_of lookup.call before
   pub other : message ≢ body.Timeout lookup.call
 
--- a lookup begins, with one request
-pub record Begins (sc : Scenario) (time : ℕ) (after : NodeState) (lookup : Lookup) : Type 0 where
+-- a lookup begins, with one request of a new call
+pub record Begins (sc : Scenario) (time : ℕ) (before after : NodeState) (lookup : Lookup) : Type 0 where
+  pub new_call : before.count < lookup.call
   pub started : lookup.started ≡ time
   pub one : sends sc after lookup ≡ 1
 
--- a lookup that was there has gone on, by a reply to its call or the call's timeout, and has sent more requests
+-- a lookup that was there has gone on, by a reply to its call or the call's timeout: it has sent more requests, and has a new call,
+-- or the same one sent again
 pub record HasGoneOn (sc : Scenario) (message : Body) (before after : NodeState) (lookup : Lookup) : Type 0 where
   pub old : Lookup
   pub was : Contains before.lookups old
@@ -51,8 +53,9 @@ pub record HasGoneOn (sc : Scenario) (message : Body) (before after : NodeState)
   pub started : lookup.started ≡ old.started
   pub its_call : concerns message old.call ≡ true
   pub more : sends sc before old < sends sc after lookup
+  pub asks : (before.count < lookup.call) ⊎ (message ≡ body.Timeout lookup.call)
 
 -- a lookup of a node after an event waits as before, begins, or has gone on
 abbrev pub Proceeds : Scenario → Event Body → (before after : NodeState) → Lookup → Type 0
 Proceeds sc e before after lookup =
-    StillWaits e.body before after lookup ⊎ Begins sc e.key.time after lookup ⊎ HasGoneOn sc e.body before after lookup
+    StillWaits e.body before after lookup ⊎ Begins sc e.key.time before after lookup ⊎ HasGoneOn sc e.body before after lookup

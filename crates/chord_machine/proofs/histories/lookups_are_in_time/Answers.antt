@@ -1,0 +1,8 @@
+use Rattle.chord_machine.proofs.Ends.{lookups_are_in_time, lookups_are_short}
+use Rattle.chord_machine.proofs.histories.lookups_are_in_time.Goals as goal
+
+pub returns-clause-sent : goal.returns-clause-sent
+returns-clause-sent c = lookups_are_in_time
+
+pub returns-clause-most : goal.returns-clause-most
+returns-clause-most c = lookups_are_short

@@ -1,0 +1,36 @@
+-- Each lookup ends in time: while it is in progress, its next timeout comes no later than so many timeouts after it began.
+use Rattle.std.specs.Prelude.{ℕ, ◌≡◌, ◌+◌, ◌*◌, ◌<◌, ◌≤◌, All, List}
+use Rattle.std.specs.List.{Contains}
+use Rattle.chord_event.specs.declared.body.Body.{Body}
+use Rattle.chord_event.specs.declared.body.Body.TheVariants as body
+use Rattle.chord_event.specs.declared.event.Event.{Event}
+use Rattle.chord_model.specs.Histories.{IsLegal, pending, state}
+use Rattle.chord_node.specs.declared.state.Lookup.{Lookup}
+use Rattle.chord_node.specs.declared.state.NodeState.{NodeState}
+use Rattle.chord_ops.specs.Ends.{most_sends, sends}
+use Rattle.chord_scenario.specs.declared.scenario.Scenario.{Scenario}
+use Rattle.chord_scenario.specs.World.{node_count}
+use Rattle.chord_machine.specs.Chord.{chord}
+
+-- an event is the timeout of node n's call under this number
+abbrev pub IsTimeoutOf : (n number : ℕ) → Event Body → Type 0
+IsTimeoutOf n number x = (x.target ≡ n) × (x.body ≡ body.Timeout number)
+
+-- the pending timeout of a lookup at node n comes no later than this many timeouts after the lookup began
+abbrev pub EndsWithin : Scenario → List (Event Body) → (n : ℕ) → Lookup → (timeouts : ℕ) → Type 0
+EndsWithin sc h n lookup timeouts =
+    (x : Event Body) → Contains (pending (chord sc) h) x → IsTimeoutOf n lookup.call x → x.key.time ≤ lookup.started + timeouts * sc.timeout
+
+-- something holds of each lookup of each node, whatever events of a run have been taken in their order
+abbrev pub OfLookups : Scenario → (List (Event Body) → ℕ → NodeState → Lookup → Type 0) → Type 0
+OfLookups sc P =
+    (h : List (Event Body)) → IsLegal (chord sc) h → (n : ℕ) → n < node_count sc
+    → All (P h n (state (chord sc) h n)) (state (chord sc) h n).lookups
+
+-- one timeout for each request that the lookup has sent
+abbrev pub LookupsAreInTime : Scenario → Type 0
+LookupsAreInTime sc = OfLookups sc (λ h n s lookup. EndsWithin sc h n lookup (sends sc s lookup))
+
+-- one for each that it may send
+abbrev pub LookupsAreShort : Scenario → Type 0
+LookupsAreShort sc = OfLookups sc (λ h n s lookup. EndsWithin sc h n lookup (most_sends sc))
