@@ -135,17 +135,11 @@ module _ (sc : Scenario) (ranges : IsInRange sc) (h : List (Event Body)) (e : Ev
   possible : IsPossible (chord sc) (e ∷ h)
   possible = possible_from_legal (chord sc) (e ∷ h) legal
 
-  before : NodeState
-  before = state (chord sc) h e.target
-
   known : IsSoundEvent sc e
   known = fit_event (chord sc) (well_formed sc ranges) h possible.0 e (waits_from (chord sc) h e possible.1).known
 
   target_is : IsStateOf sc e.target (state (chord sc) h e.target)
   target_is = sound_state (chord sc) (well_formed sc ranges) h possible.0 e (waits_from (chord sc) h e possible.1).known
-
-  made : List (Event Body)
-  made = (effect sc (state (chord sc) h e.target) e).events
 
   split : (x : Event Body) → Contains (pending (chord sc) (e ∷ h)) x
       → Contains (effect sc (state (chord sc) h e.target) e).events x ⊎ Contains (beside e (pending (chord sc) h)) x
@@ -312,5 +306,6 @@ pub lookups_are_short : (sc : Scenario) → IsInRange sc → LookupsAreShort sc
 lookups_are_short sc ranges h legal n inside = λ k d within x c is.
     let s : NodeState = state (chord sc) h n in
     let p : IsPossible (chord sc) h = possible_from_legal (chord sc) h legal in
-    let few = few_requests sc s ((meets (chord sc) (well_formed sc ranges) h p).sound n inside).invariant (retries_are_limited sc ranges h p n inside) k d within in
+    let few : sends sc s (get_or s.lookups k d) ≤ most_sends sc =
+    few_requests sc s ((meets (chord sc) (well_formed sc ranges) h p).sound n inside).invariant (retries_are_limited sc ranges h p n inside) k d within in
     omega (arith, lookups_are_in_time sc ranges h legal n inside k d within x c is, mul-le-mul_right sc.timeout few)

@@ -520,7 +520,9 @@ module _ (sc : Scenario) (s : NodeState) (e : Event Body) (P Q : Facts → Type 
       → Holds (join_paused sc pause attempt turn)
   unfolding join_paused
   on_join_paused pause attempt turn joining h =
-      going_if Holds (pause == 0) _ _ (λ at_once. on_join_retried attempt turn joining h) (λ after. on_made pause turn.state.me (body.Rejoin turn.state.epoch) turn refl h)
+      going_if Holds (pause == 0) _ _
+      (λ at_once. on_join_retried attempt turn joining h)
+      (λ after. on_made pause turn.state.me (body.Rejoin turn.state.epoch) turn refl h)
 
   on_down : (turn : Turn) → telling turn.lines ≡ 0 → Holds turn → Holds (gone_down sc turn)
   on_down turn still h = c.falls (facts turn) still h
@@ -836,7 +838,8 @@ module _ (sc : Scenario) (s : NodeState) (e : Event Body) (P Q : Facts → Type 
           asked_as Holds sc again (sent_once_more number call) out
           (λ delay place late near. told (arrived_events number delay call.to again out) (arrived_timely number delay call.to again out))
           (λ place near.
-          c.quiet (record (sent (lost_events number out)) { lines = [] ++ line.Again (kind_of again) call.to ∷ [] }) (line.Lose (kind_of again) call.to ∷ []) refl
+          c.quiet (record (sent (lost_events number out)) { lines = [] ++ line.Again (kind_of again) call.to ∷ [] })
+          (line.Lose (kind_of again) call.to ∷ []) refl
           (told (lost_events number out) (timeout_timely sc number out [])))
 
   -- a call that is given up

@@ -124,7 +124,8 @@ Comes s e lookup =
 abbrev Stems : NodeState → Event Body → Lookup → Type 0
 Stems s e lookup = ((lookup.started ≡ e.key.time) × (lookup.steps ≡ 0)) ⊎ IsNext s e.body 0 lookup
 
-record Follows (sc : Scenario) (s : NodeState) (e : Event Body) (C : Call → Type 0) (now number : ℕ) (list : List Lookup) (waited : List Call) (es : List (Event Body))
+record Follows
+    (sc : Scenario) (s : NodeState) (e : Event Body) (C : Call → Type 0) (now number : ℕ) (list : List Lookup) (waited : List Call) (es : List (Event Body))
     : Type 0 where
   pub lookups : All (Comes s e) list
   pub calls : All C waited
