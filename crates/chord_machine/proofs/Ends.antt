@@ -18,7 +18,7 @@ use Rattle.chord_node.specs.declared.state.Call.{Call}
 use Rattle.chord_node.specs.declared.state.Lookup.{Lookup}
 use Rattle.chord_node.specs.declared.state.NodeState.{NodeState}
 use Rattle.chord_node.specs.Ring.{first_member, initial_state, never_up}
-use Rattle.chord_ops.specs.Ends.{Proceeds, sends, times_again}
+use Rattle.chord_ops.specs.Ends.{Proceeds, most_sends, sends, times_again}
 use Rattle.chord_ops.specs.Rules.{effect}
 use Rattle.chord_ops.specs.Sound.{IsSoundEvent}
 use Rattle.chord_ops.specs.Timers.{is_timer, set_for}
