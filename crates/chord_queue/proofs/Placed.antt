@@ -44,7 +44,6 @@ use Rattle.std.proofs.lemmas.List.Sorted.{
 use Rattle.std.proofs.lemmas.List.{append_assoc}
 use Rattle.std.proofs.lemmas.List.Elements.{All-from_recursion}
 use Rattle.std.proofs.lemmas.Nat.{div-add-mod'}
-use Rattle.chord_event.specs.declared.body.Body.{Body}
 use Rattle.chord_event.specs.declared.event.Event.{Event}
 use Rattle.chord_event.proofs.KeyLists.{all_in, all_from}
 use Rattle.chord_queue.specs.Days.{AllPlaced, IsInPlace, IsListed, day_of, list_count}
@@ -145,44 +144,45 @@ joined_taken (m ∷ ls) (suc k) d l lt h =
 pub same_day : (a b : ℕ) → b ≤ a → a < b + list_count → a % list_count ≡ b % list_count → a ≡ b
 same_day a b le lt h = omega (arith, le, lt, h, div-add-mod' a list_count, div-add-mod' b list_count)
 
--- what holds of the event at a place
-pub some_map : (P Q : Event Body → Type 0) (o : Option (Event Body)) → ((e : Event Body) → P e → Q e) → IsSomeAnd o P → IsSomeAnd o Q
-some_map P Q None f h = h
-some_map P Q (Some e) f h = f e h
+module _ {B : Type 0} where
+  -- what holds of the event at a place
+  pub some_map : (P Q : Event B → Type 0) (o : Option (Event B)) → ((e : Event B) → P e → Q e) → IsSomeAnd o P → IsSomeAnd o Q
+  some_map P Q None f h = h
+  some_map P Q (Some e) f h = f e h
 
-is_there : (P : Event Body → Type 0) (o : Option (Event Body)) → IsSomeAnd o P → IsSome o
-is_there P None h = absurd h
-is_there P (Some e) h = refl
+  is_there : (P : Event B → Type 0) (o : Option (Event B)) → IsSomeAnd o P → IsSome o
+  is_there P None h = absurd h
+  is_there P (Some e) h = refl
 
-pub all_there : (s : Events) (today latest i : ℕ) (ps : List ℕ) → AllByRecursion (IsListed s today latest i) ps → All (λ n. IsSome (s n)) ps
-all_there s today latest i ps all = All-from_recursion (λ n. IsSome (s n)) ps (all_from (λ n. IsSome (s n)) ps (λ n h.
-    is_there (IsInPlace today latest i) (s n) (all_in (IsListed s today latest i) ps all n h)))
+  pub all_there : (s : Events B) (today latest i : ℕ) (ps : List ℕ) → AllByRecursion (IsListed s today latest i) ps → All (λ n. IsSome (s n)) ps
+  all_there s today latest i ps all = All-from_recursion (λ n. IsSome (s n)) ps (all_from (λ n. IsSome (s n)) ps (λ n h.
+      is_there (IsInPlace today latest i) (s n) (all_in (IsListed s today latest i) ps all n h)))
 
--- the next day is opened: the events of other lists have later days
-pub next_day : (s : Events) (today latest i n : ℕ) → i ≢ (today + 1) % list_count → IsListed s today latest i n → IsListed s (today + 1) latest i n
-next_day s today latest i n ne listed = some_map (IsInPlace today latest i) (IsInPlace (today + 1) latest i) (s n) (λ e is.
-    let other : day_of e.key ≢ today + 1 = λ q. ne (sym is.there ∙ ap (λ n. n % list_count) q) in record {
-      later = omega (arith, is.later, other);
-      soon = omega (arith, is.soon);
-      known = is.known;
-      there = is.there;
-    }) listed
+  -- the next day is opened: the events of other lists have later days
+  pub next_day : (s : Events B) (today latest i n : ℕ) → i ≢ (today + 1) % list_count → IsListed s today latest i n → IsListed s (today + 1) latest i n
+  next_day s today latest i n ne listed = some_map (IsInPlace today latest i) (IsInPlace (today + 1) latest i) (s n) (λ e is.
+      let other : day_of e.key ≢ today + 1 = λ q. ne (sym is.there ∙ ap (λ n. n % list_count) q) in record {
+        later = omega (arith, is.later, other);
+        soon = omega (arith, is.soon);
+        known = is.known;
+        there = is.there;
+      }) listed
 
--- the events of its list have this day
-pub this_day : (s : Events) (today latest n : ℕ) → IsListed s today latest ((today + 1) % list_count) n → day_of (waiting_key (entry_at s n)) ≤ today + 1
-this_day s today latest n listed = day_by (s n) listed
-  where
-    day_by : (o : Option (Event Body)) → IsSomeAnd o (IsInPlace today latest ((today + 1) % list_count)) → day_of (key_there o) ≤ today + 1
-    day_by None h = absurd h
-    day_by (Some e) is = omega (arith, same_day (day_of e.key) (today + 1) (omega (arith, is.later)) (omega (arith, is.soon)) is.there)
+  -- the events of its list have this day
+  pub this_day : (s : Events B) (today latest n : ℕ) → IsListed s today latest ((today + 1) % list_count) n → day_of (waiting_key (entry_at s n)) ≤ today + 1
+  this_day s today latest n listed = day_by (s n) listed
+    where
+      day_by : (o : Option (Event B)) → IsSomeAnd o (IsInPlace today latest ((today + 1) % list_count)) → day_of (key_there o) ≤ today + 1
+      day_by None h = absurd h
+      day_by (Some e) is = omega (arith, same_day (day_of e.key) (today + 1) (omega (arith, is.later)) (omega (arith, is.soon)) is.there)
 
--- no day is after the last one
-pub none_listed : (s : Events) (today latest i n : ℕ) → latest ≤ today → IsListed s today latest i n → ⊥
-none_listed s today latest i n le listed = none_by (s n) listed
-  where
-    none_by : (o : Option (Event Body)) → IsSomeAnd o (IsInPlace today latest i) → ⊥
-    none_by None h = h
-    none_by (Some e) is = omega (arith, is.later, is.known, le)
+  -- no day is after the last one
+  pub none_listed : (s : Events B) (today latest i n : ℕ) → latest ≤ today → IsListed s today latest i n → ⊥
+  none_listed s today latest i n le listed = none_by (s n) listed
+    where
+      none_by : (o : Option (Event B)) → IsSomeAnd o (IsInPlace today latest i) → ⊥
+      none_by None h = h
+      none_by (Some e) is = omega (arith, is.later, is.known, le)
 
 pub all_push : {A : Type 0} (P : A → Type 0) (xs : List A) (x : A) → AllByRecursion P xs → P x → AllByRecursion P (xs ++ x ∷ [])
 all_push P [] x all here = (here, tt)
@@ -215,18 +215,19 @@ placed_more P Q k ls d l n lt h f here all =
     placed_set P Q 0 k ls l (λ j x ne p. f j x p) all
     (subst (λ es. AllByRecursion (Q (0 + k)) es) (sym h) (all_push (Q (0 + k)) old.items n more (subst (λ j. Q j n) (omega arith) here)))
 
--- an event more is at a place, and a later day may be the last one
-pub listed_more : (s t : Events) (place : ℕ) (e : Event Body) (today latest more : ℕ) → s place ≡ None → ChangesAt s t place (Some e) → latest ≤ more
-    → (j n : ℕ) → IsListed s today latest j n → IsListed t today more j n
-listed_more s t place e today latest more free change le j n listed =
-    let other : n ≢ place = λ q. subst (λ o. IsSomeAnd o (IsInPlace today latest j)) (ap s q ∙ free) listed in
-    subst (λ o. IsSomeAnd o (IsInPlace today more j)) (sym (change.others n other))
-    (some_map (IsInPlace today latest j) (IsInPlace today more j) (s n) (λ x is. record {
-      later = is.later;
-      soon = is.soon;
-      known = omega (arith, is.known, le);
-      there = is.there;
-    }) listed)
+module _ {B : Type 0} where
+  -- an event more is at a place, and a later day may be the last one
+  pub listed_more : (s t : Events B) (place : ℕ) (e : Event B) (today latest more : ℕ) → s place ≡ None → ChangesAt s t place (Some e) → latest ≤ more
+      → (j n : ℕ) → IsListed s today latest j n → IsListed t today more j n
+  listed_more s t place e today latest more free change le j n listed =
+      let other : n ≢ place = λ q. subst (λ o. IsSomeAnd o (IsInPlace today latest j)) (ap s q ∙ free) listed in
+      subst (λ o. IsSomeAnd o (IsInPlace today more j)) (sym (change.others n other))
+      (some_map (IsInPlace today latest j) (IsInPlace today more j) (s n) (λ x is. record {
+        later = is.later;
+        soon = is.soon;
+        known = omega (arith, is.known, le);
+        there = is.there;
+      }) listed)
 
 abbrev pub AreEmpty : List PlaceList → Type 0
 AreEmpty ls = AllByRecursion (λ l. l.items ≡ []) ls

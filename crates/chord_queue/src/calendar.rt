@@ -6,6 +6,7 @@ ghost use Rattle.chord_queue.specs.Calendar.{AreDistinct, AreOrderly, events_of}
 ghost use Rattle.chord_queue.specs.Days.{AreDays, HaveNone, HasSame, MayTake};
 ghost use Rattle.chord_queue.specs.EventKey.{event_key};
 
+use crate::copied::Copied;
 use crate::days::Days;
 use crate::waiting::{Waiting, copies_before};
 use chord_event::{Event, Key, Memory};
@@ -23,29 +24,28 @@ const FEW: usize = 256;
 /// left last, so an event is mostly written to memory that was used just before. A list was last
 /// used a second ago, so events in lists would mostly be written to memory that no cache has.
 #[derive(Drop)]
-pub struct Calendar {
+pub struct Calendar<B> {
     /// The entries of the events of the opened days, the first event last.
     due: Vec<Waiting<usize>>,
-    days: Days,
+    days: Days<B>,
     alloc: Global,
 }
 
-impl Model for Calendar {
+impl<B> Model for Calendar<B> {
     ghost use Rattle.std.specs.Prelude.{List};
-    ghost use Rattle.chord_event.specs.declared.body.Body.{Body};
-    ghost use Rattle.chord_event.specs.declared.event.Event.{Event};
+    ghost use Rattle.chord_event.specs.declared.event.Event.{Event as AnEvent};
     ghost use Rattle.chord_queue.specs.Calendar.{calendar_of, IsCalendar};
 
-    ghost Value = { List (Event Body) };
+    ghost Value = { List (AnEvent B) };
 
     ghost view = { λ c. calendar_of c };
 
     ghost invariant = { λ c. IsCalendar c };
 }
 
-impl Calendar {
+impl<B: Drop> Calendar<B> {
     /// A calendar without events. It takes no memory.
-    pub fn new(alloc: Global) -> Calendar
+    pub fn new(alloc: Global) -> Calendar<B>
         ensures { result ≡ [] }
     {
         Calendar {
@@ -66,7 +66,7 @@ impl Calendar {
     /// Adds an event, or returns it if few events are pending, `others` besides those here, or if
     /// `Days` does not take it.
     #[inline(always)]
-    pub fn insert(&mut self, event: Event, others: usize) -> Result<(), Event>
+    pub fn insert(&mut self, event: Event<B>, others: usize) -> Result<(), Event<B>>
         requires { IsNewKey event_key event.key self.old }
         ensures ok { OnOk result (self.new ≡ put_in_order event_key event self.old) }
         ensures err { IfErr result (λ back. (back ≡ event) × (self.new ≡ self.old)) }
@@ -89,7 +89,7 @@ impl Calendar {
 
     /// Takes the first event.
     #[inline(always)]
-    pub fn pop_first(&mut self) -> Option<Event>
+    pub fn pop_first(&mut self) -> Option<Event<B>>
         ensures { MatchOption result ((self.old ≡ []) × (self.new ≡ [])) (λ first. self.old ≡ first ∷ self.new) }
     {
         let waiting = self.due.pop()?;
@@ -107,9 +107,11 @@ impl Calendar {
         }
         self.days.go_on(time);
     }
+}
 
+impl<B: Copied + Drop> Calendar<B> {
     /// Copies of the events before a time in microseconds.
-    pub fn up_to(&self, horizon: u64) -> Result<Vec<Event>, Memory>
+    pub fn up_to(&self, horizon: u64) -> Result<Vec<Event<B>>, Memory>
         ensures { IfOk result (λ copies. copies.items ≡ before event_key horizon self.now) }
     {
         let mut entries = Vec::new(self.alloc);
@@ -124,9 +126,9 @@ impl Calendar {
 /// The index of the list that takes an event of this time. None if few events are pending, `others`
 /// besides those here, or if `Days` has no list for it.
 #[inline(always)]
-fn list_for(
+fn list_for<B: Drop>(
     due: &mut Vec<Waiting<usize>>,
-    days: &mut Days,
+    days: &mut Days<B>,
     time: u64,
     others: usize,
     alloc: Global,
@@ -146,7 +148,7 @@ fn list_for(
 
 /// Adds an event to the list that takes it.
 #[inline(always)]
-fn put(due: &mut Vec<Waiting<usize>>, days: &mut Days, event: Event, at: usize)
+fn put<B: Drop>(due: &mut Vec<Waiting<usize>>, days: &mut Days<B>, event: Event<B>, at: usize)
     requires orderly { AreOrderly due.old days.old }
     requires takes { MayTake days.old event.key.time at (vec_capacity due.old) }
     requires new { IsNewKey event_key event.key (events_of due.old.items days.old) }
@@ -160,7 +162,7 @@ fn put(due: &mut Vec<Waiting<usize>>, days: &mut Days, event: Event, at: usize)
 
 /// Fills the list of due entries, if it is empty, with those of the next day that has any.
 #[inline(always)]
-fn refill(due: &mut Vec<Waiting<usize>>, days: &mut Days)
+fn refill<B: Drop>(due: &mut Vec<Waiting<usize>>, days: &mut Days<B>)
     requires { AreOrderly due.old days.old }
     ensures orderly { AreOrderly due.new days.new }
     ensures same { events_of due.new.items days.new ≡ events_of due.old.items days.old }
@@ -176,7 +178,7 @@ fn refill(due: &mut Vec<Waiting<usize>>, days: &mut Days)
 
 /// Fills the empty list of due entries with those of the next day that has any.
 #[inline(never)]
-fn fill(due: &mut Vec<Waiting<usize>>, days: &mut Days)
+fn fill<B: Drop>(due: &mut Vec<Waiting<usize>>, days: &mut Days<B>)
     requires orderly { AreOrderly due.old days.old }
     requires empty { due.old.items ≡ [] }
     ensures orderly { AreOrderly due.new days.new }
@@ -189,7 +191,7 @@ fn fill(due: &mut Vec<Waiting<usize>>, days: &mut Days)
 }
 
 /// Sorts events by their keys.
-pub fn sort_up(events: &mut Vec<Event>)
+pub fn sort_up<B: Drop>(events: &mut Vec<Event<B>>)
     requires { AreDistinct events.old.items }
     ensures same { IsPermutation events.old.items events.new.items }
     ensures up { InKeyOrder event_key events.new.items }
@@ -199,7 +201,7 @@ pub fn sort_up(events: &mut Vec<Event>)
 }
 
 /// Sorts events by their keys, the first event last.
-fn sort_down(events: &mut Vec<Event>)
+fn sort_down<B: Drop>(events: &mut Vec<Event<B>>)
     requires { AreDistinct events.old.items }
     ensures same { IsPermutation events.old.items events.new.items }
     ensures down { InKeyOrder event_key (reverse events.new.items) }

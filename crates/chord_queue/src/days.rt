@@ -27,7 +27,7 @@ const KEPT: usize = 256;
 /// Events, and those of later days by day. A list has the places of the events of one day, and only
 /// days after the last opened one have any.
 #[derive(Drop)]
-pub struct Days {
+pub struct Days<B> {
     /// The places of the events of day `d` are in list `d % DAYS`.
     pub lists: Vec<Vec<usize>>,
     /// The day that was opened last.
@@ -35,12 +35,12 @@ pub struct Days {
     /// No event in the lists has a later day.
     pub latest: u64,
     /// The events of the lists and of the opened days.
-    pub events: Slab<Event>,
+    pub events: Slab<Event<B>>,
 }
 
-impl Days {
+impl<B: Drop> Days<B> {
     /// Days without events. They take no memory.
-    pub fn new(alloc: Global) -> Days
+    pub fn new(alloc: Global) -> Days<B>
         ensures days { (room : ℕ) → AreDays result room }
         ensures none { HaveNone result }
     {
@@ -94,7 +94,7 @@ impl Days {
     }
 
     /// Adds an event to the list that takes it.
-    pub fn put(&mut self, event: Event, at: usize)
+    pub fn put(&mut self, event: Event<B>, at: usize)
         requires { (room : ℕ) × MayTake self.old event.key.time at room }
         ensures days { (room : ℕ) → AreDays self.old room → MayTake self.old event.key.time at room → AreDays self.new room }
         ensures taken { HasTaken self.old event self.new }
@@ -191,7 +191,11 @@ fn empty_list(places: &mut Vec<usize>)
 }
 
 /// Adds the entries of the events at some places.
-fn add_entries(events: &Slab<Event>, places: &Vec<usize>, entries: &mut Vec<Waiting<usize>>)
+fn add_entries<B: Drop>(
+    events: &Slab<Event<B>>,
+    places: &Vec<usize>,
+    entries: &mut Vec<Waiting<usize>>,
+)
     requires there { All (ContainsKey events.now) places.now.items }
     requires room { vec_len entries.old + vec_len places.now ≤ vec_capacity entries.old }
     ensures added { entries.new.items ≡ entries.old.items ++ map (entry_at (get events.now)) places.now.items }

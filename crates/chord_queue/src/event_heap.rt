@@ -3,6 +3,7 @@ ghost use Rattle.std.specs.Prelude.{◌≡◌, [], ◌∷◌, slice_get, option_
 ghost use Rattle.chord_event.specs.KeyOrder.{InKeyOrder, IsNewKey, put_in_order, before};
 ghost use Rattle.chord_queue.specs.EventKey.{event_key};
 
+use crate::copied::Copied;
 use crate::waiting::{Waiting, copies_before};
 use chord_event::{Event, Key, Memory};
 use slab::Slab;
@@ -13,28 +14,27 @@ use std::marker::Model;
 
 /// Events in a heap, which contracts see as their list in the order of their keys.
 #[derive(Drop)]
-pub struct EventHeap {
+pub struct EventHeap<B> {
     // Keys in a heap and events in a slab, so that an insertion moves keys and not events.
     heap: BinaryHeap<Waiting<usize>>,
-    events: Slab<Event>,
+    events: Slab<Event<B>>,
     alloc: Global,
 }
 
-impl Model for EventHeap {
+impl<B> Model for EventHeap<B> {
     ghost use Rattle.std.specs.Prelude.{List};
-    ghost use Rattle.chord_event.specs.declared.body.Body.{Body};
-    ghost use Rattle.chord_event.specs.declared.event.Event.{Event};
+    ghost use Rattle.chord_event.specs.declared.event.Event.{Event as AnEvent};
     ghost use Rattle.chord_queue.specs.Places.{heap_events, IsPlacedHeap};
 
-    ghost Value = { List (Event Body) };
+    ghost Value = { List (AnEvent B) };
 
     ghost view = { λ h. heap_events h };
 
     ghost invariant = { λ h. IsPlacedHeap h };
 }
 
-impl EventHeap {
-    pub fn new(alloc: Global) -> EventHeap
+impl<B: Drop> EventHeap<B> {
+    pub fn new(alloc: Global) -> EventHeap<B>
         ensures { result ≡ [] }
     {
         EventHeap {
@@ -58,7 +58,7 @@ impl EventHeap {
     }
 
     /// Adds an event, or returns it if an allocation fails.
-    pub fn insert(&mut self, event: Event) -> Result<(), Event>
+    pub fn insert(&mut self, event: Event<B>) -> Result<(), Event<B>>
         requires { IsNewKey event_key event.key self.old }
         ensures ok { OnOk result (self.new ≡ put_in_order event_key event self.old) }
         ensures err { IfErr result (λ back. (back ≡ event) × (self.new ≡ self.old)) }
@@ -84,15 +84,17 @@ impl EventHeap {
 
     /// Takes the first event.
     #[inline(never)]
-    pub fn pop_first(&mut self) -> Option<Event>
+    pub fn pop_first(&mut self) -> Option<Event<B>>
         ensures { MatchOption result ((self.old ≡ []) × (self.new ≡ [])) (λ first. self.old ≡ first ∷ self.new) }
     {
         let waiting = self.heap.pop()?;
         Some(self.events.remove(waiting.place))
     }
+}
 
+impl<B: Copied + Drop> EventHeap<B> {
     /// Copies of the events before a time in microseconds.
-    pub fn up_to(&self, horizon: u64) -> Result<Vec<Event>, Memory>
+    pub fn up_to(&self, horizon: u64) -> Result<Vec<Event<B>>, Memory>
         ensures { IfOk result (λ copies. copies.items ≡ before event_key horizon self.now) }
     {
         copies_before(self.alloc, &self.events, self.heap.as_slice(), horizon)

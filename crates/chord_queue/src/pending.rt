@@ -1,14 +1,14 @@
 //! All events that are still to come.
 ghost use Rattle.std.specs.Prelude.{◌≡◌, ◌≢◌, ◌↔◌, [], ◌∷◌, ◌++◌, slice_get, option_map, IfOk, IfErr, MatchOption, OnErr, OnOk};
 ghost use Rattle.std.specs.List.{AllPairs, Contains};
-ghost use Rattle.chord_event.specs.declared.body.Body.{Body as ABody};
 ghost use Rattle.chord_event.specs.declared.event.Event.{Event as AnEvent};
 ghost use Rattle.chord_event.specs.KeyOrder.{InKeyOrder, IsNewKey, put_in_order, before, from_on};
 ghost use Rattle.chord_queue.specs.EventKey.{event_key};
 
 use crate::calendar::{Calendar, sort_up};
+use crate::copied::Copied;
 use crate::event_heap::EventHeap;
-use chord_event::{Event, Memory};
+use chord_event::{Body, Event, Memory};
 use std::alloc::Global;
 use std::marker::Model;
 
@@ -23,27 +23,26 @@ use std::marker::Model;
 /// the two first ones. So the calendar may return any event: which ones it takes is a matter of
 /// speed alone, and no contract speaks of it.
 #[derive(Drop)]
-pub struct Pending {
-    calendar: Calendar,
+pub struct Pending<B = Body> {
+    calendar: Calendar<B>,
     /// The events that the calendar did not take.
-    rest: EventHeap,
+    rest: EventHeap<B>,
 }
 
-impl Model for Pending {
+impl<B> Model for Pending<B> {
     ghost use Rattle.std.specs.Prelude.{List};
-    ghost use Rattle.chord_event.specs.declared.body.Body.{Body};
-    ghost use Rattle.chord_event.specs.declared.event.Event.{Event};
+    ghost use Rattle.chord_event.specs.declared.event.Event.{Event as AnEvent};
     ghost use Rattle.chord_queue.specs.Pending.{all_pending, ArePending};
 
-    ghost Value = { List (Event Body) };
+    ghost Value = { List (AnEvent B) };
 
     ghost view = { λ p. all_pending p };
 
     ghost invariant = { λ p. ArePending p };
 }
 
-impl Pending {
-    pub fn new(alloc: Global) -> Pending
+impl<B: Drop> Pending<B> {
+    pub fn new(alloc: Global) -> Pending<B>
         ensures { result ≡ [] }
     {
         Pending {
@@ -62,7 +61,7 @@ impl Pending {
 
     /// Adds an event, or returns it if an allocation fails.
     #[inline(always)]
-    pub fn insert(&mut self, event: Event) -> Result<(), Event>
+    pub fn insert(&mut self, event: Event<B>) -> Result<(), Event<B>>
         requires { IsNewKey event_key event.key self.old }
         ensures ok { OnOk result (self.new ≡ put_in_order event_key event self.old) }
         ensures err { IfErr result (λ back. (back ≡ event) × (self.new ≡ self.old)) }
@@ -75,9 +74,9 @@ impl Pending {
     }
 
     /// Adds events. After an error some of them may have been added: no caller goes on after that.
-    pub fn insert_all(&mut self, events: Vec<Event>) -> Result<(), Memory>
+    pub fn insert_all(&mut self, events: Vec<Event<B>>) -> Result<(), Memory>
         requires { AllPairs (λ a b. a.key ≢ b.key) (self.old ++ events.items) }
-        ensures same { OnOk result ((x : AnEvent ABody) → Contains self.new x ↔ Contains (self.old ++ events.items) x) }
+        ensures same { OnOk result ((x : AnEvent B) → Contains self.new x ↔ Contains (self.old ++ events.items) x) }
         ensures ordered { InKeyOrder event_key self.new }
     {
         let mut events = events;
@@ -86,9 +85,9 @@ impl Pending {
 
     /// Adds the events of a list, which is empty afterwards and keeps its memory. After an error
     /// some of them may have been added: no caller goes on after that.
-    pub fn insert_from(&mut self, events: &mut Vec<Event>) -> Result<(), Memory>
+    pub fn insert_from(&mut self, events: &mut Vec<Event<B>>) -> Result<(), Memory>
         requires { AllPairs (λ a b. a.key ≢ b.key) (self.old ++ events.old.items) }
-        ensures same { OnOk result ((x : AnEvent ABody) → Contains self.new x ↔ Contains (self.old ++ events.old.items) x) }
+        ensures same { OnOk result ((x : AnEvent B) → Contains self.new x ↔ Contains (self.old ++ events.old.items) x) }
         ensures ordered { InKeyOrder event_key self.new }
         ensures emptied { OnOk result (events.new.items ≡ []) }
     {
@@ -126,7 +125,7 @@ impl Pending {
 
     /// Takes the first event.
     #[inline(always)]
-    pub fn pop_first(&mut self) -> Option<Event>
+    pub fn pop_first(&mut self) -> Option<Event<B>>
         ensures { MatchOption result ((self.old ≡ []) × (self.new ≡ [])) (λ first. self.old ≡ first ∷ self.new) }
     {
         self.calendar.recall_order();
@@ -141,18 +140,6 @@ impl Pending {
             return self.calendar.pop_first();
         }
         self.rest.pop_first()
-    }
-
-    /// Copies of the events before a time in microseconds.
-    pub fn up_to(&self, horizon: u64) -> Result<Vec<Event>, Memory>
-        ensures { IfOk result (λ copies. copies.items ≡ before event_key horizon self.now) }
-    {
-        // This looks at every pending event, since most are in no order. No engine calls it.
-        let mut copies = self.calendar.up_to(horizon)?;
-        let mut others = self.rest.up_to(horizon)?;
-        copies.append(&mut others)?;
-        sort_up(&mut copies);
-        Ok(copies)
     }
 
     /// Drops the events before a time in microseconds.
@@ -170,7 +157,7 @@ impl Pending {
 
     /// Adds an event, or drops it if an allocation fails.
     #[inline(always)]
-    fn put(&mut self, event: Event) -> Result<(), Memory>
+    fn put(&mut self, event: Event<B>) -> Result<(), Memory>
         requires { IsNewKey event_key event.key self.old }
         ensures { OnOk result (self.new ≡ put_in_order event_key event self.old) }
     {
@@ -183,9 +170,23 @@ impl Pending {
     }
 }
 
+impl<B: Copied + Drop> Pending<B> {
+    /// Copies of the events before a time in microseconds.
+    pub fn up_to(&self, horizon: u64) -> Result<Vec<Event<B>>, Memory>
+        ensures { IfOk result (λ copies. copies.items ≡ before event_key horizon self.now) }
+    {
+        // This looks at every pending event, since most are in no order. No engine calls it.
+        let mut copies = self.calendar.up_to(horizon)?;
+        let mut others = self.rest.up_to(horizon)?;
+        copies.append(&mut others)?;
+        sort_up(&mut copies);
+        Ok(copies)
+    }
+}
+
 /// Takes the first event of the rest, and moves a calendar without events on to its day.
 #[inline(never)]
-fn pop_rest(calendar: &mut Calendar, rest: &mut EventHeap) -> Option<Event>
+fn pop_rest<B: Drop>(calendar: &mut Calendar<B>, rest: &mut EventHeap<B>) -> Option<Event<B>>
     ensures popped { MatchOption result ((rest.old ≡ []) × (rest.new ≡ [])) (λ first. rest.old ≡ first ∷ rest.new) }
     ensures same { calendar.new ≡ calendar.old }
 {
@@ -196,7 +197,7 @@ fn pop_rest(calendar: &mut Calendar, rest: &mut EventHeap) -> Option<Event>
 
 /// Adds an event to the rest, or drops it if an allocation fails.
 #[inline(never)]
-fn put_in_rest(rest: &mut EventHeap, event: Event) -> Result<(), Memory>
+fn put_in_rest<B: Drop>(rest: &mut EventHeap<B>, event: Event<B>) -> Result<(), Memory>
     requires { IsNewKey event_key event.key rest.old }
     ensures ok { OnOk result (rest.new ≡ put_in_order event_key event rest.old) }
     ensures err { OnErr result (rest.new ≡ rest.old) }

@@ -5,7 +5,7 @@ use Rattle.chord_queue.specs.Places.{Entry, entry_at, key_there}
 use Rattle.chord_queue.proofs.days.add_entries.Goals as goal
 
 pub loop-place-preserved : goal.loop-place-preserved
-loop-place-preserved c =
+loop-place-preserved g c =
     let s = get c.args.events.now in let ps = c.args.places.now.items in let i = c.loop-place.place-index in let es = c.loop-place.entries.items in
     let rest = map (entry_at s) (drop (i + 1) ps) in let p = get_or c.deref-place-items.result.now i 0 in
     let w : Entry = record { key = record { 0 = c.index.result.now.key }; place = p } in

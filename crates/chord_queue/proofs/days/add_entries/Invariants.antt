@@ -4,7 +4,7 @@ use Rattle.chord_queue.specs.Places.{entry_at}
 use Rattle.chord_queue.proofs.days.add_entries.Given as goal
 
 abbrev pub invariant-loop-place : goal.invariant-loop-place
-invariant-loop-place l = record {
+invariant-loop-place g l = record {
   added : l.entries.items ++ map (entry_at (get l.events)) (drop l.place-index l.places.items)
       ≡ l.initial.entries.items ++ map (entry_at (get l.events)) l.places.items;
   room : vec_len l.entries + vec_len l.places ≤ vec_capacity l.entries + l.place-index;

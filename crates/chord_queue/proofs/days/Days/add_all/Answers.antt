@@ -5,7 +5,7 @@ use Rattle.chord_queue.proofs.Placed.{PlaceList, all_there, listed_at}
 use Rattle.chord_queue.proofs.days.Days.add_all.Goals as goal
 
 pub add_entries-requires-clause-there : goal.add_entries-requires-clause-there
-add_entries-requires-clause-there c =
+add_entries-requires-clause-there g c =
     let d = c.args.self.now in let s = get d.events in let l = c.list-item.result in let i = c.loop-list.list-index in
     all_there s d.today d.latest i l.items
     (listed_at (IsListed s d.today d.latest) i d.lists.items l l (omega (arith, c.loop-list-test.true, c.deref-list-items.ensures.len, d.lists.ok.0))

@@ -6,5 +6,5 @@ use Rattle.chord_queue.proofs.Placed.{joined}
 use Rattle.chord_queue.proofs.days.Days.add_all.Given as goal
 
 abbrev pub invariant-loop-list : goal.invariant-loop-list
-invariant-loop-list l =
+invariant-loop-list g l =
     l.entries.items ++ map (entry_at (get l.self.events)) (joined (drop l.list-index l.self.lists.items)) ≡ l.initial.entries.items ++ entries_in l.self

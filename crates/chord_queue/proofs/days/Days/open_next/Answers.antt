@@ -9,7 +9,7 @@ use Rattle.chord_queue.proofs.Placed.{none_listed, placed_none}
 use Rattle.chord_queue.proofs.days.Days.open_next.Goals as goal
 
 pub loop-self-init : goal.loop-self-init
-loop-self-init c = record {
+loop-self-init g c = record {
   days = c.requires.days;
   events = λ _. c.args.self.now.events;
   moved = subst (λ ws. IsPermutation (entries_in c.args.self.now) (ws ++ entries_in c.args.self.now)) (sym c.requires.empty)
@@ -18,7 +18,7 @@ loop-self-init c = record {
 }
 
 pub loop-self-preserved : goal.loop-self-preserved
-loop-self-preserved c =
+loop-self-preserved g c =
     let test : (vec_len c.loop-self.due == 0) ≡ true = sym c.is_empty.ensures ∙ c.loop-self-test.true in
     let zero : vec_len c.loop-self.due ≡ 0 = grind (arith, nat_tests) in
     let none : c.loop-self.due.items ≡ [] = empty c.loop-self.due.items (omega (arith, zero, c.loop-self.due.ok.0)) in record {
@@ -31,7 +31,7 @@ loop-self-preserved c =
     }
 
 pub returns-else-self-clause-whole : goal.returns-else-self-clause-whole
-returns-else-self-clause-whole c none =
+returns-else-self-clause-whole g c none =
     let d = c.loop-self.self in
     placed_none (IsListed (get d.events) d.today d.latest) 0 d.lists.items
     (λ j n listed. none_listed (get d.events) d.today d.latest j n (omega (arith, c.if-self.false)) listed)

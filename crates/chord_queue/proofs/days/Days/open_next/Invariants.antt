@@ -4,7 +4,7 @@ use Rattle.chord_queue.specs.Days.{AreDays, IsOpened, entries_in}
 use Rattle.chord_queue.proofs.days.Days.open_next.Given as goal
 
 abbrev pub invariant-loop-self : goal.invariant-loop-self
-invariant-loop-self l = record {
+invariant-loop-self g l = record {
   days : AreDays l.self (vec_capacity l.due);
   events : l.self.events ≡ l.initial.self.events;
   moved : IsPermutation (entries_in l.initial.self) (l.due.items ++ entries_in l.self);
@@ -12,4 +12,4 @@ invariant-loop-self l = record {
 }
 
 abbrev pub decreases-loop-self : goal.decreases-loop-self
-decreases-loop-self l = l.self.latest - l.self.today
+decreases-loop-self g l = l.self.latest - l.self.today
