@@ -42,20 +42,20 @@ some_after None P x e h = absurd cc
 some_after (Some y) P x e h = let same : y ≡ x = cc in subst P same h
 
 -- a run that has begun, over the due events of its part
-pub running_of : (sc : Scenario) (world : World) (horizon part : ℕ) (run : PartRun) (q : Queue) → HasBegun sc world horizon part run → IsFresh q
+pub running_of : (sc : Scenario) (world : World) (horizon part : ℕ) (run : PartRun) (q : Queue Body) → HasBegun sc world horizon part run → IsFresh q
     → (e : PartEvents) → e ≡ get_or world.parts.items part e
     → {due : List (Event Body)} → e.due.items ≡ due → IsRunning sc world horizon due run q
 running_of sc world horizon part run q begun fresh e at {due} is = subst (λ l. IsRunning sc world horizon l run q)
     (ap (λ p. (get_or world.parts.items p e).due.items) begun.part_is ∙ ap (λ (z : PartEvents). z.due.items) (sym at) ∙ is) (begun.running q fresh e)
 
 -- at whatever default a place inside is read
-pub running_everywhere : (sc : Scenario) (world : World) (horizon : ℕ) (run : PartRun) (q : Queue) (e : PartEvents)
+pub running_everywhere : (sc : Scenario) (world : World) (horizon : ℕ) (run : PartRun) (q : Queue Body) (e : PartEvents)
     → run.part < length world.parts.items → e ≡ get_or world.parts.items run.part e
     → IsRunning sc world horizon e.due.items run q → IsRunningAt sc world horizon run q
 running_everywhere sc world horizon run q e inside at r = λ other. subst (λ (z : PartEvents). IsRunning sc world horizon z.due.items run q)
     (at ∙ same_read world.parts.items run.part e other inside) r
 
-pub running_here : (sc : Scenario) (world : World) (horizon : ℕ) (run : PartRun) (q : Queue) (e : PartEvents)
+pub running_here : (sc : Scenario) (world : World) (horizon : ℕ) (run : PartRun) (q : Queue Body) (e : PartEvents)
     → e ≡ get_or world.parts.items run.part e → IsRunningAt sc world horizon run q
     → {due : List (Event Body)} → e.due.items ≡ due → IsRunning sc world horizon due run q
 running_here sc world horizon run q e at r {due} is = subst (λ l. IsRunning sc world horizon l run q) (ap (λ (z : PartEvents). z.due.items) (sym at) ∙ is) (r e)
@@ -64,7 +64,7 @@ module _ (sc : Scenario) (ranges : IsInRange sc) (world : World) (is : IsWorldOf
   pub running_at_start : (o : Opening) → world.opening ≡ Some o → (e : PartEvents) (run : PartRun) → run.part < world.division.parts
       → e ≡ get_or world.parts.items run.part e
       → run.taken ≡ 0 → run.copies.slots.items ≡ [] → run.copies.states.items ≡ [] → run.mail.items ≡ [] → run.blocks.items ≡ []
-      → (q : Queue) → IsFresh q → IsRunning sc world o.horizon e.due.items run q
+      → (q : Queue Body) → IsFresh q → IsRunning sc world o.horizon e.due.items run q
   running_at_start o opening e run inside at taken slots states mail blocks q fresh =
       let wait : drop run.taken e.due.items ++ q.events ≡ e.due.items = ap (λ k. drop k e.due.items ++ q.events) taken
       ∙ ap (λ l. e.due.items ++ l) fresh.empty ∙ append-nil e.due.items in
@@ -99,7 +99,7 @@ module _ (sc : Scenario) (ranges : IsInRange sc) (world : World) (is : IsWorldOf
         (same_read world.parts.items run.part e (get_or world.parts.items run.part e) within) taken slots states mail blocks q fresh;
   }
 
-  module _ (horizon : ℕ) (due : List (Event Body)) (win : IsWindow sc world horizon due) (run : PartRun) (q : Queue)
+  module _ (horizon : ℕ) (due : List (Event Body)) (win : IsWindow sc world horizon due) (run : PartRun) (q : Queue Body)
       (r : IsRunning sc world horizon due run q) where
     ran : List (Event Body)
     ran = part_run (chord sc) world.division (history (chord sc) world.count) horizon run.part (length run.blocks.items)

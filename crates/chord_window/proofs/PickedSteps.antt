@@ -93,7 +93,7 @@ some_same : {A : Type 0} (a b : A) → Some a ≡ Some b → a ≡ b
 some_same a b e = cc
 
 -- a part's run is within the event limit
-pub run_within : (sc : Scenario) (world : World) → IsWorldOf sc world → (horizon : ℕ) (run : PartRun) (q : Queue) → run.part < world.division.parts
+pub run_within : (sc : Scenario) (world : World) → IsWorldOf sc world → (horizon : ℕ) (run : PartRun) (q : Queue Body) → run.part < world.division.parts
     → IsRunningAt sc world horizon run q → world.count + length run.blocks.items ≤ sc.max_events
 run_within sc world is horizon run q inside running = let e = slot_there world.parts.items run.part (omega (arith, is.parts_are, inside))
     in (running e.0).within

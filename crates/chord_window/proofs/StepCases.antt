@@ -46,7 +46,7 @@ use Rattle.chord_window.proofs.Stepping.{step_apart, step_few, step_key, step_ne
 
 module _ (sc : Scenario) (ranges : IsInRange sc) (world : World) (is : IsWorldOf sc world) (horizon : ℕ) (due : List (Event Body))
     (win : IsWindow sc world horizon due)
-    (run : PartRun) (q : Queue) (inside : run.part < world.division.parts) (r : IsRunning sc world horizon due run q)
+    (run : PartRun) (q : Queue Body) (inside : run.part < world.division.parts) (r : IsRunning sc world horizon due run q)
     (ordered : InKeyOrder event_key q.events) where
   module _ (t : comes_first due run.taken q.events ≡ true) (e : Event Body) (at : e ≡ get_or due run.taken e) where
     abbrev ys : List (Event Body)
@@ -76,7 +76,7 @@ module _ (sc : Scenario) (ranges : IsInRange sc) (world : World) (is : IsWorldOf
       due_few = step_few sc ranges world is horizon win.time win.may_open due run q inside r e [] ys wait_is
           (due_first due q.events run.taken win.ordered ordered t e at) made made_is q.events (suc run.taken) refl
 
-      pub due_next : (mid new : PartRun) → HasHandled sc world.division world.states.items e run mid made → (q' : Queue)
+      pub due_next : (mid new : PartRun) → HasHandled sc world.division world.states.items e run mid made → (q' : Queue Body)
           → new.part ≡ mid.part → new.copies ≡ mid.copies → new.blocks ≡ mid.blocks → new.taken ≡ suc run.taken
           → new.mail.items ≡ mid.mail.items ++ from_on event_key horizon made
           → ((x : Event Body) → Contains q'.events x ↔ (Contains q.events x ⊎ (Contains made x × (x.key.time < horizon)))) → InKeyOrder event_key q'.events
@@ -85,10 +85,10 @@ module _ (sc : Scenario) (ranges : IsInRange sc) (world : World) (is : IsWorldOf
           (due_first due q.events run.taken win.ordered ordered t e at) made made_is q.events (suc run.taken) refl
 
   module _ (t : comes_first due run.taken q.events ≡ false) where
-    pub all_taken : (q' : Queue) → q' ≡ queue (drop 1 q.events) q.pushes → q.events ≡ []
+    pub all_taken : (q' : Queue Body) → q' ≡ queue (drop 1 q.events) q.pushes → q.events ≡ []
         → (drop run.taken due ++ q'.events ≡ []) × IsRunning sc world horizon due run q'
     all_taken q' left none = (
-      ap (λ (z : Queue). drop run.taken due ++ z.events) left ∙ ap (λ l. drop run.taken due ++ drop 1 l) none
+      ap (λ (z : Queue Body). drop run.taken due ++ z.events) left ∙ ap (λ l. drop run.taken due ++ drop 1 l) none
           ∙ ap (λ l. l ++ []) (none_left due q.events run.taken win.ordered ordered t none),
       subst (λ z. IsRunning sc world horizon due run z) (sym (left ∙ ap (λ l. queue (drop 1 l) q.pushes) none ∙ sym (ap (λ l. queue l q.pushes) none))) r,
     )
@@ -112,21 +112,21 @@ module _ (sc : Scenario) (ranges : IsInRange sc) (world : World) (is : IsWorldOf
       made_over full = step_over sc ranges world is horizon win.time win.may_open due run q inside r e (drop run.taken due) (drop 1 q.events) wait_is2
           (made_first due q.events run.taken win.ordered ordered t e (drop 1 q.events) queue_is) full
 
-      module _ (made : List (Event Body)) (made_is : made ≡ (effect sc (seen_in sc world.states.items run e.target) e).events) (q1 : Queue)
+      module _ (made : List (Event Body)) (made_is : made ≡ (effect sc (seen_in sc world.states.items run e.target) e).events) (q1 : Queue Body)
           (left : q1 ≡ queue (drop 1 q.events) q.pushes) where
         rest_is : drop run.taken due ++ q1.events ≡ drop run.taken due ++ drop 1 q.events
-        rest_is = ap (λ (z : Queue). drop run.taken due ++ z.events) left
+        rest_is = ap (λ (z : Queue Body). drop run.taken due ++ z.events) left
 
         pub made_apart : AreApart (q1.events ++ made)
         made_apart = step_apart sc ranges world is horizon win.time win.may_open due run q inside r e (drop run.taken due) (drop 1 q.events) wait_is2
             (made_first due q.events run.taken win.ordered ordered t e (drop 1 q.events) queue_is) made made_is q1.events run.taken rest_is
 
         pub made_few : q1.pushes + length made < 2 ^ 40
-        made_few = subst (λ (z : Queue). z.pushes + length made < 2 ^ 40) (sym left)
+        made_few = subst (λ (z : Queue Body). z.pushes + length made < 2 ^ 40) (sym left)
             (step_few sc ranges world is horizon win.time win.may_open due run q inside r e (drop run.taken due) (drop 1 q.events) wait_is2
             (made_first due q.events run.taken win.ordered ordered t e (drop 1 q.events) queue_is) made made_is q1.events run.taken rest_is)
 
-        pub made_next : (mid new : PartRun) → HasHandled sc world.division world.states.items e run mid made → (q' : Queue)
+        pub made_next : (mid new : PartRun) → HasHandled sc world.division world.states.items e run mid made → (q' : Queue Body)
             → new.part ≡ mid.part → new.copies ≡ mid.copies → new.blocks ≡ mid.blocks → new.taken ≡ run.taken
             → new.mail.items ≡ mid.mail.items ++ from_on event_key horizon made
             → ((x : Event Body) → Contains q'.events x ↔ (Contains q1.events x ⊎ (Contains made x × (x.key.time < horizon)))) → InKeyOrder event_key q'.events
@@ -134,4 +134,4 @@ module _ (sc : Scenario) (ranges : IsInRange sc) (world : World) (is : IsWorldOf
         made_next mid new h q' parts_are copies_are blocks_are takens mails queued o pushes free =
             step_next sc ranges world is horizon win.time win.may_open due run q inside r e (drop run.taken due) (drop 1 q.events) wait_is2
             (made_first due q.events run.taken win.ordered ordered t e (drop 1 q.events) queue_is) made made_is q1.events run.taken rest_is
-            mid new h q' parts_are copies_are blocks_are takens mails queued o (subst (λ (z : Queue). q'.pushes ≤ z.pushes + length made) left pushes) free
+            mid new h q' parts_are copies_are blocks_are takens mails queued o (subst (λ (z : Queue Body). q'.pushes ≤ z.pushes + length made) left pushes) free

@@ -131,7 +131,7 @@ All_push P xs x all here = All_from P (xs ++ x ∷ []) (λ y c. ⊎_elim (λ k. 
 
 module _ (sc : Scenario) (ranges : IsInRange sc) (world : World) (is : IsWorldOf sc world) (horizon time : ℕ)
     (o : MayOpen (chord sc) (history (chord sc) world.count) time horizon) (due : List (Event Body))
-    (run : PartRun) (q : Queue) (inside : run.part < world.division.parts) (r : IsRunning sc world horizon due run q) where
+    (run : PartRun) (q : Queue Body) (inside : run.part < world.division.parts) (r : IsRunning sc world horizon due run q) where
   w : IsWellFormed (chord sc) (IsStateOf sc) (IsSoundEvent sc)
   w = well_formed sc ranges
 
@@ -249,7 +249,7 @@ module _ (sc : Scenario) (ranges : IsInRange sc) (world : World) (is : IsWorldOf
         pub step_few : q.pushes + length made < 2 ^ 40
         step_few = omega (arith, r.pushes, few, r.within, ranges.numbers.max_events_greatest)
 
-        pub step_next : (mid new : PartRun) → HasHandled sc world.division world.states.items e run mid made → (q' : Queue)
+        pub step_next : (mid new : PartRun) → HasHandled sc world.division world.states.items e run mid made → (q' : Queue Body)
             → new.part ≡ mid.part → new.copies ≡ mid.copies → new.blocks ≡ mid.blocks → new.taken ≡ taken
             → new.mail.items ≡ mid.mail.items ++ from_on event_key horizon made
             → ((x : Event Body) → Contains q'.events x ↔ (Contains left x ⊎ (Contains made x × (x.key.time < horizon)))) → InKeyOrder event_key q'.events

@@ -1,5 +1,6 @@
 -- The steps of a worker.
 use Rattle.std.proofs.Common.{◌≡◌, ℕ, ◌<◌, ◌≤◌, None, Some, sym, subst}
+use Rattle.chord_event.specs.declared.body.Body.{Body}
 use Rattle.chord_queue.specs.Queue.{Queue}
 use Rattle.chord_scenario.specs.declared.scenario.Scenario.{Scenario}
 use Rattle.chord_window.specs.declared.part_run.PartRun.{PartRun}
@@ -24,5 +25,5 @@ module _ (sc : Scenario) (w : World) (horizon drawn : ℕ) (x : Worker) (may : M
     run_is = run_is;
     part_is = begun.part_is;
     none = begun.none;
-    running = begun.running new.queue (subst (λ (q : Queue). IsFresh q) (sym same) (idle_from none).0.fresh);
+    running = begun.running new.queue (subst (λ (q : Queue Body). IsFresh q) (sym same) (idle_from none).0.fresh);
   }

@@ -108,12 +108,12 @@ pub record IsWindow (sc : Scenario) (w : World) (horizon : ℕ) (due : List (Eve
   pub ordered : InKeyOrder event_key due
 
 -- nothing waits in the queue, and nothing was pushed
-pub record IsFresh (q : Queue) : Type 0 where
+pub record IsFresh (q : Queue Body) : Type 0 where
   pub empty : q.events ≡ []
   pub unused : q.pushes ≡ 0
 
 -- the part's run has come so far, with what is left of the due events and in the queue
-pub record IsRunning (sc : Scenario) (w : World) (horizon : ℕ) (due : List (Event Body)) (run : PartRun) (q : Queue) : Type 0 where
+pub record IsRunning (sc : Scenario) (w : World) (horizon : ℕ) (due : List (Event Body)) (run : PartRun) (q : Queue Body) : Type 0 where
   pub at : IsPartAt (chord sc) w.division (history (chord sc) w.count) horizon run.part (length run.blocks.items) (seen_in sc w.states.items run)
       (drop run.taken due ++ q.events) run.mail.items (map piece.OfEvent run.blocks.items)
   pub copies : AreCopies w.division run.part w.states.items run.copies
@@ -131,14 +131,14 @@ pub record IsNextWindow (sc : Scenario) (w : World) (horizon : ℕ) : Type 0 whe
   pub next : IsHorizon w horizon
 
 -- the part's run has come so far in the world's next window
-abbrev pub IsRunningAt : Scenario → World → (horizon : ℕ) → PartRun → Queue → Type 0
+abbrev pub IsRunningAt : Scenario → World → (horizon : ℕ) → PartRun → Queue Body → Type 0
 IsRunningAt sc w horizon run q = (e : PartEvents) → IsRunning sc w horizon (slice_index_or w.parts.items run.part e).due.items run q
 
 -- it has run nothing so far
 pub record HasBegun (sc : Scenario) (w : World) (horizon part : ℕ) (run : PartRun) : Type 0 where
   pub part_is : run.part ≡ part
   pub none : length run.blocks.items ≡ 0
-  pub running : (q : Queue) → IsFresh q → IsRunningAt sc w horizon run q
+  pub running : (q : Queue Body) → IsFresh q → IsRunningAt sc w horizon run q
 
 -- the event of this key is the next that the part runs
 pub record IsNextKey (sc : Scenario) (w : World) (horizon : ℕ) (run : PartRun) (key : Key) : Type 0 where
