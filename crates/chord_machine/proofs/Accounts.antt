@@ -153,7 +153,7 @@ no_lines sc h [] = refl
 no_lines sc h (t ∷ times) = no_lines sc h times
 
 -- the lines of the pieces of one event more
-lines_more : (sc : Scenario) (h : List (Event Body)) (e : Event Body)
+pub lines_more : (sc : Scenario) (h : List (Event Body)) (e : Event Body)
     → lines_of (output (chord sc) (e ∷ h)) ≡ lines_of (output (chord sc) h) ++ ((effect sc (state (chord sc) h e.target) e).lines ++ [])
 lines_more sc h e =
     let times : List ℕ = filter (λ t. nat_le t e.key.time) (open_audits (chord sc) h) in
@@ -197,7 +197,7 @@ ends_begin sc ranges (e ∷ h) p =
     )
 
 -- the audits at the end add no line
-lines_whole : (sc : Scenario) (h : List (Event Body)) → lines_of (trace (chord sc) h) ≡ lines_of (output (chord sc) h) ++ []
+pub lines_whole : (sc : Scenario) (h : List (Event Body)) → lines_of (trace (chord sc) h) ≡ lines_of (output (chord sc) h) ++ []
 lines_whole sc h =
     flat_map-append lines_in (output (chord sc) h) _ ∙ ap (λ ls. lines_of (output (chord sc) h) ++ ls) (by (is_none (next (chord sc) h)))
   where

@@ -1,24 +1,26 @@
 -- Each lookup ends in time.
-use Rattle.std.proofs.Common.{◌≡◌, ◌≢◌, ◌==◌, ◌&&◌, ◌⊎◌, inl, inr, ℕ, ◌+◌, ◌-◌, ◌*◌, ◌<◌, ◌≤◌, Bool, true, false, cond, List, [], ◌∷◌, get_or, Option, refl, sym, ◌∙◌, ap, subst, arith}
+use Rattle.std.proofs.Common.{◌≡◌, ◌≢◌, ◌==◌, ◌&&◌, ◌⊎◌, inl, inr, ℕ, ◌+◌, ◌-◌, ◌*◌, ◌<◌, ◌≤◌, Bool, true, false, cond, List, [], ◌∷◌, ◌++◌, get_or, Option, refl, sym, ◌∙◌, ap, subst, arith}
 use Rattle.std.proofs.Math.Nat.{add-mul, mul-le-mul_right}
 use Rattle.std.proofs.lemmas.Bool.{cases_eq}
 use Rattle.std.proofs.lemmas.Bool.Decides.{nat_tests}
+use Rattle.std.proofs.lemmas.List.Elements.{All-append}
 use Rattle.std.proofs.lemmas.List.Sums.{sum_by-cons}
 use Rattle.std.specs.List.{All, Contains, count_by}
 use Rattle.std.specs.Prelude.{if◌then◌else◌}
 use Rattle.chord_event.specs.declared.body.Body.{Body}
 use Rattle.chord_event.specs.declared.body.Body.TheVariants as body
 use Rattle.chord_event.specs.declared.event.Event.{Event}
-use Rattle.chord_event.proofs.Members.{All_at, contains_append, contains_cons, contains_here, contains_none, contains_there, filter_contains}
-use Rattle.chord_model.specs.Histories.{IsLegal, IsPossible, pending, state}
+use Rattle.chord_event.proofs.Members.{All_at, contains_at, contains_append, contains_cons, contains_here, contains_none, contains_there, filter_contains}
+use Rattle.chord_event.specs.declared.line.Line.{Line}
+use Rattle.chord_model.specs.Histories.{full_history, output, IsLegal, IsPossible, pending, state}
 use Rattle.chord_model.proofs.Distinct.{fit_event, meets, sound_state, state_here, state_other}
 use Rattle.chord_model.proofs.Pending.{waits_from}
-use Rattle.chord_model.proofs.Runs.{possible_from_legal}
+use Rattle.chord_model.proofs.Runs.{history_is_legal, possible_from_legal}
 use Rattle.chord_node.specs.declared.state.Call.{Call}
 use Rattle.chord_node.specs.declared.state.Lookup.{Lookup}
 use Rattle.chord_node.specs.declared.state.NodeState.{NodeState}
 use Rattle.chord_node.specs.Ring.{first_member, initial_state, never_up}
-use Rattle.chord_ops.specs.Ends.{Proceeds, most_sends, sends, times_again}
+use Rattle.chord_ops.specs.Ends.{Proceeds, TakesAtMost, most_sends, sends, times_again}
 use Rattle.chord_ops.specs.Rules.{effect}
 use Rattle.chord_ops.specs.Sound.{IsSoundEvent}
 use Rattle.chord_ops.specs.Timers.{is_timer, set_for}
@@ -26,13 +28,16 @@ use Rattle.chord_ops.specs.Timers.Timer.{Timeout}
 use Rattle.chord_ops.proofs.Carried.{AreTimely, IsTimely, is_timeout}
 use Rattle.chord_ops.proofs.Ends.{all_proceed, all_timely, call_counted, few_requests}
 use Rattle.chord_ops.proofs.KeptRules.{none_of}
+use Rattle.chord_ops.proofs.Times.{all_timed}
 use Rattle.chord_ops.proofs.Ongoing.{is_set, same_node}
 use Rattle.chord_scenario.specs.declared.scenario.Scenario.{Scenario}
 use Rattle.chord_scenario.specs.Range.{IsInRange}
 use Rattle.chord_scenario.specs.World.{is_initial, node_count}
 use Rattle.chord_machine.specs.Chord.{chord}
-use Rattle.chord_machine.specs.Ends.{EndsWithin, IsTimeoutOf, LookupsAreInTime, LookupsAreShort}
+use Rattle.chord_machine.specs.Ends.{EndsWithin, IsTimeoutOf, LookupsAreInTime, LookupsAreShort, LookupsTakeAtMost}
 use Rattle.chord_machine.specs.Sound.{IsStateOf}
+use Rattle.chord_trace.specs.Pieces.{lines_of}
+use Rattle.chord_machine.proofs.Accounts.{lines_more, lines_whole}
 use Rattle.chord_machine.proofs.Counted.{beside, counted_after, counted_before, pending_after}
 use Rattle.chord_machine.proofs.OngoingHistories.{all_go_on, made_elsewhere, retries_are_limited}
 use Rattle.chord_machine.proofs.WellFormed.{well_formed}
@@ -223,6 +228,21 @@ module _ (sc : Scenario) (ranges : IsInRange sc) (h : List (Event Body)) (e : Ev
       (some_waiting sc ranges h possible.0 e.target known.target lookup was) in
       omega (arith, (legal.1.first y.one y.there).time, ends y.one y.there (times_from e.target lookup.call y.one y.passes))
 
+  -- no line of the event tells of a longer time
+  lines_in_time : All (λ lookup. EndsWithin sc h e.target lookup (sends sc (state (chord sc) h e.target) lookup)) (state (chord sc) h e.target).lookups
+      → All (TakesAtMost (most_sends sc * sc.timeout)) (effect sc (state (chord sc) h e.target) e).lines
+  lines_in_time ih =
+      all_timed sc (state (chord sc) h e.target) e (most_sends sc * sc.timeout) target_is.invariant
+      (λ k d within.
+      let lookup : Lookup = get_or (state (chord sc) h e.target).lookups k d in
+      let few : sends sc (state (chord sc) h e.target) lookup ≤ most_sends sc =
+      few_requests sc (state (chord sc) h e.target) target_is.invariant seldom k d within in
+      omega (
+        arith,
+        comes_first lookup (contains_at (state (chord sc) h e.target).lookups k d within) (ih k d within),
+        mul-le-mul_right sc.timeout few,
+      ))
+
   -- at the target
   here : All (λ lookup. EndsWithin sc h e.target lookup (sends sc (state (chord sc) h e.target) lookup)) (state (chord sc) h e.target).lookups
       → All (λ lookup. EndsWithin sc (e ∷ h) e.target lookup (sends sc (effect sc (state (chord sc) h e.target) e).state lookup))
@@ -309,3 +329,24 @@ lookups_are_short sc ranges h legal n inside = λ k d within x c is.
     let few : sends sc s (get_or s.lookups k d) ≤ most_sends sc =
     few_requests sc s ((meets (chord sc) (well_formed sc ranges) h p).sound n inside).invariant (retries_are_limited sc ranges h p n inside) k d within in
     omega (arith, lookups_are_in_time sc ranges h legal n inside k d within x c is, mul-le-mul_right sc.timeout few)
+
+-- the lines of a run so far
+lines_take_at_most : (sc : Scenario) → IsInRange sc → (h : List (Event Body)) → IsLegal (chord sc) h
+    → All (TakesAtMost (most_sends sc * sc.timeout)) (lines_of (output (chord sc) h))
+lines_take_at_most sc ranges [] legal = none_of (TakesAtMost (most_sends sc * sc.timeout))
+lines_take_at_most sc ranges (e ∷ h) legal =
+    let Short : Line → Type 0 = TakesAtMost (most_sends sc * sc.timeout) in
+    let new : List Line = (effect sc (state (chord sc) h e.target) e).lines in
+    subst (λ (ls : List Line). All Short ls) (sym (lines_more sc h e))
+    (All-append Short (lines_of (output (chord sc) h)) (new ++ []) (lines_take_at_most sc ranges h legal.0)
+    (All-append Short new []
+    (lines_in_time sc ranges h e legal (lookups_are_in_time sc ranges h legal.0 e.target (known sc ranges h e legal).target))
+    (none_of Short)))
+
+pub lookups_take_at_most : (sc : Scenario) → IsInRange sc → LookupsTakeAtMost sc
+lookups_take_at_most sc ranges =
+    let Short : Line → Type 0 = TakesAtMost (most_sends sc * sc.timeout) in
+    let h : List (Event Body) = full_history (chord sc) in
+    subst (λ (ls : List Line). All Short ls) (sym (lines_whole sc h))
+    (All-append Short (lines_of (output (chord sc) h)) []
+    (lines_take_at_most sc ranges h (history_is_legal (chord sc) sc.max_events)) (none_of Short))

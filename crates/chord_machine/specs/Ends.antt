@@ -7,10 +7,12 @@ use Rattle.chord_event.specs.declared.event.Event.{Event}
 use Rattle.chord_model.specs.Histories.{IsLegal, pending, state}
 use Rattle.chord_node.specs.declared.state.Lookup.{Lookup}
 use Rattle.chord_node.specs.declared.state.NodeState.{NodeState}
-use Rattle.chord_ops.specs.Ends.{most_sends, sends}
+use Rattle.chord_ops.specs.Ends.{TakesAtMost, most_sends, sends}
 use Rattle.chord_scenario.specs.declared.scenario.Scenario.{Scenario}
 use Rattle.chord_scenario.specs.World.{node_count}
+use Rattle.chord_trace.specs.Pieces.{lines_of}
 use Rattle.chord_machine.specs.Chord.{chord}
+use Rattle.chord_machine.specs.Run.{whole_trace}
 
 -- an event is the timeout of node n's call under this number
 abbrev pub IsTimeoutOf : (n number : ℕ) → Event Body → Type 0
@@ -34,3 +36,7 @@ LookupsAreInTime sc = OfLookups sc (λ h n s lookup. EndsWithin sc h n lookup (s
 -- one for each that it may send
 abbrev pub LookupsAreShort : Scenario → Type 0
 LookupsAreShort sc = OfLookups sc (λ h n s lookup. EndsWithin sc h n lookup (most_sends sc))
+
+-- no lookup of a run's trace has taken longer than that
+abbrev pub LookupsTakeAtMost : Scenario → Type 0
+LookupsTakeAtMost sc = All (TakesAtMost (most_sends sc * sc.timeout)) (lines_of (whole_trace sc))

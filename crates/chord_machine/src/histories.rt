@@ -3,7 +3,7 @@
 ghost use Rattle.chord_machine.specs.Accounts.{LookupsAreAccountedFor, ReportsAddUp};
 ghost use Rattle.chord_machine.specs.Chord.{chord};
 ghost use Rattle.chord_machine.specs.AuditTimes.{AreAuditsInTime};
-ghost use Rattle.chord_machine.specs.Ends.{LookupsAreInTime, LookupsAreShort};
+ghost use Rattle.chord_machine.specs.Ends.{LookupsAreInTime, LookupsAreShort, LookupsTakeAtMost};
 ghost use Rattle.chord_machine.specs.Ongoing.{RetriesAreLimited, CallsAreTimed, JoinsGoOn, TimersLive};
 ghost use Rattle.chord_machine.specs.Room.{RoomIsLeft};
 ghost use Rattle.chord_machine.specs.Sound.{HistoriesAreSound};
@@ -130,8 +130,10 @@ pub fn reports_add_up()
 {}
 
 /// A lookup in progress ends in time: its next timeout comes no later than one `timeout` after it began
-/// for each request that it has sent, and so no later than one for each that it may send.
+/// for each request that it has sent, and so no later than one for each that it may send. No lookup of
+/// a run's trace has taken longer than that.
 pub fn lookups_are_in_time()
     ensures sent { (sc : Scenario) → IsInRange sc → LookupsAreInTime sc }
     ensures most { (sc : Scenario) → IsInRange sc → LookupsAreShort sc }
+    ensures ended { (sc : Scenario) → IsInRange sc → LookupsTakeAtMost sc }
 {}

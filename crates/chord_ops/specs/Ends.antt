@@ -1,9 +1,11 @@
 -- Each lookup ends: it sends more requests each time that it goes on, and never more than a limit.
-use Rattle.std.specs.Prelude.{◌≡◌, ◌≢◌, ◌==◌, ◌⊎◌, ℕ, ◌+◌, ◌-◌, ◌*◌, ◌<◌, Bool, true, false, Option, Some, None}
+use Rattle.std.specs.Prelude.{◌≡◌, ◌≢◌, ◌==◌, ◌⊎◌, ℕ, ◌+◌, ◌-◌, ◌*◌, ◌<◌, ◌≤◌, Bool, true, false, Option, Some, None}
 use Rattle.std.specs.List.{Contains}
 use Rattle.chord_event.specs.declared.body.Body.{Body}
 use Rattle.chord_event.specs.declared.body.Body.TheVariants as body
 use Rattle.chord_event.specs.declared.event.Event.{Event}
+use Rattle.chord_event.specs.declared.line.Line.{Line}
+use Rattle.chord_event.specs.declared.line.Line.TheVariants as line
 use Rattle.chord_scenario.specs.declared.scenario.Scenario.{Scenario}
 use Rattle.chord_node.specs.declared.state.Call.{Call}
 use Rattle.chord_node.specs.declared.state.Lookup.{Lookup}
@@ -59,3 +61,9 @@ pub record HasGoneOn (sc : Scenario) (message : Body) (before after : NodeState)
 abbrev pub Proceeds : Scenario → Event Body → (before after : NodeState) → Lookup → Type 0
 Proceeds sc e before after lookup =
     StillWaits e.body before after lookup ⊎ Begins sc e.key.time before after lookup ⊎ HasGoneOn sc e.body before after lookup
+
+-- if a line tells how long a lookup took, then no longer than this
+abbrev pub TakesAtMost : (us : ℕ) → Line → Type 0
+TakesAtMost most (line.Found key owner hops timeouts us) = us ≤ most
+TakesAtMost most (line.Lost key hops timeouts us) = us ≤ most
+TakesAtMost most _ = Unit {0}
