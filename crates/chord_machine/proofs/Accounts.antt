@@ -1,5 +1,5 @@
 -- Each user's lookup is accounted for along a history, and in the report of a run.
-use Rattle.std.proofs.Common.{◌≡◌, ◌≢◌, ◌⊎◌, inl, inr, ℕ, zero, suc, ◌+◌, ◌<◌, ◌≤◌, Bool, true, false, cond, List, [], ◌∷◌, ◌++◌, map, refl, sym, ◌∙◌, ap, subst, arith, eq-eqb}
+use Rattle.std.proofs.Common.{◌≡◌, ◌≢◌, ◌⊎◌, inl, inr, ℕ, zero, suc, ◌+◌, ◌<◌, Bool, true, false, cond, List, [], ◌∷◌, ◌++◌, map, refl, sym, ◌∙◌, ap, subst, arith, eq-eqb}
 use Rattle.std.proofs.lemmas.Bool.{cases_eq, cond-true, cond-false, ne_eqb}
 use Rattle.std.proofs.lemmas.List.Concat.{flat_map-append}
 use Rattle.std.proofs.lemmas.List.Sums.{sum_by-append, sum_by-cons}
@@ -26,7 +26,7 @@ use Rattle.chord_trace.specs.Kinds.{is_found, is_lookup, is_lost}
 use Rattle.chord_trace.specs.Pieces.{lines_in, lines_of}
 use Rattle.chord_trace.specs.declared.piece.Piece.{Piece}
 use Rattle.chord_trace.specs.declared.report.Report.{Report}
-use Rattle.chord_machine.specs.Accounts.{LookupsAreAccountedFor, ReportsAddUp, cut_off_along, lines_along}
+use Rattle.chord_machine.specs.Accounts.{LookupsAreAccountedFor, ReportsAddUp, UnfinishedAreUnended, cut_off_along, lines_along, over_nodes, unended}
 use Rattle.chord_machine.specs.Chord.{chord}
 use Rattle.chord_machine.specs.Run.{whole_trace}
 use Rattle.chord_machine.specs.Sound.{IsStateOf}
@@ -61,23 +61,18 @@ tells_loss : (text : Line) → tells_lost text ≡ is_lost text
 tells_loss (line.Lost key hops timeouts us) = refl
 tells_loss _ = refl
 
--- the sum over the first k nodes
-abbrev total : (k : ℕ) → (ℕ → ℕ) → ℕ
-total zero f = 0
-total (suc k) f = total k f + f k
-
-same_total : (k : ℕ) (f g : ℕ → ℕ) → ((n : ℕ) → n < k → f n ≡ g n) → total k f ≡ total k g
+same_total : (k : ℕ) (f g : ℕ → ℕ) → ((n : ℕ) → n < k → f n ≡ g n) → over_nodes k f ≡ over_nodes k g
 same_total zero f g same = refl
 same_total (suc k) f g same = omega (arith, same_total k f g (λ n low. same n (omega (arith, low))), same k (omega arith))
 
 -- a change at one node changes the sum by as much
-changed_total : (k t : ℕ) (f g : ℕ → ℕ) → t < k → ((n : ℕ) → t ≢ n → f n ≡ g n) → total k f + g t ≡ total k g + f t
+changed_total : (k t : ℕ) (f g : ℕ → ℕ) → t < k → ((n : ℕ) → t ≢ n → f n ≡ g n) → over_nodes k f + g t ≡ over_nodes k g + f t
 changed_total zero t f g within same = absurd (omega (arith, within))
 changed_total (suc k) t f g within same = by (cases_eq t k) (λ below. changed_total k t f g below same)
   where
-    by : (t ≡ k) ⊎ (t ≡ k → ⊥) → (t < k → total k f + g t ≡ total k g + f t) → total k f + f k + g t ≡ total k g + g k + f t
+    by : (t ≡ k) ⊎ (t ≡ k → ⊥) → (t < k → over_nodes k f + g t ≡ over_nodes k g + f t) → over_nodes k f + f k + g t ≡ over_nodes k g + g k + f t
     by (inl last) ih =
-        let others : total k f ≡ total k g = same_total k f g (λ n low. same n (λ is. omega (arith, low, is, last))) in
+        let others : over_nodes k f ≡ over_nodes k g = same_total k f g (λ n low. same n (λ is. omega (arith, low, is, last))) in
         omega (arith, others, ap f last, ap g last)
     by (inr other) ih = omega (arith, ih (omega (arith, within, other)), same k other)
 
@@ -162,27 +157,33 @@ lines_more sc h e =
     flat_map-append lines_in (output (chord sc) h) (audits ++ last)
     ∙ ap (λ ls. lines_of (output (chord sc) h) ++ ls) (flat_map-append lines_in audits last ∙ ap (λ ls. ls ++ lines_of last) (no_lines sc h times))
 
--- no more lookups end, and are in progress, than have begun
-ends_begin : (sc : Scenario) → IsInRange sc → (h : List (Event Body)) → IsPossible (chord sc) h
-    → found (lines_of (output (chord sc) h)) + lost (lines_of (output (chord sc) h)) + total (node_count sc) (λ n. in_progress (state (chord sc) h n))
-    ≤ begun (lines_of (output (chord sc) h))
-ends_begin sc ranges [] p =
-    omega (arith, same_total (node_count sc) (λ n. in_progress (initial_state sc n)) (λ n. 0) (λ n low. starts_idle sc n), none (node_count sc))
+-- each lookup that has begun has ended, or has not
+begun_by_ends : (sc : Scenario) → IsInRange sc → (h : List (Event Body)) → IsPossible (chord sc) h
+    → begun (lines_of (output (chord sc) h)) ≡ found (lines_of (output (chord sc) h)) + lost (lines_of (output (chord sc) h)) + unended sc h
+begun_by_ends sc ranges [] p =
+    omega (
+      arith,
+      same_total (node_count sc) (λ n. in_progress (initial_state sc n) + 0) (λ n. 0) (λ n low. omega (arith, starts_idle sc n)),
+      none (node_count sc),
+    )
   where
-    none : (k : ℕ) → total k (λ n. 0) ≡ 0
+    none : (k : ℕ) → over_nodes k (λ n. 0) ≡ 0
     none zero = refl
     none (suc k) = omega (arith, none k)
-ends_begin sc ranges (e ∷ h) p =
+begun_by_ends sc ranges (e ∷ h) p =
     let s : NodeState = state (chord sc) h e.target in
     let old : List Line = lines_of (output (chord sc) h) in
     let new : List Line = (effect sc s e).lines in
     let lines = lines_more sc h e in
-    let moved = changed_total (node_count sc) e.target (λ n. in_progress (state (chord sc) h n)) (λ n. in_progress (state (chord sc) (e ∷ h) n))
-    (target_known sc ranges h e p).target (λ n apart. sym (ap in_progress (state_other (chord sc) e h n apart))) in
+    let cut : cut_off_along sc (e ∷ h) e.target ≡ cut_off_along sc h e.target + cut_off s (effect sc s e).state =
+    cond-true _ _ _ (eq-eqb e.target e.target refl) in
+    let moved = changed_total (node_count sc) e.target (λ n. in_progress (state (chord sc) h n) + cut_off_along sc h n)
+    (λ n. in_progress (state (chord sc) (e ∷ h) n) + cut_off_along sc (e ∷ h) n) (target_known sc ranges h e p).target (kept_apart sc h e) in
     omega (
       arith,
-      ends_begin sc ranges h p.0,
+      begun_by_ends sc ranges h p.0,
       moved,
+      cut,
       ap in_progress (state_here (chord sc) e h e.target refl),
       accounted_here sc ranges h e p,
       ap begun lines,
@@ -195,6 +196,12 @@ ends_begin sc ranges (e ∷ h) p =
       counted_append tells_found new [],
       counted_append tells_lost new [],
     )
+  where
+    kept_apart : (sc : Scenario) (h : List (Event Body)) (e : Event Body) (n : ℕ) → e.target ≢ n
+        → in_progress (state (chord sc) h n) + cut_off_along sc h n ≡ in_progress (state (chord sc) (e ∷ h) n) + cut_off_along sc (e ∷ h) n
+    kept_apart sc h e n apart =
+        let cut : cut_off_along sc (e ∷ h) n ≡ cut_off_along sc h n = cond-false _ _ _ (ne_eqb e.target n apart) in
+        omega (arith, cut, ap in_progress (state_other (chord sc) e h n apart))
 
 -- the audits at the end add no line
 pub lines_whole : (sc : Scenario) (h : List (Event Body)) → lines_of (trace (chord sc) h) ≡ lines_of (output (chord sc) h) ++ []
@@ -205,16 +212,16 @@ lines_whole sc h =
     by true = no_lines sc h (open_audits (chord sc) h)
     by false = refl
 
-ended_by_begun : (sc : Scenario) → IsInRange sc
-    → count_by is_found (lines_of (whole_trace sc)) + count_by is_lost (lines_of (whole_trace sc)) ≤ count_by is_lookup (lines_of (whole_trace sc))
-ended_by_begun sc ranges =
+counted_lookups : (sc : Scenario) → IsInRange sc → count_by is_lookup (lines_of (whole_trace sc))
+    ≡ count_by is_found (lines_of (whole_trace sc)) + count_by is_lost (lines_of (whole_trace sc)) + unended sc (full_history (chord sc))
+counted_lookups sc ranges =
     let h : List (Event Body) = full_history (chord sc) in
     let all : List Line = lines_of (output (chord sc) h) in
     let whole : List Line = lines_of (whole_trace sc) in
     let lines : whole ≡ all ++ [] = lines_whole sc h in
     omega (
       arith,
-      ends_begin sc ranges h (possible_from_legal (chord sc) h (history_is_legal (chord sc) sc.max_events)),
+      begun_by_ends sc ranges h (possible_from_legal (chord sc) h (history_is_legal (chord sc) sc.max_events)),
       ap begun lines,
       ap found lines,
       ap lost lines,
@@ -229,4 +236,8 @@ ended_by_begun sc ranges =
 pub reports_add_up : (sc : Scenario) → IsInRange sc → ReportsAddUp sc
 reports_add_up sc ranges report is =
     subst (λ (r : Report). r.lines.found + r.lines.lost + r.unfinished ≡ r.lines.lookups) (sym is.numbers)
-    (omega (arith, ended_by_begun sc ranges))
+    (omega (arith, counted_lookups sc ranges))
+
+pub unfinished_are_unended : (sc : Scenario) → IsInRange sc → UnfinishedAreUnended sc
+unfinished_are_unended sc ranges report is =
+    subst (λ (r : Report). r.unfinished ≡ unended sc (full_history (chord sc))) (sym is.numbers) (omega (arith, counted_lookups sc ranges))

@@ -1,12 +1,13 @@
 -- Each lookup that a user begins is found, lost, in progress or cut off, and no report leaves one out.
-use Rattle.std.specs.Prelude.{ℕ, ◌≡◌, ◌==◌, ◌+◌, List, [], ◌∷◌, ◌++◌, if◌then◌else◌}
+use Rattle.std.specs.Prelude.{ℕ, zero, suc, ◌≡◌, ◌==◌, ◌+◌, List, [], ◌∷◌, ◌++◌, if◌then◌else◌}
 use Rattle.chord_event.specs.declared.body.Body.{Body}
 use Rattle.chord_event.specs.declared.event.Event.{Event}
 use Rattle.chord_event.specs.declared.line.Line.{Line}
-use Rattle.chord_model.specs.Histories.{state}
+use Rattle.chord_model.specs.Histories.{full_history, state}
 use Rattle.chord_ops.specs.Accounts.{begun, cut_off, found, in_progress, lost}
 use Rattle.chord_ops.specs.Rules.{effect}
 use Rattle.chord_scenario.specs.declared.scenario.Scenario.{Scenario}
+use Rattle.chord_scenario.specs.World.{node_count}
 use Rattle.chord_trace.specs.declared.report.Report.{Report}
 use Rattle.chord_machine.specs.Chord.{chord}
 use Rattle.chord_machine.specs.Ongoing.{Always}
@@ -33,6 +34,19 @@ LookupsAreAccountedFor sc = Always sc (λ h n s.
     let lines = lines_along sc h n in
     begun lines ≡ found lines + lost lines + in_progress s + cut_off_along sc h n)
 
+-- the sum of this over the first nodes
+abbrev pub over_nodes : (nodes : ℕ) → (ℕ → ℕ) → ℕ
+over_nodes zero f = 0
+over_nodes (suc n) f = over_nodes n f + f n
+
+-- the users' lookups of all nodes that are in progress after a history, or were cut off along it
+abbrev pub unended : Scenario → List (Event Body) → ℕ
+unended sc h = over_nodes (node_count sc) (λ n. in_progress (state (chord sc) h n) + cut_off_along sc h n)
+
 -- the lookups that a report counts as found, as lost and as unfinished are those that it counts in all
 abbrev pub ReportsAddUp : Scenario → Type 0
 ReportsAddUp sc = (report : Report) → IsReport sc report → report.lines.found + report.lines.lost + report.unfinished ≡ report.lines.lookups
+
+-- those that it counts as unfinished are in progress at the end of the run, or were cut off
+abbrev pub UnfinishedAreUnended : Scenario → Type 0
+UnfinishedAreUnended sc = (report : Report) → IsReport sc report → report.unfinished ≡ unended sc (full_history (chord sc))

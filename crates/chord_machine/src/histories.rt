@@ -1,6 +1,6 @@
 //! Laws of the simulated world: its histories, its states and its trace.
 
-ghost use Rattle.chord_machine.specs.Accounts.{LookupsAreAccountedFor, ReportsAddUp};
+ghost use Rattle.chord_machine.specs.Accounts.{LookupsAreAccountedFor, ReportsAddUp, UnfinishedAreUnended};
 ghost use Rattle.chord_machine.specs.Chord.{chord};
 ghost use Rattle.chord_machine.specs.AuditTimes.{AreAuditsInTime};
 ghost use Rattle.chord_machine.specs.Ends.{LookupsAreInTime, LookupsAreShort, LookupsTakeAtMost};
@@ -125,8 +125,10 @@ pub fn lookups_are_accounted_for()
 {}
 
 /// The lookups that a report counts as found, as lost and as unfinished add up to all that it counts.
+/// Those that it counts as unfinished are in progress at the end, or were cut off.
 pub fn reports_add_up()
-    ensures { (sc : Scenario) → IsInRange sc → ReportsAddUp sc }
+    ensures unfinished { (sc : Scenario) → IsInRange sc → UnfinishedAreUnended sc }
+    ensures all { (sc : Scenario) → IsInRange sc → ReportsAddUp sc }
 {}
 
 /// A lookup in progress ends in time: its next timeout comes no later than one `timeout` after it began
