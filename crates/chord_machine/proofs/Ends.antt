@@ -13,7 +13,7 @@ use Rattle.chord_event.specs.declared.event.Event.{Event}
 use Rattle.chord_event.proofs.Members.{All_at, contains_at, contains_append, contains_cons, contains_here, contains_none, contains_there, filter_contains}
 use Rattle.chord_event.specs.declared.line.Line.{Line}
 use Rattle.chord_model.specs.Histories.{full_history, output, IsLegal, IsPossible, pending, state}
-use Rattle.chord_model.proofs.Distinct.{fit_event, meets, sound_state, state_here, state_other}
+use Rattle.chord_model.proofs.Distinct.{fit_event, made_later, meets, sound_state, state_here, state_other}
 use Rattle.chord_model.proofs.Pending.{waits_from}
 use Rattle.chord_model.proofs.Runs.{history_is_legal, possible_from_legal}
 use Rattle.chord_node.specs.declared.state.Call.{Call}
@@ -34,7 +34,7 @@ use Rattle.chord_scenario.specs.declared.scenario.Scenario.{Scenario}
 use Rattle.chord_scenario.specs.Range.{IsInRange}
 use Rattle.chord_scenario.specs.World.{is_initial, node_count}
 use Rattle.chord_machine.specs.Chord.{chord}
-use Rattle.chord_machine.specs.Ends.{EndsWithin, IsTimeoutOf, LookupsAreInTime, LookupsAreShort, LookupsTakeAtMost}
+use Rattle.chord_machine.specs.Ends.{EndsWithin, IsTimeoutOf, LookupsAreInTime, LookupsAreShort, LookupsTakeAtMost, NoneLastsLonger}
 use Rattle.chord_machine.specs.Sound.{IsStateOf}
 use Rattle.chord_trace.specs.Pieces.{lines_of}
 use Rattle.chord_machine.proofs.Accounts.{lines_more, lines_whole}
@@ -350,3 +350,19 @@ lookups_take_at_most sc ranges =
     subst (λ (ls : List Line). All Short ls) (sym (lines_whole sc h))
     (All-append Short (lines_of (output (chord sc) h)) []
     (lines_take_at_most sc ranges h (history_is_legal (chord sc) sc.max_events)) (none_of Short))
+
+pub none_lasts_longer : (sc : Scenario) → IsInRange sc → NoneLastsLonger sc
+none_lasts_longer sc ranges h e legal n inside = λ k d within.
+    let lookup : Lookup = get_or (state (chord sc) (e ∷ h) n).lookups k d in
+    let y = counted_one (times n lookup.call) (pending (chord sc) (e ∷ h))
+    (some_waiting sc ranges (e ∷ h) (possible sc ranges h e legal) n inside lookup (contains_at (state (chord sc) (e ∷ h) n).lookups k d within)) in
+    let ends = lookups_are_short sc ranges (e ∷ h) legal n inside k d within y.one y.there (times_from n lookup.call y.one y.passes) in
+    let later : e.key.time ≤ y.one.key.time = by y.one (split sc ranges h e legal y.one y.there) in
+    omega (arith, ends, later)
+  where
+    by : (x : Event Body) → Contains (effect sc (state (chord sc) h e.target) e).events x ⊎ Contains (beside e (pending (chord sc) h)) x
+        → e.key.time ≤ x.key.time
+    by x (inl new) =
+        let p = possible sc ranges h e legal in
+        omega (arith, made_later (chord sc) (well_formed sc ranges) h p.0 e (waits_from (chord sc) h e p.1).known x new)
+    by x (inr old) = (legal.1.first x (was_pending sc ranges h e legal x old)).time

@@ -1,5 +1,5 @@
 -- Each lookup ends in time: while it is in progress, its next timeout comes no later than so many timeouts after it began.
-use Rattle.std.specs.Prelude.{ℕ, ◌≡◌, ◌+◌, ◌*◌, ◌<◌, ◌≤◌, All, List}
+use Rattle.std.specs.Prelude.{ℕ, ◌≡◌, ◌+◌, ◌*◌, ◌<◌, ◌≤◌, All, List, ◌∷◌}
 use Rattle.std.specs.List.{Contains}
 use Rattle.chord_event.specs.declared.body.Body.{Body}
 use Rattle.chord_event.specs.declared.body.Body.TheVariants as body
@@ -36,6 +36,12 @@ LookupsAreInTime sc = OfLookups sc (λ h n s lookup. EndsWithin sc h n lookup (s
 -- one for each that it may send
 abbrev pub LookupsAreShort : Scenario → Type 0
 LookupsAreShort sc = OfLookups sc (λ h n s lookup. EndsWithin sc h n lookup (most_sends sc))
+
+-- when an event of a run has been taken, no lookup is in progress that began longer before it than that
+abbrev pub NoneLastsLonger : Scenario → Type 0
+NoneLastsLonger sc =
+    (h : List (Event Body)) (e : Event Body) → IsLegal (chord sc) (e ∷ h) → (n : ℕ) → n < node_count sc
+    → All (λ lookup. e.key.time ≤ lookup.started + most_sends sc * sc.timeout) (state (chord sc) (e ∷ h) n).lookups
 
 -- no lookup of a run's trace has taken longer than that
 abbrev pub LookupsTakeAtMost : Scenario → Type 0

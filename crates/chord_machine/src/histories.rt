@@ -3,7 +3,7 @@
 ghost use Rattle.chord_machine.specs.Accounts.{LookupsAreAccountedFor, ReportsAddUp, UnfinishedAreUnended};
 ghost use Rattle.chord_machine.specs.Chord.{chord};
 ghost use Rattle.chord_machine.specs.AuditTimes.{AreAuditsInTime};
-ghost use Rattle.chord_machine.specs.Ends.{LookupsAreInTime, LookupsAreShort, LookupsTakeAtMost};
+ghost use Rattle.chord_machine.specs.Ends.{LookupsAreInTime, LookupsAreShort, LookupsTakeAtMost, NoneLastsLonger};
 ghost use Rattle.chord_machine.specs.Ongoing.{RetriesAreLimited, CallsAreTimed, JoinsGoOn, TimersLive};
 ghost use Rattle.chord_machine.specs.Room.{RoomIsLeft};
 ghost use Rattle.chord_machine.specs.Sound.{HistoriesAreSound};
@@ -133,9 +133,10 @@ pub fn reports_add_up()
 
 /// A lookup in progress ends in time: its next timeout comes no later than one `timeout` after it began
 /// for each request that it has sent, and so no later than one for each that it may send. No lookup of
-/// a run's trace has taken longer than that.
+/// a run's trace has taken longer than that. So each lookup ends: none is in progress for longer.
 pub fn lookups_are_in_time()
     ensures sent { (sc : Scenario) → IsInRange sc → LookupsAreInTime sc }
     ensures most { (sc : Scenario) → IsInRange sc → LookupsAreShort sc }
     ensures ended { (sc : Scenario) → IsInRange sc → LookupsTakeAtMost sc }
+    ensures ends { (sc : Scenario) → IsInRange sc → NoneLastsLonger sc }
 {}

@@ -1,4 +1,4 @@
-use Rattle.chord_machine.proofs.Ends.{lookups_are_in_time, lookups_are_short, lookups_take_at_most}
+use Rattle.chord_machine.proofs.Ends.{lookups_are_in_time, lookups_are_short, lookups_take_at_most, none_lasts_longer}
 use Rattle.chord_machine.proofs.histories.lookups_are_in_time.Goals as goal
 
 pub returns-clause-sent : goal.returns-clause-sent
@@ -9,3 +9,6 @@ returns-clause-most c = lookups_are_short
 
 pub returns-clause-ended : goal.returns-clause-ended
 returns-clause-ended c = lookups_take_at_most
+
+pub returns-clause-ends : goal.returns-clause-ends
+returns-clause-ends c = none_lasts_longer
