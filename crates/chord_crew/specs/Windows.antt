@@ -4,8 +4,8 @@ use Rattle.chord_crew.specs.declared.gathered.Gathered.{Gathered}
 use Rattle.chord_crew.specs.declared.shift.Shift.{Shift}
 use Rattle.chord_crew.specs.Seats.{SeatState}
 use Rattle.chord_crew.specs.Shifts.{AreResults, IsPartFault, IsSameSeat}
-use Rattle.chord_event.specs.declared.error.RunError.{RunError}
-use Rattle.chord_event.specs.declared.error.RunError.TheVariants as run
+use Rattle.des_event.specs.declared.error.RunError.{RunError}
+use Rattle.des_event.specs.declared.error.RunError.TheVariants as run
 use Rattle.chord_scenario.specs.declared.scenario.Scenario.{Scenario}
 use Rattle.chord_window.specs.declared.world.World.{World}
 

@@ -1,6 +1,6 @@
 //! Runs by crews whose nodes are divided again before each window.
 ghost use Rattle.std.specs.Prelude.{◌≡◌, ◌≢◌, ◌<◌, ◌≤◌, false, length, Err};
-ghost use Rattle.chord_model.specs.Windows.{Division as ADivision};
+ghost use Rattle.des_model.specs.Windows.{Division as ADivision};
 ghost use Rattle.chord_output.specs.Runs.{IsRun};
 ghost use Rattle.chord_scenario.specs.World.{node_count};
 ghost use Rattle.chord_trace.specs.Watched.{wrapped, has_failed};

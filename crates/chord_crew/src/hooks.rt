@@ -7,7 +7,7 @@ use chord_window::Division;
 /// so far: the bytes of a trace and its report do not depend on the divisions.
 pub trait Dealer {
     ghost use Rattle.std.specs.Prelude.{ℕ, length, IfOk};
-    ghost use Rattle.chord_model.specs.Windows.{Division as ADivision};
+    ghost use Rattle.des_model.specs.Windows.{Division as ADivision};
 
     // The divisions that it may name for this number of nodes. So a dealer that only names
     // divisions of the right length never meets `BadDivision`.

@@ -1,7 +1,6 @@
 //! The trace of one event.
-use crate::key::Key;
 use crate::line::Line;
-use crate::listed::Listed;
+use des_event::{Key, Listed};
 
 /// What one event left in the trace: its lines in the order made, with its key and its target.
 #[derive(Drop)]

@@ -1,9 +1,8 @@
 //! What events do: commands, timers and messages.
 ghost use Rattle.std.specs.Prelude.{◌≡◌, IfOk};
 
-use crate::error::Memory;
-use crate::listed::Listed;
 use chord_circle::Ident;
+use des_event::{Copied, Listed, Memory};
 
 /// The reply to one step of a search: the owner of the key, the node to ask next, or `Stuck` if the
 /// node knows neither.
@@ -136,5 +135,11 @@ impl Body {
             Body::Pong { call } => Body::Pong { call: *call },
         };
         Ok(copy)
+    }
+}
+
+impl Copied for Body {
+    fn try_copy(&self) -> Result<Body, Memory> {
+        self.try_clone()
     }
 }

@@ -1,18 +1,15 @@
-//! Events, their keys and bodies, the lines that they leave in a trace, and the errors of a run.
+//! What the events of Chord ask of nodes, and the lines that they leave in a trace. Keys, events,
+//! lists and the errors of a run are those of `des_event`.
 #![tactic(auto)]
 
 mod block;
 mod body;
-mod error;
-mod event;
-mod key;
 mod line;
-mod listed;
 
 pub use block::Block;
 pub use body::{Answer, Body};
-pub use error::{Memory, RunError};
-pub use event::Event;
-pub use key::Key;
+pub use des_event::{Copied, Key, Listed, Memory, RunError};
 pub use line::{CommandKind, Line, MessageKind};
-pub use listed::Listed;
+
+/// An event, whose body is one of Chord unless another one is named.
+pub type Event<B = Body> = des_event::Event<B>;

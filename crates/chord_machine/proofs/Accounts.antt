@@ -6,13 +6,13 @@ use Rattle.std.proofs.lemmas.List.Sums.{sum_by-append, sum_by-cons}
 use Rattle.std.specs.List.{count_by, filter}
 use Rattle.std.specs.Prelude.{is_none, nat_le, if◌then◌else◌}
 use Rattle.chord_event.specs.declared.body.Body.{Body}
-use Rattle.chord_event.specs.declared.event.Event.{Event}
+use Rattle.des_event.specs.declared.event.Event.{Event}
 use Rattle.chord_event.specs.declared.line.Line.{Line}
 use Rattle.chord_event.specs.declared.line.Line.TheVariants as line
-use Rattle.chord_model.specs.Histories.{IsPossible, audit_at, full_history, next, open_audits, output, state, trace}
-use Rattle.chord_model.proofs.Distinct.{fit_event, sound_state, state_here, state_other}
-use Rattle.chord_model.proofs.Pending.{waits_from}
-use Rattle.chord_model.proofs.Runs.{history_is_legal, possible_from_legal}
+use Rattle.des_model.specs.Histories.{IsPossible, audit_at, full_history, next, open_audits, output, state, trace}
+use Rattle.des_model.proofs.Distinct.{fit_event, sound_state, state_here, state_other}
+use Rattle.des_model.proofs.Pending.{waits_from}
+use Rattle.des_model.proofs.Runs.{history_is_legal, possible_from_legal}
 use Rattle.chord_node.specs.declared.state.NodeState.{NodeState}
 use Rattle.chord_node.specs.Ring.{first_member, initial_state, never_up}
 use Rattle.chord_ops.specs.Accounts.{IsAccountedFor, begun, cut_off, found, in_progress, lost, tells_begun, tells_found, tells_lost}

@@ -2,7 +2,7 @@
 use Rattle.std.proofs.Common.{◌≢◌, ℕ, zero, suc, ◌+◌, ◌-◌, ◌*◌, ◌/◌, ◌<◌, ◌≤◌, List, [], ◌∷◌, ◌++◌, length, get_or, drop, arith, ⊎_elim, subst}
 use Rattle.std.proofs.Math.Nat.{div-mul-le_self}
 use Rattle.std.specs.List.{AllByRecursion, AllPairs, Contains}
-use Rattle.chord_event.proofs.Members.{All_from, AllPairs_none, AllPairs_cons, contains_none, contains_cons}
+use Rattle.des_event.proofs.Members.{All_from, AllPairs_none, AllPairs_cons, contains_none, contains_cons}
 use Rattle.chord_scenario.specs.declared.scenario.Scenario.{Scenario}
 use Rattle.chord_scenario.specs.Range.{IsInRange}
 use Rattle.chord_machine.specs.AuditTimes.{AreAuditsInTime, IsAscending, audit_times, multiples}

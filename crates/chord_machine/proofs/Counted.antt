@@ -6,16 +6,16 @@ use Rattle.std.proofs.lemmas.List.Filters.{sum_by-filter_both}
 use Rattle.std.proofs.lemmas.List.Kept.{AllPairs-filter}
 use Rattle.std.proofs.lemmas.List.Sums.{sum_by-append, sum_by-cons}
 use Rattle.std.specs.List.{AllPairs, Contains, count_by, filter}
-use Rattle.chord_event.specs.declared.event.Event.{Event}
-use Rattle.chord_event.specs.Keys.{is_same_key}
-use Rattle.chord_event.proofs.Members.{AllPairs_at, AllPairs_rest, contains_cons, contains_here, contains_none, contains_there}
-use Rattle.chord_event.proofs.Order.{is_same_key-true, same_key-self}
-use Rattle.chord_model.specs.Machine.{Machine}
-use Rattle.chord_model.specs.Histories.{IsPossible, all_events, effect_after, has_key, pending}
-use Rattle.chord_model.specs.WellFormed.{IsWellFormed}
-use Rattle.chord_model.proofs.Distinct.{distinct, made_fresh}
-use Rattle.chord_model.proofs.Pending.{has_key-true, waits_from}
-use Rattle.chord_model.proofs.Rest.{possible_known}
+use Rattle.des_event.specs.declared.event.Event.{Event}
+use Rattle.des_event.specs.Keys.{is_same_key}
+use Rattle.des_event.proofs.Members.{AllPairs_at, AllPairs_rest, contains_cons, contains_here, contains_none, contains_there}
+use Rattle.des_event.proofs.Order.{is_same_key-true, same_key-self}
+use Rattle.des_model.specs.Machine.{Machine}
+use Rattle.des_model.specs.Histories.{IsPossible, all_events, effect_after, has_key, pending}
+use Rattle.des_model.specs.WellFormed.{IsWellFormed}
+use Rattle.des_model.proofs.Distinct.{distinct, made_fresh}
+use Rattle.des_model.proofs.Pending.{has_key-true, waits_from}
+use Rattle.des_model.proofs.Rest.{possible_known}
 
 -- Filters
 

@@ -9,13 +9,13 @@ use Rattle.std.specs.List.{All, Contains, count_by}
 use Rattle.std.specs.Prelude.{if◌then◌else◌}
 use Rattle.chord_event.specs.declared.body.Body.{Body}
 use Rattle.chord_event.specs.declared.body.Body.TheVariants as body
-use Rattle.chord_event.specs.declared.event.Event.{Event}
-use Rattle.chord_event.proofs.Members.{All_at, contains_at, contains_append, contains_cons, contains_here, contains_none, contains_there, filter_contains}
+use Rattle.des_event.specs.declared.event.Event.{Event}
+use Rattle.des_event.proofs.Members.{All_at, contains_at, contains_append, contains_cons, contains_here, contains_none, contains_there, filter_contains}
 use Rattle.chord_event.specs.declared.line.Line.{Line}
-use Rattle.chord_model.specs.Histories.{full_history, output, IsLegal, IsPossible, pending, state}
-use Rattle.chord_model.proofs.Distinct.{fit_event, made_later, meets, sound_state, state_here, state_other}
-use Rattle.chord_model.proofs.Pending.{waits_from}
-use Rattle.chord_model.proofs.Runs.{history_is_legal, possible_from_legal}
+use Rattle.des_model.specs.Histories.{full_history, output, IsLegal, IsPossible, pending, state}
+use Rattle.des_model.proofs.Distinct.{fit_event, made_later, meets, sound_state, state_here, state_other}
+use Rattle.des_model.proofs.Pending.{waits_from}
+use Rattle.des_model.proofs.Runs.{history_is_legal, possible_from_legal}
 use Rattle.chord_node.specs.declared.state.Call.{Call}
 use Rattle.chord_node.specs.declared.state.Lookup.{Lookup}
 use Rattle.chord_node.specs.declared.state.NodeState.{NodeState}

@@ -3,9 +3,9 @@
 use Rattle.std.proofs.Common.{◌≡◌, ◌≢◌, ℕ, ◌<◌, ◌≤◌, List, [], ◌∷◌, ap, arith, subst, ⊎_elim}
 use Rattle.std.specs.List.{AllPairs, Contains}
 use Rattle.chord_event.specs.declared.body.Body.{Body}
-use Rattle.chord_event.specs.declared.event.Event.{Event}
-use Rattle.chord_event.specs.declared.key.Key.{Key}
-use Rattle.chord_event.proofs.Members.{contains_none, contains_cons, AllPairs_none, AllPairs_cons}
+use Rattle.des_event.specs.declared.event.Event.{Event}
+use Rattle.des_event.specs.declared.key.Key.{Key}
+use Rattle.des_event.proofs.Members.{contains_none, contains_cons, AllPairs_none, AllPairs_cons}
 use Rattle.chord_scenario.specs.declared.scenario.Scenario.{Scenario}
 use Rattle.chord_ops.specs.Growth.{AreMade, IsMade}
 use Rattle.chord_ops.proofs.Growing.{AreMade-counts_up}

@@ -5,11 +5,11 @@ use Rattle.std.proofs.lemmas.List.Sums.{sum_by-cons}
 use Rattle.std.specs.List.{Contains}
 use Rattle.std.specs.Prelude.{get_or}
 use Rattle.chord_event.specs.declared.body.Body.{Body}
-use Rattle.chord_event.specs.declared.event.Event.{Event}
-use Rattle.chord_event.proofs.Members.{contains_at, contains_cons, contains_none}
-use Rattle.chord_model.specs.Histories.{IsPossible, pending, state}
-use Rattle.chord_model.proofs.Distinct.{fit_event, meets, sound_state, state_here, state_other}
-use Rattle.chord_model.proofs.Pending.{waits_from}
+use Rattle.des_event.specs.declared.event.Event.{Event}
+use Rattle.des_event.proofs.Members.{contains_at, contains_cons, contains_none}
+use Rattle.des_model.specs.Histories.{IsPossible, pending, state}
+use Rattle.des_model.proofs.Distinct.{fit_event, meets, sound_state, state_here, state_other}
+use Rattle.des_model.proofs.Pending.{waits_from}
 use Rattle.chord_node.specs.declared.state.Call.{Call}
 use Rattle.chord_node.specs.declared.state.NodeState.{NodeState}
 use Rattle.chord_node.specs.declared.state.Status.{Status}

@@ -5,8 +5,8 @@ use Rattle.std.proofs.lemmas.List.Sums.{sum_by-append, sum_by-cons}
 use Rattle.std.specs.List.{AllByRecursion, Contains, enumerate_from, filter_map, range_with_len}
 use Rattle.std.specs.Prelude.{flat_map}
 use Rattle.chord_event.specs.declared.body.Body.{Body}
-use Rattle.chord_event.specs.declared.event.Event.{Event}
-use Rattle.chord_event.proofs.Members.{contains_cons, contains_here, contains_none, contains_there, contains_filter, filter_contains}
+use Rattle.des_event.specs.declared.event.Event.{Event}
+use Rattle.des_event.proofs.Members.{contains_cons, contains_here, contains_none, contains_there, contains_filter, filter_contains}
 use Rattle.chord_node.specs.declared.state.NodeState.{NodeState}
 use Rattle.chord_node.specs.declared.state.Status.{Status}
 use Rattle.chord_node.specs.declared.state.Status.TheVariants as status

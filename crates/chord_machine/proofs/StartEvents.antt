@@ -3,9 +3,9 @@ use Rattle.std.proofs.Common.{◌≡◌, ◌≢◌, ◌⊎◌, ⊎_elim, inl, in
 use Rattle.std.specs.Prelude.{Option, Some, None, flat_map}
 use Rattle.std.specs.List.{All, AllByRecursion, AllPairs, Contains, enumerate_from, filter_map, range_with_len}
 use Rattle.chord_event.specs.declared.body.Body.{Body}
-use Rattle.chord_event.specs.declared.event.Event.{Event}
-use Rattle.chord_event.specs.declared.key.Key.{Key}
-use Rattle.chord_event.proofs.Members.{
+use Rattle.des_event.specs.declared.event.Event.{Event}
+use Rattle.des_event.specs.declared.key.Key.{Key}
+use Rattle.des_event.proofs.Members.{
   AllPairs_append,
   AllPairs_cons,
   AllPairs_none,

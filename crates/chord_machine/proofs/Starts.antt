@@ -6,7 +6,7 @@ use Rattle.std.specs.List.{All, Contains, range_with_len}
 use Rattle.std.proofs.lemmas.List.{length-take}
 use Rattle.std.proofs.lemmas.List.FromFn.{length-map-range_with_len}
 use Rattle.std.proofs.lemmas.List.Elements.{All-cons, All-take}
-use Rattle.chord_event.proofs.Members.{contains_none, contains_here, contains_there, contains_cons, All_from}
+use Rattle.des_event.proofs.Members.{contains_none, contains_here, contains_there, contains_cons, All_from}
 use Rattle.chord_node.specs.declared.state.Status.TheVariants as status
 use Rattle.chord_node.specs.Invariant.{IsNodeState}
 use Rattle.chord_node.specs.Ring.{clockwise, finger, first_member, first_met, first_via, initial_state, never_up, or_itself, others, way}

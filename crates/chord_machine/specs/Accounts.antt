@@ -1,9 +1,9 @@
 -- Each lookup that a user begins is found, lost, in progress or cut off, and no report leaves one out.
 use Rattle.std.specs.Prelude.{ℕ, zero, suc, ◌≡◌, ◌==◌, ◌+◌, List, [], ◌∷◌, ◌++◌, if◌then◌else◌}
 use Rattle.chord_event.specs.declared.body.Body.{Body}
-use Rattle.chord_event.specs.declared.event.Event.{Event}
+use Rattle.des_event.specs.declared.event.Event.{Event}
 use Rattle.chord_event.specs.declared.line.Line.{Line}
-use Rattle.chord_model.specs.Histories.{full_history, state}
+use Rattle.des_model.specs.Histories.{full_history, state}
 use Rattle.chord_ops.specs.Accounts.{begun, cut_off, found, in_progress, lost}
 use Rattle.chord_ops.specs.Rules.{effect}
 use Rattle.chord_scenario.specs.declared.scenario.Scenario.{Scenario}

@@ -3,8 +3,8 @@ use Rattle.std.specs.Prelude.{ℕ, ◌≡◌, ◌+◌, ◌*◌, ◌<◌, ◌≤�
 use Rattle.std.specs.List.{Contains}
 use Rattle.chord_event.specs.declared.body.Body.{Body}
 use Rattle.chord_event.specs.declared.body.Body.TheVariants as body
-use Rattle.chord_event.specs.declared.event.Event.{Event}
-use Rattle.chord_model.specs.Histories.{IsLegal, pending, state}
+use Rattle.des_event.specs.declared.event.Event.{Event}
+use Rattle.des_model.specs.Histories.{IsLegal, pending, state}
 use Rattle.chord_node.specs.declared.state.Lookup.{Lookup}
 use Rattle.chord_node.specs.declared.state.NodeState.{NodeState}
 use Rattle.chord_ops.specs.Ends.{TakesAtMost, most_sends, sends}

@@ -1,8 +1,8 @@
 -- Whatever a node waits for is pending exactly once, in whatever order events are taken.
 use Rattle.std.specs.Prelude.{ℕ, ◌≡◌, ◌≢◌, ◌+◌, ◌<◌, ◌≤◌, All, List, true}
 use Rattle.chord_event.specs.declared.body.Body.{Body}
-use Rattle.chord_event.specs.declared.event.Event.{Event}
-use Rattle.chord_model.specs.Histories.{IsPossible, pending, state}
+use Rattle.des_event.specs.declared.event.Event.{Event}
+use Rattle.des_model.specs.Histories.{IsPossible, pending, state}
 use Rattle.chord_node.specs.declared.state.NodeState.{NodeState}
 use Rattle.chord_node.specs.declared.state.Status.TheVariants as status
 use Rattle.chord_node.specs.Invariant.{calls_for, is_for_join}

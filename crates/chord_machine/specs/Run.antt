@@ -1,6 +1,6 @@
 -- What the run of a scenario is: its events one at a time, what it writes and what it reports.
 use Rattle.std.specs.Prelude.{ℕ, List}
-use Rattle.chord_model.specs.Histories.{IsOverLimit, full_history, history, trace}
+use Rattle.des_model.specs.Histories.{IsOverLimit, full_history, history, trace}
 use Rattle.chord_scenario.specs.declared.scenario.Scenario.{Scenario}
 use Rattle.chord_trace.specs.declared.piece.Piece.{Piece}
 use Rattle.chord_trace.specs.declared.report.Report.{Report}

@@ -7,7 +7,7 @@ ghost use Rattle.chord_machine.specs.Ends.{LookupsAreInTime, LookupsAreShort, Lo
 ghost use Rattle.chord_machine.specs.Ongoing.{RetriesAreLimited, CallsAreTimed, JoinsGoOn, TimersLive};
 ghost use Rattle.chord_machine.specs.Room.{RoomIsLeft};
 ghost use Rattle.chord_machine.specs.Sound.{HistoriesAreSound};
-ghost use Rattle.chord_model.specs.Laws.{AuditsSeeAll, EndsAreWhole, EventsCloseAudits, HistoryIsLegal, HistoryIsWhole, KeysAreDistinct, LegalIsAscending, LegalIsPossible, LegalIsUnique, NextIsFound, OthersKeepTheirStates, PendingIsTheRest, PendingMoves, TraceGrows};
+ghost use Rattle.des_model.specs.Laws.{AuditsSeeAll, EndsAreWhole, EventsCloseAudits, HistoryIsLegal, HistoryIsWhole, KeysAreDistinct, LegalIsAscending, LegalIsPossible, LegalIsUnique, NextIsFound, OthersKeepTheirStates, PendingIsTheRest, PendingMoves, TraceGrows};
 ghost use Rattle.chord_scenario.specs.declared.scenario.Scenario.{Scenario};
 ghost use Rattle.chord_scenario.specs.Range.{IsInRange};
 

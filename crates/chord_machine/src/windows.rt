@@ -1,7 +1,7 @@
 //! Laws of the simulated world: its windows, and whole runs by windows.
 
 ghost use Rattle.chord_machine.specs.Chord.{chord};
-ghost use Rattle.chord_model.specs.Laws.{HorizonsMayOpen, LimitIsFound, OthersComeLater, PartRunsArePossible, PartsCommute, PiecesMerge, RunsAreUnique, SchedulesAgree, StepsRunParts, WaitingMoves, WindowsAddPieces, WindowsCloseAudits, WindowsCommute, WindowsLeaveHistories, WindowsProgress};
+ghost use Rattle.des_model.specs.Laws.{HorizonsMayOpen, LimitIsFound, OthersComeLater, PartRunsArePossible, PartsCommute, PiecesMerge, RunsAreUnique, SchedulesAgree, StepsRunParts, WaitingMoves, WindowsAddPieces, WindowsCloseAudits, WindowsCommute, WindowsLeaveHistories, WindowsProgress};
 ghost use Rattle.chord_scenario.specs.declared.scenario.Scenario.{Scenario};
 ghost use Rattle.chord_scenario.specs.Range.{IsInRange};
 

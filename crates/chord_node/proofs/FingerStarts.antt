@@ -7,7 +7,7 @@ use Rattle.std.specs.Prelude.{◌%◌, ◌-◌, ◌^◌, Some, find, nat_le, nat
 use Rattle.std.specs.List.{Contains, filter}
 use Rattle.std.proofs.lemmas.Bool.Decides.{nat_tests}
 use Rattle.chord_circle.specs.Circle.{finger_start}
-use Rattle.chord_event.proofs.Members.{contains_here, contains_there}
+use Rattle.des_event.proofs.Members.{contains_here, contains_there}
 use Rattle.chord_scenario.specs.declared.scenario.Scenario.{Scenario}
 use Rattle.chord_scenario.specs.World.{ident_of}
 use Rattle.chord_node.specs.Places.{ring, successor}

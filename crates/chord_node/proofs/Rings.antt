@@ -9,7 +9,7 @@ use Rattle.std.proofs.lemmas.Bool.{ne_eqb}
 use Rattle.std.specs.List.Sorted.{IsNonDecreasingBy, IsPermutation}
 use Rattle.std.proofs.lemmas.List.Sorted.{Contains-permutation, IsPermutation-sym, IsPermutation-map}
 use Rattle.chord_circle.proofs.Distance.{distance-injective}
-use Rattle.chord_event.proofs.Members.{contains_none, contains_here, contains_there, contains_cons, filter_contains}
+use Rattle.des_event.proofs.Members.{contains_none, contains_here, contains_there, contains_cons, filter_contains}
 use Rattle.chord_scenario.proofs.Ranges.{range-more}
 use Rattle.chord_scenario.specs.declared.scenario.Scenario.{Scenario}
 use Rattle.chord_scenario.specs.Range.{IsInRange}

@@ -8,7 +8,7 @@ use Rattle.chord_scenario.specs.declared.scenario.Scenario.{Scenario}
 use Rattle.chord_scenario.proofs.FirstFingers.{finger_below}
 use Rattle.chord_scenario.specs.Draws.{finger_number}
 use Rattle.chord_scenario.specs.Range.{IsInRange}
-use Rattle.chord_event.proofs.Members.{contains_here}
+use Rattle.des_event.proofs.Members.{contains_here}
 use Rattle.chord_scenario.specs.World.{ident_of, node_count}
 use Rattle.chord_node.specs.Ring.{clockwise, first_met}
 use Rattle.chord_node.proofs.Rings.{clockwise-known}

@@ -4,7 +4,7 @@ use Rattle.std.specs.Prelude.{◌==◌, not, ◌-◌, ◌^◌}
 use Rattle.std.specs.List.{Contains, filter}
 use Rattle.std.proofs.lemmas.Bool.Decides.{nat_tests}
 use Rattle.chord_circle.proofs.Distance.{distance-ahead, distance-behind}
-use Rattle.chord_event.proofs.Members.{contains_none, contains_here, contains_there, contains_cons, contains_left, contains_right, contains_append, contains_filter, filter_contains}
+use Rattle.des_event.proofs.Members.{contains_none, contains_here, contains_there, contains_cons, contains_left, contains_right, contains_append, contains_filter, filter_contains}
 use Rattle.chord_scenario.specs.declared.scenario.Scenario.{Scenario}
 use Rattle.chord_scenario.specs.Range.{IsInRange}
 use Rattle.chord_scenario.specs.Start.{initial_nodes}

@@ -4,7 +4,7 @@ use Rattle.std.specs.Prelude.{◌/◌, ◌-◌, find, nat_le, unwrap_or}
 use Rattle.std.specs.List.{AllWithin, Contains}
 use Rattle.std.specs.List.Sorted.{IsNonDecreasingBy}
 use Rattle.std.proofs.lemmas.Bool.Decides.{nat_tests}
-use Rattle.chord_event.proofs.Members.{contains_here, contains_there, contains_at}
+use Rattle.des_event.proofs.Members.{contains_here, contains_there, contains_at}
 use Rattle.chord_scenario.specs.declared.scenario.Scenario.{Scenario}
 use Rattle.chord_scenario.specs.Range.{IsInRange}
 use Rattle.chord_scenario.specs.World.{ident_of}

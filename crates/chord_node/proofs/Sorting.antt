@@ -2,7 +2,7 @@
 use Rattle.std.proofs.Common.{◌≡◌, ◌⊎◌, ⊎_elim, inl, inr, ℕ, ◌<◌, ◌≤◌, Bool, true, false, cond, List, [], ◌∷◌, refl, sym, ap, ◌∙◌, subst, arith, nat_lt}
 use Rattle.std.specs.List.{Contains}
 use Rattle.std.proofs.lemmas.Bool.Decides.{nat_tests}
-use Rattle.chord_event.proofs.Members.{contains_none, contains_here, contains_there, contains_cons}
+use Rattle.des_event.proofs.Members.{contains_none, contains_here, contains_there, contains_cons}
 use Rattle.chord_node.specs.Ring.{put_by, sorted_by}
 
 -- each element is less than all later ones

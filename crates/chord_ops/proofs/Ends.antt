@@ -8,8 +8,8 @@ use Rattle.std.specs.List.{All, AllPairs, Contains, count_by, filter, find}
 use Rattle.std.specs.Prelude.{IfSome, if◌then◌else◌}
 use Rattle.chord_event.specs.declared.body.Body.{Body}
 use Rattle.chord_event.specs.declared.body.Body.TheVariants as body
-use Rattle.chord_event.specs.declared.event.Event.{Event}
-use Rattle.chord_event.proofs.Members.{AllPairs_at, AllPairs_rest, All_at, All_from, contains_at, contains_cons, contains_none, filter_contains}
+use Rattle.des_event.specs.declared.event.Event.{Event}
+use Rattle.des_event.proofs.Members.{AllPairs_at, AllPairs_rest, All_at, All_from, contains_at, contains_cons, contains_none, filter_contains}
 use Rattle.chord_scenario.specs.declared.scenario.Scenario.{Scenario}
 use Rattle.chord_scenario.specs.Range.{IsInRange}
 use Rattle.chord_node.specs.declared.state.Call.{Call}

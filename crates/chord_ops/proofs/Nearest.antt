@@ -5,7 +5,7 @@ use Rattle.std.proofs.lemmas.List.Elements.{All-cons, All-head, All-nil, All-tai
 use Rattle.std.proofs.lemmas.Option.{same_Some}
 use Rattle.std.specs.List.{All, Contains, filter, fold}
 use Rattle.std.specs.Prelude.{if◌then◌else◌}
-use Rattle.chord_event.proofs.Members.{filter_contains}
+use Rattle.des_event.proofs.Members.{filter_contains}
 use Rattle.chord_scenario.specs.declared.scenario.Scenario.{Scenario}
 use Rattle.chord_node.specs.declared.state.NodeState.{NodeState}
 use Rattle.chord_ops.specs.Gone.{IsNearestFinger, is_another}

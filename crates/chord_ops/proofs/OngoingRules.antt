@@ -9,8 +9,8 @@ use Rattle.chord_event.specs.declared.body.Answer.{Answer}
 use Rattle.chord_event.specs.declared.body.Answer.TheVariants as answer
 use Rattle.chord_event.specs.declared.body.Body.{Body}
 use Rattle.chord_event.specs.declared.body.Body.TheVariants as body
-use Rattle.chord_event.specs.declared.event.Event.{Event}
-use Rattle.chord_event.specs.declared.key.Key.{Key}
+use Rattle.des_event.specs.declared.event.Event.{Event}
+use Rattle.des_event.specs.declared.key.Key.{Key}
 use Rattle.chord_event.specs.declared.line.MessageKind.{MessageKind}
 use Rattle.chord_event.specs.declared.line.MessageKind.TheVariants as kind
 use Rattle.chord_event.specs.declared.line.Line.{Line}

@@ -6,12 +6,12 @@ use Rattle.chord_event.specs.declared.body.Answer.{Answer}
 use Rattle.chord_event.specs.declared.body.Answer.TheVariants as answer
 use Rattle.chord_event.specs.declared.body.Body.{Body}
 use Rattle.chord_event.specs.declared.body.Body.TheVariants as body
-use Rattle.chord_event.specs.declared.event.Event.{Event}
+use Rattle.des_event.specs.declared.event.Event.{Event}
 use Rattle.chord_event.specs.declared.line.CommandKind.TheVariants as command
 use Rattle.chord_event.specs.declared.line.Line.TheVariants as line
 use Rattle.chord_event.specs.declared.line.MessageKind.{MessageKind}
 use Rattle.chord_event.specs.declared.line.MessageKind.TheVariants as kind
-use Rattle.chord_event.proofs.Members.{contains_here, contains_left, contains_right}
+use Rattle.des_event.proofs.Members.{contains_here, contains_left, contains_right}
 use Rattle.chord_scenario.specs.declared.scenario.Scenario.{Scenario}
 use Rattle.chord_scenario.specs.Draws.{leave_number}
 use Rattle.chord_scenario.specs.World.{ident_of, is_churn_node}

@@ -4,7 +4,7 @@ use Rattle.std.specs.Prelude.{if◌then◌else◌}
 use Rattle.std.proofs.lemmas.Bool.{ne_eqb}
 use Rattle.chord_event.specs.declared.body.Body.{Body}
 use Rattle.chord_event.specs.declared.body.Body.TheVariants as body
-use Rattle.chord_event.specs.declared.event.Event.{Event}
+use Rattle.des_event.specs.declared.event.Event.{Event}
 use Rattle.chord_event.specs.declared.line.Line.TheVariants as line
 use Rattle.chord_event.specs.declared.line.MessageKind.TheVariants as kind
 use Rattle.chord_scenario.specs.declared.scenario.Scenario.{Scenario}

@@ -5,7 +5,7 @@ use Rattle.std.specs.Prelude.{All, IfSome, find, option_and_then, option_map, if
 use Rattle.std.proofs.lemmas.List.Elements.{All-append, All-cons, All-head, All-tail}
 use Rattle.chord_event.specs.declared.body.Body.{Body}
 use Rattle.chord_event.specs.declared.body.Body.TheVariants as body
-use Rattle.chord_event.specs.declared.event.Event.{Event}
+use Rattle.des_event.specs.declared.event.Event.{Event}
 use Rattle.chord_event.specs.declared.line.Line.{Line}
 use Rattle.chord_event.specs.declared.line.Line.TheVariants as line
 use Rattle.chord_event.specs.declared.line.MessageKind.{MessageKind}

@@ -1,7 +1,7 @@
 -- What a node waits for is pending: the timeouts of its calls, the ticks of its life, and the end of a pause while it joins.
 use Rattle.std.specs.Prelude.{◌≡◌, ◌≢◌, ◌==◌, ℕ, ◌+◌, ◌<◌, ◌≤◌, All, Bool, true, false, List, count_by}
 use Rattle.chord_event.specs.declared.body.Body.{Body}
-use Rattle.chord_event.specs.declared.event.Event.{Event}
+use Rattle.des_event.specs.declared.event.Event.{Event}
 use Rattle.chord_scenario.specs.declared.scenario.Scenario.{Scenario}
 use Rattle.chord_node.specs.declared.state.Call.{Call}
 use Rattle.chord_node.specs.declared.state.Status.{Status}

@@ -4,7 +4,7 @@ use Rattle.std.specs.Prelude.{◌≡◌, ◌≢◌, ℕ, ◌-◌, List, true, fa
 use Rattle.chord_circle.specs.Circle.{between}
 use Rattle.chord_event.specs.declared.body.Body.{Body}
 use Rattle.chord_event.specs.declared.body.Body.TheVariants as body
-use Rattle.chord_event.specs.declared.event.Event.{Event}
+use Rattle.des_event.specs.declared.event.Event.{Event}
 use Rattle.chord_event.specs.declared.line.MessageKind.{MessageKind}
 use Rattle.chord_event.specs.declared.line.MessageKind.TheVariants as kind
 use Rattle.chord_scenario.specs.declared.scenario.Scenario.{Scenario}

@@ -39,19 +39,19 @@ use Rattle.std.specs.List.{All, filter}
 use Rattle.std.proofs.Math.Nat.{div-lt_iff_lt-mul}
 use Rattle.chord_audit.specs.Audit.{AreStates}
 use Rattle.chord_event.specs.declared.body.Body.{Body}
-use Rattle.chord_event.specs.declared.error.RunError.{RunError}
-use Rattle.chord_event.specs.declared.error.RunError.TheVariants as run
-use Rattle.chord_event.specs.declared.event.Event.{Event}
+use Rattle.des_event.specs.declared.error.RunError.{RunError}
+use Rattle.des_event.specs.declared.error.RunError.TheVariants as run
+use Rattle.des_event.specs.declared.event.Event.{Event}
 use Rattle.chord_machine.specs.AuditTimes.{audit_times, multiples}
 use Rattle.chord_machine.specs.Chord.{chord}
 use Rattle.chord_machine.proofs.Audits.{audits-in-time}
 use Rattle.chord_machine.proofs.WellFormed.{well_formed}
-use Rattle.chord_model.specs.Histories.{history, open_audits, output, state}
-use Rattle.chord_model.specs.Scribes.{IsAtEnd, due}
-use Rattle.chord_model.specs.Worlds.{AreStatesAfter}
-use Rattle.chord_model.proofs.Distinct.{meets}
-use Rattle.chord_model.proofs.Ends.{end_failed, pieces_counted, run_ended}
-use Rattle.chord_model.proofs.Runs.{history_is_legal, possible_from_legal}
+use Rattle.des_model.specs.Histories.{history, open_audits, output, state}
+use Rattle.des_model.specs.Scribes.{IsAtEnd, due}
+use Rattle.des_model.specs.Worlds.{AreStatesAfter}
+use Rattle.des_model.proofs.Distinct.{meets}
+use Rattle.des_model.proofs.Ends.{end_failed, pieces_counted, run_ended}
+use Rattle.des_model.proofs.Runs.{history_is_legal, possible_from_legal}
 use Rattle.chord_node.specs.declared.state.NodeState.{NodeState}
 use Rattle.chord_node.specs.Invariant.{AllNodes}
 use Rattle.chord_output.specs.Output.{Adds, audits_at, most_audits}

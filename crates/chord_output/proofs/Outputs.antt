@@ -16,7 +16,7 @@ use Rattle.chord_trace.specs.declared.tally.Tally.{Tally}
 use Rattle.chord_trace.specs.Tally.{IsTallyOf}
 use Rattle.chord_trace.specs.Texts.{audit_text, piece_text, pieces_text}
 use Rattle.chord_trace.specs.Writing.{AppendsFront}
-use Rattle.chord_model.specs.Scribes.{AreLaws, due}
+use Rattle.des_model.specs.Scribes.{AreLaws, due}
 use Rattle.chord_output.specs.Output.{Adds, audits_at}
 use Rattle.chord_output.specs.Runs.{Writes, WritesFront}
 

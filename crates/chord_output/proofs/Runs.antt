@@ -1,11 +1,11 @@
 -- Runs, from what their last steps leave.
 use Rattle.std.proofs.Common.{◌≡◌, ◌⊎◌, ◌++◌, ℕ, List, Option, Result, Err}
-use Rattle.chord_event.specs.declared.error.RunError.{RunError}
-use Rattle.chord_event.specs.declared.error.RunError.TheVariants as run
+use Rattle.des_event.specs.declared.error.RunError.{RunError}
+use Rattle.des_event.specs.declared.error.RunError.TheVariants as run
 use Rattle.chord_machine.specs.Chord.{chord}
 use Rattle.chord_machine.specs.Run.{HasTooManyEvents}
-use Rattle.chord_model.specs.Histories.{history, output}
-use Rattle.chord_model.proofs.Ends.{begins_here, begins_next, begins_with_nothing, run_failed as failed_run, run_stopped as stopped_run}
+use Rattle.des_model.specs.Histories.{history, output}
+use Rattle.des_model.proofs.Ends.{begins_here, begins_next, begins_with_nothing, run_failed as failed_run, run_stopped as stopped_run}
 use Rattle.chord_output.specs.Runs.{IsBeginning, IsRun, Writes, WritesFront}
 use Rattle.chord_output.proofs.Outputs.{writer_laws}
 use Rattle.chord_scenario.specs.declared.scenario.Scenario.{Scenario}

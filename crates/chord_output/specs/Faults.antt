@@ -1,7 +1,7 @@
 -- Which of several faults of a window is reported.
 use Rattle.std.specs.Prelude.{ℕ}
-use Rattle.chord_event.specs.declared.error.RunError.{RunError}
-use Rattle.chord_event.specs.declared.error.RunError.TheVariants as run
+use Rattle.des_event.specs.declared.error.RunError.{RunError}
+use Rattle.des_event.specs.declared.error.RunError.TheVariants as run
 
 -- the rank of a fault: the lowest is reported, a thread that could not be started first
 abbrev pub rank_of : RunError → ℕ

@@ -2,7 +2,7 @@
 use Rattle.std.specs.Prelude.{ℕ, List, ◌++◌, Option}
 use Rattle.std.specs.Io.KnownBytes.{Appends}
 use Rattle.chord_machine.specs.Chord.{chord}
-use Rattle.chord_model.specs.Scribes.{audits_at as machine_audits}
+use Rattle.des_model.specs.Scribes.{audits_at as machine_audits}
 use Rattle.chord_node.specs.declared.state.NodeState.{NodeState}
 use Rattle.chord_scenario.specs.declared.scenario.Scenario.{Scenario}
 use Rattle.chord_trace.specs.declared.piece.Piece.{Piece}

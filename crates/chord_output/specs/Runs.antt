@@ -1,9 +1,9 @@
 -- What every engine promises of a run.
 use Rattle.std.specs.Prelude.{ℕ, List, Option, Result}
 use Rattle.std.specs.Io.KnownBytes.{Appends}
-use Rattle.chord_event.specs.declared.error.RunError.{RunError}
+use Rattle.des_event.specs.declared.error.RunError.{RunError}
 use Rattle.chord_machine.specs.Chord.{chord}
-use Rattle.chord_model.specs.Scribes.{IsBeginningBy, IsRunBy}
+use Rattle.des_model.specs.Scribes.{IsBeginningBy, IsRunBy}
 use Rattle.chord_scenario.specs.declared.scenario.Scenario.{Scenario}
 use Rattle.chord_trace.specs.declared.piece.Piece.{Piece}
 use Rattle.chord_trace.specs.declared.report.Report.{Report}

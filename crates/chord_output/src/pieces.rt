@@ -6,7 +6,7 @@ ghost use Rattle.chord_node.specs.declared.state.NodeState.{NodeState as AState}
 ghost use Rattle.chord_node.specs.Invariant.{AllNodes};
 ghost use Rattle.chord_scenario.specs.Blocks.{IsBlockOf, most_lines};
 ghost use Rattle.chord_scenario.specs.World.{node_count};
-ghost use Rattle.chord_model.specs.Scribes.{due};
+ghost use Rattle.des_model.specs.Scribes.{due};
 ghost use Rattle.chord_output.specs.Output.{Adds, audits_at};
 ghost use Rattle.chord_trace.specs.declared.piece.Piece.TheVariants as piece;
 ghost use Rattle.chord_trace.specs.Tally.{taken};

@@ -2,7 +2,7 @@
 use Rattle.std.proofs.Common.{◌≡◌, ◌≢◌, ◌⊎◌, ◌∙◌, ◌≤◌, rules, ℕ, length, List, [], ◌++◌, Option, Some, None, Result, Ok, Err, IfErr, append-nil, ap, inl, inr, refl}
 use Rattle.std.specs.Io.KnownBytes.{Consumes, IsAtEnd}
 use Rattle.std.specs.Result.{IsErrAnd}
-use Rattle.chord_event.specs.declared.error.RunError.TheVariants as run
+use Rattle.des_event.specs.declared.error.RunError.TheVariants as run
 use Rattle.chord_play.specs.Faults.{fault_of_scenario}
 use Rattle.chord_play.specs.Readings.{IsFaultOf, Reading, WasRead, text_of}
 use Rattle.chord_play.specs.Texts.{IsShort, Lacks, most_bytes}

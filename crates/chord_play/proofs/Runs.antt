@@ -1,7 +1,7 @@
 -- Errors of a run.
 use Rattle.std.proofs.Common.{◌≡◌, ◌≢◌, ◌⊎◌, ap, inl, inr, rules, Result, Ok, Err, IfErr}
-use Rattle.chord_event.specs.declared.error.RunError.{RunError}
-use Rattle.chord_event.specs.declared.error.RunError.TheVariants as run
+use Rattle.des_event.specs.declared.error.RunError.{RunError}
+use Rattle.des_event.specs.declared.error.RunError.TheVariants as run
 use Rattle.chord_trace.specs.declared.report.Report.{Report}
 
 -- the errors that are left if the division fits

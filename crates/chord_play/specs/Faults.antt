@@ -1,6 +1,6 @@
 -- The faults of a simulation.
 use Rattle.std.specs.Prelude.{Bool, false, true, Result, Err}
-use Rattle.chord_event.specs.declared.error.RunError.TheVariants as run
+use Rattle.des_event.specs.declared.error.RunError.TheVariants as run
 use Rattle.chord_play.specs.declared.fault.PlayFault.{PlayFault}
 use Rattle.chord_play.specs.declared.fault.PlayFault.TheVariants as play
 use Rattle.chord_play.specs.declared.text_reader.TextFault.{TextFault}

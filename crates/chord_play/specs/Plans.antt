@@ -1,7 +1,7 @@
 -- How a run is carried out.
 use Rattle.std.specs.Prelude.{ℕ, map}
 use Rattle.std.specs.List.{range_with_len}
-use Rattle.chord_model.specs.Windows.{Division}
+use Rattle.des_model.specs.Windows.{Division}
 use Rattle.chord_plan.specs.declared.plan.Plan.{Plan}
 use Rattle.chord_plan.specs.declared.plan.Split.{Split}
 use Rattle.chord_plan.specs.declared.plan.Split.TheVariants as split

@@ -1,6 +1,6 @@
 -- What a simulation leaves.
 use Rattle.std.specs.Prelude.{ℕ, List, Option, Result}
-use Rattle.chord_event.specs.declared.error.RunError.{RunError}
+use Rattle.des_event.specs.declared.error.RunError.{RunError}
 use Rattle.chord_output.specs.Runs.{IsRun}
 use Rattle.chord_play.specs.Texts.{Gives}
 use Rattle.chord_scenario.specs.declared.scenario.Scenario.{Scenario}

@@ -3,7 +3,7 @@ use Rattle.std.specs.Prelude.{◌≡◌, ◌≢◌, ◌⊎◌, ℕ, Bool, false,
 use Rattle.chord_play.specs.declared.fault.PlayFault.{PlayFault}
 use Rattle.chord_play.specs.declared.fault.PlayFault.TheVariants as fault
 use Rattle.chord_plan.specs.declared.text.Text.TheVariants as text
-use Rattle.chord_event.specs.declared.error.RunError.TheVariants as run
+use Rattle.des_event.specs.declared.error.RunError.TheVariants as run
 use Rattle.chord_play.specs.Texts.{IsCutOff, IsShort, Lacks}
 use Rattle.chord_scenario.specs.declared.fault.ScenarioFault.TheVariants as reason
 use Rattle.chord_trace.specs.declared.watched.Watched.{Watched}

@@ -35,7 +35,7 @@ impl From<RunError> for PlayFault {
 
 impl From<AllocError> for PlayFault {
     ghost use Rattle.std.specs.Prelude.{◌≡◌};
-    ghost use Rattle.chord_event.specs.declared.error.RunError.TheVariants as run;
+    ghost use Rattle.des_event.specs.declared.error.RunError.TheVariants as run;
     ghost use Rattle.chord_play.specs.declared.fault.PlayFault.TheVariants as play;
 
     ghost from_gives = { λ _ fault. fault ≡ play.Run run.Memory };

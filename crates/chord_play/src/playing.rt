@@ -1,6 +1,6 @@
 //! From bytes to bytes: `load` and `play`.
 ghost use Rattle.std.specs.Prelude.{◌≡◌, ◌≢◌, ◌⊎◌, false, IfErr, IfOk, OnOk, Ok, Err};
-ghost use Rattle.chord_event.specs.declared.error.RunError.{RunError};
+ghost use Rattle.des_event.specs.declared.error.RunError.{RunError};
 ghost use Rattle.chord_play.specs.Faults.{is_of_run, is_write_fault};
 ghost use Rattle.chord_play.specs.Played.{IsPlayed};
 ghost use Rattle.chord_play.specs.Readings.{IsFaultOf, WasRead, reading};

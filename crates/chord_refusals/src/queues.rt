@@ -1,8 +1,8 @@
 //! Calls of the queues and the arena that return what they cannot take.
 ghost use Rattle.std.specs.Prelude.{◌≡◌, ◌≢◌, []};
 ghost use Rattle.std.specs.List.{AllPairs};
-ghost use Rattle.chord_event.specs.KeyOrder.{before};
-ghost use Rattle.chord_queue.specs.EventKey.{event_key};
+ghost use Rattle.des_event.specs.KeyOrder.{before};
+ghost use Rattle.des_queue.specs.EventKey.{event_key};
 
 use crate::stop::{Stop, holds};
 use chord_arena::RecordArena;

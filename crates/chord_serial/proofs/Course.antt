@@ -33,12 +33,12 @@ use Rattle.std.proofs.KnownBytes.{Appends-nil}
 use Rattle.std.proofs.lemmas.List.FromFn.{get_or-map-range_with_len, length-map-range_with_len}
 use Rattle.chord_event.specs.declared.block.Block.{Block}
 use Rattle.chord_event.specs.declared.body.Body.{Body}
-use Rattle.chord_event.specs.declared.event.Event.{Event}
-use Rattle.chord_event.specs.KeyOrder.{InKeyOrder}
-use Rattle.chord_event.specs.Keys.{IsAtMost, IsBefore}
-use Rattle.chord_event.proofs.KeyLists.{all_in, IsIn-from_Contains}
-use Rattle.chord_event.proofs.Members.{All_from, contains_cons, contains_none}
-use Rattle.chord_event.proofs.Order.{at_most_from_before, at_most_self}
+use Rattle.des_event.specs.declared.event.Event.{Event}
+use Rattle.des_event.specs.KeyOrder.{InKeyOrder}
+use Rattle.des_event.specs.Keys.{IsAtMost, IsBefore}
+use Rattle.des_event.proofs.KeyLists.{all_in, IsIn-from_Contains}
+use Rattle.des_event.proofs.Members.{All_from, contains_cons, contains_none}
+use Rattle.des_event.proofs.Order.{at_most_from_before, at_most_self}
 use Rattle.chord_machine.specs.AuditTimes.{audit_times}
 use Rattle.chord_machine.specs.Chord.{chord}
 use Rattle.chord_machine.specs.Room.{HasRoom}
@@ -46,12 +46,12 @@ use Rattle.chord_machine.specs.Run.{HasTooManyEvents}
 use Rattle.chord_machine.specs.Sound.{IsStateOf}
 use Rattle.chord_machine.proofs.Room.{room_is_left}
 use Rattle.chord_machine.proofs.WellFormed.{well_formed}
-use Rattle.chord_model.specs.Histories.{history, open_audits, output, state}
-use Rattle.chord_model.specs.Scribes.{IsAtEnd, due}
-use Rattle.chord_model.specs.WellFormed.{IsWellFormed}
-use Rattle.chord_model.specs.Worlds.{AreStatesAfter, IsFirstAt, IsWorld}
-use Rattle.chord_model.proofs.Audits.{open_after, output_next}
-use Rattle.chord_model.proofs.Course.{
+use Rattle.des_model.specs.Histories.{history, open_audits, output, state}
+use Rattle.des_model.specs.Scribes.{IsAtEnd, due}
+use Rattle.des_model.specs.WellFormed.{IsWellFormed}
+use Rattle.des_model.specs.Worlds.{AreStatesAfter, IsFirstAt, IsWorld}
+use Rattle.des_model.proofs.Audits.{open_after, output_next}
+use Rattle.des_model.proofs.Course.{
   history_goes_on,
   is_fit,
   is_in_time,
@@ -64,14 +64,14 @@ use Rattle.chord_model.proofs.Course.{
   world_after,
   world_at_start,
 }
-use Rattle.chord_model.proofs.Runs.{history_is_legal, possible_from_legal}
+use Rattle.des_model.proofs.Runs.{history_is_legal, possible_from_legal}
 use Rattle.chord_node.specs.declared.state.NodeState.{NodeState}
 use Rattle.chord_node.specs.Invariant.{AllNodes}
 use Rattle.chord_node.specs.Ring.{initial_ring, initial_state}
 use Rattle.chord_ops.specs.Rules.{block_of, effect}
 use Rattle.chord_ops.specs.Sound.{IsSoundEvent}
-use Rattle.chord_queue.specs.EventKey.{event_key}
-use Rattle.chord_queue.proofs.Inserting.{AreApart, ordered_apart}
+use Rattle.des_queue.specs.EventKey.{event_key}
+use Rattle.des_queue.proofs.Inserting.{AreApart, ordered_apart}
 use Rattle.chord_scenario.specs.declared.scenario.Scenario.{Scenario}
 use Rattle.chord_scenario.specs.Range.{IsInRange}
 use Rattle.chord_scenario.specs.Start.{start_events}

@@ -2,10 +2,10 @@
 use Rattle.std.specs.Prelude.{◌≡◌, ℕ, ◌<◌, ◌≤◌, List, ◌∷◌, Option}
 use Rattle.std.specs.Io.KnownBytes.{Appends}
 use Rattle.chord_event.specs.declared.body.Body.{Body}
-use Rattle.chord_event.specs.declared.event.Event.{Event}
+use Rattle.des_event.specs.declared.event.Event.{Event}
 use Rattle.chord_machine.specs.Chord.{chord}
-use Rattle.chord_model.specs.Histories.{history, open_audits, output}
-use Rattle.chord_model.specs.Worlds.{IsFirstAt, IsWorld}
+use Rattle.des_model.specs.Histories.{history, open_audits, output}
+use Rattle.des_model.specs.Worlds.{IsFirstAt, IsWorld}
 use Rattle.chord_scenario.specs.declared.scenario.Scenario.{Scenario}
 use Rattle.chord_serial.specs.declared.engine.Engine.{Engine}
 use Rattle.chord_trace.specs.Tally.{IsTallyOf}

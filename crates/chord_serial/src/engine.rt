@@ -2,10 +2,10 @@
 ghost use Rattle.std.specs.Prelude.{◌≡◌, ◌↔◌, ◌⊎◌, ℕ, ◌+◌, ◌≤◌, List, Option, None, false, OnOk, IfOk, IfErr, IfSome, Ok, Err};
 ghost use Rattle.std.specs.List.{All, Contains};
 ghost use Rattle.chord_event.specs.declared.body.Body.{Body as ABody};
-ghost use Rattle.chord_event.specs.declared.event.Event.{Event as AnEvent};
-ghost use Rattle.chord_event.specs.KeyOrder.{InKeyOrder};
+ghost use Rattle.des_event.specs.declared.event.Event.{Event as AnEvent};
+ghost use Rattle.des_event.specs.KeyOrder.{InKeyOrder};
 ghost use Rattle.chord_machine.specs.Run.{HasTooManyEvents};
-ghost use Rattle.chord_queue.specs.EventKey.{event_key};
+ghost use Rattle.des_queue.specs.EventKey.{event_key};
 ghost use Rattle.chord_scenario.specs.Start.{start_events};
 ghost use Rattle.chord_serial.specs.Engine.{HasTaken, IsAt};
 ghost use Rattle.chord_output.specs.Runs.{IsBeginning, IsRun};

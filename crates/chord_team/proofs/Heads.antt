@@ -52,12 +52,12 @@ use Rattle.std.specs.List.{AllByRecursion}
 use Rattle.std.specs.List.Sorted.{IsPermutation}
 use Rattle.std.specs.Ordering.{is_lt}
 use Rattle.chord_event.specs.declared.block.Block.{Block}
-use Rattle.chord_event.specs.declared.key.Key.{Key}
-use Rattle.chord_event.specs.KeyOrder.{InKeyOrder}
-use Rattle.chord_event.specs.Keys.{IsAtMost, IsBefore, is_before, key_cmp}
-use Rattle.chord_event.proofs.Compare.{less_from_before}
-use Rattle.chord_event.proofs.KeyLists.{IsIn, all_from, all_in, Contains-from_IsIn, IsIn-from_Contains}
-use Rattle.chord_event.proofs.Order.{at_most_from_before, at_most_self, at_most_trans, is_before-false, is_before-true}
+use Rattle.des_event.specs.declared.key.Key.{Key}
+use Rattle.des_event.specs.KeyOrder.{InKeyOrder}
+use Rattle.des_event.specs.Keys.{IsAtMost, IsBefore, is_before, key_cmp}
+use Rattle.des_event.proofs.Compare.{less_from_before}
+use Rattle.des_event.proofs.KeyLists.{IsIn, all_from, all_in, Contains-from_IsIn, IsIn-from_Contains}
+use Rattle.des_event.proofs.Order.{at_most_from_before, at_most_self, at_most_trans, is_before-false, is_before-true}
 use Rattle.chord_scenario.specs.Setup.{Setup}
 use Rattle.chord_trace.proofs.Merges.{together}
 use Rattle.chord_trace.specs.Heads.{put_filled}

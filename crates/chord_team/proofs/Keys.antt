@@ -6,9 +6,9 @@ use Rattle.std.proofs.lemmas.List.{get_or-map, length-map, map-append, same_list
 use Rattle.std.specs.List.{AllByRecursion, AllPairs, flat_map}
 use Rattle.std.specs.Prelude.{◌≢◌}
 use Rattle.chord_event.specs.declared.block.Block.{Block}
-use Rattle.chord_event.specs.declared.key.Key.{Key}
-use Rattle.chord_event.specs.KeyOrder.{InKeyOrder}
-use Rattle.chord_event.specs.Keys.{IsBefore}
+use Rattle.des_event.specs.declared.key.Key.{Key}
+use Rattle.des_event.specs.KeyOrder.{InKeyOrder}
+use Rattle.des_event.specs.Keys.{IsBefore}
 use Rattle.chord_scenario.specs.Setup.{Setup}
 use Rattle.chord_team.specs.Outputs.{AreTexts, CanMergeLists, joined, marks_from}
 use Rattle.chord_team.specs.declared.output.Mark.{Mark}

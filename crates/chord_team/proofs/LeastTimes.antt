@@ -4,10 +4,10 @@ use Rattle.std.proofs.lemmas.Bool.{ltb-false}
 use Rattle.std.specs.List.{Contains}
 use Rattle.std.specs.Prelude.{option_map, slice_get}
 use Rattle.chord_event.specs.declared.body.Body.{Body}
-use Rattle.chord_event.specs.declared.event.Event.{Event}
-use Rattle.chord_event.specs.KeyOrder.{InKeyOrder}
-use Rattle.chord_event.proofs.Members.{contains_append, contains_cons, contains_here, contains_left, contains_none, contains_right}
-use Rattle.chord_queue.specs.EventKey.{event_key}
+use Rattle.des_event.specs.declared.event.Event.{Event}
+use Rattle.des_event.specs.KeyOrder.{InKeyOrder}
+use Rattle.des_event.proofs.Members.{contains_append, contains_cons, contains_here, contains_left, contains_none, contains_right}
+use Rattle.des_queue.specs.EventKey.{event_key}
 use Rattle.chord_window.specs.Delivery.{sooner}
 use Rattle.chord_window.proofs.Ahead.{head_first}
 use Rattle.chord_team.specs.Owned.{LeastTimeIs}

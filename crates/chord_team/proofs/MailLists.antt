@@ -6,11 +6,11 @@ use Rattle.std.proofs.lemmas.List.{get_or-map, length-map, length-set, map-appen
 use Rattle.std.specs.Global.{Global}
 use Rattle.std.specs.List.{All, Contains}
 use Rattle.chord_event.specs.declared.body.Body.{Body}
-use Rattle.chord_event.specs.declared.event.Event.{Event}
-use Rattle.chord_event.specs.KeyOrder.{InKeyOrder}
-use Rattle.chord_event.proofs.Members.{All_at, All_from, AllPairs_append, AllPairs_front, contains_append, contains_cons, contains_here, contains_left, contains_none, contains_right}
-use Rattle.chord_queue.specs.EventKey.{event_key}
-use Rattle.chord_queue.proofs.Inserting.{apart_across, ordered_apart}
+use Rattle.des_event.specs.declared.event.Event.{Event}
+use Rattle.des_event.specs.KeyOrder.{InKeyOrder}
+use Rattle.des_event.proofs.Members.{All_at, All_from, AllPairs_append, AllPairs_front, contains_append, contains_cons, contains_here, contains_left, contains_none, contains_right}
+use Rattle.des_queue.specs.EventKey.{event_key}
+use Rattle.des_queue.proofs.Inserting.{apart_across, ordered_apart}
 use Rattle.chord_window.proofs.Sorting.{apart_end}
 use Rattle.chord_team.specs.declared.part.Parcel.{Parcel}
 use Rattle.chord_team.specs.Exchanges.{HaveDelivered, given}

@@ -28,12 +28,12 @@ use Rattle.std.proofs.Common.{
 use Rattle.std.proofs.lemmas.List.Sums.{sum_by-cons}
 use Rattle.std.specs.List.{AllByRecursion, AllPairs}
 use Rattle.chord_event.specs.declared.block.Block.{Block}
-use Rattle.chord_event.specs.declared.key.Key.{Key}
-use Rattle.chord_event.specs.KeyOrder.{InKeyOrder}
-use Rattle.chord_event.specs.Keys.{IsAtMost, IsBefore}
-use Rattle.chord_event.proofs.KeyLists.{IsIn, all_in, Contains-from_IsIn, IsIn-from_Contains, same_list}
-use Rattle.chord_event.proofs.Members.{AllPairs_at, AllPairs_rest}
-use Rattle.chord_event.proofs.Order.{at_most_from_before, before_not_after, before_not_same, is_same_key-true}
+use Rattle.des_event.specs.declared.key.Key.{Key}
+use Rattle.des_event.specs.KeyOrder.{InKeyOrder}
+use Rattle.des_event.specs.Keys.{IsAtMost, IsBefore}
+use Rattle.des_event.proofs.KeyLists.{IsIn, all_in, Contains-from_IsIn, IsIn-from_Contains, same_list}
+use Rattle.des_event.proofs.Members.{AllPairs_at, AllPairs_rest}
+use Rattle.des_event.proofs.Order.{at_most_from_before, before_not_after, before_not_same, is_same_key-true}
 use Rattle.chord_team.specs.Heads.{with_blocks}
 use Rattle.chord_team.specs.Outputs.{CanMergeLists, IsMergeOf, joined}
 use Rattle.chord_trace.proofs.Merges.{IsMerging, append_in, has_key, put_out, together}

@@ -32,14 +32,14 @@ use Rattle.std.specs.Global.{Global}
 use Rattle.std.specs.List.{AllByRecursion, filter}
 use Rattle.std.specs.Prelude.{IfSome, nat_le, nat_lt}
 use Rattle.chord_event.specs.declared.body.Body.{Body}
-use Rattle.chord_event.specs.declared.event.Event.{Event}
+use Rattle.des_event.specs.declared.event.Event.{Event}
 use Rattle.chord_machine.specs.AuditTimes.{IsAscending, audit_times}
 use Rattle.chord_machine.specs.Chord.{chord}
 use Rattle.chord_machine.proofs.Audits.{audits-ascend}
-use Rattle.chord_model.specs.Histories.{history, output, state}
-use Rattle.chord_model.specs.Scribes.{due}
-use Rattle.chord_model.specs.Worlds.{AreStatesAfter}
-use Rattle.chord_model.proofs.Audits.{open_see}
+use Rattle.des_model.specs.Histories.{history, output, state}
+use Rattle.des_model.specs.Scribes.{due}
+use Rattle.des_model.specs.Worlds.{AreStatesAfter}
+use Rattle.des_model.proofs.Audits.{open_see}
 use Rattle.chord_node.specs.declared.state.NodeState.{NodeState}
 use Rattle.chord_output.specs.Output.{audits_at}
 use Rattle.chord_output.proofs.Ends.{filter_shorter, pieces_few}

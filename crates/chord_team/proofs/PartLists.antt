@@ -3,8 +3,8 @@ use Rattle.std.proofs.Common.{◌≡◌, ◌≢◌, ◌∙◌, ⊎_elim, ℕ, ze
 use Rattle.std.proofs.lemmas.List.Elements.{filter-append}
 use Rattle.std.specs.List.{AllPairs, Contains, filter}
 use Rattle.chord_event.specs.declared.body.Body.{Body}
-use Rattle.chord_event.specs.declared.event.Event.{Event}
-use Rattle.chord_event.proofs.Members.{AllPairs_at, AllPairs_cons, AllPairs_none, AllPairs_rest, contains_append, contains_here, contains_left, contains_none, contains_right, filter_contains}
+use Rattle.des_event.specs.declared.event.Event.{Event}
+use Rattle.des_event.proofs.Members.{AllPairs_at, AllPairs_cons, AllPairs_none, AllPairs_rest, contains_append, contains_here, contains_left, contains_none, contains_right, filter_contains}
 use Rattle.chord_team.specs.Mail.{all_of}
 
 pub none_contained : {A : Type 0} (xs : List A) → ((x : A) → Contains xs x → ⊥) → xs ≡ []

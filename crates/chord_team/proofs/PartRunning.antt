@@ -4,20 +4,20 @@ use Rattle.std.specs.List.{All, Contains, cons_option}
 use Rattle.std.specs.Prelude.{option_map, slice_get}
 use Rattle.chord_event.specs.declared.block.Block.{Block}
 use Rattle.chord_event.specs.declared.body.Body.{Body}
-use Rattle.chord_event.specs.declared.event.Event.{Event}
-use Rattle.chord_event.specs.KeyOrder.{InKeyOrder}
-use Rattle.chord_event.proofs.Members.{All_at, All_from, AllPairs_none, contains_append, contains_cons, contains_none}
+use Rattle.des_event.specs.declared.event.Event.{Event}
+use Rattle.des_event.specs.KeyOrder.{InKeyOrder}
+use Rattle.des_event.proofs.Members.{All_at, All_from, AllPairs_none, contains_append, contains_cons, contains_none}
 use Rattle.chord_machine.specs.Chord.{chord}
 use Rattle.chord_machine.specs.Run.{HasTooManyEvents}
 use Rattle.chord_machine.proofs.WellFormed.{well_formed}
-use Rattle.chord_model.specs.Histories.{history}
-use Rattle.chord_model.specs.Laws.{MayOpen}
-use Rattle.chord_model.specs.Windows.{part_of, IsPartRun, made_since, pieces_since}
-use Rattle.chord_model.proofs.Horizons.{horizon_may_open}
-use Rattle.chord_model.proofs.Runs.{history_is_legal}
+use Rattle.des_model.specs.Histories.{history}
+use Rattle.des_model.specs.Laws.{MayOpen}
+use Rattle.des_model.specs.Windows.{part_of, IsPartRun, made_since, pieces_since}
+use Rattle.des_model.proofs.Horizons.{horizon_may_open}
+use Rattle.des_model.proofs.Runs.{history_is_legal}
 use Rattle.chord_ops.specs.Rules.{block_of}
-use Rattle.chord_queue.specs.EventKey.{event_key}
-use Rattle.chord_queue.proofs.Inserting.{ordered_apart}
+use Rattle.des_queue.specs.EventKey.{event_key}
+use Rattle.des_queue.proofs.Inserting.{ordered_apart}
 use Rattle.chord_scenario.specs.declared.scenario.Scenario.{Scenario}
 use Rattle.chord_scenario.specs.Range.{IsInRange}
 use Rattle.chord_trace.specs.Tally.{IsTallyOf}

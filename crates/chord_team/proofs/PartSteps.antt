@@ -7,35 +7,35 @@ use Rattle.std.specs.List.{Contains, filter}
 use Rattle.std.specs.Prelude.{◌==◌, ◌&&◌}
 use Rattle.chord_event.specs.declared.block.Block.{Block}
 use Rattle.chord_event.specs.declared.body.Body.{Body}
-use Rattle.chord_event.specs.declared.event.Event.{Event}
-use Rattle.chord_event.specs.Keys.{IsAtMost}
-use Rattle.chord_event.specs.KeyOrder.{InKeyOrder}
-use Rattle.chord_event.proofs.Members.{AllPairs_append, AllPairs_at, AllPairs_rest, contains_append, contains_cons, contains_filter, contains_here, contains_left, contains_right, contains_there, filter_contains}
+use Rattle.des_event.specs.declared.event.Event.{Event}
+use Rattle.des_event.specs.Keys.{IsAtMost}
+use Rattle.des_event.specs.KeyOrder.{InKeyOrder}
+use Rattle.des_event.proofs.Members.{AllPairs_append, AllPairs_at, AllPairs_rest, contains_append, contains_cons, contains_filter, contains_here, contains_left, contains_right, contains_there, filter_contains}
 use Rattle.chord_machine.specs.Chord.{chord}
 use Rattle.chord_machine.specs.Room.{HasRoom}
 use Rattle.chord_machine.specs.Run.{HasTooManyEvents}
 use Rattle.chord_machine.specs.Sound.{IsStateOf}
 use Rattle.chord_machine.proofs.Room.{room_is_left}
 use Rattle.chord_machine.proofs.WellFormed.{well_formed}
-use Rattle.chord_model.specs.Histories.{IsPossible, all_events, effect_after, least, pending, state}
-use Rattle.chord_model.specs.Laws.{MayOpen}
-use Rattle.chord_model.specs.WellFormed.{IsWellFormed}
-use Rattle.chord_model.specs.Windows.{Division, part_of, put, waiting, IsPartRun, events_run, made_since, pieces_since}
-use Rattle.chord_model.proofs.Commuting.{known_in_range, limit_found}
-use Rattle.chord_model.proofs.Distinct.{fit_event, made_apart, made_fresh, one_event, sound_state, state_here, state_other}
-use Rattle.chord_model.proofs.Least.{least_is}
-use Rattle.chord_model.proofs.Made.{known_from_since}
-use Rattle.chord_model.proofs.Parts.{possible_from_part_run, waiting_parts}
-use Rattle.chord_model.proofs.Pending.{Waits, pending_from, waits_from}
-use Rattle.chord_model.proofs.Rest.{pending_moves}
-use Rattle.chord_model.proofs.Runs.{possible_from_legal}
-use Rattle.chord_model.proofs.Steps.{put_other, put_same}
+use Rattle.des_model.specs.Histories.{IsPossible, all_events, effect_after, least, pending, state}
+use Rattle.des_model.specs.Laws.{MayOpen}
+use Rattle.des_model.specs.WellFormed.{IsWellFormed}
+use Rattle.des_model.specs.Windows.{Division, part_of, put, waiting, IsPartRun, events_run, made_since, pieces_since}
+use Rattle.des_model.proofs.Commuting.{known_in_range, limit_found}
+use Rattle.des_model.proofs.Distinct.{fit_event, made_apart, made_fresh, one_event, sound_state, state_here, state_other}
+use Rattle.des_model.proofs.Least.{least_is}
+use Rattle.des_model.proofs.Made.{known_from_since}
+use Rattle.des_model.proofs.Parts.{possible_from_part_run, waiting_parts}
+use Rattle.des_model.proofs.Pending.{Waits, pending_from, waits_from}
+use Rattle.des_model.proofs.Rest.{pending_moves}
+use Rattle.des_model.proofs.Runs.{possible_from_legal}
+use Rattle.des_model.proofs.Steps.{put_other, put_same}
 use Rattle.chord_node.specs.declared.state.NodeState.{NodeState}
 use Rattle.chord_node.specs.Ring.{initial_state}
 use Rattle.chord_ops.specs.Rules.{block_of, effect}
 use Rattle.chord_ops.specs.Sound.{IsSoundEvent}
-use Rattle.chord_queue.specs.EventKey.{event_key}
-use Rattle.chord_queue.proofs.Inserting.{ordered_apart}
+use Rattle.des_queue.specs.EventKey.{event_key}
+use Rattle.des_queue.proofs.Inserting.{ordered_apart}
 use Rattle.chord_scenario.specs.declared.scenario.Scenario.{Scenario}
 use Rattle.chord_scenario.specs.Range.{IsInRange}
 use Rattle.chord_scenario.specs.World.{node_count}

@@ -34,9 +34,9 @@ use Rattle.std.specs.Io.KnownBytes.{Appends}
 use Rattle.std.specs.List.{AllByRecursion, Contains}
 use Rattle.std.specs.List.Sorted.{IsPermutation}
 use Rattle.chord_event.specs.declared.block.Block.{Block}
-use Rattle.chord_event.specs.declared.key.Key.{Key}
-use Rattle.chord_event.specs.Keys.{IsAtMost}
-use Rattle.chord_event.proofs.KeyLists.{IsIn, Contains-from_IsIn}
+use Rattle.des_event.specs.declared.key.Key.{Key}
+use Rattle.des_event.specs.Keys.{IsAtMost}
+use Rattle.des_event.proofs.KeyLists.{IsIn, Contains-from_IsIn}
 use Rattle.chord_scenario.specs.Setup.{Setup}
 use Rattle.chord_trace.proofs.Fronts.{front_after, front_of_longer, front_of_whole}
 use Rattle.chord_trace.proofs.Merges.{IsMerging, moved, used_up}

@@ -5,13 +5,13 @@ use Rattle.std.proofs.lemmas.List.{length-set, reverse-append, reverse-reverse}
 use Rattle.std.specs.List.{All, Contains, filter}
 use Rattle.std.specs.Prelude.{◌==◌, ◌&&◌}
 use Rattle.chord_event.specs.declared.body.Body.{Body}
-use Rattle.chord_event.specs.declared.event.Event.{Event}
-use Rattle.chord_event.specs.KeyOrder.{InKeyOrder, IsNewKey, put_in_order}
-use Rattle.chord_event.proofs.KeyLists.{all_from, in_put, put_in, Contains-from_IsIn, IsIn-from_Contains}
-use Rattle.chord_event.proofs.Members.{All_at, contains_append, contains_cons, contains_here, contains_left, contains_none, contains_right}
-use Rattle.chord_model.specs.Windows.{Division, part_of}
-use Rattle.chord_queue.specs.EventKey.{event_key}
-use Rattle.chord_queue.proofs.Inserting.{apart_across}
+use Rattle.des_event.specs.declared.event.Event.{Event}
+use Rattle.des_event.specs.KeyOrder.{InKeyOrder, IsNewKey, put_in_order}
+use Rattle.des_event.proofs.KeyLists.{all_from, in_put, put_in, Contains-from_IsIn, IsIn-from_Contains}
+use Rattle.des_event.proofs.Members.{All_at, contains_append, contains_cons, contains_here, contains_left, contains_none, contains_right}
+use Rattle.des_model.specs.Windows.{Division, part_of}
+use Rattle.des_queue.specs.EventKey.{event_key}
+use Rattle.des_queue.proofs.Inserting.{apart_across}
 use Rattle.chord_window.specs.Delivery.{sooner}
 use Rattle.chord_window.proofs.Sorting.{apart_end}
 use Rattle.chord_team.specs.declared.part.OwnedPart.{OwnedPart}

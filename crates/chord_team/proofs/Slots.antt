@@ -32,7 +32,7 @@ use Rattle.std.proofs.Common.{
 use Rattle.std.proofs.lemmas.Bool.{cases_eq, cases_lt, cond-true, cond-false, ne_eqb}
 use Rattle.std.proofs.lemmas.List.{get_or_append_left, get_or-append-add}
 use Rattle.std.specs.Global.{Global}
-use Rattle.chord_model.specs.Windows.{Division, Divides, part_of}
+use Rattle.des_model.specs.Windows.{Division, Divides, part_of}
 use Rattle.chord_scenario.specs.declared.scenario.Scenario.{Scenario}
 use Rattle.chord_scenario.specs.World.{node_count}
 use Rattle.chord_team.specs.Layouts.{IsLayout, nodes_before}

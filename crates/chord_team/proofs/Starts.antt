@@ -53,10 +53,10 @@ use Rattle.std.specs.Global.{Global}
 use Rattle.std.specs.List.{All, Contains}
 use Rattle.std.specs.Prelude.{nat_lt}
 use Rattle.chord_event.specs.declared.body.Body.{Body}
-use Rattle.chord_event.specs.declared.event.Event.{Event}
-use Rattle.chord_event.specs.KeyOrder.{InKeyOrder, IsNewKey, put_in_order}
-use Rattle.chord_event.proofs.KeyLists.{all_from, in_put, ordered_put, put_in, Contains-from_IsIn, IsIn-from_Contains}
-use Rattle.chord_event.proofs.Members.{
+use Rattle.des_event.specs.declared.event.Event.{Event}
+use Rattle.des_event.specs.KeyOrder.{InKeyOrder, IsNewKey, put_in_order}
+use Rattle.des_event.proofs.KeyLists.{all_from, in_put, ordered_put, put_in, Contains-from_IsIn, IsIn-from_Contains}
+use Rattle.des_event.proofs.Members.{
   All_at,
   All_from,
   AllPairs_append,
@@ -73,15 +73,15 @@ use Rattle.chord_event.proofs.Members.{
 use Rattle.chord_machine.specs.AuditTimes.{audit_times}
 use Rattle.chord_machine.specs.Chord.{chord}
 use Rattle.chord_machine.proofs.WellFormed.{well_formed}
-use Rattle.chord_model.specs.Histories.{history, next, pending}
-use Rattle.chord_model.specs.Windows.{Division, Divides, part_of}
-use Rattle.chord_model.proofs.Runs.{next-None, next-Some, none_from_late}
+use Rattle.des_model.specs.Histories.{history, next, pending}
+use Rattle.des_model.specs.Windows.{Division, Divides, part_of}
+use Rattle.des_model.proofs.Runs.{next-None, next-Some, none_from_late}
 use Rattle.chord_node.specs.declared.state.NodeState.{NodeState}
 use Rattle.chord_node.specs.Ring.{initial_ring}
 use Rattle.chord_ops.specs.Sound.{IsSoundEvent}
 use Rattle.chord_output.proofs.Ends.{audits_at_start}
-use Rattle.chord_queue.specs.EventKey.{event_key}
-use Rattle.chord_queue.proofs.Inserting.{apart_across, ordered_apart}
+use Rattle.des_queue.specs.EventKey.{event_key}
+use Rattle.des_queue.proofs.Inserting.{apart_across, ordered_apart}
 use Rattle.chord_scenario.specs.declared.scenario.Scenario.{Scenario}
 use Rattle.chord_scenario.specs.Range.{IsInRange}
 use Rattle.chord_scenario.specs.Start.{start_events}

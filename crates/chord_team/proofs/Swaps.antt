@@ -29,11 +29,11 @@ use Rattle.std.proofs.lemmas.Option.{none-some}
 use Rattle.std.specs.Global.{Global}
 use Rattle.std.specs.Prelude.{IfSome, unwrap_or}
 use Rattle.chord_event.specs.declared.body.Body.{Body}
-use Rattle.chord_event.specs.declared.event.Event.{Event}
+use Rattle.des_event.specs.declared.event.Event.{Event}
 use Rattle.chord_machine.specs.Chord.{chord}
-use Rattle.chord_model.specs.Histories.{state}
-use Rattle.chord_model.specs.Windows.{part_of}
-use Rattle.chord_model.specs.Worlds.{AreStatesAfter}
+use Rattle.des_model.specs.Histories.{state}
+use Rattle.des_model.specs.Windows.{part_of}
+use Rattle.des_model.specs.Worlds.{AreStatesAfter}
 use Rattle.chord_node.specs.declared.state.NodeState.{NodeState}
 use Rattle.chord_scenario.specs.declared.scenario.Scenario.{Scenario}
 use Rattle.chord_scenario.specs.Range.{IsInRange}

@@ -3,16 +3,16 @@ use Rattle.std.proofs.Common.{◌≡◌, ◌∙◌, ℕ, suc, ◌<◌, List, ◌
 use Rattle.std.specs.List.{Contains}
 use Rattle.std.specs.List.Sorted.{IsPermutation}
 use Rattle.chord_event.specs.declared.body.Body.{Body}
-use Rattle.chord_event.specs.declared.event.Event.{Event}
-use Rattle.chord_event.proofs.Members.{All_at}
+use Rattle.des_event.specs.declared.event.Event.{Event}
+use Rattle.des_event.proofs.Members.{All_at}
 use Rattle.chord_machine.specs.Chord.{chord}
 use Rattle.chord_machine.proofs.WellFormed.{well_formed}
-use Rattle.chord_model.specs.Histories.{all_events, history, output}
-use Rattle.chord_model.specs.Scribes.{IsAtEnd}
-use Rattle.chord_model.specs.Windows.{part_of}
-use Rattle.chord_model.proofs.Commuting.{node_in_range}
-use Rattle.chord_model.proofs.Distinct.{meets}
-use Rattle.chord_model.proofs.Runs.{history_is_legal, legal_known, possible_from_legal}
+use Rattle.des_model.specs.Histories.{all_events, history, output}
+use Rattle.des_model.specs.Scribes.{IsAtEnd}
+use Rattle.des_model.specs.Windows.{part_of}
+use Rattle.des_model.proofs.Commuting.{node_in_range}
+use Rattle.des_model.proofs.Distinct.{meets}
+use Rattle.des_model.proofs.Runs.{history_is_legal, legal_known, possible_from_legal}
 use Rattle.chord_node.specs.declared.state.NodeState.{NodeState}
 use Rattle.chord_ops.specs.Sound.{IsSoundEvent}
 use Rattle.chord_output.specs.Runs.{Writes}

@@ -5,7 +5,7 @@ use Rattle.std.proofs.lemmas.List.{length-set}
 use Rattle.std.specs.Global.{Global}
 use Rattle.std.specs.Prelude.{IfSome}
 use Rattle.chord_machine.specs.Chord.{chord}
-use Rattle.chord_model.specs.Histories.{history}
+use Rattle.des_model.specs.Histories.{history}
 use Rattle.chord_scenario.specs.declared.scenario.Scenario.{Scenario}
 use Rattle.chord_team.specs.declared.layout.Layout.{Layout}
 use Rattle.chord_team.specs.declared.part.Parcel.{Parcel}
@@ -16,7 +16,7 @@ use Rattle.chord_team.specs.Exchanges.{HasOnlyOutput}
 use Rattle.chord_team.specs.Owned.{HasSentAll, IsOwned}
 use Rattle.chord_team.specs.Teams.{AreHere, CanSend, IsHere}
 use Rattle.chord_event.specs.declared.body.Body.{Body}
-use Rattle.chord_event.specs.declared.event.Event.{Event}
+use Rattle.des_event.specs.declared.event.Event.{Event}
 use Rattle.chord_team.proofs.TeamMail.{or_same}
 
 pub order_of : (sc : Scenario) (l : Layout) (t : Team) (part : ℕ) (taken : Parcel) (a : Option Parcel) → CanSend sc l t → part < length t.parcels.items

@@ -41,11 +41,11 @@ use Rattle.std.specs.List.{Contains, filter}
 use Rattle.std.specs.List.Sorted.{IsPermutation}
 use Rattle.std.specs.Prelude.{nat_le}
 use Rattle.chord_event.specs.declared.body.Body.{Body}
-use Rattle.chord_event.specs.declared.event.Event.{Event}
-use Rattle.chord_event.proofs.Members.{contains_here, contains_there}
+use Rattle.des_event.specs.declared.event.Event.{Event}
+use Rattle.des_event.proofs.Members.{contains_here, contains_there}
 use Rattle.chord_machine.specs.Chord.{chord}
-use Rattle.chord_model.specs.Histories.{audit_at, effect_after, open_audits, output}
-use Rattle.chord_model.specs.Windows.{Division, part_of}
+use Rattle.des_model.specs.Histories.{audit_at, effect_after, open_audits, output}
+use Rattle.des_model.specs.Windows.{Division, part_of}
 use Rattle.chord_scenario.specs.declared.scenario.Scenario.{Scenario}
 use Rattle.chord_trace.specs.declared.piece.Piece.{Piece}
 use Rattle.chord_trace.specs.declared.tally.Tally.{Tally}

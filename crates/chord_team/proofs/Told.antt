@@ -6,10 +6,10 @@ use Rattle.std.proofs.lemmas.List.Kept.{AllPairs-filter}
 use Rattle.std.specs.List.{AllByRecursion, AllPairs, Contains, flat_map}
 use Rattle.chord_event.specs.declared.block.Block.{Block}
 use Rattle.chord_event.specs.declared.line.Line.{Line}
-use Rattle.chord_event.specs.Keys.{IsBefore}
-use Rattle.chord_event.specs.KeyOrder.{InKeyOrder}
-use Rattle.chord_event.proofs.KeyLists.{all_from, all_in, Contains-from_IsIn, IsIn-from_Contains}
-use Rattle.chord_event.proofs.Members.{contains_filter, filter_contains}
+use Rattle.des_event.specs.Keys.{IsBefore}
+use Rattle.des_event.specs.KeyOrder.{InKeyOrder}
+use Rattle.des_event.proofs.KeyLists.{all_from, all_in, Contains-from_IsIn, IsIn-from_Contains}
+use Rattle.des_event.proofs.Members.{contains_filter, filter_contains}
 use Rattle.chord_scenario.specs.Setup.{Setup}
 use Rattle.chord_trace.specs.Merging.{block_key}
 use Rattle.chord_trace.specs.Texts.{block_text, line_text}

@@ -32,9 +32,9 @@ use Rattle.std.specs.Prelude.{IfSome, ⊤}
 use Rattle.std.specs.List.{All, Contains}
 use Rattle.std.proofs.lemmas.List.{take_more}
 use Rattle.std.proofs.lemmas.List.Elements.{All-cons, All-more, All-nil, All-weaker}
-use Rattle.chord_event.specs.declared.error.RunError.{RunError}
-use Rattle.chord_event.specs.declared.error.RunError.TheVariants as run
-use Rattle.chord_event.proofs.Members.{All_at, contains_here, contains_left, contains_right}
+use Rattle.des_event.specs.declared.error.RunError.{RunError}
+use Rattle.des_event.specs.declared.error.RunError.TheVariants as run
+use Rattle.des_event.proofs.Members.{All_at, contains_here, contains_left, contains_right}
 use Rattle.chord_machine.specs.Run.{HasTooManyEvents}
 use Rattle.chord_output.specs.Faults.{rank_of}
 use Rattle.chord_scenario.specs.declared.scenario.Scenario.{Scenario}

@@ -4,12 +4,12 @@ use Rattle.std.specs.Prelude.{nat_lt}
 use Rattle.std.proofs.lemmas.Bool.{cases_lt}
 use Rattle.std.specs.List.{Contains}
 use Rattle.chord_event.specs.declared.body.Body.{Body}
-use Rattle.chord_event.specs.declared.event.Event.{Event}
-use Rattle.chord_event.proofs.Members.{contains_append, contains_left, contains_none, contains_right}
+use Rattle.des_event.specs.declared.event.Event.{Event}
+use Rattle.des_event.proofs.Members.{contains_append, contains_left, contains_none, contains_right}
 use Rattle.chord_machine.specs.Chord.{chord}
-use Rattle.chord_model.specs.Histories.{next, pending}
-use Rattle.chord_model.specs.Windows.{part_of}
-use Rattle.chord_model.proofs.Runs.{next-None, next-Some, none_from_late}
+use Rattle.des_model.specs.Histories.{next, pending}
+use Rattle.des_model.specs.Windows.{part_of}
+use Rattle.des_model.proofs.Runs.{next-None, next-Some, none_from_late}
 use Rattle.chord_scenario.specs.declared.scenario.Scenario.{Scenario}
 use Rattle.chord_scenario.specs.Range.{IsInRange}
 use Rattle.chord_window.specs.Delivery.{sooner}

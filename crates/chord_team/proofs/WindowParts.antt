@@ -3,18 +3,18 @@ use Rattle.std.proofs.Common.{◌≡◌, ◌≢◌, ◌∙◌, ◌↔◌, ◌⊎
 use Rattle.std.proofs.lemmas.List.{get_or-map, length-map}
 use Rattle.std.specs.List.{Contains}
 use Rattle.chord_event.specs.declared.body.Body.{Body}
-use Rattle.chord_event.specs.declared.event.Event.{Event}
-use Rattle.chord_event.proofs.Members.{All_at, AllPairs_append, AllPairs_front, AllPairs_none, contains_append, contains_left, contains_none, contains_right}
+use Rattle.des_event.specs.declared.event.Event.{Event}
+use Rattle.des_event.proofs.Members.{All_at, AllPairs_append, AllPairs_front, AllPairs_none, contains_append, contains_left, contains_none, contains_right}
 use Rattle.chord_machine.specs.Chord.{chord}
-use Rattle.chord_model.specs.Histories.{IsPossible, all_events, effect_after, pending, state}
-use Rattle.chord_model.specs.Laws.{Commutes}
-use Rattle.chord_model.specs.Windows.{part_of, made_since}
-use Rattle.chord_model.proofs.Commuting.{node_in_range}
-use Rattle.chord_model.proofs.Distinct.{meets}
-use Rattle.chord_model.proofs.Made.{known_from_since}
-use Rattle.chord_model.proofs.Pending.{waits_from}
-use Rattle.chord_model.proofs.Runs.{possible_from_legal}
-use Rattle.chord_model.proofs.WindowCourse.{possible_run, since_apart, since_fresh}
+use Rattle.des_model.specs.Histories.{IsPossible, all_events, effect_after, pending, state}
+use Rattle.des_model.specs.Laws.{Commutes}
+use Rattle.des_model.specs.Windows.{part_of, made_since}
+use Rattle.des_model.proofs.Commuting.{node_in_range}
+use Rattle.des_model.proofs.Distinct.{meets}
+use Rattle.des_model.proofs.Made.{known_from_since}
+use Rattle.des_model.proofs.Pending.{waits_from}
+use Rattle.des_model.proofs.Runs.{possible_from_legal}
+use Rattle.des_model.proofs.WindowCourse.{possible_run, since_apart, since_fresh}
 use Rattle.chord_ops.specs.Sound.{IsSoundEvent}
 use Rattle.chord_scenario.specs.declared.scenario.Scenario.{Scenario}
 use Rattle.chord_scenario.specs.Range.{IsInRange}

@@ -4,18 +4,18 @@ use Rattle.std.specs.List.{All, Contains}
 use Rattle.std.specs.Prelude.{IfNone}
 use Rattle.chord_event.specs.declared.block.Block.{Block}
 use Rattle.chord_event.specs.declared.body.Body.{Body}
-use Rattle.chord_event.specs.declared.event.Event.{Event}
+use Rattle.des_event.specs.declared.event.Event.{Event}
 use Rattle.chord_machine.specs.Chord.{chord}
 use Rattle.chord_machine.specs.Run.{HasTooManyEvents}
 use Rattle.chord_machine.specs.Sound.{IsStateOf}
 use Rattle.chord_machine.proofs.WellFormed.{well_formed}
-use Rattle.chord_model.specs.Histories.{history}
-use Rattle.chord_model.specs.Laws.{Commutes, MayOpen}
-use Rattle.chord_model.specs.WellFormed.{IsWellFormed}
-use Rattle.chord_model.specs.Windows.{part_of, IsSealedRun, events_run, made_since, pieces_since}
-use Rattle.chord_model.proofs.Horizons.{horizon_may_open}
-use Rattle.chord_model.proofs.Runs.{history_is_legal}
-use Rattle.chord_model.proofs.WindowCourse.{events_run_is, sum_to, window_commutes, window_history, window_long, window_over, window_some}
+use Rattle.des_model.specs.Histories.{history}
+use Rattle.des_model.specs.Laws.{Commutes, MayOpen}
+use Rattle.des_model.specs.WellFormed.{IsWellFormed}
+use Rattle.des_model.specs.Windows.{part_of, IsSealedRun, events_run, made_since, pieces_since}
+use Rattle.des_model.proofs.Horizons.{horizon_may_open}
+use Rattle.des_model.proofs.Runs.{history_is_legal}
+use Rattle.des_model.proofs.WindowCourse.{events_run_is, sum_to, window_commutes, window_history, window_long, window_over, window_some}
 use Rattle.chord_ops.specs.Sound.{IsSoundEvent}
 use Rattle.chord_scenario.specs.declared.scenario.Scenario.{Scenario}
 use Rattle.chord_scenario.specs.Range.{IsInRange}

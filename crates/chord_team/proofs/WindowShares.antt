@@ -4,10 +4,10 @@ use Rattle.std.specs.Prelude.{◌==◌}
 use Rattle.std.specs.List.{filter}
 use mathlib.Core.List.{reverse-cons}
 use Rattle.chord_event.specs.declared.body.Body.{Body}
-use Rattle.chord_event.specs.declared.event.Event.{Event}
+use Rattle.des_event.specs.declared.event.Event.{Event}
 use Rattle.chord_machine.specs.Chord.{chord}
-use Rattle.chord_model.specs.Histories.{effect_after}
-use Rattle.chord_model.specs.Windows.{Division, part_of, pieces_since}
+use Rattle.des_model.specs.Histories.{effect_after}
+use Rattle.des_model.specs.Windows.{Division, part_of, pieces_since}
 use Rattle.chord_scenario.specs.declared.scenario.Scenario.{Scenario}
 use Rattle.chord_trace.specs.declared.piece.Piece.{Piece}
 use Rattle.chord_team.specs.Owned.{share_of}

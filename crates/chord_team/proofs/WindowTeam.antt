@@ -6,9 +6,9 @@ use Rattle.std.specs.List.{filter, flat_map}
 use Rattle.std.specs.Prelude.{nat_le}
 use Rattle.chord_event.specs.declared.block.Block.{Block}
 use Rattle.chord_event.specs.declared.body.Body.{Body}
-use Rattle.chord_event.specs.declared.event.Event.{Event}
+use Rattle.des_event.specs.declared.event.Event.{Event}
 use Rattle.chord_machine.specs.Chord.{chord}
-use Rattle.chord_model.specs.Histories.{history, next, open_audits, output}
+use Rattle.des_model.specs.Histories.{history, next, open_audits, output}
 use Rattle.chord_output.specs.Runs.{IsBeginning, Writes}
 use Rattle.chord_output.proofs.Outputs.{fronts_longer, fronts_then, writes_then}
 use Rattle.chord_output.proofs.Runs.{begun_next}

@@ -6,21 +6,21 @@ use Rattle.std.specs.Prelude.{nat_lt}
 use Rattle.std.specs.List.{All, AllByRecursion, AllPairs, Contains, filter}
 use Rattle.chord_event.specs.declared.block.Block.{Block}
 use Rattle.chord_event.specs.declared.body.Body.{Body}
-use Rattle.chord_event.specs.declared.event.Event.{Event}
-use Rattle.chord_event.specs.Keys.{IsBefore}
-use Rattle.chord_event.specs.KeyOrder.{InKeyOrder, put_in_order}
-use Rattle.chord_event.proofs.KeyLists.{IsIn, all_from, all_in, in_put, ordered_put, put_in, Contains-from_IsIn, IsIn-from_Contains}
-use Rattle.chord_event.proofs.Members.{AllPairs_append, AllPairs_at, AllPairs_cons, AllPairs_none, AllPairs_rest, contains_append, contains_here, contains_left, contains_none, contains_right, contains_there}
-use Rattle.chord_event.proofs.Order.{before_not_same}
+use Rattle.des_event.specs.declared.event.Event.{Event}
+use Rattle.des_event.specs.Keys.{IsBefore}
+use Rattle.des_event.specs.KeyOrder.{InKeyOrder, put_in_order}
+use Rattle.des_event.proofs.KeyLists.{IsIn, all_from, all_in, in_put, ordered_put, put_in, Contains-from_IsIn, IsIn-from_Contains}
+use Rattle.des_event.proofs.Members.{AllPairs_append, AllPairs_at, AllPairs_cons, AllPairs_none, AllPairs_rest, contains_append, contains_here, contains_left, contains_none, contains_right, contains_there}
+use Rattle.des_event.proofs.Order.{before_not_same}
 use Rattle.chord_machine.specs.Chord.{chord}
-use Rattle.chord_model.specs.Histories.{history, open_audits, output}
-use Rattle.chord_model.specs.Schedules.{horizon_from}
-use Rattle.chord_model.specs.Windows.{part_of, pieces_since}
-use Rattle.chord_model.proofs.Distinct.{one_event}
-use Rattle.chord_model.proofs.Horizons.{no_audit_inside}
-use Rattle.chord_model.proofs.Parts.{part_run_in, restrict_contains}
-use Rattle.chord_model.proofs.Runs.{legal_known, possible_from_legal}
-use Rattle.chord_model.proofs.WindowCourse.{blocks_merge, in_reverse, part_in_order, window_open, window_output}
+use Rattle.des_model.specs.Histories.{history, open_audits, output}
+use Rattle.des_model.specs.Schedules.{horizon_from}
+use Rattle.des_model.specs.Windows.{part_of, pieces_since}
+use Rattle.des_model.proofs.Distinct.{one_event}
+use Rattle.des_model.proofs.Horizons.{no_audit_inside}
+use Rattle.des_model.proofs.Parts.{part_run_in, restrict_contains}
+use Rattle.des_model.proofs.Runs.{legal_known, possible_from_legal}
+use Rattle.des_model.proofs.WindowCourse.{blocks_merge, in_reverse, part_in_order, window_open, window_output}
 use Rattle.chord_scenario.specs.declared.scenario.Scenario.{Scenario}
 use Rattle.chord_scenario.specs.Range.{IsInRange}
 use Rattle.chord_trace.specs.declared.piece.Piece.TheVariants as piece

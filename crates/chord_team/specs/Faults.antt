@@ -1,8 +1,8 @@
 -- Which fault ends a window.
 use Rattle.std.specs.Prelude.{◌≡◌, ◌⊎◌, ◌<◌, ◌≤◌, ℕ, List, Some, IfSome, length}
 use Rattle.std.specs.List.{All, Contains}
-use Rattle.chord_event.specs.declared.error.RunError.{RunError}
-use Rattle.chord_event.specs.declared.error.RunError.TheVariants as run
+use Rattle.des_event.specs.declared.error.RunError.{RunError}
+use Rattle.des_event.specs.declared.error.RunError.TheVariants as run
 use Rattle.chord_output.specs.Faults.{rank_of}
 use Rattle.chord_team.specs.declared.part.Finished.{Finished}
 

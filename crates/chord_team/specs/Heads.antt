@@ -4,8 +4,8 @@ use Rattle.std.specs.List.{AllByRecursion, flat_map}
 use Rattle.std.specs.Option.{option_map}
 use Rattle.std.specs.declared.cmp.Ordering.{Ordering}
 use Rattle.chord_event.specs.declared.block.Block.{Block}
-use Rattle.chord_event.specs.declared.key.Key.{Key}
-use Rattle.chord_event.specs.Keys.{IsAtMost, IsBefore, key_cmp}
+use Rattle.des_event.specs.declared.key.Key.{Key}
+use Rattle.des_event.specs.Keys.{IsAtMost, IsBefore, key_cmp}
 use Rattle.chord_scenario.specs.Setup.{Setup}
 use Rattle.chord_team.specs.declared.output.Head.{Head}
 use Rattle.chord_team.specs.declared.output.Mark.{Mark}

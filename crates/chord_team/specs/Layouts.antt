@@ -1,6 +1,6 @@
 -- Where the states of the nodes lie.
 use Rattle.std.specs.Prelude.{◌≡◌, ◌<◌, ◌+◌, ◌==◌, ℕ, zero, suc, if◌then◌else◌, length, slice_index}
-use Rattle.chord_model.specs.Windows.{Division, Divides, part_of}
+use Rattle.des_model.specs.Windows.{Division, Divides, part_of}
 use Rattle.chord_scenario.specs.declared.scenario.Scenario.{Scenario}
 use Rattle.chord_scenario.specs.World.{node_count}
 use Rattle.chord_team.specs.declared.layout.Layout.{Layout}

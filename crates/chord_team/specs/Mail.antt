@@ -3,7 +3,7 @@ use Rattle.std.specs.Prelude.{◌≡◌, ◌⊎◌, ◌<◌, ℕ, List, [], map,
 use Rattle.std.specs.Global.{Global}
 use Rattle.std.specs.List.{All, Contains, flat_map}
 use Rattle.chord_event.specs.declared.body.Body.{Body}
-use Rattle.chord_event.specs.declared.event.Event.{Event}
+use Rattle.des_event.specs.declared.event.Event.{Event}
 
 abbrev pub items_of : Vec (Event Body) Global → List (Event Body)
 items_of list = list.items

@@ -3,13 +3,13 @@ use Rattle.std.specs.Prelude.{◌≡◌, ◌≢◌, ◌⊎◌, ◌+◌, ◌<◌,
 use Rattle.std.specs.List.{All, Contains}
 use Rattle.chord_event.specs.declared.block.Block.{Block}
 use Rattle.chord_event.specs.declared.body.Body.{Body}
-use Rattle.chord_event.specs.declared.event.Event.{Event}
-use Rattle.chord_event.specs.declared.error.RunError.{RunError}
-use Rattle.chord_event.specs.declared.error.RunError.TheVariants as run
+use Rattle.des_event.specs.declared.event.Event.{Event}
+use Rattle.des_event.specs.declared.error.RunError.{RunError}
+use Rattle.des_event.specs.declared.error.RunError.TheVariants as run
 use Rattle.chord_machine.specs.Chord.{chord}
 use Rattle.chord_machine.specs.Run.{HasTooManyEvents}
-use Rattle.chord_model.specs.Histories.{history}
-use Rattle.chord_model.specs.Windows.{part_of, IsSealedRun, made_since, pieces_since}
+use Rattle.des_model.specs.Histories.{history}
+use Rattle.des_model.specs.Windows.{part_of, IsSealedRun, made_since, pieces_since}
 use Rattle.chord_scenario.specs.declared.scenario.Scenario.{Scenario}
 use Rattle.chord_trace.specs.declared.piece.Piece.TheVariants as piece
 use Rattle.chord_window.specs.Worlds.{opening_after}

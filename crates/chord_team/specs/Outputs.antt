@@ -2,7 +2,7 @@
 use Rattle.std.specs.Prelude.{◌≡◌, ◌≢◌, ◌↔◌, ◌<◌, ◌+◌, ℕ, ◌==◌, Bool, not, List, [], ◌∷◌, ◌++◌, length, slice_index_or}
 use Rattle.std.specs.List.{AllByRecursion, AllPairs, Contains, filter, flat_map}
 use Rattle.chord_event.specs.declared.block.Block.{Block}
-use Rattle.chord_event.specs.KeyOrder.{InKeyOrder}
+use Rattle.des_event.specs.KeyOrder.{InKeyOrder}
 use Rattle.chord_scenario.specs.Setup.{Setup}
 use Rattle.chord_team.specs.declared.output.Mark.{Mark}
 use Rattle.chord_team.specs.declared.output.Output.{Output}

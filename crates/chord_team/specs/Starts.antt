@@ -2,11 +2,11 @@
 use Rattle.std.specs.Prelude.{◌≡◌, ◌↔◌, ◌<◌, ◌++◌, ◌==◌, ℕ, suc, if◌then◌else◌, List, [], ◌∷◌, Option, None, Some, length, slice_index_or}
 use Rattle.std.specs.List.{Contains}
 use Rattle.chord_event.specs.declared.body.Body.{Body}
-use Rattle.chord_event.specs.declared.event.Event.{Event}
-use Rattle.chord_event.specs.KeyOrder.{InKeyOrder}
-use Rattle.chord_model.specs.Windows.{Division, part_of}
+use Rattle.des_event.specs.declared.event.Event.{Event}
+use Rattle.des_event.specs.KeyOrder.{InKeyOrder}
+use Rattle.des_model.specs.Windows.{Division, part_of}
 use Rattle.chord_node.specs.declared.state.NodeState.{NodeState}
-use Rattle.chord_queue.specs.EventKey.{event_key}
+use Rattle.des_queue.specs.EventKey.{event_key}
 use Rattle.chord_scenario.specs.declared.scenario.Scenario.{Scenario}
 use Rattle.chord_trace.specs.Tally.{IsTallyOf}
 use Rattle.chord_team.specs.declared.part.OwnedPart.{OwnedPart}

@@ -1,6 +1,6 @@
 -- How the states of all nodes are put together, and given back to the parts.
 use Rattle.std.specs.Prelude.{◌≡◌, ◌<◌, ◌≤◌, ◌^◌, ℕ, List, Option, None, Some, length, slice_index_or, slice_set}
-use Rattle.chord_model.specs.Windows.{Divides, part_of}
+use Rattle.des_model.specs.Windows.{Divides, part_of}
 use Rattle.chord_node.specs.declared.state.NodeState.{NodeState}
 use Rattle.chord_team.specs.declared.layout.Layout.{Layout}
 use Rattle.chord_team.specs.declared.part.Parcel.{Parcel}

@@ -3,9 +3,9 @@ use Rattle.std.specs.Prelude.{◌≡◌, ◌+◌, ◌<◌, ◌≤◌, ◌++◌, 
 use Rattle.std.specs.Io.KnownBytes.{Appends}
 use Rattle.std.specs.List.{filter}
 use Rattle.chord_event.specs.declared.body.Body.{Body}
-use Rattle.chord_event.specs.declared.event.Event.{Event}
+use Rattle.des_event.specs.declared.event.Event.{Event}
 use Rattle.chord_machine.specs.Chord.{chord}
-use Rattle.chord_model.specs.Histories.{history, next, audit_at, open_audits, output}
+use Rattle.des_model.specs.Histories.{history, next, audit_at, open_audits, output}
 use Rattle.chord_scenario.specs.declared.scenario.Scenario.{Scenario}
 use Rattle.chord_scenario.specs.World.{node_count}
 use Rattle.chord_trace.specs.declared.piece.Piece.{Piece}

@@ -1,7 +1,7 @@
 //! The audits that are due when a window opens.
 ghost use Rattle.std.specs.Prelude.{◌≡◌, ℕ, ◌<◌, List, [], Option, Some, length, OnOk, IfErr, IfSome};
 ghost use Rattle.chord_machine.specs.Chord.{chord};
-ghost use Rattle.chord_model.specs.Histories.{history};
+ghost use Rattle.des_model.specs.Histories.{history};
 ghost use Rattle.chord_team.specs.Swaps.{CanSwap, HaveSwapped, IsStateSwapped};
 ghost use Rattle.chord_team.specs.Teams.{IsOpened, IsTeam};
 ghost use Rattle.chord_window.specs.Worlds.{opening_after};

@@ -1,7 +1,7 @@
 //! The end of a run by a team.
 ghost use Rattle.std.specs.Prelude.{◌≡◌, ◌⊎◌, ℕ, ◌∷◌, List, Option, None, false, IfErr, IfOk, OnOk, ◌++◌, []};
 ghost use Rattle.chord_machine.specs.Chord.{chord};
-ghost use Rattle.chord_model.specs.Histories.{history};
+ghost use Rattle.des_model.specs.Histories.{history};
 ghost use Rattle.chord_output.specs.Runs.{IsRun};
 ghost use Rattle.chord_team.specs.Shares.{tallies_in};
 ghost use Rattle.chord_team.specs.Teams.{IsTeam};

@@ -1,6 +1,6 @@
 //! Where the state of each node lies.
 ghost use Rattle.std.specs.Prelude.{◌≡◌, ◌≢◌, ◌⊎◌, ◌<◌, ℕ, Err, IfErr, IfOk, OnOk, length, slice_index};
-ghost use Rattle.chord_model.specs.Windows.{Divides, part_of};
+ghost use Rattle.des_model.specs.Windows.{Divides, part_of};
 ghost use Rattle.chord_scenario.specs.World.{node_count};
 ghost use Rattle.chord_team.specs.Layouts.{IsLayout, nodes_before};
 

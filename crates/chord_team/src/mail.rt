@@ -2,9 +2,9 @@
 ghost use Rattle.std.specs.Prelude.{◌≡◌, ◌⊎◌, ◌↔◌, ℕ, ◌<◌, ◌++◌, ◌∷◌, [], length, slice_index_or, slice_set, IfOk, OnOk};
 ghost use Rattle.std.specs.List.{All, Contains};
 ghost use Rattle.chord_event.specs.declared.body.Body.{Body as ABody};
-ghost use Rattle.chord_event.specs.declared.event.Event.{Event as AnEvent};
-ghost use Rattle.chord_event.specs.KeyOrder.{InKeyOrder};
-ghost use Rattle.chord_queue.specs.EventKey.{event_key};
+ghost use Rattle.des_event.specs.declared.event.Event.{Event as AnEvent};
+ghost use Rattle.des_event.specs.KeyOrder.{InKeyOrder};
+ghost use Rattle.des_queue.specs.EventKey.{event_key};
 ghost use Rattle.chord_team.specs.Exchanges.{HaveDelivered, given};
 ghost use Rattle.chord_team.specs.Mail.{AreEmpty, AreNamed, all_of, lists_of, mail_in};
 ghost use Rattle.chord_team.specs.Owned.{AreApart};
@@ -32,7 +32,7 @@ pub struct Inbox {
 impl Model for Inbox {
     ghost use Rattle.std.specs.Prelude.{List};
     ghost use Rattle.chord_event.specs.declared.body.Body.{Body};
-    ghost use Rattle.chord_event.specs.declared.event.Event.{Event};
+    ghost use Rattle.des_event.specs.declared.event.Event.{Event};
     ghost use Rattle.chord_team.specs.Mail.{AreEmpty, mail_in};
 
     ghost Value = { List (Event Body) };
@@ -53,7 +53,7 @@ pub struct Outbox {
 impl Model for Outbox {
     ghost use Rattle.std.specs.Prelude.{List};
     ghost use Rattle.chord_event.specs.declared.body.Body.{Body};
-    ghost use Rattle.chord_event.specs.declared.event.Event.{Event};
+    ghost use Rattle.des_event.specs.declared.event.Event.{Event};
     ghost use Rattle.chord_team.specs.Mail.{AreNamed, lists_of};
 
     ghost Value = { List (List (Event Body)) };

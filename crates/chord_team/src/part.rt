@@ -2,10 +2,10 @@
 ghost use Rattle.std.specs.Prelude.{◌≡◌, ◌↔◌, ◌++◌, ◌<◌, [], length, IfOk, IfErr, OnOk};
 ghost use Rattle.std.specs.List.{All, Contains};
 ghost use Rattle.chord_event.specs.declared.body.Body.{Body as ABody};
-ghost use Rattle.chord_event.specs.declared.event.Event.{Event as AnEvent};
-ghost use Rattle.chord_event.specs.KeyOrder.{InKeyOrder};
-ghost use Rattle.chord_model.specs.Windows.{part_of};
-ghost use Rattle.chord_queue.specs.EventKey.{event_key};
+ghost use Rattle.des_event.specs.declared.event.Event.{Event as AnEvent};
+ghost use Rattle.des_event.specs.KeyOrder.{InKeyOrder};
+ghost use Rattle.des_model.specs.Windows.{part_of};
+ghost use Rattle.des_queue.specs.EventKey.{event_key};
 ghost use Rattle.chord_team.specs.Orders.{HasRunAll, IsFault, IsFinished, IsOrder, MayRun};
 ghost use Rattle.chord_team.specs.Running.{HasHandled, HasSent, HasTakenIn, CanHandle, is_due};
 ghost use Rattle.chord_team.specs.Owned.{AreApart};

@@ -1,7 +1,7 @@
 //! The start of a run by a team.
 ghost use Rattle.std.specs.Prelude.{◌≡◌, ℕ, ◌<◌, ◌^◌, [], List, Option, length, slice_index_or, IfErr, IfOk, OnOk};
 ghost use Rattle.std.specs.List.{All};
-ghost use Rattle.chord_model.specs.Windows.{Divides};
+ghost use Rattle.des_model.specs.Windows.{Divides};
 ghost use Rattle.chord_team.specs.declared.part.OwnedPart.{OwnedPart as AnOwnedPart};
 ghost use Rattle.chord_team.specs.Layouts.{IsLayout};
 ghost use Rattle.chord_team.specs.Owned.{AreApart, LeastTimeIs};

@@ -1,7 +1,7 @@
 //! What stays with the caller between windows.
 ghost use Rattle.std.specs.Prelude.{◌≡◌, ℕ, ◌<◌, List, Option, length, IfSome};
 ghost use Rattle.chord_machine.specs.Chord.{chord};
-ghost use Rattle.chord_model.specs.Histories.{history};
+ghost use Rattle.des_model.specs.Histories.{history};
 ghost use Rattle.chord_scenario.specs.declared.scenario.Scenario.{Scenario as AScenario};
 ghost use Rattle.chord_team.specs.declared.layout.Layout.{Layout as ALayout};
 ghost use Rattle.chord_team.specs.Orders.{IsOrderOf};

@@ -4,7 +4,7 @@ ghost use Rattle.chord_machine.specs.Run.{HasTooManyEvents};
 ghost use Rattle.chord_output.specs.Runs.{IsBeginning};
 ghost use Rattle.chord_scenario.specs.declared.scenario.Scenario.{Scenario as AScenario};
 ghost use Rattle.chord_event.specs.declared.body.Body.{Body};
-ghost use Rattle.chord_event.specs.declared.event.Event.{Event as AEvent};
+ghost use Rattle.des_event.specs.declared.event.Event.{Event as AEvent};
 ghost use Rattle.chord_team.specs.declared.layout.Layout.{Layout as ALayout};
 ghost use Rattle.chord_team.specs.Exchanges.{AreBack, AreReady, HasOnlyOutput, HaveExchanged, IsBack, outputs_of, soonest};
 ghost use Rattle.chord_team.specs.Orders.{AreResults, HaveNoFault};

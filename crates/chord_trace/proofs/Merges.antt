@@ -51,13 +51,13 @@ use Rattle.std.proofs.lemmas.List.Sorted.{
 }
 use Rattle.std.proofs.lemmas.List.Sums.{sum_by-cons}
 use Rattle.chord_event.specs.declared.block.Block.{Block}
-use Rattle.chord_event.specs.declared.key.Key.{Key}
-use Rattle.chord_event.specs.KeyOrder.{InKeyOrder}
-use Rattle.chord_event.specs.Keys.{IsBefore, IsAtMost, is_before, is_same_key, key_cmp}
-use Rattle.chord_event.proofs.Compare.{less_from_before}
-use Rattle.chord_event.proofs.KeyLists.{IsIn, all_from, all_in, Contains-from_IsIn, IsIn-from_Contains}
-use Rattle.chord_event.proofs.Members.{AllPairs_at, AllPairs_rest}
-use Rattle.chord_event.proofs.Order.{at_most_from_before, at_most_trans, before_from_at_most, is_before-false, is_before-true, is_same_key-true, same_key-self}
+use Rattle.des_event.specs.declared.key.Key.{Key}
+use Rattle.des_event.specs.KeyOrder.{InKeyOrder}
+use Rattle.des_event.specs.Keys.{IsBefore, IsAtMost, is_before, is_same_key, key_cmp}
+use Rattle.des_event.proofs.Compare.{less_from_before}
+use Rattle.des_event.proofs.KeyLists.{IsIn, all_from, all_in, Contains-from_IsIn, IsIn-from_Contains}
+use Rattle.des_event.proofs.Members.{AllPairs_at, AllPairs_rest}
+use Rattle.des_event.proofs.Order.{at_most_from_before, at_most_trans, before_from_at_most, is_before-false, is_before-true, is_same_key-true, same_key-self}
 use Rattle.chord_trace.specs.Heads.{ahead, head_cmp, put_filled, with_blocks}
 use Rattle.chord_trace.specs.Merging.{CanMerge, IsMerged, all_blocks, block_key}
 use Rattle.chord_trace.specs.declared.merging.Head.{Head}

@@ -4,8 +4,8 @@ use Rattle.std.specs.Global.{Global}
 use Rattle.std.specs.Vec.Iter.{into_iter_items}
 use Rattle.std.specs.declared.cmp.Ordering.{Ordering}
 use Rattle.chord_event.specs.declared.block.Block.{Block}
-use Rattle.chord_event.specs.declared.key.Key.{Key}
-use Rattle.chord_event.specs.Keys.{key_cmp}
+use Rattle.des_event.specs.declared.key.Key.{Key}
+use Rattle.des_event.specs.Keys.{key_cmp}
 use Rattle.chord_trace.specs.declared.merging.Head.{Head}
 
 abbrev pub head_key : Head → Key

@@ -6,7 +6,7 @@ ghost use Rattle.std.proofs.Common.{rules};
 ghost use Rattle.std.specs.Cmp.{partial_order_from_own_ties};
 ghost use Rattle.std.specs.Cmp.Rules.{comparing};
 ghost use Rattle.std.specs.Ordering.{on, flip_args, as_partial_cmp};
-ghost use Rattle.chord_event.specs.Keys.{key_cmp, is_same_key};
+ghost use Rattle.des_event.specs.Keys.{key_cmp, is_same_key};
 ghost use Rattle.chord_trace.specs.Heads.{head_key, head_cmp, ahead, with_blocks};
 ghost use Rattle.chord_trace.specs.Merging.{CanMerge, IsMerged, all_blocks};
 

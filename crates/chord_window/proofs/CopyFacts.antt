@@ -32,8 +32,8 @@ use Rattle.std.proofs.lemmas.Bool.{cases_eq, cases_lt}
 use Rattle.std.proofs.lemmas.Option.{none-some}
 use Rattle.std.proofs.Math.ListN.{get_or-append, length-set}
 use Rattle.std.proofs.Math.Seq.{get_or-append_seam}
-use Rattle.chord_model.specs.Windows.{Division, part_of}
-use Rattle.chord_model.proofs.Course.{same_read}
+use Rattle.des_model.specs.Windows.{Division, part_of}
+use Rattle.des_model.proofs.Course.{same_read}
 use Rattle.chord_node.specs.declared.state.NodeState.{NodeState}
 use Rattle.chord_window.specs.declared.copies.Copies.{Copies}
 use Rattle.chord_window.specs.Copies.{in_slot, seen, IsSlot, AreCopies, HaveSeen}

@@ -4,8 +4,8 @@ use Rattle.std.proofs.KnownBytes.{Appends-nil}
 use Rattle.std.specs.Io.KnownBytes.{Appends}
 use Rattle.chord_machine.specs.AuditTimes.{audit_times}
 use Rattle.chord_machine.specs.Chord.{chord}
-use Rattle.chord_model.specs.Histories.{history, open_audits, output}
-use Rattle.chord_model.specs.Scribes.{IsAtEnd}
+use Rattle.des_model.specs.Histories.{history, open_audits, output}
+use Rattle.des_model.specs.Scribes.{IsAtEnd}
 use Rattle.chord_output.specs.Runs.{Writes}
 use Rattle.chord_output.proofs.Ends.{audits_at_start}
 use Rattle.chord_scenario.specs.declared.scenario.Scenario.{Scenario}

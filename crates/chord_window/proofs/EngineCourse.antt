@@ -37,13 +37,13 @@ use Rattle.std.specs.List.{All, Contains, cons_option, filter, flat_map}
 use Rattle.chord_audit.specs.Audit.{AreStates}
 use Rattle.chord_event.specs.declared.block.Block.{Block}
 use Rattle.chord_event.specs.declared.body.Body.{Body}
-use Rattle.chord_event.specs.declared.event.Event.{Event}
-use Rattle.chord_event.proofs.Members.{All_at, All_from, contains_append, contains_none}
+use Rattle.des_event.specs.declared.event.Event.{Event}
+use Rattle.des_event.proofs.Members.{All_at, All_from, contains_append, contains_none}
 use Rattle.chord_machine.specs.Chord.{chord}
-use Rattle.chord_model.specs.Histories.{effect_after, history, open_audits, output, state}
-use Rattle.chord_model.specs.Scribes.{due}
-use Rattle.chord_model.specs.Windows.{Division, pieces_since}
-use Rattle.chord_model.proofs.Audits.{output_next}
+use Rattle.des_model.specs.Histories.{effect_after, history, open_audits, output, state}
+use Rattle.des_model.specs.Scribes.{due}
+use Rattle.des_model.specs.Windows.{Division, pieces_since}
+use Rattle.des_model.proofs.Audits.{output_next}
 use Rattle.chord_node.specs.declared.state.NodeState.{NodeState}
 use Rattle.chord_node.specs.Invariant.{AllNodes}
 use Rattle.chord_scenario.specs.declared.scenario.Scenario.{Scenario}

@@ -4,18 +4,18 @@ use Rattle.std.specs.List.{All, Contains}
 use Rattle.std.specs.Prelude.{IfNone, IfSome}
 use Rattle.chord_event.specs.declared.block.Block.{Block}
 use Rattle.chord_event.specs.declared.body.Body.{Body}
-use Rattle.chord_event.specs.declared.event.Event.{Event}
-use Rattle.chord_event.proofs.Members.{contains_none}
+use Rattle.des_event.specs.declared.event.Event.{Event}
+use Rattle.des_event.proofs.Members.{contains_none}
 use Rattle.chord_machine.specs.Chord.{chord}
 use Rattle.chord_machine.proofs.WellFormed.{well_formed}
-use Rattle.chord_model.specs.Histories.{history, state}
-use Rattle.chord_model.specs.PartRuns.{IsPartAt, part_run}
-use Rattle.chord_model.specs.Windows.{part_of}
-use Rattle.chord_model.proofs.Course.{same_read}
-use Rattle.chord_model.proofs.PartCourse.{part_at_start, part_sealed}
+use Rattle.des_model.specs.Histories.{history, state}
+use Rattle.des_model.specs.PartRuns.{IsPartAt, part_run}
+use Rattle.des_model.specs.Windows.{part_of}
+use Rattle.des_model.proofs.Course.{same_read}
+use Rattle.des_model.proofs.PartCourse.{part_at_start, part_sealed}
 use Rattle.chord_node.specs.declared.state.NodeState.{NodeState}
 use Rattle.chord_node.specs.Ring.{initial_state}
-use Rattle.chord_queue.specs.Queue.{Queue}
+use Rattle.des_queue.specs.Queue.{Queue}
 use Rattle.chord_scenario.specs.declared.scenario.Scenario.{Scenario}
 use Rattle.chord_scenario.specs.Range.{IsInRange}
 use Rattle.chord_scenario.specs.World.{node_count}

@@ -36,8 +36,8 @@ use Rattle.std.specs.Prelude.{All}
 use Rattle.std.specs.List.{Contains}
 use Rattle.std.proofs.lemmas.List.Sums.{sum_by-cons}
 use Rattle.std.proofs.Math.Decide.{ℕ_discrete}
-use Rattle.chord_event.proofs.Members.{contains_cons, contains_none}
-use Rattle.chord_model.proofs.WindowCourse.{sum_to}
+use Rattle.des_event.proofs.Members.{contains_cons, contains_none}
+use Rattle.des_model.proofs.WindowCourse.{sum_to}
 use Rattle.chord_scenario.specs.declared.scenario.Scenario.{Scenario}
 use Rattle.chord_window.specs.declared.part_run.Done.{Done}
 use Rattle.chord_window.specs.declared.world.World.{World}

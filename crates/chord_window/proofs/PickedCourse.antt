@@ -3,13 +3,13 @@ use Rattle.std.proofs.Common.{◌≡◌, ◌∙◌, ℕ, ◌+◌, ◌++◌, List
 use Rattle.std.proofs.lemmas.List.{map-append}
 use Rattle.std.proofs.lemmas.Option.{none-some}
 use Rattle.chord_event.specs.declared.body.Body.{Body}
-use Rattle.chord_event.specs.declared.event.Event.{Event}
+use Rattle.des_event.specs.declared.event.Event.{Event}
 use Rattle.chord_machine.specs.Chord.{chord}
-use Rattle.chord_model.specs.Histories.{history, next}
-use Rattle.chord_model.specs.Schedules.{Goes, begun, begun_at, horizon_from}
-use Rattle.chord_model.specs.Schedules.Goes.{ends}
-use Rattle.chord_model.specs.Schedules.Run.{Ended, Within}
-use Rattle.chord_model.specs.Windows.{Division, opened}
+use Rattle.des_model.specs.Histories.{history, next}
+use Rattle.des_model.specs.Schedules.{Goes, begun, begun_at, horizon_from}
+use Rattle.des_model.specs.Schedules.Goes.{ends}
+use Rattle.des_model.specs.Schedules.Run.{Ended, Within}
+use Rattle.des_model.specs.Windows.{Division, opened}
 use Rattle.chord_scenario.specs.declared.scenario.Scenario.{Scenario}
 use Rattle.chord_window.specs.declared.world.Opening.{Opening}
 use Rattle.chord_window.specs.declared.step.Taken.{Taken}

@@ -41,16 +41,16 @@ use Rattle.std.proofs.Math.ListN.{length-set}
 use Rattle.std.proofs.lemmas.Bool.{cases_eq}
 use Rattle.std.proofs.lemmas.List.Sums.{sum_by-set}
 use Rattle.chord_event.specs.declared.body.Body.{Body}
-use Rattle.chord_event.specs.declared.event.Event.{Event}
-use Rattle.chord_event.specs.declared.key.Key.{Key}
+use Rattle.des_event.specs.declared.event.Event.{Event}
+use Rattle.des_event.specs.declared.key.Key.{Key}
 use Rattle.chord_machine.specs.Chord.{chord}
-use Rattle.chord_model.specs.Histories.{history, least}
-use Rattle.chord_model.specs.PartRuns.{part_run}
-use Rattle.chord_model.specs.Windows.{Part, Step, Window, after_option, after_pick, after_step, next_step, put, running, waiting}
-use Rattle.chord_model.specs.Windows.Step.{Drew, Ran, Sealed}
-use Rattle.chord_model.proofs.Steps.{put_other, put_same}
-use Rattle.chord_model.proofs.Turns.{held_pick}
-use Rattle.chord_queue.specs.Queue.{Queue}
+use Rattle.des_model.specs.Histories.{history, least}
+use Rattle.des_model.specs.PartRuns.{part_run}
+use Rattle.des_model.specs.Windows.{Part, Step, Window, after_option, after_pick, after_step, next_step, put, running, waiting}
+use Rattle.des_model.specs.Windows.Step.{Drew, Ran, Sealed}
+use Rattle.des_model.proofs.Steps.{put_other, put_same}
+use Rattle.des_model.proofs.Turns.{held_pick}
+use Rattle.des_queue.specs.Queue.{Queue}
 use Rattle.chord_scenario.specs.declared.scenario.Scenario.{Scenario}
 use Rattle.chord_window.specs.declared.part_run.Done.{Done}
 use Rattle.chord_window.specs.declared.part_run.PartRun.{PartRun}

@@ -35,14 +35,14 @@ use Rattle.std.specs.Option.{option_or}
 use Rattle.std.proofs.lemmas.Bool.{cases_eq}
 use Rattle.std.proofs.lemmas.List.{map-append}
 use Rattle.chord_event.specs.declared.body.Body.{Body}
-use Rattle.chord_event.specs.declared.event.Event.{Event}
+use Rattle.des_event.specs.declared.event.Event.{Event}
 use Rattle.chord_machine.specs.Chord.{chord}
-use Rattle.chord_model.specs.Schedules.{Goes, all_sealed, begun, can_step, lowest, settled, turn}
-use Rattle.chord_model.specs.Schedules.Goes.{steps}
-use Rattle.chord_model.specs.Schedules.Run.{Within}
-use Rattle.chord_model.specs.Windows.{Division, Step, Window, after_step, left_by, next_step, opened, ran_by}
-use Rattle.chord_model.specs.Windows.Step.{Drew}
-use Rattle.chord_model.proofs.Turns.{someone_can_step}
+use Rattle.des_model.specs.Schedules.{Goes, all_sealed, begun, can_step, lowest, settled, turn}
+use Rattle.des_model.specs.Schedules.Goes.{steps}
+use Rattle.des_model.specs.Schedules.Run.{Within}
+use Rattle.des_model.specs.Windows.{Division, Step, Window, after_step, left_by, next_step, opened, ran_by}
+use Rattle.des_model.specs.Windows.Step.{Drew}
+use Rattle.des_model.proofs.Turns.{someone_can_step}
 use Rattle.chord_scenario.specs.declared.scenario.Scenario.{Scenario}
 use Rattle.chord_window.specs.declared.part_run.Done.{Done}
 use Rattle.chord_window.specs.declared.part_run.PartRun.{PartRun}

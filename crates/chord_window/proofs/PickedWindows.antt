@@ -31,12 +31,12 @@ use Rattle.std.proofs.lemmas.Bool.{and_parts, cases_eq}
 use Rattle.chord_event.specs.declared.body.Body.{Body}
 use Rattle.chord_machine.specs.Chord.{chord}
 use Rattle.chord_machine.proofs.WellFormed.{well_formed}
-use Rattle.chord_model.specs.Histories.{history}
-use Rattle.chord_model.specs.Schedules.{Goes, all_sealed, begun}
-use Rattle.chord_model.specs.Schedules.Run.{Within}
-use Rattle.chord_model.specs.Windows.{IsSealedRun, Part, Window, left_by, opened, ran_by}
-use Rattle.chord_model.proofs.Commuting.{windows_leave_histories}
-use Rattle.chord_model.proofs.WindowCourse.{events_run_is, sum_to}
+use Rattle.des_model.specs.Histories.{history}
+use Rattle.des_model.specs.Schedules.{Goes, all_sealed, begun}
+use Rattle.des_model.specs.Schedules.Run.{Within}
+use Rattle.des_model.specs.Windows.{IsSealedRun, Part, Window, left_by, opened, ran_by}
+use Rattle.des_model.proofs.Commuting.{windows_leave_histories}
+use Rattle.des_model.proofs.WindowCourse.{events_run_is, sum_to}
 use Rattle.chord_scenario.specs.declared.scenario.Scenario.{Scenario}
 use Rattle.chord_scenario.specs.Range.{IsInRange}
 use Rattle.chord_window.specs.declared.world.Opening.{Opening}

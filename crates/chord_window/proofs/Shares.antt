@@ -53,10 +53,10 @@ use Rattle.std.specs.Global.{Global}
 use Rattle.std.specs.List.{AllPairs}
 use Rattle.std.specs.List.Sorted.{IsPermutation}
 use Rattle.chord_event.specs.declared.block.Block.{Block}
-use Rattle.chord_event.specs.KeyOrder.{InKeyOrder, put_in_order}
-use Rattle.chord_event.specs.Keys.{is_before}
-use Rattle.chord_event.proofs.KeyLists.{all_from, ordered_put, same_list, Contains-from_IsIn, IsIn-from_Contains}
-use Rattle.chord_event.proofs.Members.{AllPairs_at, AllPairs_rest}
+use Rattle.des_event.specs.KeyOrder.{InKeyOrder, put_in_order}
+use Rattle.des_event.specs.Keys.{is_before}
+use Rattle.des_event.proofs.KeyLists.{all_from, ordered_put, same_list, Contains-from_IsIn, IsIn-from_Contains}
+use Rattle.des_event.proofs.Members.{AllPairs_at, AllPairs_rest}
 use Rattle.chord_trace.specs.Merging.{CanMerge, IsMerged, all_blocks, block_key}
 use Rattle.chord_trace.specs.declared.piece.Piece.{Piece}
 use Rattle.chord_trace.specs.declared.piece.Piece.TheVariants as piece

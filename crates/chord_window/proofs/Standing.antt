@@ -4,23 +4,23 @@ use Rattle.std.proofs.lemmas.Bool.{cases_eq}
 use Rattle.std.proofs.lemmas.List.FromFn.{get_or-map-range_with_len, length-map-range_with_len}
 use Rattle.std.specs.List.{AllPairs, Contains, flat_map}
 use Rattle.chord_event.specs.declared.body.Body.{Body}
-use Rattle.chord_event.specs.declared.event.Event.{Event}
-use Rattle.chord_event.proofs.Members.{All_at, AllPairs_append, AllPairs_none, contains_append, contains_left, contains_none, contains_right}
+use Rattle.des_event.specs.declared.event.Event.{Event}
+use Rattle.des_event.proofs.Members.{All_at, AllPairs_append, AllPairs_none, contains_append, contains_left, contains_none, contains_right}
 use Rattle.chord_machine.specs.Chord.{chord}
 use Rattle.chord_machine.specs.Sound.{IsStateOf}
 use Rattle.chord_machine.proofs.StartEvents.{starts_apart}
 use Rattle.chord_machine.proofs.WellFormed.{well_formed}
-use Rattle.chord_model.specs.Histories.{IsPossible, all_events, history, pending}
-use Rattle.chord_model.specs.WellFormed.{IsWellFormed}
-use Rattle.chord_model.specs.Windows.{Division, Divides, part_of}
-use Rattle.chord_model.proofs.Commuting.{node_in_range}
-use Rattle.chord_model.proofs.Distinct.{meets, one_event}
-use Rattle.chord_model.proofs.Pending.{waits_from}
-use Rattle.chord_model.proofs.Rest.{pending_is_rest}
-use Rattle.chord_model.proofs.Runs.{history_is_legal, possible_from_legal}
+use Rattle.des_model.specs.Histories.{IsPossible, all_events, history, pending}
+use Rattle.des_model.specs.WellFormed.{IsWellFormed}
+use Rattle.des_model.specs.Windows.{Division, Divides, part_of}
+use Rattle.des_model.proofs.Commuting.{node_in_range}
+use Rattle.des_model.proofs.Distinct.{meets, one_event}
+use Rattle.des_model.proofs.Pending.{waits_from}
+use Rattle.des_model.proofs.Rest.{pending_is_rest}
+use Rattle.des_model.proofs.Runs.{history_is_legal, possible_from_legal}
 use Rattle.chord_node.specs.Ring.{initial_ring, initial_state}
 use Rattle.chord_ops.specs.Sound.{IsSoundEvent}
-use Rattle.chord_queue.proofs.Inserting.{ordered_apart}
+use Rattle.des_queue.proofs.Inserting.{ordered_apart}
 use Rattle.chord_scenario.specs.declared.scenario.Scenario.{Scenario}
 use Rattle.chord_scenario.specs.Range.{IsInRange}
 use Rattle.chord_scenario.specs.Start.{start_events}

@@ -28,13 +28,13 @@ use Rattle.std.proofs.Common.{
 }
 use Rattle.std.specs.List.{Contains}
 use Rattle.chord_event.specs.declared.body.Body.{Body}
-use Rattle.chord_event.specs.declared.event.Event.{Event}
-use Rattle.chord_event.specs.KeyOrder.{InKeyOrder, from_on}
+use Rattle.des_event.specs.declared.event.Event.{Event}
+use Rattle.des_event.specs.KeyOrder.{InKeyOrder, from_on}
 use Rattle.chord_machine.specs.Run.{HasTooManyEvents}
 use Rattle.chord_ops.specs.Rules.{effect}
-use Rattle.chord_queue.specs.EventKey.{event_key}
-use Rattle.chord_queue.specs.Queue.{Queue, queue}
-use Rattle.chord_queue.proofs.Inserting.{AreApart}
+use Rattle.des_queue.specs.EventKey.{event_key}
+use Rattle.des_queue.specs.Queue.{Queue, queue}
+use Rattle.des_queue.proofs.Inserting.{AreApart}
 use Rattle.chord_scenario.specs.declared.scenario.Scenario.{Scenario}
 use Rattle.chord_scenario.specs.Range.{IsInRange}
 use Rattle.chord_window.specs.declared.part_run.PartRun.{PartRun}

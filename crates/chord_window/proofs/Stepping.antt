@@ -34,10 +34,10 @@ use Rattle.std.proofs.Common.{
 use Rattle.std.specs.List.{All, Contains, cons_option}
 use Rattle.std.proofs.lemmas.List.{map-append}
 use Rattle.chord_event.specs.declared.body.Body.{Body}
-use Rattle.chord_event.specs.declared.event.Event.{Event}
-use Rattle.chord_event.specs.Keys.{IsAtMost}
-use Rattle.chord_event.specs.KeyOrder.{InKeyOrder, from_on}
-use Rattle.chord_event.proofs.Members.{
+use Rattle.des_event.specs.declared.event.Event.{Event}
+use Rattle.des_event.specs.Keys.{IsAtMost}
+use Rattle.des_event.specs.KeyOrder.{InKeyOrder, from_on}
+use Rattle.des_event.proofs.Members.{
   All_at,
   All_from,
   AllPairs_append,
@@ -58,12 +58,12 @@ use Rattle.chord_machine.specs.Run.{HasTooManyEvents}
 use Rattle.chord_machine.specs.Sound.{IsStateOf}
 use Rattle.chord_machine.proofs.Room.{room_is_left}
 use Rattle.chord_machine.proofs.WellFormed.{well_formed}
-use Rattle.chord_model.specs.Histories.{history, state}
-use Rattle.chord_model.specs.Laws.{MayOpen}
-use Rattle.chord_model.specs.PartRuns.{IsPartAt, part_run}
-use Rattle.chord_model.specs.WellFormed.{IsWellFormed}
-use Rattle.chord_model.proofs.Distinct.{meets}
-use Rattle.chord_model.proofs.PartCourse.{
+use Rattle.des_model.specs.Histories.{history, state}
+use Rattle.des_model.specs.Laws.{MayOpen}
+use Rattle.des_model.specs.PartRuns.{IsPartAt, part_run}
+use Rattle.des_model.specs.WellFormed.{IsWellFormed}
+use Rattle.des_model.proofs.Distinct.{meets}
+use Rattle.des_model.proofs.PartCourse.{
   made_all_apart,
   made_new,
   part_event_early,
@@ -76,16 +76,16 @@ use Rattle.chord_model.proofs.PartCourse.{
   part_seen,
   part_sound,
 }
-use Rattle.chord_model.proofs.Runs.{history_is_legal, possible_from_legal}
+use Rattle.des_model.proofs.Runs.{history_is_legal, possible_from_legal}
 use Rattle.chord_node.specs.declared.state.NodeState.{NodeState}
 use Rattle.chord_node.specs.Ring.{initial_state}
 use Rattle.chord_ops.specs.Limits.{most_made}
 use Rattle.chord_ops.specs.Rules.{block_of, effect}
 use Rattle.chord_ops.specs.Sound.{IsSoundEvent}
 use Rattle.chord_ops.proofs.GrowingRules.{grows_effect}
-use Rattle.chord_queue.specs.EventKey.{event_key}
-use Rattle.chord_queue.specs.Queue.{Queue}
-use Rattle.chord_queue.proofs.Inserting.{AreApart, apart_across, ordered_apart}
+use Rattle.des_queue.specs.EventKey.{event_key}
+use Rattle.des_queue.specs.Queue.{Queue}
+use Rattle.des_queue.proofs.Inserting.{AreApart, apart_across, ordered_apart}
 use Rattle.chord_scenario.specs.declared.scenario.Scenario.{Scenario}
 use Rattle.chord_scenario.specs.Range.{IsInRange}
 use Rattle.chord_scenario.specs.World.{node_count}

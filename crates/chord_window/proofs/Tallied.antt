@@ -34,7 +34,7 @@ use Rattle.std.proofs.lemmas.List.Sorted.{IsPermutation-sym, length_permutation}
 use Rattle.std.specs.Global.{Global}
 use Rattle.std.specs.List.Sorted.{IsPermutation}
 use Rattle.chord_event.specs.declared.block.Block.{Block}
-use Rattle.chord_model.proofs.Course.{same_read}
+use Rattle.des_model.proofs.Course.{same_read}
 use Rattle.chord_trace.specs.declared.piece.Piece.{Piece}
 use Rattle.chord_trace.specs.declared.piece.Piece.TheVariants as piece
 use Rattle.chord_trace.specs.declared.tally.Tally.{Tally}

@@ -1,7 +1,7 @@
 -- The steps of a worker.
 use Rattle.std.proofs.Common.{◌≡◌, ℕ, ◌<◌, ◌≤◌, None, Some, sym, subst}
 use Rattle.chord_event.specs.declared.body.Body.{Body}
-use Rattle.chord_queue.specs.Queue.{Queue}
+use Rattle.des_queue.specs.Queue.{Queue}
 use Rattle.chord_scenario.specs.declared.scenario.Scenario.{Scenario}
 use Rattle.chord_window.specs.declared.part_run.PartRun.{PartRun}
 use Rattle.chord_window.specs.declared.worker.Worker.{Worker}

@@ -1,6 +1,6 @@
 -- States that were copied at the first touch.
 use Rattle.std.specs.Prelude.{◌≡◌, ◌⊎◌, ◌<◌, ℕ, List, [], Option, Some, None, length, slice_index_or}
-use Rattle.chord_model.specs.Windows.{Division, part_of}
+use Rattle.des_model.specs.Windows.{Division, part_of}
 use Rattle.chord_node.specs.declared.state.NodeState.{NodeState}
 use Rattle.chord_window.specs.declared.copies.Copies.{Copies}
 

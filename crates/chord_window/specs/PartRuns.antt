@@ -28,24 +28,24 @@ use Rattle.std.specs.Prelude.{
 use Rattle.std.specs.List.{All, AllPairs, Contains}
 use Rattle.chord_event.specs.declared.block.Block.{Block}
 use Rattle.chord_event.specs.declared.body.Body.{Body}
-use Rattle.chord_event.specs.declared.event.Event.{Event}
-use Rattle.chord_event.specs.declared.key.Key.{Key}
-use Rattle.chord_event.specs.Keys.{is_before}
-use Rattle.chord_event.specs.KeyOrder.{InKeyOrder}
+use Rattle.des_event.specs.declared.event.Event.{Event}
+use Rattle.des_event.specs.declared.key.Key.{Key}
+use Rattle.des_event.specs.Keys.{is_before}
+use Rattle.des_event.specs.KeyOrder.{InKeyOrder}
 use Rattle.chord_machine.specs.Chord.{chord}
 use Rattle.chord_machine.specs.Room.{HasRoom}
 use Rattle.chord_machine.specs.Sound.{IsStateOf}
-use Rattle.chord_model.specs.Histories.{history, least, state}
-use Rattle.chord_model.specs.Laws.{MayOpen}
-use Rattle.chord_model.specs.PartRuns.{IsPartAt, part_run}
-use Rattle.chord_model.specs.Windows.{Division, part_of, IsSealedRun, made_since, pieces_since, waiting}
+use Rattle.des_model.specs.Histories.{history, least, state}
+use Rattle.des_model.specs.Laws.{MayOpen}
+use Rattle.des_model.specs.PartRuns.{IsPartAt, part_run}
+use Rattle.des_model.specs.Windows.{Division, part_of, IsSealedRun, made_since, pieces_since, waiting}
 use Rattle.chord_node.specs.declared.state.NodeState.{NodeState}
 use Rattle.chord_node.specs.Ring.{initial_state}
 use Rattle.chord_ops.specs.Limits.{most_made}
 use Rattle.chord_ops.specs.Rules.{block_of, effect}
 use Rattle.chord_ops.specs.Sound.{IsSoundEvent}
-use Rattle.chord_queue.specs.EventKey.{event_key}
-use Rattle.chord_queue.specs.Queue.{Queue}
+use Rattle.des_queue.specs.EventKey.{event_key}
+use Rattle.des_queue.specs.Queue.{Queue}
 use Rattle.chord_scenario.specs.Blocks.{IsBlockOf, most_lines}
 use Rattle.chord_scenario.specs.declared.scenario.Scenario.{Scenario}
 use Rattle.chord_scenario.specs.World.{node_count}

@@ -33,14 +33,14 @@ use Rattle.std.specs.Prelude.{
 use Rattle.std.specs.List.{AllByRecursion}
 use Rattle.std.specs.Option.{option_or}
 use Rattle.chord_event.specs.declared.body.Body.{Body}
-use Rattle.chord_event.specs.declared.event.Event.{Event}
+use Rattle.des_event.specs.declared.event.Event.{Event}
 use Rattle.chord_machine.specs.Chord.{chord}
-use Rattle.chord_model.specs.Histories.{history}
-use Rattle.chord_model.specs.PartRuns.{part_run}
-use Rattle.chord_model.specs.Schedules.{Goes, Run, begun, settled}
-use Rattle.chord_model.specs.Schedules.Run.{Within}
-use Rattle.chord_model.specs.Windows.{Division, Step, Window, after_step, next_step, opened}
-use Rattle.chord_model.specs.Windows.Step.{Drew, Ran, Sealed}
+use Rattle.des_model.specs.Histories.{history}
+use Rattle.des_model.specs.PartRuns.{part_run}
+use Rattle.des_model.specs.Schedules.{Goes, Run, begun, settled}
+use Rattle.des_model.specs.Schedules.Run.{Within}
+use Rattle.des_model.specs.Windows.{Division, Step, Window, after_step, next_step, opened}
+use Rattle.des_model.specs.Windows.Step.{Drew, Ran, Sealed}
 use Rattle.chord_scenario.specs.declared.scenario.Scenario.{Scenario}
 use Rattle.chord_window.specs.declared.part_run.Done.{Done}
 use Rattle.chord_window.specs.declared.part_run.PartRun.{PartRun}

@@ -1,12 +1,12 @@
 -- Runs whose workers take their steps in turn.
 use Rattle.std.specs.Prelude.{◌≡◌, ◌++◌, ℕ, List, [], map, Result, Ok, Err}
 use Rattle.chord_event.specs.declared.body.Body.{Body}
-use Rattle.chord_event.specs.declared.error.RunError.{RunError}
-use Rattle.chord_event.specs.declared.event.Event.{Event}
+use Rattle.des_event.specs.declared.error.RunError.{RunError}
+use Rattle.des_event.specs.declared.event.Event.{Event}
 use Rattle.chord_machine.specs.Chord.{chord}
-use Rattle.chord_model.specs.Histories.{history}
-use Rattle.chord_model.specs.Schedules.{Goes, begun}
-use Rattle.chord_model.specs.Windows.{Division, Step}
+use Rattle.des_model.specs.Histories.{history}
+use Rattle.des_model.specs.Schedules.{Goes, begun}
+use Rattle.des_model.specs.Windows.{Division, Step}
 use Rattle.chord_scenario.specs.declared.scenario.Scenario.{Scenario}
 use Rattle.chord_trace.specs.declared.report.Report.{Report}
 use Rattle.chord_window.specs.declared.step.Taken.{Taken}

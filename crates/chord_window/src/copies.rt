@@ -1,7 +1,7 @@
 //! The states that a part changes, copied at the first touch.
 ghost use Rattle.std.specs.Prelude.{◌≡◌, ◌⊎◌, ◌<◌, ℕ, Some, None, [], length, slice_index_or, IfOk, OnOk};
 ghost use Rattle.chord_node.specs.declared.state.NodeState.{NodeState as AState};
-ghost use Rattle.chord_model.specs.Windows.{Division, part_of};
+ghost use Rattle.des_model.specs.Windows.{Division, part_of};
 ghost use Rattle.chord_window.specs.Copies.{AreCopies, IsSlot, seen, HaveSeen};
 
 use crate::part_run::list_with_room;

@@ -44,7 +44,7 @@ pub struct Division {
 }
 
 impl Model for Division {
-    ghost use Rattle.chord_model.specs.Windows.{Division as ADivision};
+    ghost use Rattle.des_model.specs.Windows.{Division as ADivision};
 
     ghost Value = { ADivision };
 
@@ -59,7 +59,7 @@ impl Division {
     ghost use Rattle.std.specs.Prelude.{◌≡◌, ◌<◌, ◌≤◌, map, length, None, Some, IfOk, IfErr};
     ghost use Rattle.std.specs.List.{All, range_with_len};
     ghost use Rattle.chord_window.specs.Divisions.{block_part, dealt_part, first_fault};
-    ghost use Rattle.chord_model.specs.Windows.{part_of};
+    ghost use Rattle.des_model.specs.Windows.{part_of};
 
     /// The division that gives each node the part in the list. There must be 1 to 512 parts, one
     /// entry for each node, and each entry must be below the number of parts.

@@ -2,12 +2,12 @@
 ghost use Rattle.std.specs.Prelude.{◌≡◌, [], ◌≢◌, ◌⊎◌, ◌+◌, ◌-◌, ◌*◌, ◌<◌, ◌≤◌, ◌^◌, ◌↔◌, ◌++◌, ◌∷◌, ℕ, Some, drop, length, nat_le, slice_index_or, IfOk, IfErr, IfSome, OnOk, Err, IfNone};
 ghost use Rattle.std.specs.List.{AllPairs, Contains, list_all};
 ghost use Rattle.chord_event.specs.declared.body.Body.{Body as ABody};
-ghost use Rattle.chord_event.specs.declared.event.Event.{Event as AnEvent};
-ghost use Rattle.chord_event.specs.KeyOrder.{InKeyOrder, from_on};
+ghost use Rattle.des_event.specs.declared.event.Event.{Event as AnEvent};
+ghost use Rattle.des_event.specs.KeyOrder.{InKeyOrder, from_on};
 ghost use Rattle.chord_machine.specs.Run.{HasTooManyEvents};
-ghost use Rattle.chord_model.specs.Windows.{Division as ADivision};
+ghost use Rattle.des_model.specs.Windows.{Division as ADivision};
 ghost use Rattle.chord_node.specs.declared.state.NodeState.{NodeState as AState};
-ghost use Rattle.chord_queue.specs.EventKey.{event_key};
+ghost use Rattle.des_queue.specs.EventKey.{event_key};
 ghost use Rattle.chord_window.specs.PartRuns.{HasBegun, HasHandled, HasLeft, IsDone, IsFresh, IsNextKey, IsNextWindow, IsReady, IsRunning, IsWindow, comes_first};
 ghost use Rattle.chord_window.specs.Worlds.{IsWorldOf};
 

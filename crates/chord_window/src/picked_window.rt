@@ -3,8 +3,8 @@ ghost use Rattle.std.specs.Prelude.{◌≡◌, ◌⊎◌, ◌+◌, ◌<◌, ◌�
 ghost use Rattle.std.specs.List.{AllByRecursion};
 ghost use Rattle.chord_machine.specs.Run.{HasTooManyEvents};
 ghost use Rattle.chord_machine.specs.Chord.{chord};
-ghost use Rattle.chord_model.specs.Histories.{history};
-ghost use Rattle.chord_model.specs.Windows.{Window as AWindow, opened};
+ghost use Rattle.des_model.specs.Histories.{history};
+ghost use Rattle.des_model.specs.Windows.{Window as AWindow, opened};
 ghost use Rattle.chord_event.specs.declared.body.Body.{Body as ABody};
 ghost use Rattle.chord_window.specs.Exchanges.{AreDone, events_in};
 ghost use Rattle.chord_window.specs.PartRuns.{IsNextWindow};

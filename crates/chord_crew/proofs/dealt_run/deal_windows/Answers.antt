@@ -1,6 +1,6 @@
 use Rattle.std.proofs.Common.{◌≡◌, ◌≢◌, rules, ℕ, ◌≤◌, ◌∙◌, length, get_or, ap, arith, subst, sym, Err}
-use Rattle.chord_event.specs.declared.error.RunError.TheVariants as run
-use Rattle.chord_model.specs.Windows.{Division}
+use Rattle.des_event.specs.declared.error.RunError.TheVariants as run
+use Rattle.des_model.specs.Windows.{Division}
 use Rattle.chord_output.proofs.Runs.{run_refused, run_stopped}
 use Rattle.chord_scenario.specs.World.{node_count}
 use Rattle.chord_window.specs.declared.world.World.{World}

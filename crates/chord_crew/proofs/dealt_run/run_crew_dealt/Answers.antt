@@ -1,7 +1,7 @@
 use Rattle.std.proofs.Common.{◌≡◌, ◌≢◌, rules, ◌∙◌, length, ap}
 use Rattle.std.proofs.lemmas.List.FromFn.{length-map-range_with_len}
-use Rattle.chord_event.specs.declared.error.RunError.TheVariants as run
-use Rattle.chord_model.specs.Windows.{Division}
+use Rattle.des_event.specs.declared.error.RunError.TheVariants as run
+use Rattle.des_model.specs.Windows.{Division}
 use Rattle.chord_output.proofs.Runs.{run_refused}
 use Rattle.chord_scenario.specs.World.{node_count}
 use Rattle.chord_window.specs.Divisions.{dealt_part}

@@ -1,5 +1,5 @@
 use Rattle.chord_machine.specs.Chord.{chord}
-use Rattle.chord_model.proofs.Rest.{audits_see_all}
+use Rattle.des_model.proofs.Rest.{audits_see_all}
 use Rattle.chord_machine.proofs.histories.audits_see_all.Goals as goal
 
 pub returns : goal.returns

@@ -1,5 +1,5 @@
 use Rattle.chord_machine.specs.Chord.{chord}
-use Rattle.chord_model.proofs.Audits.{open_after}
+use Rattle.des_model.proofs.Audits.{open_after}
 use Rattle.chord_machine.proofs.histories.events_close_audits.Goals as goal
 
 pub returns : goal.returns

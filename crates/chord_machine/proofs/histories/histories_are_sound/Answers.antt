@@ -1,6 +1,6 @@
 use Rattle.chord_machine.proofs.WellFormed.{well_formed}
 use Rattle.chord_machine.specs.Chord.{chord}
-use Rattle.chord_model.proofs.Distinct.{meets}
+use Rattle.des_model.proofs.Distinct.{meets}
 use Rattle.chord_machine.proofs.histories.histories_are_sound.Goals as goal
 
 pub returns : goal.returns

@@ -1,5 +1,5 @@
 use Rattle.chord_machine.specs.Chord.{chord}
-use Rattle.chord_model.proofs.Runs.{history_is_whole}
+use Rattle.des_model.proofs.Runs.{history_is_whole}
 use Rattle.chord_machine.proofs.histories.history_is_whole.Goals as goal
 
 pub returns : goal.returns

@@ -1,6 +1,6 @@
 use Rattle.chord_machine.proofs.WellFormed.{well_formed}
 use Rattle.chord_machine.specs.Chord.{chord}
-use Rattle.chord_model.proofs.Distinct.{distinct}
+use Rattle.des_model.proofs.Distinct.{distinct}
 use Rattle.chord_machine.proofs.histories.keys_are_distinct.Goals as goal
 
 pub returns : goal.returns

@@ -1,6 +1,6 @@
 use Rattle.chord_machine.proofs.WellFormed.{well_formed}
 use Rattle.chord_machine.specs.Chord.{chord}
-use Rattle.chord_model.proofs.Runs.{legal_ascends}
+use Rattle.des_model.proofs.Runs.{legal_ascends}
 use Rattle.chord_machine.proofs.histories.legal_is_ascending.Goals as goal
 
 pub returns : goal.returns

@@ -1,5 +1,5 @@
 use Rattle.chord_machine.specs.Chord.{chord}
-use Rattle.chord_model.proofs.Runs.{possible_from_legal}
+use Rattle.des_model.proofs.Runs.{possible_from_legal}
 use Rattle.chord_machine.proofs.histories.legal_is_possible.Goals as goal
 
 pub returns : goal.returns

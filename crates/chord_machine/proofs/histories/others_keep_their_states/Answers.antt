@@ -1,5 +1,5 @@
 use Rattle.chord_machine.specs.Chord.{chord}
-use Rattle.chord_model.proofs.Ascending.{state_kept}
+use Rattle.des_model.proofs.Ascending.{state_kept}
 use Rattle.chord_machine.proofs.histories.others_keep_their_states.Goals as goal
 
 pub returns : goal.returns

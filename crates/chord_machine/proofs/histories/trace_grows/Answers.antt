@@ -1,8 +1,8 @@
 use Rattle.std.proofs.Common.{add-one, sym, subst}
 use mathlib.Core.List.{IsPrefix}
 use Rattle.chord_machine.specs.Chord.{chord}
-use Rattle.chord_model.specs.Histories.{history, trace}
-use Rattle.chord_model.proofs.Runs.{trace_grows}
+use Rattle.des_model.specs.Histories.{history, trace}
+use Rattle.des_model.proofs.Runs.{trace_grows}
 use Rattle.chord_machine.proofs.histories.trace_grows.Goals as goal
 
 pub returns : goal.returns

@@ -1,6 +1,6 @@
 use Rattle.chord_machine.proofs.WellFormed.{well_formed}
 use Rattle.chord_machine.specs.Chord.{chord}
-use Rattle.chord_model.proofs.Horizons.{horizon_may_open, no_audit_inside}
+use Rattle.des_model.proofs.Horizons.{horizon_may_open, no_audit_inside}
 use Rattle.chord_machine.proofs.windows.horizons_may_open.Goals as goal
 
 pub returns : goal.returns

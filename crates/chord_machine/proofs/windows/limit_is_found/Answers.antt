@@ -1,6 +1,6 @@
 use Rattle.chord_machine.proofs.WellFormed.{well_formed}
 use Rattle.chord_machine.specs.Chord.{chord}
-use Rattle.chord_model.proofs.Commuting.{limit_found}
+use Rattle.des_model.proofs.Commuting.{limit_found}
 use Rattle.chord_machine.proofs.windows.limit_is_found.Goals as goal
 
 pub returns : goal.returns

@@ -1,6 +1,6 @@
 use Rattle.chord_machine.proofs.WellFormed.{well_formed}
 use Rattle.chord_machine.specs.Chord.{chord}
-use Rattle.chord_model.proofs.Commuting.{others_later}
+use Rattle.des_model.proofs.Commuting.{others_later}
 use Rattle.chord_machine.proofs.windows.others_come_later.Goals as goal
 
 pub returns : goal.returns

@@ -1,5 +1,5 @@
 use Rattle.chord_machine.specs.Chord.{chord}
-use Rattle.chord_model.proofs.Parts.{possible_from_part_run}
+use Rattle.des_model.proofs.Parts.{possible_from_part_run}
 use Rattle.chord_machine.proofs.windows.part_runs_are_possible.Goals as goal
 
 pub returns : goal.returns

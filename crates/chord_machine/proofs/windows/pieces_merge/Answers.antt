@@ -1,6 +1,6 @@
 use Rattle.chord_machine.proofs.WellFormed.{well_formed}
 use Rattle.chord_machine.specs.Chord.{chord}
-use Rattle.chord_model.proofs.Commuting.{pieces_in_order}
+use Rattle.des_model.proofs.Commuting.{pieces_in_order}
 use Rattle.chord_machine.proofs.windows.pieces_merge.Goals as goal
 
 pub returns : goal.returns

@@ -1,5 +1,5 @@
 use Rattle.chord_machine.specs.Chord.{chord}
-use Rattle.chord_model.proofs.Unique.{runs_unique}
+use Rattle.des_model.proofs.Unique.{runs_unique}
 use Rattle.chord_machine.proofs.windows.runs_are_unique.Goals as goal
 
 pub returns : goal.returns

@@ -1,5 +1,5 @@
 use Rattle.chord_machine.specs.Chord.{chord}
-use Rattle.chord_model.proofs.Steps.{steps_run_parts}
+use Rattle.des_model.proofs.Steps.{steps_run_parts}
 use Rattle.chord_machine.proofs.windows.steps_run_parts.Goals as goal
 
 pub returns : goal.returns

@@ -1,6 +1,6 @@
 use Rattle.chord_machine.proofs.WellFormed.{well_formed}
 use Rattle.chord_machine.specs.Chord.{chord}
-use Rattle.chord_model.proofs.Rest.{waiting_moves}
+use Rattle.des_model.proofs.Rest.{waiting_moves}
 use Rattle.chord_machine.proofs.windows.waiting_moves.Goals as goal
 
 pub returns : goal.returns

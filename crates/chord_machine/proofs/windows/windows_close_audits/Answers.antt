@@ -1,8 +1,8 @@
 use Rattle.std.proofs.Common.{◌<◌}
-use Rattle.chord_event.proofs.Members.{All_at}
+use Rattle.des_event.proofs.Members.{All_at}
 use Rattle.chord_machine.proofs.WellFormed.{well_formed}
 use Rattle.chord_machine.specs.Chord.{chord}
-use Rattle.chord_model.proofs.Outputs.{open_more}
+use Rattle.des_model.proofs.Outputs.{open_more}
 use Rattle.chord_machine.proofs.windows.windows_close_audits.Goals as goal
 
 pub returns : goal.returns

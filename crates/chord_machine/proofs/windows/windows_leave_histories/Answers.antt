@@ -1,6 +1,6 @@
 use Rattle.chord_machine.proofs.WellFormed.{well_formed}
 use Rattle.chord_machine.specs.Chord.{chord}
-use Rattle.chord_model.proofs.Commuting.{windows_leave_histories}
+use Rattle.des_model.proofs.Commuting.{windows_leave_histories}
 use Rattle.chord_machine.proofs.windows.windows_leave_histories.Goals as goal
 
 pub returns : goal.returns

@@ -1,5 +1,5 @@
 use Rattle.chord_machine.specs.Chord.{chord}
-use Rattle.chord_model.proofs.Turns.{windows_progress}
+use Rattle.des_model.proofs.Turns.{windows_progress}
 use Rattle.chord_machine.proofs.windows.windows_progress.Goals as goal
 
 pub returns : goal.returns

@@ -1,7 +1,7 @@
 use Rattle.std.proofs.Common.{ℕ, ◌<◌, List, sym, subst}
 use Rattle.std.specs.List.{All}
 use Rattle.std.specs.List.Sorted.{IsPermutation}
-use Rattle.chord_event.proofs.Members.{All_from}
+use Rattle.des_event.proofs.Members.{All_from}
 use Rattle.chord_scenario.specs.Start.{initial_nodes}
 use Rattle.chord_scenario.specs.World.{node_count}
 use Rattle.chord_node.specs.declared.ring.Place.{Place}

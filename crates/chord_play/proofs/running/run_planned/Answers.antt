@@ -1,8 +1,8 @@
 use Rattle.std.proofs.Common.{◌≡◌, ◌≢◌, ◌∙◌, ◌⊎◌, ℕ, ap, inl, inr, length, rules, Result, Ok, Err, IfErr}
 use Rattle.std.proofs.lemmas.List.FromFn.{length-map-range_with_len}
-use Rattle.chord_event.specs.declared.error.RunError.{RunError}
-use Rattle.chord_event.specs.declared.error.RunError.TheVariants as run
-use Rattle.chord_model.specs.Windows.{Division}
+use Rattle.des_event.specs.declared.error.RunError.{RunError}
+use Rattle.des_event.specs.declared.error.RunError.TheVariants as run
+use Rattle.des_model.specs.Windows.{Division}
 use Rattle.chord_output.proofs.Runs.{run_refused}
 use Rattle.chord_plan.specs.declared.plan.Plan.{Plan}
 use Rattle.chord_play.specs.Plans.{part_by, planned}

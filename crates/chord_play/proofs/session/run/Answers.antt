@@ -2,8 +2,8 @@ use Rattle.std.proofs.Common.{◌≡◌, ◌≢◌, ◌∙◌, ◌⊎◌, rules,
 use Rattle.std.specs.Prelude.{IfErr, IfOk, IsErrAnd}
 use Rattle.std.proofs.KnownBytes.{Appends-kept, Keeps-refl}
 use Rattle.std.specs.Io.KnownBytes.{Keeps}
-use Rattle.chord_event.specs.declared.error.RunError.{RunError}
-use Rattle.chord_event.specs.declared.error.RunError.TheVariants as run
+use Rattle.des_event.specs.declared.error.RunError.{RunError}
+use Rattle.des_event.specs.declared.error.RunError.TheVariants as run
 use Rattle.chord_play.specs.Faults.{is_of_run}
 use Rattle.chord_play.specs.Played.{IsPlayed}
 use Rattle.chord_play.specs.Readings.{IsFaultOf, reading}

@@ -2,9 +2,9 @@
 use Rattle.std.proofs.Common.{◌++◌, ◌∙◌, ◌↔◌, ap, List, subst, sym}
 use Rattle.std.specs.List.{Contains}
 use Rattle.chord_event.specs.declared.body.Body.{Body}
-use Rattle.chord_event.specs.declared.event.Event.{Event}
+use Rattle.des_event.specs.declared.event.Event.{Event}
 use Rattle.chord_machine.proofs.StartEvents.{starts_apart}
-use Rattle.chord_queue.proofs.Inserting.{AreApart}
+use Rattle.des_queue.proofs.Inserting.{AreApart}
 use Rattle.chord_serial.proofs.engine.pending_at_start.Goals as goal
 
 pub insert_all-requires : goal.insert_all-requires

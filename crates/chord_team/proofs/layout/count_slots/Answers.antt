@@ -1,6 +1,6 @@
 use Rattle.std.proofs.Common.{◌≡◌, ◌<◌, ◌+◌, ◌∙◌, ◌∷◌, [], ap, arith, length, length-append, subst, sym, get_or, set}
 use Rattle.std.proofs.lemmas.List.{length-set}
-use Rattle.chord_model.specs.Windows.{part_of}
+use Rattle.des_model.specs.Windows.{part_of}
 use Rattle.chord_team.specs.Layouts.{nodes_before}
 use Rattle.chord_team.proofs.Slots.{count_most, counted_next, slots_next}
 use Rattle.chord_team.proofs.TeamMail.{or_same}

@@ -1,5 +1,5 @@
 use Rattle.std.proofs.Common.{◌≡◌, ◌<◌, ℕ, length, get_or}
-use Rattle.chord_model.specs.Windows.{part_of}
+use Rattle.des_model.specs.Windows.{part_of}
 use Rattle.chord_team.specs.Layouts.{nodes_before}
 use Rattle.chord_team.proofs.layout.count_slots.Given as goal
 

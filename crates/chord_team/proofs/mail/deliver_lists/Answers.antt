@@ -1,6 +1,6 @@
 use Rattle.std.proofs.Common.{◌≡◌, ◌<◌, ℕ, List, ap, arith, inr, get_or, length, sym, subst}
 use Rattle.std.specs.List.{Contains}
-use Rattle.chord_event.proofs.Members.{contains_at}
+use Rattle.des_event.proofs.Members.{contains_at}
 use Rattle.chord_team.specs.Mail.{lists_of}
 use Rattle.chord_team.proofs.MailLists.{are_delivered, delivering_first, delivering_next, named_set, none_left}
 use Rattle.chord_team.proofs.mail.deliver_lists.Goals as goal

@@ -1,8 +1,8 @@
 use Rattle.std.proofs.Common.{◌≡◌, ◌∙◌, ◌↔◌, ◌++◌, [], ap, arith, append-nil, subst}
 use Rattle.std.specs.List.{Contains}
 use Rattle.chord_event.specs.declared.body.Body.{Body}
-use Rattle.chord_event.specs.declared.event.Event.{Event}
-use Rattle.chord_queue.proofs.Inserting.{empty}
+use Rattle.des_event.specs.declared.event.Event.{Event}
+use Rattle.des_queue.proofs.Inserting.{empty}
 use Rattle.chord_team.specs.Mail.{mail_in}
 use Rattle.chord_team.proofs.MailLists.{empty_more, last_apart, still_apart, still_same}
 use Rattle.chord_team.proofs.mail.take_lists.Goals as goal

@@ -1,7 +1,7 @@
 use Rattle.std.proofs.Common.{◌↔◌, ◌++◌, vec_len}
 use Rattle.std.specs.List.{Contains}
 use Rattle.chord_event.specs.declared.body.Body.{Body}
-use Rattle.chord_event.specs.declared.event.Event.{Event}
+use Rattle.des_event.specs.declared.event.Event.{Event}
 use Rattle.chord_team.specs.Mail.{AreEmpty, mail_in}
 use Rattle.chord_team.specs.Owned.{AreApart}
 use Rattle.chord_team.proofs.mail.take_lists.Given as goal

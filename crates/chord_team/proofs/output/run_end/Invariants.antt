@@ -1,5 +1,5 @@
 use Rattle.std.proofs.Common.{◌-◌, ◌<◌, ◌≤◌, ℕ, get_or, length}
-use Rattle.chord_event.specs.Keys.{IsBefore}
+use Rattle.des_event.specs.Keys.{IsBefore}
 use Rattle.chord_team.specs.declared.output.Mark.{Mark}
 use Rattle.chord_team.proofs.output.run_end.Given as goal
 

@@ -1,6 +1,6 @@
 use Rattle.std.proofs.Common.{◌≡◌, refl, rules}
-use Rattle.chord_event.specs.declared.error.RunError.{RunError}
-use Rattle.chord_event.specs.declared.error.RunError.TheVariants as run
+use Rattle.des_event.specs.declared.error.RunError.{RunError}
+use Rattle.des_event.specs.declared.error.RunError.TheVariants as run
 use Rattle.chord_machine.specs.Run.{HasTooManyEvents}
 use Rattle.chord_output.proofs.Runs.{run_refused}
 use Rattle.chord_scenario.specs.declared.scenario.Scenario.{Scenario}

@@ -1,8 +1,8 @@
 use Rattle.std.proofs.Common.{◌<◌, ◌∙◌, ◌∷◌, ◌++◌, [], List, Option, ℕ, append_assoc, append-nil, ap, arith, length, set, get_or, subst, sym}
 use Rattle.std.specs.Vec.Iter.{into_iter_items}
 use Rattle.chord_event.specs.declared.body.Body.{Body}
-use Rattle.chord_event.specs.declared.event.Event.{Event}
-use Rattle.chord_model.specs.Windows.{part_of}
+use Rattle.des_event.specs.declared.event.Event.{Event}
+use Rattle.des_model.specs.Windows.{part_of}
 use Rattle.chord_window.proofs.Sorting.{empty}
 use Rattle.chord_team.specs.Owned.{LeastTimeIs}
 use Rattle.chord_team.specs.Starts.{HaveEvents}

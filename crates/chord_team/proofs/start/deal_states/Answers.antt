@@ -1,6 +1,6 @@
 use Rattle.std.proofs.Common.{◌≡◌, ◌+◌, ◌<◌, ◌∙◌, ap, arith, length, set, get_or, subst, sym}
 use Rattle.std.specs.Vec.Iter.{into_iter_items}
-use Rattle.chord_model.specs.Windows.{part_of}
+use Rattle.des_model.specs.Windows.{part_of}
 use Rattle.chord_window.proofs.Sorting.{empty}
 use Rattle.chord_team.proofs.Starts.{AreDealt, dealt_all, dealt_one}
 use Rattle.chord_team.proofs.start.deal_states.Goals as goal

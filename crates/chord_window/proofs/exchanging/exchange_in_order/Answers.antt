@@ -1,7 +1,7 @@
 use Rattle.std.proofs.Common.{◌+◌, ◌<◌, [], List, length, ap, sym, subst, refl, arith}
 use Rattle.std.specs.List.{All}
 use Rattle.chord_event.specs.declared.body.Body.{Body}
-use Rattle.chord_event.specs.declared.event.Event.{Event}
+use Rattle.des_event.specs.declared.event.Event.{Event}
 use Rattle.chord_window.specs.declared.world.PartEvents.{PartEvents}
 use Rattle.chord_window.specs.declared.world.World.{World}
 use Rattle.chord_window.specs.Delivery.{CanDeliver, HasDelivered}

@@ -1,6 +1,6 @@
 use Rattle.std.proofs.Common.{◌∙◌, sym, subst, List}
 use Rattle.chord_event.specs.declared.body.Body.{Body}
-use Rattle.chord_event.specs.declared.event.Event.{Event}
+use Rattle.des_event.specs.declared.event.Event.{Event}
 use Rattle.chord_window.specs.declared.world.Opening.{Opening}
 use Rattle.chord_window.specs.PartRuns.{IsDone, IsWindow}
 use Rattle.chord_window.proofs.Finishing.{none_after, run_left, running_of}

@@ -1,6 +1,6 @@
 use Rattle.std.proofs.Common.{◌≡◌, ◌∙◌, ap, arith, drop, length, refl, rules, subst, sym, Err}
-use Rattle.chord_event.specs.declared.error.RunError.TheVariants as run
-use Rattle.chord_model.specs.Windows.{Division as ADivision}
+use Rattle.des_event.specs.declared.error.RunError.TheVariants as run
+use Rattle.des_model.specs.Windows.{Division as ADivision}
 use Rattle.chord_output.proofs.Runs.{run_refused, run_stopped}
 use Rattle.chord_window.specs.declared.world.World.{World}
 use Rattle.chord_window.specs.Exchanges.{AreDone, events_in}

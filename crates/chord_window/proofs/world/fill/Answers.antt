@@ -1,6 +1,6 @@
 use Rattle.std.proofs.Common.{Option, Vec, refl, subst, sym, []}
 use Rattle.std.specs.Global.{Global}
-use Rattle.chord_model.specs.Windows.{Division}
+use Rattle.des_model.specs.Windows.{Division}
 use Rattle.chord_window.specs.declared.world.Opening.{Opening}
 use Rattle.chord_window.specs.declared.world.PartEvents.{PartEvents}
 use Rattle.chord_window.specs.Worlds.{IsWorldOf}

@@ -2,11 +2,11 @@
 use Rattle.std.proofs.Common.{◌≡◌, ◌+◌, ◌<◌, ap, sym, subst, arith}
 use Rattle.std.specs.List.{AllByRecursion}
 use Rattle.chord_event.specs.declared.body.Body.{Body}
-use Rattle.chord_event.specs.declared.event.Event.{Event}
-use Rattle.chord_event.specs.declared.key.Key.{Key}
-use Rattle.chord_event.specs.KeyOrder.{put_in_order}
-use Rattle.chord_event.proofs.KeyLists.{all_from, all_in, all_put}
-use Rattle.chord_queue.specs.EventKey.{event_key}
+use Rattle.des_event.specs.declared.event.Event.{Event}
+use Rattle.des_event.specs.declared.key.Key.{Key}
+use Rattle.des_event.specs.KeyOrder.{put_in_order}
+use Rattle.des_event.proofs.KeyLists.{all_from, all_in, all_put}
+use Rattle.des_queue.specs.EventKey.{event_key}
 use Rattle.chord_examples.proofs.tests.queues.insert_later.Goals as goal
 
 pub returns : goal.returns

@@ -1,6 +1,6 @@
 use Rattle.std.proofs.Common.{refl, subst, List, ℕ, ◌<◌, length, arith}
 use Rattle.std.specs.List.{AllByRecursion}
-use Rattle.chord_model.proofs.Course.{same_read}
+use Rattle.des_model.proofs.Course.{same_read}
 use Rattle.chord_machine.proofs.Audits.{late-from}
 use Rattle.chord_machine.proofs.audit_clock.AuditClock.take_due.Goals as goal
 

@@ -2,7 +2,7 @@ use Rattle.std.proofs.Common.{◌≡◌, ◌∙◌, sym, ap, refl, ◌+◌, ◌+
 use Rattle.std.proofs.lemmas.List.{append-nil}
 use Rattle.chord_event.specs.declared.body.Body.{Body}
 use Rattle.chord_event.specs.declared.body.Body.TheVariants as body
-use Rattle.chord_event.specs.declared.event.Event.{Event}
+use Rattle.des_event.specs.declared.event.Event.{Event}
 use Rattle.chord_scenario.specs.declared.setting.Span.{Span}
 use Rattle.chord_scenario.specs.Start.{at_first, first_span, stabilize_timer, finger_timer, traffic_timer, life_timer, check_timer, first_timers, timers}
 use Rattle.chord_scenario.proofs.Starts.{row-some, row-none, timers_from, no_life, no_span, some_life, no_check, some_check}

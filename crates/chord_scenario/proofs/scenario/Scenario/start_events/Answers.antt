@@ -1,6 +1,6 @@
 use Rattle.std.proofs.Common.{◌≡◌, ◌∙◌, ◌-◌, ◌<◌, ◌++◌, arith, sym, ap, map, Vec, Global}
 use Rattle.chord_event.specs.declared.body.Body.{Body}
-use Rattle.chord_event.specs.declared.event.Event.{Event}
+use Rattle.des_event.specs.declared.event.Event.{Event}
 use Rattle.std.specs.List.{enumerate_from, flat_map}
 use Rattle.chord_scenario.specs.Setup.{Setup}
 use Rattle.chord_scenario.specs.Start.{command_event, command_events, first_timers, initial_nodes, start_events}

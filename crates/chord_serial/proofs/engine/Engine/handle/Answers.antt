@@ -1,10 +1,10 @@
 -- What was taken is the next event of the run, so the engine goes on to where the run is.
 use Rattle.std.proofs.Common.{◌∙◌, ◌++◌, List, length, refl, sym, subst, arith, ap, set}
 use Rattle.chord_event.specs.declared.body.Body.{Body}
-use Rattle.chord_event.specs.declared.event.Event.{Event}
+use Rattle.des_event.specs.declared.event.Event.{Event}
 use Rattle.chord_node.specs.declared.state.NodeState.{NodeState}
 use Rattle.chord_node.specs.Invariant.{AllNodes}
-use Rattle.chord_queue.proofs.Inserting.{AreApart}
+use Rattle.des_queue.proofs.Inserting.{AreApart}
 use Rattle.std.specs.List.{All}
 use Rattle.chord_serial.proofs.Course.{
   audits_add,

@@ -5,7 +5,7 @@ use Rattle.chord_team.proofs.TeamMail.{or_same}
 use Rattle.chord_machine.specs.Room.{HasRoom}
 use Rattle.chord_machine.specs.Sound.{IsStateOf}
 use Rattle.chord_event.specs.declared.body.Body.{Body}
-use Rattle.chord_event.specs.declared.event.Event.{Event}
+use Rattle.des_event.specs.declared.event.Event.{Event}
 use Rattle.chord_ops.specs.Rules.{effect}
 use Rattle.chord_trace.specs.Tally.{taken}
 use Rattle.chord_team.specs.Layouts.{slot_of}

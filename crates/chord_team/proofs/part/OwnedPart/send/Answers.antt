@@ -1,7 +1,7 @@
 use Rattle.std.proofs.Common.{◌∙◌, ◌<◌, ◌++◌, ◌∷◌, [], refl, ap, sym, subst, arith, length, reverse}
 use Rattle.chord_event.specs.declared.body.Body.{Body}
-use Rattle.chord_event.specs.declared.event.Event.{Event}
-use Rattle.chord_model.specs.Windows.{part_of}
+use Rattle.des_event.specs.declared.event.Event.{Event}
+use Rattle.des_model.specs.Windows.{part_of}
 use Rattle.chord_window.proofs.Sorting.{empty}
 use Rattle.chord_team.specs.declared.part.OwnedPart.{OwnedPart}
 use Rattle.chord_team.specs.Running.{HasSent}

@@ -1,7 +1,7 @@
 -- After the last event, the audits that are left end the trace.
 use Rattle.std.proofs.Common.{rules, List, inl, length, refl, sym, subst}
 use Rattle.std.specs.List.{All}
-use Rattle.chord_event.specs.declared.error.RunError.TheVariants as run
+use Rattle.des_event.specs.declared.error.RunError.TheVariants as run
 use Rattle.chord_node.specs.declared.state.NodeState.{NodeState}
 use Rattle.chord_node.specs.Invariant.{AllNodes}
 use Rattle.chord_output.proofs.Ends.{end_fails, last_added, pieces_fit, run_ends, states_known}

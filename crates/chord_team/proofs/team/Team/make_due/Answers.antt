@@ -2,10 +2,10 @@ use Rattle.std.proofs.Common.{◌∙◌, ◌++◌, List, length, ap, subst, sym}
 use Rattle.std.specs.List.{All}
 use Rattle.chord_audit.specs.Audit.{AreStates}
 use Rattle.chord_machine.specs.Chord.{chord}
-use Rattle.chord_model.specs.Histories.{history, state}
+use Rattle.des_model.specs.Histories.{history, state}
 use Rattle.chord_node.specs.declared.state.NodeState.{NodeState}
 use Rattle.chord_node.specs.Invariant.{AllNodes}
-use Rattle.chord_model.specs.Scribes.{due}
+use Rattle.des_model.specs.Scribes.{due}
 use Rattle.chord_output.specs.Output.{audits_at}
 use Rattle.chord_output.proofs.Ends.{are_states, states_known}
 use Rattle.chord_trace.specs.Texts.{pieces_text}

@@ -2,9 +2,9 @@
 use Rattle.std.proofs.Common.{◌∙◌, ◌<◌, List, [], length, ap, arith, refl, subst, sym}
 use Rattle.std.specs.List.{All}
 use Rattle.chord_event.specs.declared.body.Body.{Body}
-use Rattle.chord_event.specs.declared.event.Event.{Event}
+use Rattle.des_event.specs.declared.event.Event.{Event}
 use Rattle.chord_machine.proofs.StartEvents.{starts_apart}
-use Rattle.chord_model.specs.Windows.{Divides}
+use Rattle.des_model.specs.Windows.{Divides}
 use Rattle.chord_node.specs.declared.state.NodeState.{NodeState}
 use Rattle.chord_trace.specs.Tally.{IsTallyOf}
 use Rattle.chord_team.specs.Owned.{AreApart, LeastTimeIs}

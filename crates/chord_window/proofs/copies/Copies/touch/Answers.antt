@@ -1,6 +1,6 @@
 use Rattle.std.proofs.Common.{arith, sym, ap, ◌∙◌, None, Some, length, ◌≡◌, set, Vec}
 use Rattle.std.specs.Global.{Global}
-use Rattle.chord_model.proofs.Course.{same_read}
+use Rattle.des_model.proofs.Course.{same_read}
 use Rattle.chord_node.specs.declared.state.NodeState.{NodeState}
 use Rattle.chord_window.proofs.CopyFacts.{copies_more, slots_made}
 use Rattle.chord_window.proofs.copies.Copies.touch.Goals as goal

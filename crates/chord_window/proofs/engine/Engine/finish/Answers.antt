@@ -2,7 +2,7 @@
 use Rattle.std.proofs.Common.{rules, List, Vec, ap, inl, refl, sym, subst}
 use Rattle.std.specs.Global.{Global}
 use Rattle.std.specs.List.{All}
-use Rattle.chord_event.specs.declared.error.RunError.TheVariants as run
+use Rattle.des_event.specs.declared.error.RunError.TheVariants as run
 use Rattle.chord_node.specs.declared.state.NodeState.{NodeState}
 use Rattle.chord_node.specs.Invariant.{AllNodes}
 use Rattle.chord_output.proofs.Ends.{end_fails, last_added, pieces_fit, run_ends}

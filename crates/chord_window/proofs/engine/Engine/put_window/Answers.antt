@@ -7,7 +7,7 @@ use Rattle.std.specs.Io.KnownBytes.{Appends}
 use Rattle.chord_audit.specs.Audit.{AreStates}
 use Rattle.chord_event.specs.declared.block.Block.{Block}
 use Rattle.chord_machine.specs.Chord.{chord}
-use Rattle.chord_model.specs.Histories.{history, state}
+use Rattle.des_model.specs.Histories.{history, state}
 use Rattle.chord_node.specs.declared.state.NodeState.{NodeState}
 use Rattle.chord_node.specs.Invariant.{AllNodes}
 use Rattle.chord_scenario.specs.Blocks.{IsBlockOf, most_lines}

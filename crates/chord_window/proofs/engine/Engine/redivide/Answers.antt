@@ -1,5 +1,5 @@
 use Rattle.std.proofs.Common.{ℕ, ap, arith, refl, subst}
-use Rattle.chord_model.specs.Windows.{Division}
+use Rattle.des_model.specs.Windows.{Division}
 use Rattle.chord_window.proofs.EngineCourse.{at_divided}
 use Rattle.chord_window.specs.declared.engine.Engine.{Engine}
 use Rattle.chord_window.specs.Tallies.{HaveTallied}

@@ -1,7 +1,7 @@
 use Rattle.std.proofs.Common.{◌<◌, arith, sym, subst, ap}
 use Rattle.chord_window.specs.declared.step.Step.TheVariants as answer
 use Rattle.chord_window.specs.Workers.{HasProgressed}
-use Rattle.chord_model.specs.Windows.Step.{Drew, Ran, Sealed}
+use Rattle.des_model.specs.Windows.Step.{Drew, Ran, Sealed}
 use Rattle.chord_window.proofs.PickedSteps.{
   drew_few,
   drew_fewer,

@@ -1,8 +1,8 @@
 use Rattle.std.proofs.Common.{◌∙◌, ℕ, ◌++◌, ◌∷◌, [], drop, length, refl, sym, subst, append-nil}
 use Rattle.chord_machine.specs.Chord.{chord}
-use Rattle.chord_model.specs.Histories.{history}
-use Rattle.chord_model.specs.Schedules.{settled}
-use Rattle.chord_model.specs.Windows.{after_step, opened}
+use Rattle.des_model.specs.Histories.{history}
+use Rattle.des_model.specs.Schedules.{settled}
+use Rattle.des_model.specs.Windows.{after_step, opened}
 use Rattle.chord_window.specs.Picked.{Leads}
 use Rattle.chord_window.proofs.PickedTurns.{begins, leads_on, told_more}
 use Rattle.chord_window.proofs.picked_window.PickedWindow.take_turns.Goals as goal

@@ -1,9 +1,9 @@
 use Rattle.std.proofs.Common.{◌≡◌, ℕ, ◌≤◌, ◌++◌, List, drop, length, map}
 use Rattle.chord_event.specs.declared.body.Body.{Body}
 use Rattle.chord_machine.specs.Chord.{chord}
-use Rattle.chord_model.specs.Histories.{history}
-use Rattle.chord_model.specs.Schedules.{settled}
-use Rattle.chord_model.specs.Windows.{Step, Window, opened}
+use Rattle.des_model.specs.Histories.{history}
+use Rattle.des_model.specs.Schedules.{settled}
+use Rattle.des_model.specs.Windows.{Step, Window, opened}
 use Rattle.chord_window.specs.Picked.{IsPicked, Leads, potential, shown}
 use Rattle.chord_window.proofs.picked_window.PickedWindow.take_turns.Given as goal
 

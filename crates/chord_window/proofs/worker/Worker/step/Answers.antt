@@ -1,7 +1,7 @@
 use Rattle.std.proofs.Common.{◌≡◌, ◌∙◌, ◌+◌, Some, arith, get_or, length, sym, subst, List, refl, ap}
 use Rattle.chord_event.specs.declared.body.Body.{Body}
-use Rattle.chord_event.specs.declared.event.Event.{Event}
-use Rattle.chord_event.specs.declared.key.Key.{Key}
+use Rattle.des_event.specs.declared.event.Event.{Event}
+use Rattle.des_event.specs.declared.key.Key.{Key}
 use Rattle.chord_window.specs.declared.world.Opening.{Opening}
 use Rattle.chord_window.specs.declared.part_run.PartRun.{PartRun}
 use Rattle.chord_window.specs.declared.worker.Worker.{Worker}

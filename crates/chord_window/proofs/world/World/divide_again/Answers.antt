@@ -2,7 +2,7 @@ use Rattle.std.proofs.Common.{◌∙◌, List, Vec, ap, refl, sym, subst}
 use Rattle.std.specs.Global.{Global}
 use Rattle.std.specs.List.{flat_map}
 use Rattle.chord_event.specs.declared.body.Body.{Body}
-use Rattle.chord_event.specs.declared.event.Event.{Event}
+use Rattle.des_event.specs.declared.event.Event.{Event}
 use Rattle.chord_window.specs.declared.world.PartEvents.{PartEvents}
 use Rattle.chord_window.specs.declared.world.World.{World}
 use Rattle.chord_window.specs.Worlds.{StandAfter, events_of}

@@ -1,5 +1,0 @@
-use Rattle.std.proofs.Common.{rules}
-use Rattle.chord_event.proofs.listed.Listed.clear.Goals as goal
-
-pub returns : goal.returns
-returns g c = search rules

@@ -1,5 +1,0 @@
-use Rattle.chord_model.proofs.Runs.{possible_from_legal}
-use Rattle.chord_model.proofs.legal_is_possible.Goals as goal
-
-pub returns : goal.returns
-returns g c m = possible_from_legal m

@@ -1,7 +1,0 @@
-use Rattle.std.proofs.Common.{◌≡◌, ◌++◌, drop}
-use Rattle.std.specs.List.{filter}
-use Rattle.chord_queue.specs.Places.{is_due}
-use Rattle.chord_queue.proofs.waiting.due_before.Given as goal
-
-abbrev pub invariant-loop-waiting : goal.invariant-loop-waiting
-invariant-loop-waiting l = l.due.items ++ filter (is_due l.horizon) (drop l.waiting-index l.entries) ≡ filter (is_due l.horizon) l.entries

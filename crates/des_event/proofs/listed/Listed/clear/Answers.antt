@@ -1,0 +1,5 @@
+use Rattle.std.proofs.Common.{rules}
+use Rattle.des_event.proofs.listed.Listed.clear.Goals as goal
+
+pub returns : goal.returns
+returns g c = search rules
