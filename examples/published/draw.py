@@ -45,6 +45,10 @@ LOADS = {
 """Columns of load.toml, with the published figures that they are beside."""
 STRETCHES = (10, 50, 90)
 """The percentiles of stretch.toml."""
+TIMES = {"us-p5": 0.05, "us-p50": 0.5, "us-p95": 0.95}
+"""The percentiles of the times of sites.toml, and the shares that they are."""
+ROUND_TRIP = 60
+"""The usual round trip between two of the ten sites, in milliseconds."""
 SILENT = "20, `drop_silent = false`"
 """The third setting under churn, beside those of 24 and 20 bits."""
 CRASHES, LEAVES = ("churn", "churn_silent"), ("churn_leaves",)
@@ -388,6 +392,43 @@ def print_stretch() -> None:
     columns("list | owner asked | 10th percentile | median | 90th percentile | hops | lookups | wrong or lost", rows)
 
 
+def sites() -> dict[str, dict[int, list[Row]]]:
+    """The runs of sites.toml by list and by the number of nodes, with the percentiles of their times."""
+    times = {(row["list"], row[NODES], row["seed"]): row for row in table("sites/times.csv")}
+    found: dict[str, dict[int, list[Row]]] = defaultdict(lambda: defaultdict(list))
+    for row in table("sites/runs.csv"):
+        found[row["list"]][int(row[NODES])].append({**row, **times[row["list"], row[NODES], row["seed"]]})
+    return found
+
+
+def milliseconds(rows: Sequence[Row], number: str) -> Interval:
+    """A percentile of the times of lookups, over the seeds."""
+    return interval([int(row[number]) / 1000 for row in rows])
+
+
+def by_law(nodes: int) -> float:
+    """Half of log2 N round trips and the one to the owner, in milliseconds."""
+    return ROUND_TRIP * (math.log2(nodes) / 2 + 1)
+
+
+def print_sites() -> None:
+    """How long lookups take on ten sites."""
+    points = published("median lookup time on ten sites, ms")
+    rows: list[list[object]] = []
+    by_list = sites()
+    for nodes in by_list["1"]:
+        cells: list[object] = [nodes, f"{points[nodes]:g}" if nodes in points else "", f"{by_law(nodes):.0f}"]
+        every = []
+        for runs in (by_nodes[nodes] for by_nodes in by_list.values()):
+            ends = [f"{milliseconds(runs, number).mean:.0f}" for number in ("us-p5", "us-p95")]
+            cells += [told(milliseconds(runs, "us-p50"), 0), ", ".join(ends), told(mean(runs, "hops"), 2)]
+            every += runs
+        lost, wrong, ended = bad(every)
+        rows.append([*cells, f"{ended:,}", lost + wrong])
+    columns("N | median, ms: published | ½ log2 N + 1 round trips of 60 ms | lists of 1: median | 5th, 95th percentile "
+            "| hops | lists of 8: median | 5th, 95th percentile | hops | lookups | wrong or lost", rows)
+
+
 def draw_points(axes: Any, found: dict[float, Interval], look: str, label: str) -> None:
     """Means with the bars of their intervals."""
     halves = [one.half or 0 for one in found.values()]
@@ -517,6 +558,25 @@ def draw_load(pyplot: Any) -> None:
     figure.savefig(FOLDER / "load.png", dpi=110)
 
 
+def draw_sites(pyplot: Any) -> None:
+    """How long lookups take on ten sites, by the number of nodes."""
+    figure, axes = pyplot.subplots(figsize=(7, 4.4), layout="constrained")
+    for (entries, by_nodes), look in zip(sites().items(), ("C0.-", "C1.--"), strict=True):
+        label = f"chordsim, lists of {entries}"
+        means = {float(nodes): milliseconds(runs, "us-p50") for nodes, runs in by_nodes.items()}
+        draw_points(axes, means, look, f"{label}: median")
+        ends = [[milliseconds(runs, end).mean for runs in by_nodes.values()] for end in ("us-p5", "us-p95")]
+        axes.fill_between(list(means), *ends, color=look[:2], alpha=0.12, label=f"{label}: 5th to 95th percentile")
+    sizes = range(10, 181)
+    axes.plot(sizes, [by_law(nodes) for nodes in sizes], "k:", label="½ log2 N + 1 round trips of 60 ms")
+    draw_published(axes, published("median lookup time on ten sites, ms"), "published median (SIGCOMM 2001)")
+    axes.set(xlabel="nodes, as many on each of ten sites", ylabel="time of a lookup, ms", xlim=(0, 190), ylim=(0, 640))
+    axes.grid(alpha=0.3)
+    axes.legend(fontsize=8, loc="upper left", ncols=2)
+    figure.suptitle("Lookup times on ten sites, bars: 95% intervals of ten seeds")
+    figure.savefig(FOLDER / "sites.png", dpi=110)
+
+
 def print_tables() -> None:
     """All tables."""
     print_failure()
@@ -529,6 +589,7 @@ def print_tables() -> None:
     print_distribution()
     print_load()
     print_stretch()
+    print_sites()
 
 
 def keep(name: str, rows: Sequence[Row]) -> None:
@@ -557,10 +618,29 @@ def keep_last() -> None:
         keep("repair/last.csv", list(last.values()))
 
 
+def keep_times() -> None:
+    """Keeps percentiles of the times of each run of sites.toml: the values whose shares in cdf.csv are the nearest."""
+    if (FOLDER / "sites/cdf.csv").exists():
+        runs: dict[tuple[str, ...], list[Row]] = defaultdict(list)
+        for row in table("sites/cdf.csv"):
+            if row["number"] == "us":
+                runs[row["list"], row[NODES], row["seed"]].append(row)
+        keep("sites/times.csv", [
+            {**dict(zip(("list", NODES, "seed"), run, strict=True)),
+             **{name: nearest(rows, share) for name, share in TIMES.items()}} for run, rows in runs.items()
+        ])
+
+
+def nearest(rows: Iterable[Row], share: float) -> str:
+    """The value within which the share of the lookups is nearest to this one."""
+    return min(rows, key=lambda row: abs(float(row["share"]) - share))["value"]
+
+
 def main() -> None:
     """All tables and plots."""
     keep_hops()
     keep_last()
+    keep_times()
     print_tables()
     pyplot = importlib.import_module("matplotlib.pyplot")
     draw_failure(pyplot)
@@ -568,6 +648,7 @@ def main() -> None:
     draw_repair(pyplot)
     draw_length(pyplot)
     draw_load(pyplot)
+    draw_sites(pyplot)
 
 
 if __name__ == "__main__":

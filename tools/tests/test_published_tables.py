@@ -1,6 +1,7 @@
 """A small form of examples/published: lookups just after a failure, under churn, after repair, and in new rings.
 
-The settings are those of failure.toml, churn.toml, repair.toml and length.toml, with two seeds and fewer lookups.
+The settings are those of failure.toml, churn.toml, repair.toml, length.toml, load.toml, stretch.toml and sites.toml,
+with two seeds and fewer lookups.
 """
 
 import hashlib
@@ -156,6 +157,18 @@ class PublishedTablesTest(TestCase):
             assert found[0] < 6 < found[2] and abs(found[1] - 6) < 0.5, found
             assert all(abs(float(one[f"stretch-p{share}"]) - number - 1) < 0.01
                        for share, number in zip((10, 50, 90), found, strict=True)), (one, other)
+
+    def test_sites(self) -> None:
+        """On ten sites 180 nodes have five round trips, and a median near 285 ms, not twice that of ten nodes."""
+        found = []
+        for nodes, lookups in ((10, "0.11"), (180, "0.0063")):
+            words = ("--nodes", str(nodes), "--lookups", lookups, "--list", "1")
+            found.append(rows_of(arguments("sites.toml", *words, "--coordinates", f"file:{FOLDER / 'sites.csv'}"), 0))
+        for few, many in zip(*found, strict=True):
+            assert many["judged-found"] > 800 and many["judged-lost"] + many["wrong"] == 0, many
+            assert abs(many["ended-hops"] / many["judged-found"] + 1 - 5) < 0.7, many
+            assert 0.7 * 285_000 < many["us-p50"] < 285_000, many
+            assert 1.3 < many["us-p50"] / few["us-p50"] < 2.1, (few, many)
 
     def test_rotation(self) -> None:
         """With nineteen fingers in the rotation timeouts are the published ones, within a fifth of them."""
