@@ -202,7 +202,6 @@ fn put_in_rest<B: Drop>(rest: &mut EventHeap<B>, event: Event<B>) -> Result<(), 
     ensures err { OnErr result (rest.new ≡ rest.old) }
 {
     if let Err(refused) = rest.insert(event) {
-        // By a call, so that the proof has one case and not one for each kind of body.
         drop(refused);
         return Err(Memory);
     }
