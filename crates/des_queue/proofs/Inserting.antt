@@ -37,13 +37,13 @@ module _ {B : Type 0} where
       (λ r. apart_across xs ys (AllPairs_rest (λ (a b : Event B). a.key ≢ b.key) z (xs ++ ys) all) x y r d)
       (contains_cons x z xs c)
 
-  apart_front : (xs ys : List (Event B)) → AreApart (xs ++ ys) → AreApart xs
+  pub apart_front : (xs ys : List (Event B)) → AreApart (xs ++ ys) → AreApart xs
   apart_front [] ys all = AllPairs_none (λ (a b : Event B). a.key ≢ b.key)
   apart_front (x ∷ xs) ys all = AllPairs_cons (λ (a b : Event B). a.key ≢ b.key) x xs
       (λ y c. AllPairs_at (λ (a b : Event B). a.key ≢ b.key) x (xs ++ ys) all y (contains_left xs ys y c))
       (apart_front xs ys (AllPairs_rest (λ (a b : Event B). a.key ≢ b.key) x (xs ++ ys) all))
 
-  apart_back : (xs ys : List (Event B)) → AreApart (xs ++ ys) → AreApart ys
+  pub apart_back : (xs ys : List (Event B)) → AreApart (xs ++ ys) → AreApart ys
   apart_back [] ys all = all
   apart_back (x ∷ xs) ys all = apart_back xs ys (AllPairs_rest (λ (a b : Event B). a.key ≢ b.key) x (xs ++ ys) all)
 

@@ -200,7 +200,7 @@ pub fn sort_up<B: Drop>(events: &mut Vec<Event<B>>)
 }
 
 /// Sorts events by their keys, the first event last.
-fn sort_down<B: Drop>(events: &mut Vec<Event<B>>)
+pub fn sort_down<B: Drop>(events: &mut Vec<Event<B>>)
     requires { AreDistinct events.old.items }
     ensures same { IsPermutation events.old.items events.new.items }
     ensures down { InKeyOrder event_key (reverse events.new.items) }

@@ -5,7 +5,7 @@ ghost use Rattle.des_event.specs.declared.event.Event.{Event as AnEvent};
 ghost use Rattle.des_event.specs.KeyOrder.{InKeyOrder, IsNewKey, put_in_order, before, from_on};
 ghost use Rattle.des_queue.specs.EventKey.{event_key};
 
-use crate::calendar::{Calendar, sort_up};
+use crate::calendar::{Calendar, sort_down, sort_up};
 use crate::event_heap::EventHeap;
 use des_event::{Copied, Event, Memory};
 use std::alloc::Global;
@@ -79,6 +79,9 @@ impl<B: Drop> Pending<B> {
         ensures ordered { InKeyOrder event_key self.new }
     {
         let mut events = events;
+        // The first event goes in first: the calendar opens the day of the first event that it takes,
+        // and events of days before it would go into the heap.
+        sort_down(&mut events);
         self.insert_from(&mut events)
     }
 
