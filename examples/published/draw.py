@@ -540,7 +540,8 @@ def draw_load(pyplot: Any) -> None:
     figure, (left, right) = pyplot.subplots(1, 2, figsize=(10, 4.2), layout="constrained")
     words = {"owned-p1": "1st percentile", "owned-p99": "99th percentile", "owned-most": "greatest"}
     for (number, named), look in zip(words.items(), ("C0.-", "C1.--", "C2.:"), strict=True):
-        draw_points(left, {keys: beside_mean(runs, number) for keys, runs in loads().items()}, look, f"chordsim, {named}")
+        means = {keys: beside_mean(runs, number) for keys, runs in loads().items()}
+        draw_points(left, means, look, f"chordsim, {named}")
     near = [next(iter(published(figure).values())) for figure in LOADS.values()]
     left.plot([50] * len(near), near, "o", mfc="none", mec="black", markersize=9, label="published (SIGCOMM 2001)")
     left.set(xlabel="keys of a node, mean; 10,000 nodes", ylabel="keys of a node beside the mean", ylim=(-0.5, 18))
@@ -619,7 +620,7 @@ def keep_last() -> None:
 
 
 def keep_times() -> None:
-    """Keeps percentiles of the times of each run of sites.toml: the values whose shares in cdf.csv are the nearest."""
+    """Keeps percentiles of the times of each run of sites.toml: of cdf.csv, those whose shares are nearest."""
     if (FOLDER / "sites/cdf.csv").exists():
         runs: dict[tuple[str, ...], list[Row]] = defaultdict(list)
         for row in table("sites/cdf.csv"):
