@@ -6,7 +6,7 @@ from collections.abc import Iterator
 from pathlib import Path
 
 TOP = Path(__file__).resolve().parents[2]
-PAGES = sorted([*TOP.glob("*.md"), *TOP.glob("docs/*.md")])
+PAGES = sorted([*TOP.glob("*.md"), *TOP.glob("docs/*.md"), *TOP.glob("crates/*/README.md")])
 WIDTH = 100
 
 
@@ -27,7 +27,7 @@ def anchors_of(page: Path) -> set[str]:
 
 
 class Documents(unittest.TestCase):
-    """Each page of the top folder and of docs/."""
+    """Each page of the top folder, of docs/ and of the crates."""
 
     def test_pages_are_found(self) -> None:
         """README and the rules are among the pages, so that the tests below are not empty."""

@@ -1,4 +1,4 @@
-"""The man pages of the tools and the completions of their arguments, against the help texts."""
+"""The man pages of the tools and the completions of their arguments, against the help texts; the table of crates."""
 
 import functools
 import re
@@ -9,6 +9,7 @@ from pathlib import Path
 from unittest import TestCase
 
 from chordsim_tools import __version__
+from chordsim_tools.pages.crates import PAGE, crates_of, with_table
 from tests.support.programs import TOOLS
 
 TOP = Path(__file__).resolve().parents[2]
@@ -65,6 +66,13 @@ class PagesTest(TestCase):
             self.assertEqual(len(made), len(TOOLS) + 3)
             changed = {name for name in made if (folder / name).read_bytes() != (TOP / name).read_bytes()}
             self.assertEqual(changed, set(), "run packaging/make-pages")
+
+    def test_table_of_crates(self) -> None:
+        """It has the crates of crates.txt, and the first sentences of their pages."""
+        page = (TOP / PAGE).read_text(encoding="utf-8")
+        self.assertEqual(page, with_table(TOP), "run packaging/make-pages")
+        self.assertLess({"des_event", "chord_ops", "chordsim"}, set(crates_of(TOP)))
+        self.assertIn("| [`chord_serial`](../crates/chord_serial/README.md) | The engine that takes one event", page)
 
     def test_options(self) -> None:
         """Each option that a help text lists has its entry in the page, and no other has."""
