@@ -10,5 +10,3 @@ pub mod Report
 pub mod ReportText
 pub mod Tally
 pub mod Texts
-pub mod Watched
-pub mod Writing

@@ -2,13 +2,12 @@
 ghost use Rattle.std.specs.Prelude.{◌≡◌, ◌⊎◌, ◌++◌, false, OnOk, IfErr, string_bytes};
 ghost use Rattle.std.specs.Io.KnownBytes.{Appends};
 ghost use Rattle.chord_trace.specs.Texts.{yes_or_no, audit_text};
-ghost use Rattle.chord_trace.specs.Watched.{wrapped, has_failed};
-ghost use Rattle.chord_trace.specs.Writing.{AppendsFront, is_write};
+ghost use Rattle.des_output.specs.Watched.{wrapped, has_failed};
+ghost use Rattle.des_output.specs.Writing.{AppendsFront, is_write};
 
-use crate::watched::Watched;
-use crate::writing::write_text;
 use chord_audit::AuditLine;
 use chord_event::RunError;
+use des_output::{Watched, write_text};
 use std::alloc::{AllocError, Global};
 use std::fmt::Write as _;
 use std::io::Write;

@@ -4,13 +4,12 @@ ghost use Rattle.std.specs.Io.KnownBytes.{Appends};
 ghost use Rattle.chord_scenario.specs.World.{node_count, name_of};
 ghost use Rattle.chord_scenario.specs.Blocks.{IsBlockOf, IsLineOf};
 ghost use Rattle.chord_trace.specs.Texts.{message_text, message_words, command_text, line_words, line_text, block_text};
-ghost use Rattle.chord_trace.specs.Watched.{wrapped, has_failed};
-ghost use Rattle.chord_trace.specs.Writing.{AppendsFront, is_write};
+ghost use Rattle.des_output.specs.Watched.{wrapped, has_failed};
+ghost use Rattle.des_output.specs.Writing.{AppendsFront, is_write};
 
-use crate::watched::Watched;
-use crate::writing::write_text;
 use chord_event::{Block, CommandKind, Line, MessageKind, RunError};
 use chord_scenario::Scenario;
+use des_output::{Watched, write_text};
 use std::alloc::{AllocError, Global};
 use std::fmt::Write as _;
 use std::io::Write;

@@ -10,8 +10,6 @@ mod merging;
 mod piece;
 mod report;
 mod tally;
-mod watched;
-mod writing;
 
 pub use audit_counts::AuditCounts;
 pub use audit_text::write_audit;
@@ -21,5 +19,5 @@ pub use merging::merge_blocks;
 pub use piece::Piece;
 pub use report::{Report, reports_are_unique, reports_need_no_order};
 pub use tally::Tally;
-pub use watched::Watched;
-pub use writing::write_text;
+// They know nothing of Chord, and stand in a crate of their own.
+pub use des_output::{Watched, write_text};

@@ -1,6 +1,0 @@
-use Rattle.std.proofs.Common.{arith}
-use Rattle.chord_stream.proofs.Rows.{stirs}
-use Rattle.chord_stream.proofs.block.stir.Goals as goal
-
-pub returns : goal.returns
-returns c = stirs c.args.bits c.requires.0 c.requires.1 c.args.row c.args.other (omega arith) (omega arith)

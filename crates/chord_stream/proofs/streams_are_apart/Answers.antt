@@ -1,5 +1,0 @@
-use Rattle.std.proofs.Common.{arith}
-use Rattle.chord_stream.proofs.streams_are_apart.Goals as goal
-
-pub returns : goal.returns
-returns c = λ n m p q few_n few_m same. (omega (arith, few_n, few_m, same), omega (arith, few_n, few_m, same))

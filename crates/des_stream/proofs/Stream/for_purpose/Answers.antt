@@ -1,0 +1,5 @@
+use Rattle.std.proofs.Common.{rules}
+use Rattle.des_stream.proofs.Stream.for_purpose.Goals as goal
+
+pub returns : goal.returns
+returns c = search rules
