@@ -1,11 +1,12 @@
 -- The times of audits ascend.
-use Rattle.std.proofs.Common.{◌≢◌, ℕ, zero, suc, ◌+◌, ◌-◌, ◌*◌, ◌/◌, ◌<◌, ◌≤◌, List, [], ◌∷◌, ◌++◌, length, get_or, drop, arith, ⊎_elim, subst}
-use Rattle.std.proofs.Math.Nat.{div-mul-le_self}
+use Rattle.std.proofs.Common.{◌≡◌, ◌≢◌, ◌∙◌, ℕ, zero, suc, ◌+◌, ◌-◌, ◌*◌, ◌/◌, ◌<◌, ◌≤◌, List, [], ◌∷◌, ◌++◌, length, length-append, refl, arith, ⊎_elim, subst}
+use Rattle.std.proofs.Math.Nat.{div-lt_iff_lt-mul, div-mul-le_self}
 use Rattle.std.specs.List.{AllByRecursion, AllPairs, Contains}
 use Rattle.des_event.proofs.Members.{All_from, AllPairs_none, AllPairs_cons, contains_none, contains_cons}
 use Rattle.chord_scenario.specs.declared.scenario.Scenario.{Scenario}
 use Rattle.chord_scenario.specs.Range.{IsInRange}
-use Rattle.chord_machine.specs.AuditTimes.{AreAuditsInTime, IsAscending, audit_times, multiples}
+use Rattle.chord_machine.specs.AuditTimes.{AreAuditsInTime, audit_times, most_audits, multiples}
+use Rattle.des_machine.specs.Times.{IsAscending}
 
 each-weaker : (P Q : ℕ → Type 0) (xs : List ℕ) → ((x : ℕ) → P x → Q x) → AllByRecursion P xs → AllByRecursion Q xs
 each-weaker P Q [] h all = tt
@@ -54,12 +55,6 @@ audits-within sc ranges =
     let fits : n * sc.audit ≤ sc.duration = omega (arith, div-mul-le_self (sc.duration - 1) sc.audit) in
     each-push (λ t. t ≤ sc.duration) (multiples sc.audit n) sc.duration (multiples-most sc.audit n sc.duration fits) (omega arith)
 
--- if one is late, all that follow are
-pub late-from : (xs : List ℕ) (i t : ℕ) → IsAscending xs → i < length xs → t < get_or xs i 0 → AllByRecursion (λ u. t < u) (drop i xs)
-late-from [] i t up inside late = absurd (omega (arith, inside))
-late-from (x ∷ xs) zero t up inside late = (late, each-weaker (λ u. x < u) (λ u. t < u) xs (λ u h. omega (arith, h, late)) up.0)
-late-from (x ∷ xs) (suc i) t up inside late = late-from xs i t up.1 (omega (arith, inside)) late
-
 each-at : (P : ℕ → Type 0) (xs : List ℕ) → AllByRecursion P xs → (x : ℕ) → Contains xs x → P x
 each-at P [] all x c = absurd (contains_none x c)
 each-at P (y ∷ xs) all x c = ⊎_elim (λ e. subst P e all.0) (λ r. each-at P xs all.1 x r) (contains_cons x y xs c)
@@ -75,3 +70,13 @@ audits-in-time sc ranges = record {
   distinct = ascending-apart (audit_times sc) (audits-ascend sc ranges);
   in_time = All_from (λ t. t ≤ sc.duration) (audit_times sc) (each-at (λ t. t ≤ sc.duration) (audit_times sc) (audits-within sc ranges));
 }
+
+multiples-long : (period n : ℕ) → length (multiples period n) ≡ n
+multiples-long period zero = refl
+multiples-long period (suc n) = length-append (multiples period n) ((n + 1) * period ∷ []) ∙ (let rest = multiples-long period n in omega (arith, rest))
+
+pub audits-few : (sc : Scenario) → IsInRange sc → length (audit_times sc) ≤ most_audits
+audits-few sc ranges =
+    let n : ℕ = (sc.duration - 1) / sc.audit in
+    let low : n < 1000000 = (div-lt_iff_lt-mul ranges.numbers.audit.least).1 (omega (arith, ranges.numbers.audits, ranges.numbers.duration_least)) in
+    omega (arith, length-append (multiples sc.audit n) (sc.duration ∷ []), multiples-long sc.audit n, low)

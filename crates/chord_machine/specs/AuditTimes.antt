@@ -1,7 +1,8 @@
 -- When audits are made.
 use Rattle.std.specs.Prelude.{ℕ, zero, suc, ◌≢◌, ◌+◌, ◌-◌, ◌*◌, ◌/◌, ◌<◌, ◌≤◌, List, [], ◌∷◌, ◌++◌}
-use Rattle.std.specs.List.{All, AllByRecursion, AllPairs}
+use Rattle.std.specs.List.{All, AllPairs}
 use Rattle.chord_scenario.specs.declared.scenario.Scenario.{Scenario}
+use Rattle.des_machine.specs.Times.{IsAscending}
 
 -- the first n positive multiples of a period
 abbrev pub multiples : (period n : ℕ) → List ℕ
@@ -12,10 +13,9 @@ multiples period (suc n) = multiples period n ++ (n + 1) * period ∷ []
 abbrev pub audit_times : Scenario → List ℕ
 audit_times sc = multiples sc.audit ((sc.duration - 1) / sc.audit) ++ sc.duration ∷ []
 
--- each time is below those that follow it
-abbrev pub IsAscending : List ℕ → Type 0
-IsAscending [] = Unit {0}
-IsAscending (t ∷ ts) = AllByRecursion (λ u. t < u) ts × IsAscending ts
+-- the most audits of a run: a duration has at most 1,000,000 whole periods of the audits
+abbrev pub most_audits : ℕ
+most_audits = 1000001
 
 -- the audits come one after another, none twice, and none after the end
 pub record AreAuditsInTime (sc : Scenario) : Type 0 where

@@ -1,8 +1,8 @@
 use Rattle.std.proofs.Common.{refl, subst, List, ℕ, ◌<◌, length, arith}
 use Rattle.std.specs.List.{AllByRecursion}
+use Rattle.des_machine.proofs.Late.{late-from}
+use Rattle.des_machine.proofs.audit_clock.AuditClock.take_due.Goals as goal
 use Rattle.des_model.proofs.Course.{same_read}
-use Rattle.chord_machine.proofs.Audits.{late-from}
-use Rattle.chord_machine.proofs.audit_clock.AuditClock.take_due.Goals as goal
 
 pub returns-else-due-time : goal.returns-else-due-time
 returns-else-due-time c =

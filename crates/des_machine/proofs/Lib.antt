@@ -1,0 +1,4 @@
+pub mod Ends
+pub mod Late
+pub mod Puts
+pub mod Runs

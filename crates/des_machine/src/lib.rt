@@ -1,0 +1,13 @@
+//! What a protocol gives to be simulated: a machine, and a scribe that writes its runs down. And what
+//! all engines do with them.
+#![tactic(auto)]
+
+mod audit_clock;
+mod journal;
+mod machine;
+mod scribe;
+
+pub use audit_clock::AuditClock;
+pub use journal::Journal;
+pub use machine::Machine;
+pub use scribe::Scribe;
