@@ -42,9 +42,9 @@ use Rattle.chord_event.specs.declared.body.Body.{Body}
 use Rattle.des_event.specs.declared.error.RunError.{RunError}
 use Rattle.des_event.specs.declared.error.RunError.TheVariants as run
 use Rattle.des_event.specs.declared.event.Event.{Event}
-use Rattle.chord_machine.specs.AuditTimes.{audit_times, multiples}
+use Rattle.chord_machine.specs.AuditTimes.{audit_times, most_audits}
 use Rattle.chord_machine.specs.Chord.{chord}
-use Rattle.chord_machine.proofs.Audits.{audits-in-time}
+use Rattle.chord_machine.proofs.Audits.{audits-few, audits-in-time}
 use Rattle.chord_machine.proofs.WellFormed.{well_formed}
 use Rattle.des_model.specs.Histories.{history, open_audits, output, state}
 use Rattle.des_model.specs.Scribes.{IsAtEnd, due}
@@ -54,7 +54,7 @@ use Rattle.des_model.proofs.Ends.{end_failed, pieces_counted, run_ended}
 use Rattle.des_model.proofs.Runs.{history_is_legal, possible_from_legal}
 use Rattle.chord_node.specs.declared.state.NodeState.{NodeState}
 use Rattle.chord_node.specs.Invariant.{AllNodes}
-use Rattle.chord_output.specs.Output.{Adds, audits_at, most_audits}
+use Rattle.chord_output.specs.Output.{Adds, audits_at}
 use Rattle.chord_output.specs.Runs.{IsRun, Writes, WritesFront}
 use Rattle.chord_output.proofs.Outputs.{writer_laws}
 use Rattle.chord_scenario.specs.declared.scenario.Scenario.{Scenario}
@@ -78,10 +78,6 @@ filter_shorter p (x ∷ xs) = go (p x) (filter_shorter p xs)
     go true others = omega (arith, others)
     go false others = omega (arith, others)
 
-multiples-long : (period n : ℕ) → length (multiples period n) ≡ n
-multiples-long period zero = refl
-multiples-long period (suc n) = length-append (multiples period n) ((n + 1) * period ∷ []) ∙ (let rest = multiples-long period n in omega (arith, rest))
-
 -- no more audits are due than are open
 pub due_shorter : (sc : Scenario) (account : ℕ → NodeState) (time : ℕ) (clock : List ℕ) → length (audits_at sc account (due time clock)) ≤ length clock
 due_shorter sc account time clock =
@@ -92,12 +88,6 @@ abbrev pub OfAccounts : Scenario → List NodeState → ((ℕ → NodeState) →
 OfAccounts sc states P = (account : ℕ → NodeState) → AreStates sc states account → P account
 
 module _ (sc : Scenario) (ranges : IsInRange sc) where
-  audits-few : length (audit_times sc) ≤ most_audits
-  audits-few =
-      let n : ℕ = (sc.duration - 1) / sc.audit in
-      let low : n < 1000000 = (div-lt_iff_lt-mul ranges.numbers.audit.least).1 (omega (arith, ranges.numbers.audits, ranges.numbers.duration_least)) in
-      omega (arith, length-append (multiples sc.audit n) (sc.duration ∷ []), multiples-long sc.audit n, low)
-
   -- before the first event all audits are open
   pub audits_at_start : open_audits (chord sc) [] ≡ audit_times sc
   audits_at_start = filter_all (audit_times sc)
@@ -105,7 +95,7 @@ module _ (sc : Scenario) (ranges : IsInRange sc) where
   -- a run has few pieces
   pub pieces_few : (h : List (Event Body)) (clock : List ℕ) → clock ≡ open_audits (chord sc) h
       → length (output (chord sc) h) + length clock ≤ length h + most_audits
-  pieces_few h clock is = omega (arith, pieces_counted (chord sc) h, ap length is, ap length audits_at_start, audits-few)
+  pieces_few h clock is = omega (arith, pieces_counted (chord sc) h, ap length is, ap length audits_at_start, audits-few sc ranges)
 
   -- what audits need of the states, and what they see
   module _ (states : List NodeState) (count : ℕ) (after : AreStatesAfter (chord sc) (history (chord sc) count) states) where

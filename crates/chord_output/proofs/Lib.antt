@@ -1,3 +1,4 @@
 pub mod Ends
+pub mod Instance
 pub mod Outputs
 pub mod Runs

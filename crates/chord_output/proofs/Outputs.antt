@@ -9,13 +9,13 @@ use Rattle.std.specs.List.{AllByRecursion, filter}
 use Rattle.chord_audit.specs.declared.audit_line.AuditLine.{AuditLine}
 use Rattle.chord_node.specs.declared.state.NodeState.{NodeState}
 use Rattle.chord_scenario.specs.declared.scenario.Scenario.{Scenario}
-use Rattle.chord_trace.proofs.Fronts.{front_after, front_of_longer, front_of_whole}
+use Rattle.des_output.proofs.Fronts.{front_after, front_of_longer, front_of_whole}
 use Rattle.chord_trace.specs.declared.piece.Piece.{Piece}
 use Rattle.chord_trace.specs.declared.piece.Piece.TheVariants as piece
 use Rattle.chord_trace.specs.declared.tally.Tally.{Tally}
 use Rattle.chord_trace.specs.Tally.{IsTallyOf}
 use Rattle.chord_trace.specs.Texts.{audit_text, piece_text, pieces_text}
-use Rattle.chord_trace.specs.Writing.{AppendsFront}
+use Rattle.des_output.specs.Writing.{AppendsFront}
 use Rattle.des_model.specs.Scribes.{AreLaws, due}
 use Rattle.chord_output.specs.Output.{Adds, audits_at}
 use Rattle.chord_output.specs.Runs.{Writes, WritesFront}

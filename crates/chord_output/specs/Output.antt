@@ -15,10 +15,6 @@ pub record Adds (sc : Scenario) (old new : Option (List ℕ)) (before after : Ta
   pub written : Appends old new (pieces_text sc pieces)
   pub tallied : (earlier : List Piece) → IsTallyOf sc.profile earlier before → IsTallyOf sc.profile (earlier ++ pieces) after
 
--- the most audits of a run: a duration has at most 1,000,000 whole periods of the audits
-abbrev pub most_audits : ℕ
-most_audits = 1000001
-
 -- the audits of these times, of nodes in these states
 abbrev pub audits_at : Scenario → (ℕ → NodeState) → List ℕ → List Piece
 audits_at sc states times = machine_audits (chord sc) states times

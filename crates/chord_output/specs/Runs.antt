@@ -9,7 +9,7 @@ use Rattle.chord_trace.specs.declared.piece.Piece.{Piece}
 use Rattle.chord_trace.specs.declared.report.Report.{Report}
 use Rattle.chord_trace.specs.Report.{IsReportOf}
 use Rattle.chord_trace.specs.Texts.{pieces_text}
-use Rattle.chord_trace.specs.Writing.{AppendsFront}
+use Rattle.des_output.specs.Writing.{AppendsFront}
 
 -- the text of these pieces went to the writer, which held the old bytes
 abbrev pub Writes : Scenario → (old new : Option (List ℕ)) → List Piece → Type 0

@@ -2,10 +2,10 @@
 //! use it.
 #![tactic(auto)]
 
-mod faults;
+mod chord_scribe;
 mod pieces;
+mod ring;
 
-// Two ways to run windows by workers go by it.
-#[doc(hidden)]
-pub use faults::graver;
+pub use chord_scribe::ChordScribe;
 pub use pieces::{put_audits, put_block};
+pub use ring::ChordRing;

@@ -11,15 +11,15 @@ ghost use Rattle.chord_output.specs.Output.{Adds, audits_at};
 ghost use Rattle.chord_trace.specs.declared.piece.Piece.TheVariants as piece;
 ghost use Rattle.chord_trace.specs.Tally.{taken};
 ghost use Rattle.chord_trace.specs.Texts.{pieces_text};
-ghost use Rattle.chord_trace.specs.Watched.{wrapped, has_failed};
-ghost use Rattle.chord_trace.specs.Writing.{AppendsFront, is_write};
+ghost use Rattle.des_output.specs.Watched.{wrapped, has_failed};
+ghost use Rattle.des_output.specs.Writing.{AppendsFront, is_write};
 
 use chord_audit::audit;
 use chord_event::{Block, RunError};
-use chord_machine::AuditClock;
 use chord_node::NodeState;
 use chord_scenario::Scenario;
 use chord_trace::{Tally, Watched, write_audit, write_block};
+use des_machine::AuditClock;
 use std::alloc::Global;
 use std::io::Write;
 

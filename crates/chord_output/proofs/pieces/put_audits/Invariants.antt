@@ -4,7 +4,7 @@ use Rattle.std.specs.List.{filter}
 use Rattle.chord_audit.specs.Audit.{AreStates}
 use Rattle.chord_node.specs.declared.state.NodeState.{NodeState}
 use Rattle.chord_trace.specs.Tally.{taken}
-use Rattle.chord_trace.specs.Watched.{wrapped, has_failed}
+use Rattle.des_output.specs.Watched.{wrapped, has_failed}
 use Rattle.chord_output.proofs.Outputs.{HasPut}
 use Rattle.chord_output.proofs.pieces.put_audits.Given as goal
 

@@ -1,7 +1,7 @@
 use Rattle.std.proofs.Common.{List, ℕ, subst, sym}
 use Rattle.std.specs.Io.KnownBytes.{Appends}
 use Rattle.chord_trace.specs.declared.piece.Piece.TheVariants as piece
-use Rattle.chord_trace.specs.Watched.{wrapped}
+use Rattle.des_output.specs.Watched.{wrapped}
 use Rattle.chord_output.proofs.Outputs.{text-one}
 use Rattle.chord_output.proofs.pieces.put_block.Goals as goal
 
