@@ -1,48 +1,79 @@
-//! The team: workers whose threads stand for the whole run, and run the parts of its windows.
+//! The team: workers whose threads stand for the whole run, and run the parts of its windows. It is the
+//! kernel's, for Chord.
 #![tactic(auto)]
 
-mod audits;
-mod course;
-mod finish;
-mod layout;
-mod link;
-mod mail;
-mod named;
-mod order;
-mod output;
-mod pace;
-mod part;
-mod run;
-mod start;
-mod team;
-mod waiting;
-mod window_end;
-mod window_run;
-mod worker;
+ghost use Rattle.std.specs.Prelude.{◌≡◌, ◌≢◌, ◌<◌, ◌≤◌, false, length, OnOk, Err};
+ghost use Rattle.chord_output.specs.Runs.{IsRun};
+ghost use Rattle.chord_scenario.specs.World.{node_count};
+ghost use Rattle.des_output.specs.Watched.{wrapped, has_failed};
+ghost use Rattle.des_output.specs.Writing.{is_write};
 
-pub use run::{MOST_WORKERS, run_team};
-// Contracts name these.
+use chord_event::RunError;
+use chord_output::{ChordRing, ChordScribe};
+use chord_scenario::Scenario;
+use chord_trace::{Report, Watched};
+use chord_window::Division;
+pub use des_team::MOST_WORKERS;
+use std::alloc::Global;
+use std::io::Write;
+use std::marker::Sync;
+use std::sync::Wait;
+use std::thread::Threads;
+// A test has all workers woken by it.
 #[doc(hidden)]
-pub use course::Course;
-// `run_team` runs a scenario by it. It is public so that a test can have all workers woken.
-#[doc(hidden)]
-pub use course::Hands;
-#[doc(hidden)]
-pub use layout::Layout;
-#[doc(hidden)]
-pub use mail::{Inbox, Outbox};
-#[doc(hidden)]
-pub use named::Named;
-#[doc(hidden)]
-pub use order::{Order, Reply};
-#[doc(hidden)]
-pub use output::{Mark, Output};
-// Public so that a test can ask it.
-#[doc(hidden)]
-pub use pace::Pace;
-#[doc(hidden)]
-pub use part::{Finished, OwnedPart, Parcel};
-#[doc(hidden)]
-pub use run::run_team_by;
-#[doc(hidden)]
-pub use team::Team;
+pub use des_team::Hands;
+
+/// Runs a scenario by windows, by 1 to 64 workers whose threads stand for the whole run. The calling
+/// thread is one of them. A part of the division has the states of its nodes and their pending
+/// events for the whole run. After a window of few events only the first workers run the next one.
+/// Writes the trace and returns the report, which depend on neither the workers nor the division.
+/// What was written before an error is a beginning of the trace.
+///
+/// # Errors
+///
+/// `BadDivision`, if the division has another number of nodes than the scenario: nothing is written.
+/// `Worker`, if a thread cannot be started: nothing is written. Of several faults of a window
+/// `Memory`, else `TooManyEvents`, else `Write`.
+pub fn run_team<R: Threads + Wait + Sync, W: Write>(
+    rt: &R,
+    alloc: Global,
+    scenario: &Scenario,
+    division: &Division,
+    workers: u32,
+    writer: &mut Watched<W>,
+) -> Result<Report, RunError>
+    requires workers { (0 < workers) × (workers ≤ MOST_WORKERS) }
+    requires sound { has_failed writer.old ≡ false }
+    ensures run { IsRun scenario.now (W.contents (wrapped writer.old)) (W.contents (wrapped writer.new)) result }
+    ensures writer { has_failed writer.new ≡ is_write result }
+    ensures bad { result ≡ Err RunError.BadDivision → (length division.now.of_node ≢ node_count scenario.now) × (writer.new ≡ writer.old) }
+    ensures divides { OnOk result (length division.now.of_node ≡ node_count scenario.now) }
+{
+    let ring = ChordRing { scenario };
+    des_team::run_team::<ChordRing<'_>, ChordScribe, R, W>(
+        rt, alloc, &ring, division, workers, writer,
+    )
+}
+
+/// `run_team`, with another number of events that are worth waking a worker: a test can have all of
+/// them woken in each window.
+pub fn run_team_by<R: Threads + Wait + Sync, W: Write>(
+    rt: &R,
+    alloc: Global,
+    scenario: &Scenario,
+    division: &Division,
+    hands: Hands,
+    writer: &mut Watched<W>,
+) -> Result<Report, RunError>
+    requires workers { (0 < hands.workers) × (hands.workers ≤ MOST_WORKERS) }
+    requires sound { has_failed writer.old ≡ false }
+    ensures run { IsRun scenario.now (W.contents (wrapped writer.old)) (W.contents (wrapped writer.new)) result }
+    ensures writer { has_failed writer.new ≡ is_write result }
+    ensures bad { result ≡ Err RunError.BadDivision → (length division.now.of_node ≢ node_count scenario.now) × (writer.new ≡ writer.old) }
+    ensures divides { OnOk result (length division.now.of_node ≡ node_count scenario.now) }
+{
+    let ring = ChordRing { scenario };
+    des_team::run_team_by::<ChordRing<'_>, ChordScribe, R, W>(
+        rt, alloc, &ring, division, hands, writer,
+    )
+}

@@ -1,9 +1,0 @@
-use Rattle.std.proofs.Common.{◌↔◌, ◌++◌, subst}
-use Rattle.std.specs.List.{Contains}
-use Rattle.chord_event.specs.declared.body.Body.{Body}
-use Rattle.des_event.specs.declared.event.Event.{Event}
-use Rattle.chord_team.proofs.mail.Inbox.empty_into.Goals as goal
-
-pub returns-clause-same : goal.returns-clause-same
-returns-clause-same c = subst (λ es. (x : Event Body) → Contains c.take_lists.new.pending x ↔ Contains (c.args.pending.now ++ es) x) c.self.view_is
-    c.in_ok-take_lists.ensures.same

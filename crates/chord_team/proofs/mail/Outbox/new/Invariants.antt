@@ -1,9 +1,0 @@
-use Rattle.std.proofs.Common.{◌≡◌, length}
-use Rattle.chord_team.specs.Mail.{AreEmpty}
-use Rattle.chord_team.proofs.mail.Outbox.new.Given as goal
-
-abbrev pub invariant-loop-part : goal.invariant-loop-part
-invariant-loop-part l = record {
-  long : length l.lists.items ≡ l._part;
-  empty : AreEmpty l.lists.items;
-}

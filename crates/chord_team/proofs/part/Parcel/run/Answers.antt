@@ -1,5 +1,0 @@
-use Rattle.std.proofs.Common.{rules}
-use Rattle.chord_team.proofs.part.Parcel.run.Goals as goal
-
-pub run_events-ran-requires : goal.run_events-ran-requires
-run_events-ran-requires c = search rules

@@ -1,5 +1,0 @@
-use Rattle.std.proofs.Common.{rules}
-use Rattle.chord_team.proofs.part.is_due.Goals as goal
-
-pub returns-in-Some : goal.returns-in-Some
-returns-in-Some c = search rules

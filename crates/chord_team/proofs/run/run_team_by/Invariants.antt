@@ -1,6 +1,0 @@
-use Rattle.std.specs.Prelude.{Some}
-use Rattle.chord_team.proofs.run.run_team_by.Given as goal
-
--- the run of this scenario, by this layout
-abbrev pub ghosts-run_named : goal.ghosts-run_named
-ghosts-run_named g a = record { run = Some (a.scenario.now, a.layout.now) }

@@ -1,5 +1,0 @@
-use Rattle.chord_team.specs.Exchanges.{HaveExchangedTo}
-use Rattle.chord_team.proofs.window_end.exchange_mail.Given as goal
-
-abbrev pub invariant-loop-from : goal.invariant-loop-from
-invariant-loop-from l = HaveExchangedTo l.from l.initial.parcels.items l.parcels.items

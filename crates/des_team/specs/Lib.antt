@@ -1,0 +1,15 @@
+pub mod Chronicles
+pub mod Entries
+pub mod Exchanges
+pub mod Faults
+pub mod Heads
+pub mod Layouts
+pub mod Mail
+pub mod Orders
+pub mod Outputs
+pub mod Owned
+pub mod Running
+pub mod Shares
+pub mod Starts
+pub mod Swaps
+pub mod Teams

@@ -1,0 +1,5 @@
+pub mod Divided
+pub mod EventLists
+pub mod Horizons
+pub mod Openings
+pub mod Shares

@@ -1,0 +1,3 @@
+pub mod Divisions
+pub mod Openings
+pub mod Shares
