@@ -1,6 +1,6 @@
 -- What each counter and each seat keeps inside.
 use Rattle.std.specs.Prelude.{◌≡◌, ◌<◌, ◌≤◌, true, []}
-use Rattle.chord_window.specs.declared.division.TheConstants.{MOST_PARTS}
+use Rattle.des_window.specs.declared.division.TheConstants.{MOST_PARTS}
 use Rattle.chord_crew.specs.declared.draws.TheConstants.{MOST_SEATS}
 use Rattle.chord_crew.specs.declared.draws.Draws.TheInside as draws
 use Rattle.chord_crew.specs.declared.seat.Seat.TheInside as seat

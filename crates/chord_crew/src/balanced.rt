@@ -24,7 +24,7 @@ pub struct Balanced {
 
 impl Model for Balanced {
     ghost use Rattle.std.specs.Prelude.{ℕ, ◌<◌, ◌≤◌};
-    ghost use Rattle.chord_window.specs.declared.division.TheConstants.{MOST_PARTS};
+    ghost use Rattle.des_window.specs.declared.division.TheConstants.{MOST_PARTS};
 
     ghost Value = { ℕ };
 

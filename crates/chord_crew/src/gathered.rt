@@ -1,15 +1,15 @@
 //! The joined results of a window's workers.
 ghost use Rattle.std.specs.Prelude.{◌≡◌, ◌⊎◌, ◌≤◌, ◌++◌, Some, None, Err, IfOk, IfErr, IfSome};
 ghost use Rattle.chord_crew.specs.Windows.{IsFaultOf, JoinsBoth, joined_seats};
-ghost use Rattle.chord_output.specs.Faults.{rank_of};
+ghost use Rattle.des_output.specs.Faults.{rank_of};
 ghost use Rattle.std.specs.Result.{ForOk};
 
 use crate::draws::Draws;
 use crate::seat::Seat;
 use crate::shift::Shift;
 use chord_event::RunError;
-use chord_output::graver;
 use chord_window::Done;
+use des_output::graver;
 
 /// The joined results of the workers of a window: the joined seat, and what the parts that they
 /// drew leave, in the order of its numbers.

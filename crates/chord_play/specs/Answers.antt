@@ -10,7 +10,7 @@ use Rattle.chord_scenario.specs.World.{ident_of, name_of as node_name, node_coun
 use Rattle.chord_play.specs.declared.questions.Question.{Question}
 use Rattle.chord_play.specs.declared.questions.Question.TheVariants as question
 use Rattle.chord_trace.specs.ReportText.{report_text}
-use Rattle.chord_trace.specs.Writing.{AppendsFront}
+use Rattle.des_output.specs.Writing.{AppendsFront}
 use Rattle.chord_trace.specs.declared.report.Report.{Report}
 
 -- what `check` prints of a scenario

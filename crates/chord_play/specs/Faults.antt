@@ -8,7 +8,7 @@ use Rattle.chord_play.specs.declared.text_reader.TextFault.TheVariants as text
 use Rattle.chord_plan.specs.declared.text.Text.{Text}
 use Rattle.chord_scenario.specs.declared.fault.ScenarioFault.{ScenarioFault}
 use Rattle.chord_scenario.specs.declared.fault.ScenarioFault.TheVariants as scenario
-use Rattle.chord_trace.specs.Writing.{is_write}
+use Rattle.des_output.specs.Writing.{is_write}
 
 -- why a text was not read
 abbrev pub fault_of_text : Text → TextFault → PlayFault

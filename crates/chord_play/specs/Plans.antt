@@ -5,7 +5,7 @@ use Rattle.des_model.specs.Windows.{Division}
 use Rattle.chord_plan.specs.declared.plan.Plan.{Plan}
 use Rattle.chord_plan.specs.declared.plan.Split.{Split}
 use Rattle.chord_plan.specs.declared.plan.Split.TheVariants as split
-use Rattle.chord_window.specs.Divisions.{block_part, dealt_part}
+use Rattle.des_window.specs.Divisions.{block_part, dealt_part}
 
 -- the part of a node, of this number of nodes in this number of parts
 abbrev pub part_by : Split → (nodes parts node : ℕ) → ℕ

@@ -6,8 +6,8 @@ use Rattle.chord_plan.specs.declared.text.Text.TheVariants as text
 use Rattle.des_event.specs.declared.error.RunError.TheVariants as run
 use Rattle.chord_play.specs.Texts.{IsCutOff, IsShort, Lacks}
 use Rattle.chord_scenario.specs.declared.fault.ScenarioFault.TheVariants as reason
-use Rattle.chord_trace.specs.declared.watched.Watched.{Watched}
-use Rattle.chord_trace.specs.Watched.{has_failed, wrapped}
+use Rattle.des_output.specs.declared.watched.Watched.{Watched}
+use Rattle.des_output.specs.Watched.{has_failed, wrapped}
 
 -- a watched reader at two moments, and what is known of the bytes that a reader has left
 pub record Reading (R : Type 0) : Type 0 where

@@ -5,7 +5,7 @@ ghost use Rattle.chord_play.specs.Faults.{is_of_run, is_write_fault};
 ghost use Rattle.chord_play.specs.Played.{IsPlayed};
 ghost use Rattle.chord_play.specs.Readings.{IsFaultOf, WasRead, reading};
 ghost use Rattle.chord_play.specs.Texts.{Gives};
-ghost use Rattle.chord_trace.specs.Watched.{wrapped, has_failed};
+ghost use Rattle.des_output.specs.Watched.{wrapped, has_failed};
 
 use crate::fault::{PlayFault, fault_of_text};
 use crate::running::run_planned;

@@ -2,8 +2,8 @@
 ghost use Rattle.std.specs.Prelude.{◌≡◌, ◌≢◌, ◌⊎◌, ◌<◌, false, IfErr, IfOk, Err};
 ghost use Rattle.chord_output.specs.Runs.{IsRun};
 ghost use Rattle.chord_play.specs.Plans.{planned};
-ghost use Rattle.chord_trace.specs.Watched.{wrapped, has_failed};
-ghost use Rattle.chord_trace.specs.Writing.{is_write};
+ghost use Rattle.des_output.specs.Watched.{wrapped, has_failed};
+ghost use Rattle.des_output.specs.Writing.{is_write};
 
 use chord_crew::{Gate, Starter, run_crew_started};
 use chord_event::{Memory, RunError};

@@ -4,7 +4,7 @@ ghost use Rattle.std.specs.Prelude.{◌≡◌, ◌≢◌, ◌⊎◌, ◌||◌, f
 ghost use Rattle.chord_machine.specs.Run.{trace_text};
 ghost use Rattle.chord_play.specs.Faults.{is_of_run, is_write_fault};
 ghost use Rattle.chord_play.specs.Readings.{IsFaultOf, reading};
-ghost use Rattle.chord_trace.specs.Watched.{wrapped, has_failed};
+ghost use Rattle.des_output.specs.Watched.{wrapped, has_failed};
 ghost use Rattle.chord_play.specs.Answers.{HasAnswered, HasBegun, HasReported, IsAnswered, IsOver, IsReported, told};
 
 use crate::fault::PlayFault;

@@ -3,7 +3,7 @@ ghost use Rattle.std.specs.Prelude.{◌≡◌, ◌≤◌, false, Err, IfOk, OnOk
 ghost use Rattle.std.specs.Io.KnownBytes.{Consumes, IsAtEnd};
 ghost use Rattle.chord_play.specs.Faults.{is_read_fault};
 ghost use Rattle.chord_play.specs.Texts.{IsCutOff};
-ghost use Rattle.chord_trace.specs.Watched.{wrapped, has_failed};
+ghost use Rattle.des_output.specs.Watched.{wrapped, has_failed};
 
 use chord_trace::Watched;
 use std::alloc::{AllocError, Global};

@@ -54,13 +54,13 @@ use Rattle.chord_output.specs.Output.{Adds, audits_at}
 use Rattle.chord_output.proofs.Ends.{are_states as accounted_states, due_shorter, pieces_few, states_known as known_states}
 use Rattle.chord_output.proofs.Outputs.{fronts_longer, fronts_then, writes_then}
 use Rattle.chord_output.proofs.Runs.{begun_at, begun_next}
-use Rattle.chord_trace.proofs.Fronts.{front_of_whole}
+use Rattle.des_output.proofs.Fronts.{front_of_whole}
 use Rattle.chord_trace.specs.declared.piece.Piece.{Piece}
 use Rattle.chord_trace.specs.declared.piece.Piece.TheVariants as piece
 use Rattle.chord_trace.specs.declared.tally.Tally.{Tally}
 use Rattle.chord_trace.specs.Tally.{IsTallyOf, taken}
 use Rattle.chord_trace.specs.Texts.{block_text, pieces_text}
-use Rattle.chord_trace.specs.Writing.{AppendsFront}
+use Rattle.des_output.specs.Writing.{AppendsFront}
 use Rattle.chord_window.specs.declared.engine.Engine.{Engine}
 use Rattle.chord_window.specs.declared.world.Opening.{Opening}
 use Rattle.chord_window.specs.declared.part_run.Done.{Done}

@@ -20,6 +20,5 @@ pub mod WorkerSteps
 pub mod PickedSteps
 pub mod PickedTurns
 pub mod PickedWindows
-pub mod Divided
 pub mod Orders
 pub mod PickedCourse

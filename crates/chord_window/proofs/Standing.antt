@@ -2,7 +2,9 @@
 use Rattle.std.proofs.Common.{◌≡◌, ◌≢◌, ℕ, suc, ◌+◌, ◌<◌, ◌≤◌, List, [], ◌∷◌, length, get_or, refl, ap, subst, ⊎_elim, ◌↔◌, arith}
 use Rattle.std.proofs.lemmas.Bool.{cases_eq}
 use Rattle.std.proofs.lemmas.List.FromFn.{get_or-map-range_with_len, length-map-range_with_len}
+use Rattle.std.proofs.lemmas.List.Sorted.{Contains-permutation, IsPermutation-sym}
 use Rattle.std.specs.List.{AllPairs, Contains, flat_map}
+use Rattle.std.specs.List.Sorted.{IsPermutation}
 use Rattle.chord_event.specs.declared.body.Body.{Body}
 use Rattle.des_event.specs.declared.event.Event.{Event}
 use Rattle.des_event.proofs.Members.{All_at, AllPairs_append, AllPairs_none, contains_append, contains_left, contains_none, contains_right}
@@ -18,9 +20,11 @@ use Rattle.des_model.proofs.Distinct.{meets, one_event}
 use Rattle.des_model.proofs.Pending.{waits_from}
 use Rattle.des_model.proofs.Rest.{pending_is_rest}
 use Rattle.des_model.proofs.Runs.{history_is_legal, possible_from_legal}
+use Rattle.chord_node.specs.declared.state.NodeState.{NodeState}
 use Rattle.chord_node.specs.Ring.{initial_ring, initial_state}
 use Rattle.chord_ops.specs.Sound.{IsSoundEvent}
 use Rattle.des_queue.proofs.Inserting.{ordered_apart}
+use Rattle.des_queue.proofs.Shuffled.{apart_shuffled}
 use Rattle.chord_scenario.specs.declared.scenario.Scenario.{Scenario}
 use Rattle.chord_scenario.specs.Range.{IsInRange}
 use Rattle.chord_scenario.specs.Start.{start_events}
@@ -116,3 +120,17 @@ world_stands sc ranges world is = record {
         → HasEvents sc world.division (history (chord sc) world.count) (0 + j) (events_of (get_or world.parts.items j e))
     has j e l = subst (λ n. HasEvents sc world.division (history (chord sc) world.count) n (events_of (get_or world.parts.items j e))) (omega arith)
         (is.events_are j e (omega (arith, l, is.parts_are)))
+
+-- in another order the pending events are the same
+pub stand_sorted : (sc : Scenario) (count : ℕ) (states : List NodeState) (events sorted : List (Event Body)) → IsPermutation events sorted
+    → StandAfter sc count states events → StandAfter sc count states sorted
+stand_sorted sc count states events sorted moved stand = record {
+  within = stand.within;
+  long = stand.long;
+  states_are = stand.states_are;
+  same = λ x. (
+    λ c. (stand.same x).0 (Contains-permutation sorted events x (IsPermutation-sym events sorted moved) c),
+    λ c. Contains-permutation events sorted x moved ((stand.same x).1 c),
+  );
+  apart = apart_shuffled [] events sorted moved stand.apart;
+}

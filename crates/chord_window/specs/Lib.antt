@@ -8,6 +8,5 @@ pub mod Delivery
 pub mod Exchanges
 pub mod Tallies
 pub mod Engine
-pub mod Divisions
 pub mod Ordering
 pub mod PickedRuns

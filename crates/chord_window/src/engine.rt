@@ -7,21 +7,22 @@ ghost use Rattle.chord_scenario.specs.World.{node_count};
 ghost use Rattle.chord_output.specs.Runs.{IsBeginning, IsRun};
 ghost use Rattle.chord_scenario.specs.Blocks.{IsBlockOf};
 ghost use Rattle.chord_trace.specs.Texts.{block_text};
-ghost use Rattle.chord_trace.specs.Watched.{wrapped, has_failed};
-ghost use Rattle.chord_trace.specs.Writing.{AppendsFront, is_write};
+ghost use Rattle.des_output.specs.Watched.{wrapped, has_failed};
+ghost use Rattle.des_output.specs.Writing.{AppendsFront, is_write};
 ghost use Rattle.chord_window.specs.Engine.{IsAt};
 ghost use Rattle.chord_window.specs.Exchanges.{AreDone, events_in};
 
-use crate::division::Division;
 use crate::exchanging::{events_within, exchange_in_order};
 use crate::part_run::Done;
 use crate::tallies::{add_tallies, join_all, tally_parts};
 use crate::world::{Opening, World};
 use chord_event::{Block, RunError};
-use chord_machine::AuditClock;
+use chord_machine::clock_of_audits;
 use chord_output::put_audits;
 use chord_scenario::Scenario;
 use chord_trace::{Report, Tally, Watched, merge_blocks, write_block};
+use des_machine::AuditClock;
+use des_window::Division;
 use std::alloc::Global;
 use std::io::Write;
 use std::mem;
@@ -72,7 +73,7 @@ impl Engine {
     {
         scenario.recall_range();
         let world = World::start(alloc, scenario, division)?;
-        let clock = AuditClock::start(alloc, scenario)?;
+        let clock = clock_of_audits(alloc, scenario)?;
         let mut tallies = Vec::new(alloc);
         add_tallies(alloc, scenario.profile(), &mut tallies, division.parts())?;
         Ok(Engine {

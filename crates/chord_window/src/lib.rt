@@ -2,7 +2,6 @@
 #![tactic(auto)]
 
 mod copies;
-mod division;
 mod engine;
 mod exchanging;
 mod part_order;
@@ -15,7 +14,7 @@ mod window;
 mod worker;
 mod world;
 
-pub use division::{Division, DivisionFault, MOST_PARTS};
+pub use des_window::{Division, DivisionFault, MOST_PARTS};
 pub use exchanging::exchange;
 pub use part_order::in_part_order;
 pub use part_run::{Done, run_part};

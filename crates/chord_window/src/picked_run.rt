@@ -2,12 +2,11 @@
 ghost use Rattle.std.specs.Prelude.{◌≡◌, ◌≢◌, ◌⊎◌, ◌<◌, ◌≤◌, false, length, OnOk, IfOk, IfErr, Err};
 ghost use Rattle.chord_output.specs.Runs.{IsRun};
 ghost use Rattle.chord_scenario.specs.World.{node_count};
-ghost use Rattle.chord_trace.specs.Watched.{wrapped, has_failed};
-ghost use Rattle.chord_trace.specs.Writing.{is_write};
+ghost use Rattle.des_output.specs.Watched.{wrapped, has_failed};
+ghost use Rattle.des_output.specs.Writing.{is_write};
 ghost use Rattle.chord_window.specs.Engine.{IsAt};
 ghost use Rattle.chord_window.specs.PickedRuns.{AreStepsOf, report_in};
 
-use crate::division::Division;
 use crate::engine::Engine;
 use crate::picked_window::PickedWindow;
 use crate::step::Taken;
@@ -15,6 +14,7 @@ use crate::window::Window;
 use chord_event::RunError;
 use chord_scenario::Scenario;
 use chord_trace::{Report, Watched};
+use des_window::Division;
 use std::alloc::Global;
 use std::io::Write;
 

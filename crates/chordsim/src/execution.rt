@@ -2,7 +2,7 @@
 ghost use Rattle.std.specs.Prelude.{◌≡◌, ◌⊎◌, false, IfErr, IfOk};
 ghost use Rattle.std.specs.Io.Buffered.{writer_inner};
 ghost use Rattle.std.specs.Process.{exit_status};
-ghost use Rattle.chord_trace.specs.Watched.{has_failed};
+ghost use Rattle.des_output.specs.Watched.{has_failed};
 
 use crate::status::{conclude, refuse_trace};
 use chord_command::{Files, Order};

@@ -1,6 +1,6 @@
 //! The engines, behind one function.
 ghost use Rattle.std.specs.Prelude.{◌≡◌, ◌≤◌, false};
-ghost use Rattle.chord_trace.specs.Watched.{has_failed};
+ghost use Rattle.des_output.specs.Watched.{has_failed};
 
 use chord_crew::{Dealer, OpenGate, run_crew, run_crew_dealt};
 use chord_event::{Memory, RunError};

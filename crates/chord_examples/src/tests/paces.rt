@@ -1,7 +1,7 @@
 //! How many workers a team takes for its windows.
 
 use crate::tests::steps::holds;
-use chord_team::Pace;
+use des_team::Pace;
 use std::process::Abort;
 
 /// Asserts how many of three other workers run each of some windows of 200 events. The caller waits
@@ -37,12 +37,13 @@ fn a_slow_window_in_three_changes_nothing(rt: HostRuntime) {
 }
 
 /// A window of 1,000 events is worth four workers, even while small ones are not shared. It teaches
-/// nothing. 63 events are worth no other worker, and 64 are worth one.
+/// nothing. 95 events are worth no other worker, 96 are worth two, and 128 three.
 #[test]
 fn large_windows_have_all_workers(rt: HostRuntime) {
     let mut pace = Pace::new(250);
-    holds(&rt, pace.others(63, 3) == 0, &63);
-    holds(&rt, pace.others(64, 3) == 1, &64);
+    holds(&rt, pace.others(95, 3) == 0, &95);
+    holds(&rt, pace.others(96, 3) == 2, &96);
+    holds(&rt, pace.others(128, 3) == 3, &128);
     takes(&rt, &mut pace, 16, 3, true);
     holds(&rt, pace.others(1000, 3) == 3, &1000);
     pace.learn(1000, 3, true);

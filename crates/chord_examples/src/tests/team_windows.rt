@@ -1,10 +1,12 @@
 //! A part's first window by itself: a team's worker leaves what `run_part` leaves.
 ghost use Rattle.std.specs.Prelude.{◌≡◌, ◌<◌, length};
 ghost use Rattle.std.specs.List.{All};
-ghost use Rattle.chord_team.specs.Layouts.{IsLayout};
-ghost use Rattle.chord_team.specs.Orders.{IsOrder};
-ghost use Rattle.chord_team.specs.Teams.{CanSend};
+ghost use Rattle.chord_scenario.specs.World.{node_count};
+ghost use Rattle.chord_team.specs.Rings.{ring_of};
 ghost use Rattle.chord_window.specs.PartRuns.{IsNextWindow, IsShortBlock};
+ghost use Rattle.des_team.specs.Layouts.{IsLayout};
+ghost use Rattle.des_team.specs.Orders.{IsOrder};
+ghost use Rattle.des_team.specs.Teams.{CanSend};
 
 use crate::tests::comparisons::{are_same_events, is_same_state};
 use crate::tests::random_texts::{Dice, RandomTexts, random_texts};
@@ -12,11 +14,12 @@ use crate::tests::steps::{holds, value_of};
 use crate::tests::windows::horizon_of;
 use chord_event::{Block, Event, Key};
 use chord_node::NodeState;
+use chord_output::{ChordRing, ChordScribe};
 use chord_queue::WindowQueue;
 use chord_scenario::{Scenario, read_scenario};
-use chord_team::{Course, Finished, Layout, OwnedPart, Parcel, Team};
 use chord_trace::{Watched, write_block};
 use chord_window::{Division, Done, Window, World, run_part};
+use des_team::{Course, Finished, Layout, OwnedPart, Parcel, Team};
 use std::process::Abort;
 
 /// The number of random scenarios.
@@ -123,15 +126,19 @@ fn lies_apart(rt: &impl Abort, layout: &Layout, outbox: &[Vec<Event>]) {
 }
 
 /// What a team's worker leaves of a part.
-fn by_worker<T: Abort + AllocGlobal>(rt: &T, course: &Course<'_>, parcel: Parcel) -> Leavings
-    requires { IsOrder course.now.scenario.now course.now.layout.now parcel }
+fn by_worker<'a, T: Abort + AllocGlobal>(
+    rt: &T,
+    course: &Course<'_, ChordRing<'a>>,
+    parcel: Parcel<ChordRing<'a>, ChordScribe>,
+) -> Leavings
+    requires { IsOrder (ring_of course.now.machine.now.scenario.now) course.now.layout.now parcel }
 {
     let Finished {
         parcel,
         events,
         fault,
         ..
-    } = parcel.run(rt.alloc(), course.scenario, course.layout);
+    } = parcel.run(rt.alloc(), course.machine, course.layout);
     holds(rt, fault.is_none(), &fault);
     let Parcel { part, output, .. } = parcel;
     let OwnedPart {
@@ -161,27 +168,32 @@ fn by_worker<T: Abort + AllocGlobal>(rt: &T, course: &Course<'_>, parcel: Parcel
 }
 
 /// Takes a part out, which must be here, for the window.
-fn taken_out(rt: &impl Abort, course: &Course<'_>, team: &mut Team, part: u32) -> Parcel
+fn taken_out<'a>(
+    rt: &impl Abort,
+    course: &Course<'_, ChordRing<'a>>,
+    team: &mut Team<ChordRing<'a>, ChordScribe>,
+    part: u32,
+) -> Parcel<ChordRing<'a>, ChordScribe>
     requires part { part < length team.old.parcels.items }
-    requires can_send { CanSend course.now.scenario.now course.now.layout.now team.old }
-    ensures order { IsOrder course.now.scenario.now course.now.layout.now result }
-    ensures can_send { CanSend course.now.scenario.now course.now.layout.now team.new }
+    requires can_send { CanSend (ring_of course.now.machine.now.scenario.now) course.now.layout.now team.old }
+    ensures order { IsOrder (ring_of course.now.machine.now.scenario.now) course.now.layout.now result }
+    ensures can_send { CanSend (ring_of course.now.machine.now.scenario.now) course.now.layout.now team.new }
 {
-    let Some(parcel) = team.take_out(part) else {
+    let Some(parcel) = team.take_out(course, part) else {
         panic!(rt; "part {part} is not here");
     };
     parcel
 }
 
 /// Asserts that a part's window leaves the same by both. Returns the number of its events.
-fn leaves_the_same<T: Abort + AllocGlobal>(
+fn leaves_the_same<'a, T: Abort + AllocGlobal>(
     rt: &T,
-    course: &Course<'_>,
-    parcel: Parcel,
+    course: &Course<'_, ChordRing<'a>>,
+    parcel: Parcel<ChordRing<'a>, ChordScribe>,
     window: &Window<'_>,
     part: u32,
 ) -> u64
-    requires order { IsOrder course.now.scenario.now course.now.layout.now parcel }
+    requires order { IsOrder (ring_of course.now.machine.now.scenario.now) course.now.layout.now parcel }
     requires window { IsNextWindow window.now.scenario.now window.now.world.now window.now.horizon }
     requires part { part < window.now.world.now.division.parts }
 {
@@ -194,14 +206,14 @@ fn leaves_the_same<T: Abort + AllocGlobal>(
 }
 
 /// Asserts that the window of each part leaves the same by both. Adds the numbers of their events to the list.
-fn all_leave_the_same<T: Abort + AllocGlobal>(
+fn all_leave_the_same<'a, T: Abort + AllocGlobal>(
     rt: &T,
-    course: &Course<'_>,
-    team: &mut Team,
+    course: &Course<'_, ChordRing<'a>>,
+    team: &mut Team<ChordRing<'a>, ChordScribe>,
     window: &Window<'_>,
     counts: &mut Vec<u64>,
 )
-    requires can_send { CanSend course.now.scenario.now course.now.layout.now team.old }
+    requires can_send { CanSend (ring_of course.now.machine.now.scenario.now) course.now.layout.now team.old }
     requires window { IsNextWindow window.now.scenario.now window.now.world.now window.now.horizon }
     requires parts { course.now.layout.now.division ≡ window.now.world.now.division }
 {
@@ -213,11 +225,14 @@ fn all_leave_the_same<T: Abort + AllocGlobal>(
 }
 
 /// The team of a run whose first window is open.
-fn opened<T: Abort + AllocGlobal>(rt: &T, course: &Course<'_>) -> Team
-    requires { IsLayout course.now.scenario.now course.now.layout.now }
-    ensures { CanSend course.now.scenario.now course.now.layout.now result }
+fn opened<'a, T: Abort + AllocGlobal>(
+    rt: &T,
+    course: &Course<'_, ChordRing<'a>>,
+) -> Team<ChordRing<'a>, ChordScribe>
+    requires { IsLayout (node_count course.now.machine.now.scenario.now) course.now.layout.now }
+    ensures { CanSend (ring_of course.now.machine.now.scenario.now) course.now.layout.now result }
 {
-    let started = Team::start(course.alloc, course.scenario, course.layout);
+    let started = Team::start(course.alloc, course.machine, course.layout);
     let mut team = value_of(rt, started);
     let Some(opening) = team.opening(course) else {
         panic!(rt; "no window");
@@ -234,10 +249,11 @@ fn begins_the_same<T: Abort + AllocGlobal>(
     counts: &mut Vec<u64>,
 ) {
     let alloc = rt.alloc();
-    let layout = value_of(rt, Layout::new(alloc, scenario, division));
+    let ring = ChordRing { scenario };
+    let layout = value_of(rt, Layout::new(alloc, &ring, division));
     let course = Course {
         alloc,
-        scenario,
+        machine: &ring,
         layout: &layout,
         parkers: &[],
         worth: 0,

@@ -1,5 +1,5 @@
 use Rattle.std.proofs.Common.{◌≡◌, ◌-◌, false}
-use Rattle.chord_trace.specs.Watched.{wrapped, has_failed}
+use Rattle.des_output.specs.Watched.{wrapped, has_failed}
 use Rattle.chord_window.specs.Engine.{IsAt}
 use Rattle.chord_crew.proofs.crew_run.run_windows.Given as goal
 

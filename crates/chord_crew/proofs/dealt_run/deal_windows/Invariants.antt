@@ -1,6 +1,6 @@
 use Rattle.std.proofs.Common.{◌≡◌, ℕ, ◌-◌, ◌≤◌, false, get_or, length}
 use Rattle.chord_scenario.specs.World.{node_count}
-use Rattle.chord_trace.specs.Watched.{wrapped, has_failed}
+use Rattle.des_output.specs.Watched.{wrapped, has_failed}
 use Rattle.chord_window.specs.Engine.{IsAt}
 use Rattle.chord_crew.proofs.dealt_run.deal_windows.Given as goal
 

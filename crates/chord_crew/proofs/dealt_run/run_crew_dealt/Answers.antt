@@ -4,7 +4,7 @@ use Rattle.des_event.specs.declared.error.RunError.TheVariants as run
 use Rattle.des_model.specs.Windows.{Division}
 use Rattle.chord_output.proofs.Runs.{run_refused}
 use Rattle.chord_scenario.specs.World.{node_count}
-use Rattle.chord_window.specs.Divisions.{dealt_part}
+use Rattle.des_window.specs.Divisions.{dealt_part}
 use Rattle.chord_crew.proofs.dealt_run.run_crew_dealt.Goals as goal
 
 pub returns-in_err-engine-clause-bad : goal.returns-in_err-engine-clause-bad

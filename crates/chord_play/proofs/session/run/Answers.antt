@@ -9,12 +9,12 @@ use Rattle.chord_play.specs.Played.{IsPlayed}
 use Rattle.chord_play.specs.Readings.{IsFaultOf, reading}
 use Rattle.chord_play.specs.declared.fault.PlayFault.{PlayFault}
 use Rattle.chord_play.specs.declared.fault.PlayFault.TheVariants as fault
-use Rattle.chord_trace.specs.Watched.{wrapped}
+use Rattle.des_output.specs.Watched.{wrapped}
 use Rattle.chord_trace.specs.declared.report.Report.{Report}
-use Rattle.chord_trace.specs.declared.watched.Watched.{Watched}
+use Rattle.des_output.specs.declared.watched.Watched.{Watched}
 use Rattle.chord_play.specs.Answers.{HasBegun, HasReported, IsOver}
 use Rattle.chord_trace.specs.ReportText.{report_text}
-use Rattle.chord_trace.specs.Writing.{AppendsFront}
+use Rattle.des_output.specs.Writing.{AppendsFront}
 use Rattle.chord_play.proofs.session.run.Goals as goal
 
 -- a run has begun the trace, whatever its result, and a flush keeps it

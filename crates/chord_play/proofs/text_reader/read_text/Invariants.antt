@@ -1,6 +1,6 @@
 use Rattle.std.proofs.Common.{◌≡◌, ◌-◌, ◌≤◌, false, length, vec_len}
 use Rattle.std.specs.Io.KnownBytes.{Consumes}
-use Rattle.chord_trace.specs.Watched.{wrapped, has_failed}
+use Rattle.des_output.specs.Watched.{wrapped, has_failed}
 use Rattle.chord_play.proofs.text_reader.read_text.Given as goal
 
 abbrev pub invariant-loop-chunk : goal.invariant-loop-chunk

@@ -1,4 +1,4 @@
-use Rattle.chord_trace.proofs.Fronts.{front_more, front_of_all}
+use Rattle.des_output.proofs.Fronts.{front_more, front_of_all}
 use Rattle.chord_trace.specs.Texts.{block_text}
 use Rattle.chord_window.proofs.engine.write_blocks.Goals as goal
 

@@ -2,7 +2,7 @@ use Rattle.std.proofs.Common.{◌≡◌, false, take}
 use Rattle.std.specs.Io.KnownBytes.{Appends}
 use Rattle.std.specs.List.{flat_map}
 use Rattle.chord_trace.specs.Texts.{block_text}
-use Rattle.chord_trace.specs.Watched.{wrapped, has_failed}
+use Rattle.des_output.specs.Watched.{wrapped, has_failed}
 use Rattle.chord_window.proofs.engine.write_blocks.Given as goal
 
 abbrev pub invariant-loop-block : goal.invariant-loop-block

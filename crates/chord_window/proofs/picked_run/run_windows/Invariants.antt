@@ -1,6 +1,6 @@
 use Rattle.std.proofs.Common.{◌≡◌, ◌≤◌, ◌-◌, drop, false, length}
 use Rattle.std.specs.List.{AllByRecursion}
-use Rattle.chord_trace.specs.Watched.{wrapped, has_failed}
+use Rattle.des_output.specs.Watched.{wrapped, has_failed}
 use Rattle.chord_window.specs.Engine.{IsAt}
 use Rattle.chord_window.specs.PickedRuns.{HasCome}
 use Rattle.chord_window.specs.Workers.{IsIdle}

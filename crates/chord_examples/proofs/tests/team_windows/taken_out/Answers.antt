@@ -1,4 +1,4 @@
 use Rattle.chord_examples.proofs.tests.team_windows.taken_out.Goals as goal
 
 pub returns-clause-order : goal.returns-clause-order
-returns-clause-order g c = (c.in-Some.ensures.order c.args.course.now.scenario.now c.args.course.now.layout.now c.requires.can_send).order
+returns-clause-order g c = c.in-Some.ensures.order.order

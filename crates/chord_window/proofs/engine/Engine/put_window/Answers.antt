@@ -15,7 +15,7 @@ use Rattle.chord_trace.specs.declared.piece.Piece.{Piece}
 use Rattle.chord_trace.specs.declared.piece.Piece.TheVariants as piece
 use Rattle.chord_trace.specs.Merging.{CanMerge, IsMerged}
 use Rattle.chord_trace.specs.Texts.{block_text}
-use Rattle.chord_trace.specs.Writing.{AppendsFront}
+use Rattle.des_output.specs.Writing.{AppendsFront}
 use Rattle.chord_window.specs.declared.engine.Engine.{Engine}
 use Rattle.chord_window.specs.declared.part_run.Done.{Done}
 use Rattle.chord_window.specs.Exchanges.{events_in}
