@@ -1,0 +1,13 @@
+//! The program `rumour`: lets a rumour spread among 12 nodes, and prints who heard it when. It is the
+//! example of docs/kernel.md.
+#![tactic(auto)]
+
+mod machine;
+mod running;
+mod scribe;
+
+use std::process::ExitCode;
+
+fn main(rt: HostRuntime) -> ExitCode {
+    running::perform(&rt, &rt)
+}

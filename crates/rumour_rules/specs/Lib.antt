@@ -1,0 +1,4 @@
+pub mod Counts
+pub mod Range
+pub mod Rules
+pub mod Sound
