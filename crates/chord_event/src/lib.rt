@@ -11,5 +11,5 @@ pub use body::{Answer, Body};
 pub use des_event::{Copied, Key, Listed, Memory, RunError};
 pub use line::{CommandKind, Line, MessageKind};
 
-/// An event, whose body is one of Chord unless another one is named.
-pub type Event<B = Body> = des_event::Event<B>;
+/// An event of Chord.
+pub type Event = des_event::Event<Body>;

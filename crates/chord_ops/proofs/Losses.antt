@@ -7,8 +7,8 @@ use Rattle.chord_event.specs.declared.line.MessageKind.{MessageKind}
 use Rattle.chord_scenario.specs.declared.scenario.Scenario.{Scenario}
 use Rattle.chord_scenario.specs.Draws.{chance, drawn, extra, message_purpose}
 use Rattle.chord_scenario.specs.World.{latency}
-use Rattle.chord_stream.specs.Draws.{first_number, own_stream}
-use Rattle.chord_stream.proofs.Drawn.{first_below}
+use Rattle.des_stream.specs.Draws.{first_number, own_stream}
+use Rattle.des_stream.proofs.Drawn.{first_below}
 use Rattle.chord_ops.specs.declared.turn.Turn.{Turn}
 use Rattle.chord_ops.specs.Turns.{after_words, carried, lost_on_the_way, made, sent}
 

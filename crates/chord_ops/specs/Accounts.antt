@@ -26,11 +26,11 @@ tells_lost _ = false
 abbrev pub begun : List Line → ℕ
 begun lines = count_by tells_begun lines
 
--- as found
+-- the users' lookups that they tell of as found
 abbrev pub found : List Line → ℕ
 found lines = count_by tells_found lines
 
--- and as lost
+-- the users' lookups that they tell of as lost
 abbrev pub lost : List Line → ℕ
 lost lines = count_by tells_lost lines
 

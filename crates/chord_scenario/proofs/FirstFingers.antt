@@ -1,7 +1,7 @@
 -- The number that decides which finger is looked up first is below its bound.
 use Rattle.std.proofs.Common.{ℕ, ◌<◌}
-use Rattle.chord_stream.proofs.Drawn.{first_below}
-use Rattle.chord_stream.specs.Draws.{own_stream}
+use Rattle.des_stream.proofs.Drawn.{first_below}
+use Rattle.des_stream.specs.Draws.{own_stream}
 use Rattle.chord_scenario.specs.Draws.{finger_number, finger_purpose}
 use Rattle.chord_scenario.specs.Setup.{Setup}
 

@@ -6,8 +6,8 @@ use Rattle.chord_event.specs.declared.body.Body.{Body}
 use Rattle.chord_event.specs.declared.body.Body.TheVariants as body
 use Rattle.chord_scenario.specs.declared.setting.Span.{Span}
 use Rattle.chord_scenario.specs.Setup.{Setup}
-use Rattle.chord_stream.specs.Draws.{first_number, own_stream, second_number}
-use Rattle.chord_stream.specs.Word.{word}
+use Rattle.des_stream.specs.Draws.{first_number, own_stream, second_number}
+use Rattle.des_stream.specs.Word.{word}
 
 -- what is drawn: the delay of each kind of timer, a random key, and what becomes of a message
 abbrev pub timer_purpose : Body → ℕ

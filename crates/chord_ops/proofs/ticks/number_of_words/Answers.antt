@@ -1,7 +1,7 @@
 use Rattle.std.proofs.Common.{◌≡◌, ◌+◌, ◌*◌, ◌%◌, ◌^◌, ◌<◌, ◌≤◌, ap, arith, lit<, ℕ, suc, ◌∙◌}
 use Rattle.std.proofs.Math.Nat.{mod-eq_of_lt, pow-le-pow_right}
 use Rattle.std.proofs.lemmas.Nat.{pow-add}
-use Rattle.chord_stream.specs.Word.{word}
+use Rattle.des_stream.specs.Word.{word}
 use Rattle.chord_ops.specs.Rules.{words_number}
 use Rattle.chord_ops.proofs.ticks.number_of_words.Goals as goal
 
