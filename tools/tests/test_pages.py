@@ -1,4 +1,5 @@
-"""The man pages of the tools and the completions of their arguments, against the help texts; the table of crates."""
+"""The man pages of the tools and the completions of their arguments, against the help texts; the tables of crates and
+of definitions."""
 
 import functools
 import re
@@ -9,6 +10,7 @@ from pathlib import Path
 from unittest import TestCase
 
 from chordsim_tools import __version__
+from chordsim_tools.pages import definitions
 from chordsim_tools.pages.crates import PAGE, crates_of, with_table
 from tests.support.programs import TOOLS
 
@@ -16,6 +18,33 @@ TOP = Path(__file__).resolve().parents[2]
 MADE = sorted([*TOP.glob("docs/chordsim-*.1"), *TOP.glob("completions/*chordsim-tools*")])
 COMMANDS = ("run", "search", "merge", "plot", "report", "compare")
 """The commands of `tools/study`."""
+SPECS = """\
+-- What the file has.
+use Rattle.std.specs.Prelude.{ℕ}
+
+-- twice
+-- the number
+abbrev pub twice : ℕ → ℕ
+twice n = n + n
+
+-- Others
+
+module _ {A : Type 0} where
+  pub record IsSmall (m : ℕ)
+      (n : ℕ) : Type 0 where
+    pub above : m < n
+    -- and not far.
+    pub below : n < 2 * m
+
+  unfoldable pub many : (list : List A)
+      → ℕ
+  many list =
+      length list
+
+  -- of this file alone
+  abbrev hidden : ℕ
+  hidden = 1
+"""
 
 
 def printed(*command: str) -> str:
@@ -73,6 +102,30 @@ class PagesTest(TestCase):
         self.assertEqual(page, with_table(TOP), "run packaging/make-pages")
         self.assertLess({"des_event", "chord_ops", "chordsim"}, set(crates_of(TOP)))
         self.assertIn("| [`chord_serial`](../crates/chord_serial/README.md) | The engine that takes one event", page)
+
+    def test_page_of_definitions(self) -> None:
+        """It has each public definition of the crates."""
+        page = (TOP / definitions.PAGE).read_text(encoding="utf-8")
+        self.assertEqual(page, definitions.with_definitions(TOP), "run packaging/make-pages")
+        start = r"^ *(?:abbrev pub|unfoldable pub|pub record|pub data) (\S+)"
+        texts = [path.read_text(encoding="utf-8") for path in TOP.glob("crates/*/specs/*.antt")]
+        wanted = sorted(name for text in texts for name in re.findall(start, text, re.MULTILINE))
+        self.assertLess({"distance", "IsRun", "IsTeam"}, set(wanted))
+        found = re.findall(r"^\| `([^`]+)` \|", page.partition(definitions.HEAD)[2], re.MULTILINE)
+        self.assertEqual(sorted(found), wanted)
+        self.assertIn("\n| `distance` | the number of places clockwise from a to b |\n", page)
+
+    def test_file_of_definitions(self) -> None:
+        """Comments of several lines, sections, records with comments in them, types of several lines."""
+        told = definitions.Definition
+        small = told("IsSmall", "`(m : ℕ) (n : ℕ) : Type 0`; `below`: and not far")
+        others = definitions.Part("Others", [small, told("many", "`(list : List A) → ℕ`")])
+        parts = definitions.parts_of(SPECS)
+        self.assertEqual(parts, [definitions.Part("What the file has", [told("twice", "twice the number")]), others])
+        section = definitions.section_of("some_crate", definitions.File("Small", parts))
+        link = "[`specs/Small.antt`](../crates/some_crate/specs/Small.antt)"
+        self.assertEqual(section.splitlines()[:3], ["### some_crate: Small", "", f"{link}: What the file has."])
+        self.assertIn("\n\nOthers.\n\n| Definition | Meaning |\n|---|---|\n| `IsSmall` |", section)
 
     def test_options(self) -> None:
         """Each option that a help text lists has its entry in the page, and no other has."""
