@@ -1,5 +1,5 @@
-//! What a protocol gives to be simulated: a machine, and a scribe that writes its runs down. And what
-//! all engines do with them.
+//! What a protocol gives to be simulated: a machine, and a scribe that writes its runs down. All engines
+//! write their audits by a journal.
 #![tactic(auto)]
 
 mod audit_clock;

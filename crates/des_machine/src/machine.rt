@@ -39,7 +39,7 @@ pub trait Machine {
     // The counters of a state are not too large for one event more.
     ghost Room: { Self → Self.State → Type 0 };
 
-    /// What holds of the machine.
+    /// Hands the prover what holds of the machine. It does nothing else.
     fn recall(&self)
         ensures { Valid self.now };
 
