@@ -1,0 +1,2 @@
+pub mod Tellers
+pub mod Firsts
