@@ -6,6 +6,6 @@ use Rattle.rumour_rules.specs.declared.rules.Told.{Told}
 abbrev pub line_of : Told → List ℕ
 line_of piece = decimal piece.time ++ codes " " ++ decimal piece.node ++ codes "\n"
 
--- there is one if the node hears the rumour for the first time
+-- the text of a telling: its line if the node hears the rumour for the first time, else nothing
 abbrev pub text_of : Told → List ℕ
 text_of piece = if piece.first then line_of piece else []

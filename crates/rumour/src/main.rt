@@ -2,9 +2,9 @@
 //! example of docs/kernel.md.
 #![tactic(auto)]
 
-mod machine;
 mod running;
 mod scribe;
+mod spread;
 
 use std::process::ExitCode;
 

@@ -2,14 +2,16 @@
 ghost use Rattle.std.specs.Prelude.{◌≡◌, ◌⊎◌, false, IfErr};
 ghost use Rattle.des_machine.specs.Runs.{IsRun};
 ghost use Rattle.des_output.specs.Watched.{wrapped, has_failed};
+ghost use Rattle.des_protocol.specs.Numbered.{numbered};
 ghost use Rattle.rumour_rules.specs.Rules.{rumour};
 ghost use Rattle.rumour_rules.specs.Counts.{AreCounts};
 ghost use Rattle.rumour.specs.Texts.{text_of};
 
-use crate::machine::Spread;
-use crate::scribe::Chronicle;
+use crate::scribe::RumourScribe;
+use crate::spread::Spread;
 use des_event::RunError;
 use des_output::Watched;
+use des_protocol::Numbered;
 use des_serial::run_serial;
 use rumour_rules::{Report, Settings};
 use std::alloc::Global;
@@ -31,6 +33,7 @@ pub fn perform<T: AllocGlobal, C: Print>(rt: &T, console: &C) -> ExitCode {
     let Some(spread) = Spread::new(SETTINGS) else {
         return ExitCode::FAILURE;
     };
+    let spread = Numbered { protocol: spread };
     let mut trace = Watched::new(io::writer(console));
     match run(rt.alloc(), &spread, &mut trace) {
         Ok(report) => print_report(console, report),
@@ -42,14 +45,14 @@ pub fn perform<T: AllocGlobal, C: Print>(rt: &T, console: &C) -> ExitCode {
 /// beginning of the trace.
 fn run<W: Write>(
     alloc: Global,
-    spread: &Spread,
+    spread: &Numbered<Spread>,
     writer: &mut Watched<W>,
 ) -> Result<Report, RunError>
     requires sound { has_failed writer.old ≡ false }
-    ensures run { IsRun text_of (rumour spread.now) AreCounts (W.contents (wrapped writer.old)) (W.contents (wrapped writer.new)) result }
+    ensures run { IsRun text_of (numbered (rumour spread.now.protocol)) AreCounts (W.contents (wrapped writer.old)) (W.contents (wrapped writer.new)) result }
     ensures only { IfErr result (λ e. (e ≡ RunError.Memory) ⊎ (e ≡ RunError.Write) ⊎ (e ≡ RunError.TooManyEvents)) }
 {
-    run_serial::<Spread, Chronicle, W>(alloc, spread, writer)
+    run_serial::<Numbered<Spread>, RumourScribe, W>(alloc, spread, writer)
 }
 
 fn print_report<C: Print>(console: &C, report: Report) -> ExitCode {

@@ -6,10 +6,11 @@ ghost use Rattle.des_output.specs.Writing.{AppendsFront, is_write};
 ghost use Rattle.rumour_rules.specs.Counts.{first_of};
 ghost use Rattle.rumour.specs.Texts.{line_of};
 
-use crate::machine::Spread;
+use crate::spread::Spread;
 use des_event::{Memory, RunError};
 use des_machine::Scribe;
 use des_output::{Watched, write_text};
+use des_protocol::Numbered;
 use rumour_rules::{Report, Told};
 use std::alloc::{AllocError, Global};
 use std::fmt::Write as _;
@@ -18,12 +19,12 @@ use std::io::Write;
 /// Writes a line for each node that hears the rumour for the first time, and counts what the report
 /// tells.
 #[derive(Drop)]
-pub struct Chronicle {
+pub struct RumourScribe {
     counts: Report,
     ghost heard_fits: { counts.heard ≤ counts.told },
 }
 
-impl Chronicle {
+impl RumourScribe {
     /// Counts a piece.
     fn count(&mut self, piece: Told)
         requires { self.old.counts.told < 2 ^ 40 }
@@ -38,7 +39,7 @@ impl Chronicle {
     }
 }
 
-impl Scribe<Spread> for Chronicle {
+impl Scribe<Numbered<Spread>> for RumourScribe {
     ghost use Rattle.rumour_rules.specs.Counts.{AreCounts};
     ghost use Rattle.rumour_rules.proofs.Counted.{reordered};
     ghost use Rattle.rumour.specs.Texts.{text_of};
@@ -53,8 +54,8 @@ impl Scribe<Spread> for Chronicle {
 
     ghost IsReport = { λ _ pieces report. AreCounts pieces report };
 
-    fn start(_alloc: Global, _spread: &Spread) -> Chronicle {
-        Chronicle {
+    fn start(_alloc: Global, _spread: &Numbered<Spread>) -> RumourScribe {
+        RumourScribe {
             counts: Report { heard: 0, told: 0 },
         }
     }
@@ -62,7 +63,7 @@ impl Scribe<Spread> for Chronicle {
     fn put<W: Write>(
         &mut self,
         alloc: Global,
-        _spread: &Spread,
+        _spread: &Numbered<Spread>,
         piece: &Told,
         writer: &mut Watched<W>,
     ) -> Result<(), RunError> {
@@ -73,8 +74,8 @@ impl Scribe<Spread> for Chronicle {
         Ok(())
     }
 
-    fn join(self, _spread: &Spread, other: Chronicle) -> Result<Chronicle, Memory> {
-        Ok(Chronicle {
+    fn join(self, _spread: &Numbered<Spread>, other: RumourScribe) -> Result<RumourScribe, Memory> {
+        Ok(RumourScribe {
             counts: Report {
                 heard: self.counts.heard + other.counts.heard,
                 told: self.counts.told + other.counts.told,
@@ -82,7 +83,7 @@ impl Scribe<Spread> for Chronicle {
         })
     }
 
-    fn report(&self, _spread: &Spread) -> Report {
+    fn report(&self, _spread: &Numbered<Spread>) -> Report {
         self.counts
     }
 

@@ -1,55 +1,46 @@
--- The rules of a rumour, and the rumour as a discrete-event model.
+-- The rules of a rumour, as a protocol.
 use Rattle.std.specs.Prelude.{ℕ, ◌+◌, ◌*◌, ◌%◌, true, false, [], ◌∷◌, if◌then◌else◌}
-use Rattle.des_event.specs.declared.event.Event.{Event}
-use Rattle.des_model.specs.Machine.{Effect, Machine}
+use Rattle.des_protocol.specs.Protocols.{Outcome, Protocol}
+use Rattle.des_protocol.specs.declared.telling.Telling.{Telling}
 use Rattle.rumour_rules.specs.declared.rules.Node.{Node}
 use Rattle.rumour_rules.specs.declared.rules.Rumour.{Rumour}
 use Rattle.rumour_rules.specs.declared.rules.Told.{Told}
 use Rattle.rumour_rules.specs.declared.settings.Settings.{Settings}
 
 -- node 0 is told at time 1
-abbrev pub first_telling : Event Rumour
-first_telling = record {
-  key = record { time = 1; origin = 1; number = 1 };
-  target = 0;
-  body = record {};
-}
+abbrev pub first_telling : Telling Rumour
+first_telling = record { delay = 1; target = 0; body = record {} }
 
--- the target of an event tells its friend of this place, 1 or 2, by its event of this number
-abbrev pub telling : Settings → Event Rumour → (place number : ℕ) → Event Rumour
-telling p e place number = record {
-  key = record { time = e.key.time + p.delay; origin = 2 + e.target; number = number };
-  target = (2 * e.target + place) % p.nodes;
-  body = record {};
-}
+-- a node tells its friend of this place, 1 or 2
+abbrev pub telling : Settings → (node place : ℕ) → Telling Rumour
+telling p node place = record { delay = p.delay; target = (2 * node + place) % p.nodes; body = record {} }
 
--- rule 1: a node that hears the rumour for the first time tells two others
-abbrev pub hears_first : Settings → Node → Event Rumour → Effect Node Rumour Told
-hears_first p s e = record {
-  state = record { heard = true; made = s.made + 2 };
-  events = telling p e 1 (s.made + 1) ∷ telling p e 2 (s.made + 2) ∷ [];
-  piece = record { time = e.key.time; node = e.target; first = true };
+-- rule 1: a node that hears the rumour for the first time tells two nodes
+abbrev pub hears_first : Settings → (node time : ℕ) → Outcome Node Rumour Told
+hears_first p node time = record {
+  state = record { heard = true };
+  tellings = telling p node 1 ∷ telling p node 2 ∷ [];
+  piece = record { time = time; node = node; first = true };
 }
 
 -- rule 2: a node that has heard it before says nothing
-abbrev pub hears_again : Node → Event Rumour → Effect Node Rumour Told
-hears_again s e = record {
+abbrev pub hears_again : Node → (node time : ℕ) → Outcome Node Rumour Told
+hears_again s node time = record {
   state = s;
-  events = [];
-  piece = record { time = e.key.time; node = e.target; first = false };
+  tellings = [];
+  piece = record { time = time; node = node; first = false };
 }
 
-abbrev pub effect_of : Settings → Node → Event Rumour → Effect Node Rumour Told
-effect_of p s e = if s.heard then hears_again s e else hears_first p s e
+abbrev pub outcome_of : Settings → Node → (node time : ℕ) → Outcome Node Rumour Told
+outcome_of p s node time = if s.heard then hears_again s node time else hears_first p node time
 
 -- there are no audits
-abbrev pub rumour : Settings → Machine Node Rumour Told
+abbrev pub rumour : Settings → Protocol Node Rumour Told
 rumour p = record {
   nodes = p.nodes;
-  initial = λ n. record { heard = false; made = 0 };
-  start_events = first_telling ∷ [];
-  effect = effect_of p;
-  events_made = λ s. s.made;
+  initial = λ n. record { heard = false };
+  start = first_telling ∷ [];
+  outcome = λ s node time body. outcome_of p s node time;
   lookahead = p.delay;
   duration = p.duration;
   max_events = p.max_events;

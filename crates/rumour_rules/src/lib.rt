@@ -6,5 +6,5 @@ mod rules;
 mod settings;
 
 pub use report::Report;
-pub use rules::{Node, Rumour, Told, hear, start_events, start_states};
+pub use rules::{Node, Rumour, Told, hear, start, start_states};
 pub use settings::Settings;

@@ -1,10 +1,10 @@
-//! The rumour as a machine of the simulation kernel.
+//! The rumour as a protocol of the simulation kernel.
 ghost use Rattle.std.specs.Prelude.{◌≡◌, None, IfSome};
 ghost use Rattle.rumour_rules.specs.Range.{IsInRange};
 
-use des_event::{Event, Memory};
-use des_machine::Machine;
-use rumour_rules::{Node, Rumour, Settings, Told, hear, start_events, start_states};
+use des_event::Memory;
+use des_protocol::{Counted, Protocol, Teller};
+use rumour_rules::{Node, Rumour, Settings, Told, hear, start, start_states};
 use std::alloc::Global;
 use std::marker::Model;
 
@@ -47,12 +47,12 @@ impl Spread {
     }
 }
 
-impl Machine for Spread {
+impl Protocol for Spread {
     ghost use Rattle.std.specs.Prelude.{⊤};
     ghost use Rattle.rumour_rules.specs.Range.{IsInRange};
     ghost use Rattle.rumour_rules.specs.Rules.{rumour};
-    ghost use Rattle.rumour_rules.specs.Sound.{HasRoom, IsFit, IsSound};
-    ghost use Rattle.rumour_rules.proofs.Simulable.{is_simulable};
+    ghost use Rattle.rumour_rules.specs.Sound.{IsFit, IsSound};
+    ghost use Rattle.rumour_rules.proofs.Runnable.{is_runnable};
 
     type State = Node;
 
@@ -60,17 +60,17 @@ impl Machine for Spread {
 
     type Piece = Told;
 
-    ghost model = { λ p. rumour p };
+    ghost rules = { λ p. rumour p };
 
     ghost Valid = { λ p. IsInRange p };
 
-    ghost Sound = { λ p n s. IsSound p n s };
+    ghost Sound = { λ _ n s. IsSound n s };
 
-    ghost Fit = { λ p e. IsFit p e };
+    ghost Fit = { λ _ n body. IsFit n body };
 
     ghost Known = { λ _ _. ⊤ };
 
-    ghost Room = { λ _ s. HasRoom s };
+    ghost most = { λ _. 2 };
 
     fn recall(&self) {
         let _ = self.settings();
@@ -96,25 +96,23 @@ impl Machine for Spread {
         start_states(alloc, &self.settings())
     }
 
-    fn start_events(&self, alloc: Global) -> Result<Vec<Event<Rumour>>, Memory> {
-        start_events(alloc)
+    fn start(&self, teller: &mut Teller<Rumour>) -> Result<(), Memory> {
+        start(teller)
     }
 
     fn blank(&self, _alloc: Global) -> Node {
-        Node {
-            heard: false,
-            made: 0,
-        }
+        Node { heard: false }
     }
 
     fn act(
         &self,
         _alloc: Global,
-        node: &mut Node,
-        event: &Event<Rumour>,
-        made: &mut Vec<Event<Rumour>>,
+        node: u32,
+        state: &mut Node,
+        _body: &Rumour,
+        teller: &mut Teller<Rumour>,
     ) -> Result<Told, Memory> {
-        hear(&self.settings(), node, event, made)
+        hear(&self.settings(), node, state, teller)
     }
 
     fn audit_times(&self, alloc: Global) -> Result<Vec<u64>, Memory> {
@@ -122,7 +120,7 @@ impl Machine for Spread {
     }
 
     // There are no audits, so no engine asks for one.
-    fn audit(&self, _alloc: Global, _nodes: &[Node], time: u64) -> Result<Told, Memory> {
+    fn audit(&self, _alloc: Global, _states: &[Counted<Node>], time: u64) -> Result<Told, Memory> {
         Ok(Told {
             time,
             node: 0,
@@ -130,5 +128,5 @@ impl Machine for Spread {
         })
     }
 
-    ghost simulable = { λ p range. is_simulable p range };
+    ghost runnable = { λ p range. is_runnable p range };
 }

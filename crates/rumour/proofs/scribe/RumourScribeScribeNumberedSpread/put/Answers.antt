@@ -1,5 +1,5 @@
 use Rattle.rumour_rules.proofs.Counted.{one_more}
-use Rattle.rumour.proofs.scribe.ChronicleScribeSpread.put.Goals as goal
+use Rattle.rumour.proofs.scribe.RumourScribeScribeNumberedSpread.put.Goals as goal
 
 pub returns-clause-counted : goal.returns-clause-counted
 returns-clause-counted g c = λ pieces. one_more pieces c.args.piece.now c.args.self.now.counts c.count.new.self.counts
