@@ -1,6 +1,11 @@
 //! Carries out what the arguments ask for.
-ghost use Rattle.std.specs.Prelude.{◌≡◌, false};
-ghost use Rattle.des_output.specs.Watched.{has_failed};
+ghost use Rattle.std.specs.Prelude.{◌≡◌, ◌≢◌, false, IfErr};
+ghost use Rattle.des_machine.specs.Runs.{IsRun};
+ghost use Rattle.des_output.specs.Watched.{wrapped, has_failed};
+ghost use Rattle.des_output.specs.Writing.{is_write};
+ghost use Rattle.phold_machine.specs.Texts.{text_of};
+ghost use Rattle.phold_rules.specs.Counts.{AreCounts};
+ghost use Rattle.phold_rules.specs.Rules.{phold};
 
 use crate::options::{Order, command, order_of};
 use clap::Error;
@@ -119,22 +124,27 @@ fn run_to<T: AllocGlobal + Threads + Wait + Sync, W: Write + Drop>(
     }
 }
 
-/// Runs by this many workers. Each has a part of the nodes, dealt out in turn.
+/// Writes the trace of PHOLD, and returns its report: the same by any number of workers. Each worker
+/// has a part of the nodes, dealt out in turn. What was written before an error is a beginning of the
+/// trace.
 fn run_by<T: AllocGlobal + Threads + Wait + Sync, W: Write>(
     rt: &T,
-    phold: &Phold,
+    machine: &Phold,
     workers: u32,
-    trace: &mut Watched<W>,
+    writer: &mut Watched<W>,
 ) -> Result<PholdReport, RunError>
-    requires { has_failed trace.old ≡ false }
+    requires sound { has_failed writer.old ≡ false }
+    ensures run { IsRun (text_of machine.now) (phold machine.now) AreCounts (W.contents (wrapped writer.old)) (W.contents (wrapped writer.new)) result }
+    ensures writer { has_failed writer.new ≡ is_write result }
+    ensures only { IfErr result (λ e. e ≢ RunError.BadDivision) }
 {
     let alloc = rt.alloc();
     if workers < 2 || workers > MOST_WORKERS {
-        return run_serial::<Phold, PholdScribe, W>(alloc, phold, trace);
+        return run_serial::<Phold, PholdScribe, W>(alloc, machine, writer);
     }
-    let nodes = phold.settings().nodes;
+    let nodes = machine.settings().nodes;
     let division = Division::dealt(alloc, nodes, workers)?;
-    run_team::<Phold, PholdScribe, T, W>(rt, alloc, phold, &division, workers, trace)
+    run_team::<Phold, PholdScribe, T, W>(rt, alloc, machine, &division, workers, writer)
 }
 
 /// Prints the report: status 0, or 3 if it cannot be printed.

@@ -7,6 +7,6 @@ use Rattle.phold_rules.specs.declared.settings.Settings.{Settings}
 abbrev pub hop_text : Hop → List ℕ
 hop_text hop = decimal hop.time ++ codes " " ++ decimal hop.node ++ codes " " ++ decimal hop.receiver ++ codes "\n"
 
--- there is one for each hop, or the trace is empty
+-- the text of a hop: its line, or nothing if no trace is wanted
 abbrev pub text_of : Settings → Hop → List ℕ
 text_of p hop = if p.trace then hop_text hop else []

@@ -1,5 +1,5 @@
 //! PHOLD as a machine of the simulation kernel.
-ghost use Rattle.std.specs.Prelude.{◌≡◌, IfSome};
+ghost use Rattle.std.specs.Prelude.{◌≡◌, None, IfSome};
 ghost use Rattle.phold_rules.specs.Range.{IsInRange};
 
 use des_event::{Event, Memory};
@@ -28,7 +28,8 @@ impl Model for Phold {
 impl Phold {
     /// The run of these settings, or `None` if a number is out of its range.
     pub fn new(settings: Settings) -> Option<Phold>
-        ensures { IfSome result (λ phold. phold ≡ settings) }
+        ensures same { IfSome result (λ phold. phold ≡ settings) }
+        ensures refused { result ≡ None → IsInRange settings → ⊥ }
     {
         if settings.are_in_range() {
             Some(Phold { settings })

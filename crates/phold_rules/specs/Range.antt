@@ -1,7 +1,8 @@
--- The ranges of settings.
+-- The ranges of the settings of PHOLD.
 use Rattle.std.specs.Prelude.{◌≤◌}
 use Rattle.phold_rules.specs.declared.settings.Settings.{Settings}
 
+-- each number of the settings is in its range
 pub record IsInRange (p : Settings) : Type 0 where
   pub nodes_least : 2 ≤ p.nodes
   pub nodes_most : p.nodes ≤ 1000000

@@ -1,5 +1,5 @@
 //! What a run of PHOLD is.
-ghost use Rattle.std.specs.Prelude.{◌≡◌, true};
+ghost use Rattle.std.specs.Prelude.{◌≡◌, ◌↔◌, true};
 ghost use Rattle.phold_rules.specs.Range.{IsInRange};
 
 /// The settings of a run. Times are in microseconds.
@@ -28,7 +28,7 @@ pub struct Settings {
 impl Settings {
     /// Whether all numbers are in their ranges.
     pub fn are_in_range(&self) -> bool
-        ensures { result ≡ true → IsInRange self.now }
+        ensures { (result ≡ true) ↔ IsInRange self.now }
     {
         let ring = (2..=1_000_000).contains(&self.nodes) && (1..=1024).contains(&self.jobs);
         let hops = self.remote <= 1_000_000
