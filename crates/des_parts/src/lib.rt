@@ -1,0 +1,40 @@
+//! The engine by windows, of any machine: each part of the nodes runs its events up to a horizon
+//! independently.
+#![tactic(auto)]
+
+mod copies;
+mod engine;
+mod entries;
+mod exchanging;
+mod part_order;
+mod part_run;
+mod picked_run;
+mod picked_window;
+mod step;
+mod window;
+mod worker;
+mod world;
+
+pub use copies::{CopiesStates, Touched};
+pub use entries::Entry;
+pub use exchanging::exchange;
+pub use part_order::in_part_order;
+pub use part_run::{Done, run_part};
+pub use picked_run::{Turns, run_picked};
+pub use step::{Step, Taken};
+pub use window::Window;
+pub use world::World;
+// Other ways to run windows, such as a crew, go by these. Contracts name the types of the engine's
+// fields.
+#[doc(hidden)]
+pub use copies::Copies;
+#[doc(hidden)]
+pub use engine::Engine;
+#[doc(hidden)]
+pub use part_run::PartRun;
+#[doc(hidden)]
+pub use picked_window::PickedWindow;
+#[doc(hidden)]
+pub use worker::{Progress, Worker};
+#[doc(hidden)]
+pub use world::PartEvents;
