@@ -1,0 +1,7 @@
+pub mod Draws
+pub mod Seats
+pub mod Inside
+pub mod Shifts
+pub mod Windows
+pub mod Worlds
+pub mod Loads
