@@ -1,7 +1,1 @@
-pub mod Lists
-pub mod Counts
-pub mod Steps
-pub mod Knowledge
-pub mod Results
-pub mod Gathering
-pub mod EventCounts
+pub mod Dones

@@ -1,5 +1,5 @@
 -- What a Chord ring gives the kernel.
-use Rattle.std.proofs.Common.{◌≡◌, ℕ, ◌<◌, List, [], length, arith, subst, sym}
+use Rattle.std.proofs.Common.{◌≡◌, List, [], arith, subst, sym}
 use Rattle.std.proofs.lemmas.List.FromFn.{get_or-map-range_with_len, length-map-range_with_len}
 use Rattle.std.specs.List.{All}
 use Rattle.chord_machine.specs.Chord.{chord}

@@ -1,4 +1,1 @@
-pub mod Ends
 pub mod Instance
-pub mod Outputs
-pub mod Runs

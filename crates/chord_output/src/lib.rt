@@ -1,11 +1,9 @@
-//! The output of a run, to the writer of its trace and into the tally of its report. All engines
-//! use it.
+//! Chord as the kernel runs it: the ring of a scenario as a machine, and the scribe that writes its
+//! runs down.
 #![tactic(auto)]
 
 mod chord_scribe;
-mod pieces;
 mod ring;
 
 pub use chord_scribe::ChordScribe;
-pub use pieces::{put_audits, put_block};
 pub use ring::ChordRing;

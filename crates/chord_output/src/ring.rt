@@ -8,6 +8,7 @@ use chord_scenario::Scenario;
 use chord_trace::Piece;
 use des_event::Listed;
 use des_machine::Machine;
+use des_parts::CopiesStates;
 use std::alloc::Global;
 use std::mem;
 
@@ -107,4 +108,10 @@ impl<'s> Machine for ChordRing<'s> {
     }
 
     ghost simulable = { λ ring ranges. is_simulable ring.scenario.now ranges };
+}
+
+impl<'s> CopiesStates for ChordRing<'s> {
+    fn copy_state(&self, state: &NodeState) -> Result<NodeState, Memory> {
+        state.clone_state()
+    }
 }

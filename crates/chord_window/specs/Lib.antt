@@ -1,12 +1,5 @@
-pub mod Copies
-pub mod PartRuns
-pub mod Workers
-pub mod Slots
-pub mod Picked
 pub mod Worlds
-pub mod Delivery
-pub mod Exchanges
-pub mod Tallies
-pub mod Engine
+pub mod Dones
+pub mod PartRuns
 pub mod Ordering
 pub mod PickedRuns

@@ -1,34 +1,11 @@
 -- Runs whose workers take their steps in turn.
-use Rattle.std.specs.Prelude.{◌≡◌, ◌++◌, ℕ, List, [], map, Result, Ok, Err}
-use Rattle.chord_event.specs.declared.body.Body.{Body}
-use Rattle.des_event.specs.declared.error.RunError.{RunError}
-use Rattle.des_event.specs.declared.event.Event.{Event}
+use Rattle.std.specs.Prelude.{ℕ, List}
 use Rattle.chord_machine.specs.Chord.{chord}
-use Rattle.des_model.specs.Histories.{history}
-use Rattle.des_model.specs.Schedules.{Goes, begun}
-use Rattle.des_model.specs.Windows.{Division, Step}
 use Rattle.chord_scenario.specs.declared.scenario.Scenario.{Scenario}
-use Rattle.chord_trace.specs.declared.report.Report.{Report}
-use Rattle.chord_window.specs.declared.step.Taken.{Taken}
-use Rattle.chord_window.specs.Picked.{shown}
+use Rattle.des_model.specs.Windows.{Division}
+use Rattle.des_parts.specs.declared.step.Taken.{Taken}
+use Rattle.des_parts.specs.PickedRuns.{AreStepsOf as AreStepsOfMachine}
 
 -- these are the steps of the window machine under the picks, from the first window to the end of the run
-pub record AreStepsOf (sc : Scenario) (d : Division) (workers : ℕ) (picks : List ℕ) (taken : List Taken) : Type 0 where
-  pub steps : List (ℕ × Step Body)
-  pub told : taken ≡ map shown steps
-  pub history_left : List (Event Body)
-  pub goes : Goes (chord sc) (λ _. d) workers (begun (chord sc) 0 []) picks steps history_left
-
--- these are its steps up to the first `count` events, and these picks are left
-pub record HasCome (sc : Scenario) (d : Division) (workers : ℕ) (picks rest : List ℕ) (count : ℕ) (taken : List Taken) : Type 0 where
-  pub number : ℕ
-  pub steps : List (ℕ × Step Body)
-  pub told : taken ≡ map shown steps
-  pub leads : (more : List (ℕ × Step Body)) (h : List (Event Body)) → Goes (chord sc) (λ _. d) workers
-      (begun (chord sc) number (history (chord sc) count)) rest more h
-      → Goes (chord sc) (λ _. d) workers (begun (chord sc) 0 []) picks (steps ++ more) h
-
--- the result without the steps
-abbrev pub report_in : {S : Type 0} → Result (Report × S) RunError → Result Report RunError
-report_in (Ok run) = Ok run.0
-report_in (Err error) = Err error
+abbrev pub AreStepsOf : Scenario → Division → (workers : ℕ) → (picks : List ℕ) → List Taken → Type 0
+AreStepsOf sc d workers picks taken = AreStepsOfMachine (chord sc) d workers picks taken

@@ -1,38 +1,19 @@
-//! The simulator by windows: each part of the nodes runs its events up to a horizon independently.
+//! The run by windows: each part of the nodes runs its events up to a horizon independently. It is the
+//! kernel's, for Chord.
 #![tactic(auto)]
 
-mod copies;
-mod engine;
 mod exchanging;
-mod part_order;
+mod part_done;
 mod part_run;
 mod picked_run;
-mod picked_window;
-mod step;
-mod tallies;
 mod window;
-mod worker;
 mod world;
 
+pub use des_parts::{Step, Taken};
 pub use des_window::{Division, DivisionFault, MOST_PARTS};
 pub use exchanging::exchange;
-pub use part_order::in_part_order;
-pub use part_run::{Done, run_part};
+pub use part_done::Done;
+pub use part_run::run_part;
 pub use picked_run::run_picked;
-pub use step::{Step, Taken};
 pub use window::Window;
 pub use world::World;
-// Other ways to run windows, such as a crew or a team, go by these. Contracts name the types of the
-// engine's fields.
-#[doc(hidden)]
-pub use engine::Engine;
-#[doc(hidden)]
-pub use part_run::PartRun;
-#[doc(hidden)]
-pub use picked_window::PickedWindow;
-#[doc(hidden)]
-pub use tallies::join_all;
-#[doc(hidden)]
-pub use worker::{Progress, Worker};
-#[doc(hidden)]
-pub use world::{Opening, PartEvents, horizon_from, sooner};

@@ -1,33 +1,17 @@
-use Rattle.std.proofs.Common.{◌+◌, ◌∙◌, ap, arith, refl, subst}
-use Rattle.chord_window.specs.Exchanges.{events_in}
-use Rattle.chord_window.specs.Ordering.{AreInOrder}
-use Rattle.chord_window.proofs.NextWorld.{exchange_over}
-use Rattle.chord_window.proofs.Orders.{events_in_order, parts_done}
+use Rattle.std.proofs.Common.{◌∙◌, ◌+◌, ap}
+use Rattle.chord_window.proofs.Exchanged.{events_same, lists_are_blocks, parts_done}
 use Rattle.chord_window.proofs.exchanging.exchange.Goals as goal
 
-pub returns-in_default-clause-over : goal.returns-in_default-clause-over
-returns-in_default-clause-over c = λ _.
-    let order = subst (λ parts. AreInOrder c.args.dones.items parts c.in_ok-list.list.items) c.parts.ensures c.in_ok-list.ensures in
-    let done = parts_done c.args.scenario.now c.args.world.now c.requires.done.0 c.args.dones.items c.in_ok-list.list.items c.requires.done.1 order in
-    exchange_over c.args.scenario.now c.recall_range.ensures c.args.world.now c.requires.world c.requires.done.0 c.in_ok-list.list.items done
-    (omega (arith, c.in_default.ensures.none refl, ap events_in c.as_slice.ensures.value, c.max_events.ensures, c.requires.world.within))
+pub exchange-requires-clause-done : goal.exchange-requires-clause-done
+exchange-requires-clause-done c = (
+  c.requires.done.0,
+  parts_done c.args.scenario.now c.args.world.now c.requires.done.0 c.args.dones.items c.in_ok-kernels.kernels.items c.in_ok-kernels.ensures c.requires.done.1,
+)
 
-pub exchange_in_order-requires-clause-done : goal.exchange_in_order-requires-clause-done
-exchange_in_order-requires-clause-done c =
-    let order = subst (λ parts. AreInOrder c.args.dones.items parts c.in_ok-list.list.items) c.parts.ensures c.in_ok-list.ensures in
-    (c.requires.done.0, parts_done c.args.scenario.now c.args.world.now c.requires.done.0 c.args.dones.items c.in_ok-list.list.items c.requires.done.1 order)
+pub lists_of_blocks-requires : goal.lists_of_blocks-requires
+lists_of_blocks-requires c = lists_are_blocks c.args.dones.items c.in_ok-kernels.kernels.items c.args.world.now.kernel.division.parts c.in_ok-lists.lists.items
+    c.in_ok-kernels.ensures c.in_ok-lists.ensures.entries
 
 pub returns-clause-count : goal.returns-clause-count
-returns-clause-count c =
-    let order = subst (λ parts. AreInOrder c.args.dones.items parts c.in_ok-list.list.items) c.parts.ensures c.in_ok-list.ensures in
-    let same = events_in_order c.args.world.now.division.parts c.args.dones.items c.in_ok-list.list.items c.requires.done.1.once order in
-    c.in_ok-exchange_in_order.ensures.count ∙ ap (λ k. c.args.world.now.count + k) same
-
-pub exchange_in_order-requires-clause-events : goal.exchange_in_order-requires-clause-events
-exchange_in_order-requires-clause-events c = c.in-Some.ensures.some.0 ∙ ap events_in c.as_slice.ensures.value
-
-pub exchange_in_order-requires-clause-within : goal.exchange_in_order-requires-clause-within
-exchange_in_order-requires-clause-within c = omega (arith, c.in-Some.ensures.some.1, c.max_events.ensures, c.requires.world.within)
-
-pub returns-clause-division : goal.returns-clause-division
-returns-clause-division c = c.in_ok-exchange_in_order.ensures.division
+returns-clause-count c = c.in_ok-lists.ensures.count
+    ∙ ap (λ n. c.args.world.now.kernel.count + n) (events_same c.args.dones.items c.in_ok-kernels.kernels.items c.in_ok-kernels.ensures)

@@ -1,5 +1,0 @@
-use Rattle.std.proofs.Common.{rules}
-use Rattle.chord_crew.proofs.gathered.gather.Goals as goal
-
-pub returns-in-Ok-Ok-clause-ok : goal.returns-in-Ok-Ok-clause-ok
-returns-in-Ok-Ok-clause-ok c = search rules
