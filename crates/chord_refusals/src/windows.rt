@@ -26,12 +26,12 @@ pub fn divide_three(alloc: Global) -> Result<(), Stop> {
 /// the part can be run again.
 fn run_first(window: &Window<'_>) -> Result<(), Stop>
     requires window { IsNextWindow window.now.scenario.now window.now.world.now window.now.horizon }
-    requires part { 0 < window.now.world.now.division.parts }
+    requires part { 0 < window.now.world.now.kernel.division.parts }
 {
     let mut queue = WindowQueue::new(window.alloc);
     let first = run_part(window, 0, &mut queue);
     holds(queue.len() == 0, "an event waits")?;
-    holds(window.world.count == 0, "the world has gone on")?;
+    holds(window.world.kernel.count == 0, "the world has gone on")?;
     if first.is_ok() {
         return Ok(());
     }
@@ -50,7 +50,7 @@ pub fn run_by_hand(alloc: Global, scenario: &Scenario) -> Result<(), Stop> {
     let Some(horizon) = world.horizon(scenario) else {
         return Err(Stop::Wrong("there is no window"));
     };
-    world.division.recall_division();
+    world.kernel.division.recall_division();
     let window = Window {
         alloc,
         scenario,
@@ -60,11 +60,14 @@ pub fn run_by_hand(alloc: Global, scenario: &Scenario) -> Result<(), Stop> {
     run_first(&window)?;
     let dones = window_by_one(&window)?;
     let _blocks = exchange(alloc, scenario, &mut world, dones)?;
-    holds(world.count == 2, "the window has another number of events")?;
+    holds(
+        world.kernel.count == 2,
+        "the window has another number of events",
+    )?;
     let dealt = Division::dealt(alloc, scenario.nodes(), 3)?;
     let world = world.redivide(alloc, scenario, &dealt)?;
     holds(
-        world.count == 2,
+        world.kernel.count == 2,
         "another division, another number of events",
     )?;
     holds(

@@ -12,7 +12,7 @@ pub fn window_by_one(window: &Window<'_>) -> Result<Vec<Done>, RunError>
     requires { IsNextWindow window.now.scenario.now window.now.world.now window.now.horizon }
     ensures { IfOk result (λ dones. ArePartsDone window.now.scenario.now window.now.world.now window.now.horizon dones.items) }
 {
-    let division = &window.world.division;
+    let division = &window.world.kernel.division;
     division.recall_division();
     let parts = division.parts();
     let Ok((draws, seat)) = Draws::start(window.alloc, parts, 1) else {

@@ -1,6 +1,7 @@
 //! Runs by crews: workers in their own threads.
 ghost use Rattle.std.specs.Prelude.{◌≡◌, ◌<◌, ◌≤◌, None, Some, true, slice_get, IfOk};
-ghost use Rattle.chord_window.specs.Ordering.{ArePartsDone, HasEachOnce};
+ghost use Rattle.chord_window.specs.Ordering.{ArePartsDone};
+ghost use Rattle.des_parts.specs.Ordering.{HasEachOnce};
 
 use crate::examples::own_window::window_by_one;
 use crate::examples::table::TWO_LOOKUPS;
@@ -11,7 +12,7 @@ use crate::tests::left::Left;
 use crate::tests::ring_of_three::{ring_with, two_lookups};
 use crate::tests::steps::{holds, is_text, value_of};
 use crate::tests::windows::{divide, horizon_of};
-use chord_crew::{Draws, Gate, MOST_SEATS, OpenGate, Seat, run_crew, work_by};
+use chord_crew::{Draws, Gate, MOST_SEATS, OpenGate, Seat, WindowParts, run_crew, work_by};
 use chord_event::{Memory, RunError};
 use chord_play::Split;
 use chord_scenario::Scenario;
@@ -107,12 +108,16 @@ fn a_gate_is_passed_before_its_part_is_run(rt: HostRuntime) {
         world: &world,
         horizon,
     };
-    world.division.recall_division();
-    let (draws, seat) = value_of(&rt, Draws::start(alloc, world.division.parts(), 1));
+    world.kernel.division.recall_division();
+    let (draws, seat) = value_of(&rt, Draws::start(alloc, world.kernel.division.parts(), 1));
     let log = Log::new();
     let gate = LogGate { log: &log };
-    let runner = LogRunner { log: &log };
-    let shift = work_by(&runner, &window, &draws, seat, 3, &gate);
+    let parts = WindowParts { window };
+    let runner = LogRunner {
+        log: &log,
+        runner: &parts,
+    };
+    let shift = work_by(&runner, alloc, &draws, seat, 3, &gate);
     assert!(rt; shift.fault.is_none() && shift.done.len() == 2);
     assert!(rt; log.count.load(Ordering::SeqCst) == 4);
     for (note, expected) in log.notes.iter().zip([300, 0, 301, 1]) {
@@ -191,7 +196,7 @@ fn one_worker_alone(rt: HostRuntime) {
         assert!(rt; done.events == 1);
     }
     let lists = value_of(&rt, exchange(alloc, &scenario, &mut world, dones));
-    assert!(rt; lists.len() == 2 && world.count == 2);
+    assert!(rt; lists.len() == 2 && world.kernel.count == 2);
 }
 
 /// Two seats draw five times alternately, and are joined. The snapshot shows the joined seat to the contract.

@@ -1,8 +1,6 @@
 //! Gates and starters that note what passes them, and writers that count or fail.
 use chord_crew::{Gate, PartRunner, Starter};
 use chord_event::RunError;
-use chord_queue::WindowQueue;
-use chord_window::{Done, Window, run_part};
 use std::alloc::Global;
 use std::io;
 use std::io::{ErrorKind, Write};
@@ -221,20 +219,38 @@ impl Gate for LogGate<'_> {
     }
 }
 
-/// Notes the run of part p as p, and runs it.
+/// Notes the run of part p as p, and has another runner run it.
 #[derive(Drop)]
-pub struct LogRunner<'a> {
+pub struct LogRunner<'a, P> {
     pub log: &'a Log,
+    pub runner: &'a P,
 }
 
-impl PartRunner for LogRunner<'_> {
-    fn run(
-        &self,
-        window: &Window<'_>,
-        part: u32,
-        queue: &mut WindowQueue,
-    ) -> Result<Done, RunError> {
+impl<'a, P: PartRunner> PartRunner for LogRunner<'a, P> {
+    type Done = P::Done;
+
+    type Tools = P::Tools;
+
+    ghost IsOpen = { λ log. P.IsOpen log.runner.now };
+
+    ghost part_count = { λ log. P.part_count log.runner.now };
+
+    ghost IsDone = { λ log. P.IsDone log.runner.now };
+
+    ghost IsOver = { λ log. P.IsOver log.runner.now };
+
+    ghost AreClean = { P.AreClean };
+
+    fn parts(&self) -> u32 {
+        self.runner.parts()
+    }
+
+    fn tools(&self, alloc: Global) -> P::Tools {
+        self.runner.tools(alloc)
+    }
+
+    fn run(&self, part: u32, tools: &mut P::Tools) -> Result<P::Done, RunError> {
         self.log.add(u64::from(part));
-        run_part(window, part, queue)
+        self.runner.run(part, tools)
     }
 }

@@ -75,9 +75,9 @@ fn text_of<T: Abort + AllocGlobal>(
 /// The states of a part's nodes after its window: those that it touched, and the others as they were.
 fn states_after<T: Abort + AllocGlobal>(rt: &T, world: &World, done: &Done) -> Vec<NodeState> {
     let mut states = Vec::new(rt.alloc());
-    for old in world.states.as_slice() {
-        let known = (old.me as usize) < world.division.nodes();
-        if known && world.division.part_of(old.me) == done.part {
+    for old in world.kernel.states.as_slice() {
+        let known = (old.me as usize) < world.kernel.division.nodes();
+        if known && world.kernel.division.part_of(old.me) == done.part {
             let touched = done.nodes.as_slice().iter().find(|new| new.me == old.me);
             let copy = value_of(rt, touched.unwrap_or(old).clone_state());
             value_of(rt, states.push(copy));
@@ -89,7 +89,7 @@ fn states_after<T: Abort + AllocGlobal>(rt: &T, world: &World, done: &Done) -> V
 /// What `run_part` leaves of a part.
 fn by_run_part<T: Abort + AllocGlobal>(rt: &T, window: &Window<'_>, part: u32) -> Leavings
     requires window { IsNextWindow window.now.scenario.now window.now.world.now window.now.horizon }
-    requires part { part < window.now.world.now.division.parts }
+    requires part { part < window.now.world.now.kernel.division.parts }
 {
     let (scenario, world) = (window.scenario, window.world);
     let mut queue = WindowQueue::new(rt.alloc());
@@ -97,7 +97,7 @@ fn by_run_part<T: Abort + AllocGlobal>(rt: &T, window: &Window<'_>, part: u32) -
     let (text, ends) = text_of(rt, scenario, done.blocks.as_slice());
     let states = states_after(rt, world, &done);
     let mut coming = Vec::new(rt.alloc());
-    if let Some(events) = world.parts.get(part as usize) {
+    if let Some(events) = world.kernel.parts.get(part as usize) {
         coming = value_of(rt, events.later.up_to(u64::MAX));
     }
     value_of(rt, coming.append(&mut done.mail));
@@ -195,7 +195,7 @@ fn leaves_the_same<'a, T: Abort + AllocGlobal>(
 ) -> u64
     requires order { IsOrder (ring_of course.now.machine.now.scenario.now) course.now.layout.now parcel }
     requires window { IsNextWindow window.now.scenario.now window.now.world.now window.now.horizon }
-    requires part { part < window.now.world.now.division.parts }
+    requires part { part < window.now.world.now.kernel.division.parts }
 {
     let begins = parcel.horizon == window.horizon && parcel.count == 0;
     holds(rt, begins, &part);
@@ -215,7 +215,7 @@ fn all_leave_the_same<'a, T: Abort + AllocGlobal>(
 )
     requires can_send { CanSend (ring_of course.now.machine.now.scenario.now) course.now.layout.now team.old }
     requires window { IsNextWindow window.now.scenario.now window.now.world.now window.now.horizon }
-    requires parts { course.now.layout.now.division ≡ window.now.world.now.division }
+    requires parts { course.now.layout.now.division ≡ window.now.world.now.kernel.division }
 {
     for part in 0..course.layout.division.parts() {
         let parcel = taken_out(rt, course, team, part);

@@ -65,14 +65,14 @@ fn parts_one_by_one(rt: HostRuntime) {
     let division = divide(&rt, &scenario, Split::Blocks, 2);
     let world = value_of(&rt, World::start(alloc, &scenario, &division));
     let horizon = horizon_of(&rt, &scenario, &world);
-    assert!(rt; horizon == 110 && world.count == 0 && world.division.parts() == 2);
+    assert!(rt; horizon == 110 && world.kernel.count == 0 && world.kernel.division.parts() == 2);
     let window = Window {
         alloc,
         scenario: &scenario,
         world: &world,
         horizon,
     };
-    for part in 0..world.division.parts() {
+    for part in 0..world.kernel.division.parts() {
         let mut queue = WindowQueue::new(alloc);
         let done = value_of(&rt, run_part(&window, part, &mut queue));
         holds(&rt, done.part == part && done.events == 1, &part);
@@ -92,7 +92,7 @@ fn put_together(
 ) -> Result<Vec<Vec<Block>>, RunError>
     requires world { IsWorldOf scenario.now world.old }
     requires horizon { IsHorizon world.old horizon }
-    requires parts { world.old.division.parts ≡ 2 }
+    requires parts { world.old.kernel.division.parts ≡ 2 }
     requires first { IsDone scenario.now world.old horizon 0 first }
     requires second { IsDone scenario.now world.old horizon 1 second }
     ensures world { OnOk result (IsWorldOf scenario.now world.new) }
@@ -111,7 +111,7 @@ fn parts_put_together(rt: HostRuntime) {
     let division = divide(&rt, &scenario, Split::Blocks, 2);
     let mut world = value_of(&rt, World::start(alloc, &scenario, &division));
     let horizon = horizon_of(&rt, &scenario, &world);
-    assert!(rt; world.division.parts() == 2);
+    assert!(rt; world.kernel.division.parts() == 2);
     let mut queue = WindowQueue::new(alloc);
     let window = Window {
         alloc,
@@ -127,7 +127,7 @@ fn parts_put_together(rt: HostRuntime) {
     );
     assert!(rt; blocks.len() == 2 && blocks[0].len() == 1 && blocks[1].len() == 1);
     assert!(rt; blocks[0][0].key.number == 1 && blocks[1][0].key.number == 2);
-    assert!(rt; world.count == 2);
+    assert!(rt; world.kernel.count == 2);
     assert!(rt; world.horizon(&scenario) == Some(120));
 }
 
@@ -143,11 +143,15 @@ fn a_world_divided_anew(rt: HostRuntime) {
     let of_four = value_of(&rt, Division::dealt(alloc, 4, 2));
     let world = value_of(&rt, World::start(alloc, &scenario, &dealt));
     let world = value_of(&rt, world.redivide(alloc, &scenario, &blocks));
-    assert!(rt; world.count == 0 && world.states.len() == 3 && world.parts.len() == 2);
-    assert!(rt; world.division.part_of(1) == 0 && world.division.part_of(2) == 1);
+    assert!(rt;
+        world.kernel.count == 0 && world.kernel.states.len() == 3 && world.kernel.parts.len() == 2
+    );
+    assert!(rt; world.kernel.division.part_of(1) == 0 && world.kernel.division.part_of(2) == 1);
     assert!(rt; world.horizon(&scenario) == Some(110));
     let world = value_of(&rt, world.redivide(alloc, &scenario, &whole));
-    assert!(rt; world.count == 0 && world.states.len() == 3 && world.parts.len() == 1);
+    assert!(rt;
+        world.kernel.count == 0 && world.kernel.states.len() == 3 && world.kernel.parts.len() == 1
+    );
     let horizon = horizon_of(&rt, &scenario, &world);
     assert!(rt; horizon == 110);
     let mut queue = WindowQueue::new(alloc);

@@ -1,9 +1,11 @@
 use Rattle.std.proofs.Common.{◌≡◌, ℕ, zero, suc, Some, ◌<◌, ◌∷◌, ◌++◌, [], List, get_or, refl, sym, ap, ◌∙◌, subst, arith}
 use Rattle.chord_scenario.specs.declared.scenario.Scenario.{Scenario}
-use Rattle.chord_window.specs.declared.part_run.Done.{Done}
+use Rattle.chord_window.specs.declared.part_done.Done.{Done}
 use Rattle.chord_window.specs.declared.world.World.{World}
-use Rattle.chord_window.specs.Ordering.{ArePartsDone, HasEachOnce, IsResult, count_of, parts_of}
+use Rattle.chord_window.specs.Ordering.{ArePartsDone, IsResult, parts_of}
 use Rattle.chord_window.specs.PartRuns.{IsDone}
+use Rattle.chord_window.proofs.Dones.{part_is}
+use Rattle.des_parts.specs.Ordering.{HasEachOnce, count_of}
 use Rattle.chord_examples.proofs.tests.windows.put_together.Goals as goal
 
 counted : (x : ℕ) → x < 2 → count_of x (1 ∷ 0 ∷ []) ≡ 1
@@ -21,14 +23,14 @@ once = record { each_once = counted; no_other = below }
 
 module _ (sc : Scenario) (w : World) (horizon : ℕ) (first second : Done) (a : IsDone sc w horizon 0 first) (b : IsDone sc w horizon 1 second) where
   each : (i : ℕ) (d : Done) → i < 2 → IsResult sc w horizon (get_or (second ∷ first ∷ []) i d)
-  each zero d l = subst (λ p. IsDone sc w horizon p second) (sym b.part_is) b
-  each (suc zero) d l = subst (λ p. IsDone sc w horizon p first) (sym a.part_is) a
+  each zero d l = subst (λ p. IsDone sc w horizon p second) (sym (part_is sc w horizon 1 second b)) b
+  each (suc zero) d l = subst (λ p. IsDone sc w horizon p first) (sym (part_is sc w horizon 0 first a)) a
   each (suc (suc n)) d l = absurd (omega (arith, l))
 
   numbers : parts_of (second ∷ first ∷ []) ≡ 1 ∷ 0 ∷ []
-  numbers = ap (λ p. p ∷ first.part ∷ []) b.part_is ∙ ap (λ p. 1 ∷ p ∷ []) a.part_is
+  numbers = ap (λ p. p ∷ first.part ∷ []) (part_is sc w horizon 1 second b) ∙ ap (λ p. 1 ∷ p ∷ []) (part_is sc w horizon 0 first a)
 
-  together : (time : ℕ) → w.opening ≡ Some (record { time = time; horizon = horizon }) → w.division.parts ≡ 2 → ArePartsDone sc w horizon (second ∷ first ∷ [])
+  together : (time : ℕ) → w.kernel.opening ≡ Some (record { time = time; horizon = horizon }) → w.kernel.division.parts ≡ 2 → ArePartsDone sc w horizon (second ∷ first ∷ [])
   together time opening two = record {
     time = time;
     opening = opening;

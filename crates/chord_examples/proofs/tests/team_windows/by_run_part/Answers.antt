@@ -1,0 +1,6 @@
+use Rattle.chord_window.proofs.Dones.{blocks_short}
+use Rattle.chord_examples.proofs.tests.team_windows.by_run_part.Goals as goal
+
+pub text_of-text-requires : goal.text_of-text-requires
+text_of-text-requires g c = blocks_short c.args.window.now.scenario.now c.args.window.now.world.now c.args.window.now.horizon c.args.part
+    c.value_of-done.result (rw c.value_of-done.ensures at c.run_part.ensures.done)
