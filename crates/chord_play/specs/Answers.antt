@@ -2,14 +2,16 @@
 use Rattle.std.specs.Io.KnownBytes.{Appends}
 use Rattle.std.specs.Prelude.{ℕ, List, ◌++◌, codes, decimal, length, Option}
 use Rattle.std.specs.List.{flat_map, range_with_len}
+use Rattle.chord_machine.specs.Chord.{chord}
 use Rattle.chord_machine.specs.Run.{HasTooManyEvents, IsReport}
-use Rattle.chord_output.specs.Runs.{IsBeginning}
 use Rattle.chord_play.specs.Texts.{Gives}
 use Rattle.chord_scenario.specs.declared.scenario.Scenario.{Scenario}
 use Rattle.chord_scenario.specs.World.{ident_of, name_of as node_name, node_count}
 use Rattle.chord_play.specs.declared.questions.Question.{Question}
 use Rattle.chord_play.specs.declared.questions.Question.TheVariants as question
 use Rattle.chord_trace.specs.ReportText.{report_text}
+use Rattle.chord_trace.specs.Texts.{piece_text}
+use Rattle.des_machine.specs.Runs.{IsBeginning}
 use Rattle.des_output.specs.Writing.{AppendsFront}
 use Rattle.chord_trace.specs.declared.report.Report.{Report}
 
@@ -46,7 +48,7 @@ pub record HasAnswered (text : Scenario → List ℕ) (scenario latency old new 
 pub record HasBegun (scenario latency old new : Option (List ℕ)) : Type 0 where
   pub setup : Scenario
   pub given : Gives scenario latency setup
-  pub beginning : IsBeginning setup old new
+  pub beginning : IsBeginning (piece_text setup) (chord setup) old new
 
 -- the scenario that the two files give has more events than it allows
 pub record IsOver (scenario latency : Option (List ℕ)) : Type 0 where

@@ -3,11 +3,14 @@ use Rattle.std.proofs.lemmas.List.FromFn.{length-map-range_with_len}
 use Rattle.des_event.specs.declared.error.RunError.{RunError}
 use Rattle.des_event.specs.declared.error.RunError.TheVariants as run
 use Rattle.des_model.specs.Windows.{Division}
-use Rattle.chord_output.proofs.Runs.{run_refused}
+use Rattle.des_machine.proofs.Runs.{run_refused}
+use Rattle.chord_machine.specs.Chord.{chord}
 use Rattle.chord_plan.specs.declared.plan.Plan.{Plan}
 use Rattle.chord_play.specs.Plans.{part_by, planned}
 use Rattle.chord_play.proofs.Runs.{errors_of}
 use Rattle.chord_trace.specs.declared.report.Report.{Report}
+use Rattle.chord_trace.specs.Report.{IsReportOf}
+use Rattle.chord_trace.specs.Texts.{piece_text}
 use Rattle.chord_play.proofs.running.run_planned.Goals as goal
 
 -- the division of a plan has a part for each node
@@ -78,8 +81,8 @@ returns-in_ok-division-in-Team-clause-writer g c = c.run_team.ensures.writer
 
 pub returns-in_err-division-in-Crew-clause-run : goal.returns-in_err-division-in-Crew-clause-run
 returns-in_err-division-in-Crew-clause-run g c =
-    run_refused c.args.scenario.now _ _ run.Memory (search (rules, c.from_residual.ensures)) (λ over. cc)
+    run_refused (piece_text c.args.scenario.now) (chord c.args.scenario.now) (IsReportOf c.args.scenario.now.profile) _ _ run.Memory (search (rules, c.from_residual.ensures)) (λ over. cc)
 
 pub returns-in_err-division-in-Team-clause-run : goal.returns-in_err-division-in-Team-clause-run
 returns-in_err-division-in-Team-clause-run g c =
-    run_refused c.args.scenario.now _ _ run.Memory (search (rules, c.from_residual-in_err-division-in-Team.ensures)) (λ over. cc)
+    run_refused (piece_text c.args.scenario.now) (chord c.args.scenario.now) (IsReportOf c.args.scenario.now.profile) _ _ run.Memory (search (rules, c.from_residual-in_err-division-in-Team.ensures)) (λ over. cc)
