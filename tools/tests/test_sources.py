@@ -19,8 +19,8 @@ class Sources(unittest.TestCase):
 
     def test_sources_are_found(self) -> None:
         """The draws of a crew are among the sources, and a draw that takes a lock would be seen."""
-        self.assertIn(CRATES / "chord_crew" / "src" / "draws.rt", SOURCES)
-        wrong = CRATES / "chord_crew" / "must-fail" / "draw_waits_for_others.edit"
+        self.assertIn(CRATES / "des_crew" / "src" / "draws.rt", SOURCES)
+        wrong = CRATES / "des_crew" / "must-fail" / "draw_waits_for_others.edit"
         self.assertRegex(wrong.read_text(encoding="utf-8"), LOCK)
 
     def test_no_locks(self) -> None:

@@ -16,7 +16,8 @@ from chordsim_tools.pages.crates import crates_of, purpose_of
 PAGE = Path("docs") / "definitions.md"
 HEAD = "## The crates\n"
 WIDTH = 100
-DEFINITION = re.compile(r" *(?:(?:abbrev|unfoldable) )?pub (?:(?:record|data) )?(\S+)\s*(.*)")
+DEFINITION = re.compile(r" *(?:(?:abbrev|unfoldable) pub|pub (?:record|data)) (\S+)\s*(.*)")
+"""The other public names of specs/ are lemmas."""
 MEMBER = re.compile(r" *(?:pub )?(\S+) : ")
 """A field of a record, or a constructor of data."""
 
