@@ -1,11 +1,12 @@
 #!/usr/bin/env bash
-# Times PHOLD by `phold` with 1, 2 and 4 workers, by plain Rust and by the bare event core of ns-3, alternately, for
-# three shares of remote hops and three numbers of pending events. Prints a row for each: the events, and for each
-# program the events a second of its fastest turn, in millions.
+# Times PHOLD by `phold` with 1, 2 and 4 workers, by plain Rust, by the bare event core of ns-3 and by the actors of
+# SimGrid, alternately, for three shares of remote hops and three numbers of pending events. Prints a row for each: the
+# events, and for each program the events a second of its fastest turn, in millions.
 #
 #   examples/peers/measure.sh PHOLD [TURNS]     the program `phold`, and the number of turns, 3 by default
 #
 # It needs rustc, g++ and Debian's libns3-dev, and GNU time (/usr/bin/time). All programs must print the same report.
+# Without Debian's libsimgrid-dev, and where the memory is too small for SimGrid's actors, it prints `-` for SimGrid.
 set -eu
 here=$(CDPATH='' cd -- "$(dirname -- "$0")" && pwd)
 phold=$1
@@ -14,12 +15,18 @@ work=$(mktemp -d)
 trap 'rm -rf "$work"' EXIT
 rustc -O -C target-cpu=x86-64-v2 -o "$work/plain" "$here/phold.rs"
 g++ -O2 -march=x86-64-v2 -I"$here" "$here/phold_ns3.cpp" -o "$work/ns3" "$(ls /usr/lib/*/libns3*core*.so | head -1)"
+if g++ -fsyntax-only -include simgrid/s4u.hpp -x c++ /dev/null 2> "$work/missing"; then
+    g++ -O2 -march=x86-64-v2 -I"$here" "$here/phold_simgrid.cpp" -o "$work/simgrid" -lsimgrid
+fi
 
-# Runs one program, and keeps its least seconds under this name.
+# Runs one program, and keeps its least seconds under this name. SimGrid may refuse the setting, with status 2.
 take() {
     name=$1
     shift
-    /usr/bin/time -o "$work/time" -f '%e' "$@" > "$work/report.$name"
+    status=0
+    /usr/bin/time -o "$work/time" -f '%e' "$@" > "$work/report.$name" || status=$?
+    [ "$name $status" != "simgrid 2" ] || return 0
+    [ "$status" = 0 ] || { echo "$name ends with status $status" >&2; exit 1; }
     seconds=$(cat "$work/time")
     least=$(cat "$work/least.$name" 2>/dev/null || echo "$seconds")
     awk -v a="$seconds" -v b="$least" 'BEGIN { print a < b ? a : b }' > "$work/least.$name"
@@ -37,10 +44,12 @@ row() {
         for workers in 1 2 4; do take "workers$workers" "$phold" $options --workers "$workers"; done
         take plain "$work/plain" "$1" "$2" "$3" "$4"
         take ns3 "$work/ns3" "$1" "$2" "$3" "$4"
+        [ ! -e "$work/simgrid" ] || take simgrid "$work/simgrid" "$1" "$2" "$3" "$4"
     done
     events=$(awk '$1 == "events" { print $2 }' "$work/report.serial")
     printf 'nodes=%s jobs=%s remote=%s events=%s ' "$1" "$2" "$3" "$events"
-    for name in workers1 workers2 workers4 plain ns3; do
+    for name in workers1 workers2 workers4 plain ns3 simgrid; do
+        [ -e "$work/least.$name" ] || { printf ' %s=-' "$name"; continue; }
         awk -v name="$name" -v events="$events" '{ printf " %s=%.2f", name, events / $1 / 1e6 }' "$work/least.$name"
     done
     echo
