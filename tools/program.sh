@@ -26,7 +26,7 @@ crates_of_program() {
 # among them. It is run in the folder of the crates, whose names and files have no blanks.
 sources_of_program() {
     find $(crates_of_program) \( -name out -o -name must-fail \) -prune -o \
-        \( -name '*.rt' -o -name '*.antt' \) "$@" -print
+        \( \( -name '*.rt' -o -name '*.antt' \) "$@" \) -print
 }
 
 # Prints a sum of the sources of the program.
@@ -47,7 +47,7 @@ has_changed_since() {
 
 # Whether the folder has a program of the sources with this sum.
 is_of_sources() {
-    [ -x "$1/chordsim" ] && [ "$(cat "$1/chordsim.sources" 2> /dev/null)" = "$2" ]
+    [ -x "$1/chordsim" ] && [ -r "$1/chordsim.sources" ] && read -r of < "$1/chordsim.sources" && [ "$of" = "$2" ]
 }
 
 # Whether the program that the repository keeps can be run, and has the digest that is kept beside it.

@@ -11,7 +11,7 @@
 # need it are skipped.
 set -eu
 top=$(CDPATH='' cd -- "$(dirname -- "$0")/.." && pwd)
-# The launcher sums up all sources, so that it is asked once here and not by each test.
+# The launcher looks at all sources, so that it is asked once here and not by each test.
 [ -n "${CHORDSIM:-}" ] || CHORDSIM=$("$top/chordsim" --where 2> /dev/null) || CHORDSIM=
 if [ -n "$CHORDSIM" ]; then
     export CHORDSIM

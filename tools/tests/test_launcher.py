@@ -7,6 +7,7 @@ import tempfile
 import time
 import unittest
 from collections.abc import Callable
+from concurrent.futures import ThreadPoolExecutor
 from pathlib import Path
 
 TOP = Path(__file__).resolve().parents[2]
@@ -14,8 +15,8 @@ SCRIPTS = ["chordsim", "tools/program.sh", "tools/renew_release", "tools/check_r
 
 # The commands that the scripts use, beside rt.
 COMMANDS = (
-    "awk basename cat chmod cmp cp cut date dirname find flock mkdir mv readlink rm sh sha256sum sleep sort tee uname "
-    "xargs"
+    "awk basename cat chmod cmp cp cut date dirname find flock mkdir mv readlink rm sh sha256sum sleep sort stat tee "
+    "uname xargs"
 ).split()
 
 CRATES = """# NAME: the libraries that it stands on
@@ -39,6 +40,40 @@ run)
 *) echo "rt: this crate is a program: use rt run" >&2; exit 2 ;;
 esac
 """
+
+
+def change_at_the_same_time(source: Path) -> None:
+    """Writes another text of the same size, and sets the time back."""
+    before = source.stat()
+    source.write_text("other\n", encoding="utf-8")
+    os.utime(source, ns=(before.st_atime_ns, before.st_mtime_ns))
+
+
+def replace_by_older(source: Path) -> None:
+    """Puts an older file of the same size in its place."""
+    older = source.with_suffix(".old")
+    older.write_text("older\n", encoding="utf-8")
+    os.utime(older, (1, 1))
+    older.replace(source)
+
+
+def add_folder(source: Path) -> None:
+    """Adds a folder with a source."""
+    folder = source.with_name("deep")
+    folder.mkdir()
+    (folder / "more.antt").touch()
+
+
+CHANGES: dict[str, Callable[[Path], object]] = {
+    "changed": lambda source: source.write_text("second\n", encoding="utf-8"),
+    "changed at the same time": change_at_the_same_time,
+    "replaced by an older one": replace_by_older,
+    "added": lambda source: source.with_name("more.rt").touch(),
+    "added in a folder": add_folder,
+    "removed": Path.unlink,
+    "renamed": lambda source: source.rename(source.with_name("other.rt")),
+    "crates.txt": lambda source: (source.parents[3] / "crates.txt").write_text(CRATES + "more:\n", encoding="utf-8"),
+}
 
 
 class Launcher(unittest.TestCase):
@@ -84,6 +119,30 @@ class Launcher(unittest.TestCase):
     def change(self, crate: str, file: str, text: str) -> None:
         """Writes another source."""
         (self.top / "crates" / crate / "src" / file).write_text(text, encoding="utf-8")
+
+    def replace_command(self, command: str, script: str) -> None:
+        """Puts a script in the place of a command of PATH."""
+        path = self.tools / command
+        path.unlink()
+        path.write_text(f"#!/bin/sh\n{script}\n", encoding="utf-8")
+        path.chmod(0o755)
+
+    def set_clock(self, seconds: int) -> None:
+        """Lets the time of the scripts be that many seconds after the right one."""
+        self.replace_command("date", f'echo $(($({shutil.which("date")} +%s) + {seconds}))')
+
+    def stamp(self) -> Path:
+        """The file of the stamp."""
+        return self.top / "out" / "sources.stamp"
+
+    def make_stamp(self) -> None:
+        """A release of the sources, started once with a stamp of them. Nothing else is built, and there is no rt."""
+        self.start("tools/renew_release")
+        shutil.rmtree(self.top / "out")
+        self.without_rt()
+        self.set_clock(3600)
+        self.assertEqual(self.start("chordsim", "ids").stdout, "built of first: ids\n")
+        self.assertTrue(self.stamp().exists())
 
     def test_builds_once(self) -> None:
         """The first start builds and says so; the second starts the program at once, from another folder too."""
@@ -281,6 +340,88 @@ class Launcher(unittest.TestCase):
         self.assertEqual(self.start("chordsim", "--where").stdout, path)
         self.assertEqual(self.start("chordsim", "--build").stdout, path)
         self.assertEqual(self.builds(), 1)
+
+    def test_sources_are_not_read_again(self) -> None:
+        """With a stamp a start reads the program alone. There is no stamp of sources that have just been changed."""
+        self.make_stamp()
+        self.stamp().unlink()
+        self.set_clock(-3600)
+        self.start("chordsim", "ids")
+        self.assertFalse(self.stamp().exists())
+        self.set_clock(3600)
+        self.start("chordsim", "ids")
+        self.replace_command("sha256sum", f'echo "$*" >> "$CALLS.sums"\nexec {shutil.which("sha256sum")} "$@"')
+        self.assertEqual(self.start("chordsim", "ids").stdout, "built of first: ids\n")
+        sums = self.folder / "calls.sums"
+        self.assertEqual(sums.read_text(encoding="utf-8"), "--check --status chordsim.sha256\n")
+
+    def test_changes_after_a_stamp(self) -> None:
+        """A source that is changed, added, removed, renamed or replaced by an older one is noticed."""
+        self.make_stamp()
+        self.stamp().unlink()
+        kept = self.top
+        for name, change in CHANGES.items():
+            self.top = self.folder / name
+            shutil.copytree(kept, self.top)
+            self.assertEqual(self.start("chordsim", "ids").returncode, 0)
+            self.assertTrue(self.stamp().exists())
+            change(self.top / "crates" / "low" / "src" / "lib.rt")
+            with self.subTest(name):
+                refused = self.start("chordsim", "ids")
+                self.assertEqual((refused.returncode, refused.stdout), (125, ""))
+                self.assertIn("the sources have changed since", refused.stderr)
+
+    def test_damaged_stamp(self) -> None:
+        """A stamp that is empty, cut, longer or of another sum is ignored, and written again."""
+        self.make_stamp()
+        whole = self.stamp().read_bytes()
+        length = whole.index(b"\n")
+        damages = {
+            "empty": b"",
+            "cut": whole[:-1],
+            "without its end": whole[: -len(b"end\n")],
+            "without marks": whole[: length + 1] + b"end\n",
+            "longer": whole + b"end\n",
+            "of another sum": b"0" * length + whole[length:],
+            "of no sum": whole[length:],
+            "of other bytes": bytes(range(256)),
+        }
+        for name, damaged in damages.items():
+            self.stamp().write_bytes(damaged)
+            with self.subTest(name):
+                started = self.start("chordsim", "ids")
+                self.assertEqual((started.stdout, started.stderr), ("built of first: ids\n", ""))
+                self.assertEqual(self.stamp().read_bytes(), whole)
+
+    def test_damaged_release_after_a_stamp(self) -> None:
+        """A program that has been changed is refused in spite of the stamp."""
+        self.make_stamp()
+        program = self.top / "release" / "x86_64-linux" / "chordsim"
+        program.write_bytes(program.read_bytes() + b"#")
+        refused = self.start("chordsim", "ids")
+        self.assertEqual((refused.returncode, refused.stdout), (125, ""))
+        self.assertIn("is missing or damaged", refused.stderr)
+
+    def test_no_place_for_a_stamp(self) -> None:
+        """If the stamp cannot be written, the program is started without a word."""
+        self.make_stamp()
+        shutil.rmtree(self.top / "out")
+        (self.top / "out").touch()
+        for _ in range(2):
+            started = self.start("chordsim", "ids")
+            self.assertEqual((started.stdout, started.stderr), ("built of first: ids\n", ""))
+
+    def test_stamps_of_starts_at_once(self) -> None:
+        """Starts at the same time write one whole stamp, and leave nothing beside it."""
+        self.make_stamp()
+        whole = self.stamp().read_bytes()
+        self.stamp().unlink()
+        with ThreadPoolExecutor(8) as pool:
+            starts = [pool.submit(self.start, "chordsim", "ids") for _ in range(8)]
+        for started in starts:
+            self.assertEqual((started.result().stdout, started.result().stderr), ("built of first: ids\n", ""))
+        self.assertEqual([file.name for file in self.stamp().parent.iterdir()], ["sources.stamp"])
+        self.assertEqual(self.stamp().read_bytes(), whole)
 
 
 if __name__ == "__main__":
