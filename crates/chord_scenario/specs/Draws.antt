@@ -9,7 +9,7 @@ use Rattle.chord_scenario.specs.Setup.{Setup}
 use Rattle.des_stream.specs.Draws.{first_number, own_stream, second_number}
 use Rattle.des_stream.specs.Word.{word}
 
--- what is drawn: the delay of each kind of timer, a random key, and what becomes of a message
+-- the purpose of the draw of a timer's delay, 1 to 5 or 8 by the kind of timer; 0 for a body whose delay is not drawn
 abbrev pub timer_purpose : Body → ℕ
 timer_purpose (body.StabilizeTick epoch) = 1
 timer_purpose (body.FingerTick epoch) = 2
@@ -19,16 +19,19 @@ timer_purpose (body.Rise epoch) = 5
 timer_purpose (body.CheckTick epoch) = 8
 timer_purpose _ = 0
 
+-- the purpose of the draw of a random key to look up
 abbrev pub key_purpose : ℕ
 key_purpose = 6
 
+-- the purpose of the two draws for a message to another node: whether it is lost, and its spread
 abbrev pub message_purpose : ℕ
 message_purpose = 7
 
--- 8 is the purpose of the timer of checks
+-- the purpose of the draw of the finger that an initial node looks up first
 abbrev pub finger_purpose : ℕ
 finger_purpose = 9
 
+-- the purpose of the draw that decides whether a life ends with a leave in place of a crash
 abbrev pub leave_purpose : ℕ
 leave_purpose = 10
 
@@ -54,14 +57,14 @@ timer_number sc n place time timer bound =
 abbrev pub delay : Setup → (n place time : ℕ) → Span → Body → ℕ
 delay sc n place time span timer = span.least + timer_number sc n place time timer (span.greatest - span.least + 1)
 
--- the two numbers of the message of this number: the first decides whether it is lost, the second how much longer than
--- the latency it takes
+-- the number below 1,000,000 that decides whether the message of this number is lost
 abbrev pub chance : Setup → (n place number : ℕ) → ℕ
 chance sc n place number =
     if sc.profile == 4
     then first_number sc.seed (own_stream n message_purpose) number 1000000
     else drawn sc n place 1000000
 
+-- how much longer than its latency this message takes, in microseconds: at most the scenario's spread
 abbrev pub extra : Setup → (n place number : ℕ) → ℕ
 extra sc n place number =
     if sc.profile == 4

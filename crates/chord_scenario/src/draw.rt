@@ -1,6 +1,6 @@
 //! What nodes draw. In the first two profiles each draw takes the next words of the node's one stream.
 //! In the extended profile each draw has words of its own, so that no draw depends on earlier ones.
-ghost use Rattle.std.specs.Prelude.{◌≡◌, ◌+◌, ◌-◌, ◌^◌, ◌<◌, ◌≤◌};
+ghost use Rattle.std.specs.Prelude.{◌≡◌, ◌+◌, ◌-◌, ◌^◌, ◌<◌, ◌≤◌, nat_lt};
 ghost use Rattle.chord_scenario.specs.Draws.{chance, delay, extra, finger_number, leave_number, timer_number, timer_occasion, timer_purpose};
 ghost use Rattle.chord_scenario.specs.Range.{IsSpanUpTo};
 
@@ -100,7 +100,7 @@ impl Scenario {
     /// The two numbers of a node's message of this number. The first is below 1,000,000 and decides
     /// whether the message is lost. The second says how many microseconds longer than the latency it
     /// takes.
-    pub fn message_numbers(&self, drawer: Drawer, number: u64) -> (u64, u64)
+    fn message_numbers(&self, drawer: Drawer, number: u64) -> (u64, u64)
         requires { drawer.place < 2 ^ 64 - 1 }
         ensures chance { result.0 ≡ chance self.now drawer.node drawer.place number }
         ensures extra { result.1 ≡ extra self.now drawer.node drawer.place number }
@@ -114,5 +114,23 @@ impl Scenario {
         }
         let (chance, extra) = Stream::of(self.seed(), drawer.node).pair_at(drawer.place);
         (u64::from(chance) % bounds.0, u64::from(extra) % bounds.1)
+    }
+
+    /// What becomes of a node's message of this number: whether it is lost, and how many
+    /// microseconds longer than the latency it takes. Nothing is drawn if the scenario neither loses
+    /// nor delays messages.
+    pub fn message_fate(&self, drawer: Drawer, number: u64) -> (bool, u64)
+        requires { drawer.place < 2 ^ 64 - 1 }
+        ensures lost { result.0 ≡ nat_lt (chance self.now drawer.node drawer.place number) self.now.loss }
+        ensures extra { result.1 ≡ extra self.now drawer.node drawer.place number }
+        ensures most_extra { result.1 ≤ self.now.spread }
+    {
+        let loss = self.loss();
+        let spread = self.spread();
+        if loss == 0 && spread == 0 {
+            return (false, 0);
+        }
+        let (chance, extra) = self.message_numbers(drawer, number);
+        (chance < loss, extra)
     }
 }

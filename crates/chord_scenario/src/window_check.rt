@@ -22,25 +22,33 @@ pub(crate) fn latency_in(cells: &[u32], n: usize, default: u64, i: usize, j: usi
     if cell == 0 { default } else { u64::from(cell) }
 }
 
+/// What the latencies of two nodes are, and the window that they are compared with. All are in
+/// microseconds.
+#[derive(Drop)]
+struct Comparison<'a> {
+    /// The square of the rows, with 0 for the default.
+    cells: &'a [u32],
+    default: u64,
+    window: u64,
+}
+
 /// The first node after a place that is nearer to the one there than the window is long.
 fn near_after<'a>(
     nodes: &'a [Node],
     rows: &Rows<'_>,
-    cells: &[u32],
-    default: u64,
-    window: u64,
+    by: &Comparison<'_>,
     i: usize,
     node: &Node,
 ) -> Option<&'a Node>
     requires here { slice_get nodes.now i ≡ Some node.now }
-    requires square { HasLatencies nodes.now (rows_of rows.now.text.now) (square_or_zeros (length nodes.now) cells.now) }
+    requires square { HasLatencies nodes.now (rows_of rows.now.text.now) (square_or_zeros (length nodes.now) by.now.cells.now) }
     requires good { bad_latency_row (rows_of rows.now.text.now) ≡ None }
     requires distinct { same_name nodes.now ≡ None }
-    ensures { option_copied result ≡ find (λ y. nat_lt (latency_by_rows default (rows_of rows.entry.now.text.now) node.entry.now y) window) (drop (i + 1) nodes.entry.now) }
+    ensures { option_copied result ≡ find (λ y. nat_lt (latency_by_rows by.entry.now.default (rows_of rows.entry.now.text.now) node.entry.now y) by.entry.now.window) (drop (i + 1) nodes.entry.now) }
 {
     for j in i + 1..nodes.len() {
         let other = &nodes[j];
-        if latency_in(cells, nodes.len(), default, i, j) < window {
+        if latency_in(by.cells, nodes.len(), by.default, i, j) < by.window {
             return Some(other);
         }
     }
@@ -65,8 +73,13 @@ fn latency_below_window(
     if rows.is_empty() && window <= default {
         return Ok(None);
     }
+    let by = Comparison {
+        cells,
+        default,
+        window,
+    };
     for (i, node) in nodes.iter().enumerate() {
-        if let Some(other) = near_after(nodes, rows, cells, default, window, i, node) {
+        if let Some(other) = near_after(nodes, rows, &by, i, node) {
             let first = Name::new(alloc, node.name.as_str())?;
             let second = Name::new(alloc, other.name.as_str())?;
             return Ok(Some(ScenarioFault::LatencyBelowWindow(first, second)));
