@@ -1,5 +1,6 @@
 pub mod Found
 pub mod FingerStarts
+pub mod LaterFingers
 pub mod NearFingers
 pub mod Rings
 pub mod Rotations

@@ -11,11 +11,13 @@ use Rattle.chord_node.specs.Rotation.{first_looked_up}
 use Rattle.chord_node.specs.declared.state.NodeState.{NodeState}
 use Rattle.chord_node.specs.declared.state.Status.TheVariants as status
 
--- a list in the order of a measure of its elements, the least first
+-- the list with one more element, which is put before the first one of greater measure, and so after those of equal
+-- measure
 abbrev pub put_by : (ℕ → ℕ) → ℕ → List ℕ → List ℕ
 put_by measure x [] = x ∷ []
 put_by measure x (y ∷ ys) = if nat_lt (measure x) (measure y) then x ∷ (y ∷ ys) else y ∷ put_by measure x ys
 
+-- the elements in the order of the measure, the least first; those of the same measure come in reverse order
 abbrev pub sorted_by : (ℕ → ℕ) → List ℕ → List ℕ
 sorted_by measure [] = []
 sorted_by measure (x ∷ xs) = put_by measure x (sorted_by measure xs)
@@ -28,15 +30,16 @@ way sc n x = distance sc.bits (ident_of sc n) (ident_of sc x)
 unfoldable pub others : Scenario → (n : ℕ) → List ℕ
 others sc n = filter (λ x. not (x == n)) (initial_nodes sc)
 
--- the same in the order in which they are met clockwise from node n
+-- the other nodes that are members at the start, in the order in which they are met clockwise from node n
 unfoldable pub clockwise : Scenario → (n : ℕ) → List ℕ
 clockwise sc n = sorted_by (way sc n) (others sc n)
 
--- finger i of node n: the first node met at a distance of 2 ^ (i - 1) or more, or n itself if there is none; this is
--- the successor of the finger's start, defined without the start
+-- the first of the nodes met that is at this distance from node n or farther, or n itself if there is none
 abbrev pub first_at : Scenario → (n least : ℕ) → List ℕ → ℕ
 first_at sc n least met = unwrap_or (find (λ x. nat_le least (way sc n x)) met) n
 
+-- finger i of node n at the start of a run: the first member met at a distance of 2 ^ (i - 1) or more, or n itself if
+-- there is none; this is the successor of the finger's start, defined without the start
 abbrev pub finger : Scenario → (n i : ℕ) → ℕ
 finger sc n i = first_at sc n (2 ^ (i - 1)) (clockwise sc n)
 
@@ -45,10 +48,11 @@ finger sc n i = first_at sc n (2 ^ (i - 1)) (clockwise sc n)
 abbrev pub first_via : Scenario → (n : ℕ) → ℕ
 first_via sc n = unwrap_or (option_or (first_bootstrap sc n) (slice_get (others sc n) 0)) n
 
--- the first of the nodes that are met clockwise, and the last one: node n itself if it is the only member
+-- the first member that is met clockwise from node n, which is its first successor; n itself if it is the only member
 abbrev pub first_met : Scenario → (n : ℕ) → ℕ
 first_met sc n = unwrap_or (slice_get (clockwise sc n) 0) n
 
+-- the last member that is met clockwise from node n, which is its predecessor; n itself if it is the only member
 abbrev pub last_met : Scenario → (n : ℕ) → ℕ
 last_met sc n = unwrap_or (slice_get (clockwise sc n) (length (clockwise sc n) - 1)) n
 

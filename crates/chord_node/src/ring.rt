@@ -165,7 +165,8 @@ fn nodes_or_itself(alloc: Global, places: &[Place], node: u32) -> Result<Listed<
     Ok(nodes)
 }
 
-/// The fingers of a member from the second on.
+/// The fingers of a member from the second on. Those that start before the node found last, or at
+/// it, are that node too, so most of them need no search.
 fn fingers(
     alloc: Global,
     scenario: &Scenario,
@@ -179,10 +180,17 @@ fn fingers(
 {
     scenario.recall_range();
     let circle = scenario.circle();
+    let home = scenario.ident(node);
     let mut fingers = Listed::new(alloc);
+    let mut last = node;
+    let mut beyond = 2;
     for i in 2..circle.bits() + 1 {
-        let start = circle.add_power(scenario.ident(node), i);
-        fingers.push(successor(scenario, rounds, start.raw()))?;
+        if beyond <= i {
+            let start = circle.add_power(home, i);
+            last = successor(scenario, rounds, start.raw());
+            beyond = circle.finger_beyond(home, scenario.ident(last));
+        }
+        fingers.push(last)?;
     }
     Ok(fingers)
 }
