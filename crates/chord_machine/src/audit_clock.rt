@@ -4,7 +4,6 @@ ghost use Rattle.chord_machine.specs.AuditTimes.{audit_times};
 
 use chord_event::Memory;
 use chord_scenario::Scenario;
-use des_machine::AuditClock;
 use std::alloc::Global;
 
 /// The times of all audits of a scenario, in microseconds, in order.
@@ -18,12 +17,4 @@ pub fn audit_times(alloc: Global, scenario: &Scenario) -> Result<Vec<u64>, Memor
     }
     times.push(scenario.duration())?;
     Ok(times)
-}
-
-/// The clock of all audits of a scenario.
-pub fn clock_of_audits(alloc: Global, scenario: &Scenario) -> Result<AuditClock, Memory>
-    ensures { IfOk result (λ clock. clock ≡ audit_times scenario.now) }
-{
-    scenario.recall_range();
-    Ok(AuditClock::new(audit_times(alloc, scenario)?))
 }

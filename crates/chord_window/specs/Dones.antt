@@ -30,7 +30,7 @@ entry_of block = record { key = block.key; target = block.target; piece = piece.
 abbrev pub IsOfBlock : Entry Piece → Type 0
 IsOfBlock entry = (block : Block) × (entry ≡ entry_of block)
 
--- what a part leaves is the same in both terms
+-- what a part leaves, in the terms of Chord and in those of the kernel, is equal
 pub record IsSame (done : Done) (kernel : RingDone) : Type 0 where
   pub part : kernel.part ≡ done.part
   pub nodes : kernel.nodes.items ≡ map touched_of done.nodes.items
@@ -38,7 +38,7 @@ pub record IsSame (done : Done) (kernel : RingDone) : Type 0 where
   pub entries : kernel.entries.items ≡ map entry_of done.blocks.items
   pub events : kernel.events ≡ done.events
 
--- so is what each part leaves
+-- what each part leaves, in the terms of Chord and in those of the kernel, is equal
 abbrev pub AreSame : List Done → List RingDone → Type 0
 AreSame [] [] = ⊤
 AreSame [] (kernel ∷ kernels) = ⊥

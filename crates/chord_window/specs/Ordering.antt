@@ -20,7 +20,7 @@ abbrev pub events_in : List Done → ℕ
 events_in [] = 0
 events_in (done ∷ dones) = done.events + events_in dones
 
--- it is what its part leaves, in the world's window up to the horizon
+-- the result is what its part leaves, in the world's window up to the horizon
 abbrev pub IsResult : Scenario → World → (horizon : ℕ) → Done → Type 0
 IsResult sc w horizon done = IsDone sc w horizon done.part done
 

@@ -2,11 +2,11 @@
 use Rattle.std.proofs.Common.{◌≡◌, ℕ, List, ◌+◌, ◌&&◌, ◌++◌, sym, ap, ap₂, ◌∙◌, subst, inl, inr, true, Option, None, Some, Result, Ok, Err, IfOk, IfErr, IfNone, IsOk}
 use Rattle.std.proofs.lemmas.Option.{none-some}
 use Rattle.des_event.specs.declared.error.RunError.{RunError}
-use Rattle.des_crew.specs.declared.gathered.Gathered.{Gathered}
+use Rattle.des_crew.specs.declared.joined_shift.JoinedShift.{JoinedShift}
 use Rattle.des_crew.specs.declared.shift.Shift.{Shift}
 use Rattle.des_crew.specs.Seats.{SeatState}
 use Rattle.des_crew.specs.Shifts.{AreResults, IsShift}
-use Rattle.des_crew.specs.Windows.{IsFaultOf, IsGathered, IsWindowFault, JoinsBoth, joined_seats}
+use Rattle.des_crew.specs.Windows.{IsFaultOf, IsJoinedShift, IsWindowFault, JoinsBoth, joined_seats}
 use Rattle.des_crew.proofs.Results.{results_append}
 
 -- a fact of no value, if there is none
@@ -29,27 +29,27 @@ module _ {Done : Type 0} (IsDone : ℕ → Done → Type 0) (IsOver : Type 0) wh
       (results_append IsDone first.numbers mine.numbers list more a b))
 
   -- the results of the others and one more worker are those of a worker with the joined seat
-  pub gathered_joined : (first mine : SeatState) (others : Result (Gathered Done) RunError) (shift : Shift Done) (whole : Gathered Done)
-      → IfOk others (IsGathered IsDone first)
+  pub shift_joined : (first mine : SeatState) (others : Result (JoinedShift Done) RunError) (shift : Shift Done) (whole : JoinedShift Done)
+      → IfOk others (IsJoinedShift IsDone first)
       → IsShift IsDone IsOver mine shift
       → JoinsBoth others shift whole
-      → IsGathered IsDone (joined_seats first mine) whole
-  gathered_joined first mine others shift whole g s j =
+      → IsJoinedShift IsDone (joined_seats first mine) whole
+  shift_joined first mine others shift whole g s j =
       let exhausted = from_none shift.fault (shift.seat.is_exhausted ≡ true) j.no_fault s.exhausted in
       let finished = from_none shift.fault (AreResults IsDone shift.seat.numbers shift.done.items) j.no_fault s.finished in
-      from_ok others (IsGathered IsDone first) (λ o. whole.seat ≡ joined_seats o.seat shift.seat)
-      (λ o. whole.done.items ≡ o.done.items ++ shift.done.items) (IsGathered IsDone (joined_seats first mine) whole) j.others_are g j.seat
-      j.done (λ o gathered seat done. record {
+      from_ok others (IsJoinedShift IsDone first) (λ o. whole.seat ≡ joined_seats o.seat shift.seat)
+      (λ o. whole.done.items ≡ o.done.items ++ shift.done.items) (IsJoinedShift IsDone (joined_seats first mine) whole) j.others_are g j.seat
+      j.done (λ o joined seat done. record {
         same_seat = record {
-          table = ap (λ (v : SeatState). v.table) seat ∙ gathered.same_seat.table;
-          allowance = ap (λ (v : SeatState). v.allowance) seat ∙ ap₂ ◌+◌ gathered.same_seat.allowance s.same_seat.allowance;
+          table = ap (λ (v : SeatState). v.table) seat ∙ joined.same_seat.table;
+          allowance = ap (λ (v : SeatState). v.allowance) seat ∙ ap₂ ◌+◌ joined.same_seat.allowance s.same_seat.allowance;
         };
-        exhausted = ap (λ (v : SeatState). v.is_exhausted) seat ∙ ap₂ ◌&&◌ gathered.exhausted exhausted;
-        results = results_joined o.seat shift.seat whole.seat o.done.items shift.done.items whole.done.items seat done gathered.results finished;
+        exhausted = ap (λ (v : SeatState). v.is_exhausted) seat ∙ ap₂ ◌&&◌ joined.exhausted exhausted;
+        results = results_joined o.seat shift.seat whole.seat o.done.items shift.done.items whole.done.items seat done joined.results finished;
       })
 
   -- a fault of the others or of one more worker is a fault of the window
-  pub fault_of_either : (mine : SeatState) (others : Result (Gathered Done) RunError) (shift : Shift Done) (fault : RunError)
+  pub fault_of_either : (mine : SeatState) (others : Result (JoinedShift Done) RunError) (shift : Shift Done) (fault : RunError)
       → IfErr others (IsWindowFault IsOver)
       → IsShift IsDone IsOver mine shift
       → IsFaultOf others shift fault

@@ -32,7 +32,7 @@ HasMoment parts seats place v = (word : ℕ) × (views : List View) × IsKept pa
 abbrev pub IsCounting : {S : Type 0} → Counts → State S View → Type 0
 IsCounting counts state = (word : ℕ) × (state.words ≡ word ∷ []) × IsKept counts.parts counts.seats word state.views
 
--- the first seat
+-- the first seat, which has drawn nothing and has the whole allowance
 abbrev pub first_view : ℕ → View
 first_view seats = record { numbers = []; allowance = seats; met_end = false }
 
@@ -44,7 +44,7 @@ after_draw parts v found = if nat_lt found parts then record v { numbers = v.num
 abbrev pub after_split : View → View
 after_split v = record v { allowance = v.allowance - 1 }
 
--- the new seat, which knows of the end if the old one does
+-- the new seat that a seat is split into, which knows of the end if the old one does
 abbrev pub split_off : View → View
 split_off v = record { numbers = []; allowance = 1; met_end = v.met_end }
 
@@ -52,6 +52,6 @@ split_off v = record { numbers = []; allowance = 1; met_end = v.met_end }
 abbrev pub joined : View → View → View
 joined v w = record { numbers = v.numbers ++ w.numbers; allowance = v.allowance + w.allowance; met_end = v.met_end || w.met_end }
 
--- what is left of the other seat
+-- what is left of a seat that was joined to another
 abbrev pub spent : View
 spent = record { numbers = []; allowance = 0; met_end = false }

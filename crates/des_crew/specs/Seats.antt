@@ -20,11 +20,11 @@ pub record SeatState : Type 0 where
   pub met_end : Bool
   pub is_exhausted : Bool
 
--- what the rule knows of it
+-- what the rule knows of a seat
 abbrev pub view_of : SeatState → View
 view_of s = record { numbers = s.numbers; allowance = s.allowance; met_end = s.met_end }
 
--- it has drawn nothing, and does not know of the end
+-- the seat has drawn nothing, and does not know of the end
 abbrev pub IsFresh : SeatState → Type 0
 IsFresh s = (s.numbers ≡ []) × (s.is_exhausted ≡ false)
 

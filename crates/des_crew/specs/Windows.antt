@@ -1,6 +1,6 @@
 -- The joined results of the workers of a window.
 use Rattle.std.specs.Prelude.{◌≡◌, ◌⊎◌, ◌+◌, ◌&&◌, ◌||◌, ◌++◌, ℕ, List, true, None, Some, Result, Err, IsOk, IfOk}
-use Rattle.des_crew.specs.declared.gathered.Gathered.{Gathered}
+use Rattle.des_crew.specs.declared.joined_shift.JoinedShift.{JoinedShift}
 use Rattle.des_crew.specs.declared.shift.Shift.{Shift}
 use Rattle.des_crew.specs.Seats.{SeatState}
 use Rattle.des_crew.specs.Shifts.{AreResults, IsPartFault, IsSameSeat}
@@ -24,10 +24,10 @@ joined_seats first second =
 
 module _ {Done : Type 0} where
   -- all workers know of the end, and have what each part that they drew leaves
-  pub record IsGathered (IsDone : ℕ → Done → Type 0) (seat : SeatState) (gathered : Gathered Done) : Type 0 where
-    pub same_seat : IsSameSeat seat gathered.seat
-    pub exhausted : gathered.seat.is_exhausted ≡ true
-    pub results : AreResults IsDone gathered.seat.numbers gathered.done.items
+  pub record IsJoinedShift (IsDone : ℕ → Done → Type 0) (seat : SeatState) (joined : JoinedShift Done) : Type 0 where
+    pub same_seat : IsSameSeat seat joined.seat
+    pub exhausted : joined.seat.is_exhausted ≡ true
+    pub results : AreResults IsDone joined.seat.numbers joined.done.items
 
   -- what each part below the number leaves, each once, in some order
   pub record HasResults (IsDone : ℕ → Done → Type 0) (parts : ℕ) (dones : List Done) : Type 0 where
@@ -36,11 +36,11 @@ module _ {Done : Type 0} where
     pub results : AreResults IsDone numbers dones
 
   -- a fault of the others or of one more worker; or there is no memory for what they leave together, and none of them has a fault
-  abbrev pub IsFaultOf : Result (Gathered Done) RunError → Shift Done → RunError → Type 0
+  abbrev pub IsFaultOf : Result (JoinedShift Done) RunError → Shift Done → RunError → Type 0
   IsFaultOf others shift fault = (others ≡ Err fault) ⊎ (shift.fault ≡ Some fault) ⊎ ((fault ≡ run.Memory) × IsOk others × (shift.fault ≡ None))
 
   -- the joined results of the others and one more worker, none of them with a fault
-  pub record JoinsBoth (others : Result (Gathered Done) RunError) (shift : Shift Done) (whole : Gathered Done) : Type 0 where
+  pub record JoinsBoth (others : Result (JoinedShift Done) RunError) (shift : Shift Done) (whole : JoinedShift Done) : Type 0 where
     pub others_are : IsOk others
     pub no_fault : shift.fault ≡ None
     pub seat : IfOk others (λ o. whole.seat ≡ joined_seats o.seat shift.seat)

@@ -1,11 +1,11 @@
 //! All parts of a window, run by a crew.
 ghost use Rattle.std.specs.Prelude.{◌≡◌, ◌<◌, ◌≤◌, Err, IsOk, OnOk, IfOk, IfErr};
 ghost use Rattle.des_crew.specs.Seats.{IsWholeSeat, SeatState};
-ghost use Rattle.des_crew.specs.Windows.{HasResults, IsGathered, IsWindowFault};
+ghost use Rattle.des_crew.specs.Windows.{HasResults, IsJoinedShift, IsWindowFault};
 
 use crate::draws::{Draws, MOST_SEATS};
-use crate::gathered::Gathered;
 use crate::hooks::{Gate, Starter};
+use crate::joined_shift::JoinedShift;
 use crate::part_runner::PartRunner;
 use crate::shared::Shared;
 use crate::workers::run_workers;
@@ -27,15 +27,15 @@ pub struct Hands<'a, G> {
 fn close_window<P: PartRunner>(
     runner: &P,
     draws: Draws,
-    gathered: Result<Gathered<P::Done>, RunError>,
+    joined: Result<JoinedShift<P::Done>, RunError>,
 ) -> Result<Vec<P::Done>, RunError>
-    requires gathered { IfOk gathered (λ g. (seat : SeatState) × IsWholeSeat draws seat × IsGathered (P.IsDone runner.now) seat g) }
+    requires joined { IfOk joined (λ g. (seat : SeatState) × IsWholeSeat draws seat × IsJoinedShift (P.IsDone runner.now) seat g) }
     ensures done { IfOk result (λ dones. HasResults (P.IsDone runner.now) draws.parts dones.items) }
-    ensures fault { IfErr gathered (λ e. result ≡ Err e) }
-    ensures whole { OnOk gathered (IsOk result) }
+    ensures fault { IfErr joined (λ e. result ≡ Err e) }
+    ensures whole { OnOk joined (IsOk result) }
 {
-    match gathered {
-        Ok(Gathered { seat, done }) => {
+    match joined {
+        Ok(JoinedShift { seat, done }) => {
             draws.close(seat);
             Ok(done)
         }
@@ -74,6 +74,6 @@ where
         draws: &draws,
         gate: hands.gate,
     };
-    let gathered = run_workers(rt, &shared, seat, 0, hands.workers, starter);
-    close_window(runner, draws, gathered)
+    let joined = run_workers(rt, &shared, seat, 0, hands.workers, starter);
+    close_window(runner, draws, joined)
 }

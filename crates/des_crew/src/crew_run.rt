@@ -4,7 +4,7 @@ ghost use Rattle.des_machine.specs.Runs.{IsRun};
 ghost use Rattle.des_model.specs.Histories.{IsOverLimit};
 ghost use Rattle.des_output.specs.Watched.{wrapped, has_failed};
 ghost use Rattle.des_output.specs.Writing.{is_write};
-ghost use Rattle.des_parts.specs.Engine.{IsAt};
+ghost use Rattle.des_parts.specs.WindowEngine.{IsAt};
 ghost use Rattle.des_parts.specs.Exchanges.{AreDone};
 ghost use Rattle.des_parts.specs.PartRuns.{IsNextWindow};
 
@@ -16,7 +16,7 @@ use crate::window_parts::WindowParts;
 use des_event::RunError;
 use des_machine::{Machine, Scribe};
 use des_output::Watched;
-use des_parts::{CopiesStates, Done, Engine, Window, in_part_order};
+use des_parts::{CopiesStates, Done, Window, WindowEngine, in_part_order};
 use des_window::Division;
 use std::alloc::Global;
 use std::io::Write;
@@ -140,7 +140,7 @@ where
             gate: crew.gate,
         },
     };
-    let mut engine = Engine::start(alloc, machine, crew.division)?;
+    let mut engine = WindowEngine::start(alloc, machine, crew.division)?;
     let outcome = run_windows::<M, S, A, G, R, W>(rt, &course, &mut engine, starter, writer);
     // By one call: at each end of a function a struct is dropped field by field.
     drop(engine);
@@ -158,7 +158,7 @@ fn run_windows<
 >(
     rt: &R,
     course: &Course<'_, M, G>,
-    engine: &mut Engine<M, S>,
+    engine: &mut WindowEngine<M, S>,
     starter: &mut A,
     writer: &mut Watched<W>,
 ) -> Result<S::Report, RunError>

@@ -4,7 +4,7 @@ ghost use Rattle.des_machine.specs.Runs.{IsRun};
 ghost use Rattle.des_model.specs.Windows.{Division as ADivision};
 ghost use Rattle.des_output.specs.Watched.{wrapped, has_failed};
 ghost use Rattle.des_output.specs.Writing.{is_write};
-ghost use Rattle.des_parts.specs.Engine.{IsAt};
+ghost use Rattle.des_parts.specs.WindowEngine.{IsAt};
 
 use crate::all_parts::Hands;
 use crate::course::{Course, recall_laws};
@@ -15,7 +15,7 @@ use crate::loads::count_events;
 use des_event::RunError;
 use des_machine::{Machine, Scribe};
 use des_output::Watched;
-use des_parts::{CopiesStates, Engine, Window};
+use des_parts::{CopiesStates, Window, WindowEngine};
 use des_window::Division;
 use std::alloc::Global;
 use std::io::Write;
@@ -58,7 +58,7 @@ where
     // All nodes in one part: the dealer is asked before each window and never otherwise, so a run
     // without windows never asks it.
     let whole = Division::of_list(1, vec![in alloc; 0u32; machine.nodes() as usize]?);
-    let mut engine = Engine::start(alloc, machine, &whole)?;
+    let mut engine = WindowEngine::start(alloc, machine, &whole)?;
     let course = Course {
         alloc,
         machine,
@@ -81,7 +81,7 @@ fn deal_windows<
 >(
     rt: &R,
     course: &Course<'_, M, G>,
-    engine: &mut Engine<M, S>,
+    engine: &mut WindowEngine<M, S>,
     dealer: &mut D,
     writer: &mut Watched<W>,
 ) -> Result<S::Report, RunError>

@@ -1,11 +1,11 @@
 //! The threads of a window's workers: how they are started and joined.
 ghost use Rattle.std.specs.Prelude.{◌≡◌, ◌+◌, ◌<◌, ◌≤◌, [], IfOk, IfErr};
 ghost use Rattle.std.specs.Thread.{IsSync};
-ghost use Rattle.des_crew.specs.Windows.{IsGathered, IsWindowFault, joined_seats};
+ghost use Rattle.des_crew.specs.Windows.{IsJoinedShift, IsWindowFault, joined_seats};
 
 use crate::draws::MOST_SEATS;
-use crate::gathered::{Gathered, alone, gather};
 use crate::hooks::{Gate, Starter};
+use crate::joined_shift::{JoinedShift, alone, gather};
 use crate::part_runner::PartRunner;
 use crate::seat::Seat;
 use crate::shared::{Shared, ShiftOf};
@@ -75,7 +75,7 @@ pub(crate) fn run_workers<
     worker: u32,
     left: u32,
     starter: &mut S,
-) -> Result<Gathered<P::Done>, RunError>
+) -> Result<JoinedShift<P::Done>, RunError>
 where
     P::Done: Send,
     P::Tools: Send,
@@ -86,7 +86,7 @@ where
     requires allowance { seat.allowance ≡ left }
     requires some { 0 < left }
     requires few { worker + left ≤ MOST_SEATS }
-    ensures ok { IfOk result (IsGathered (P.IsDone shared.now.runner.now) seat) }
+    ensures ok { IfOk result (IsJoinedShift (P.IsDone shared.now.runner.now) seat) }
     ensures fault { IfErr result (IsWindowFault (P.IsOver shared.now.runner.now)) }
 {
     if left == 1 {
@@ -105,7 +105,7 @@ where
     thread::scope(
         thread::scope_env(),
         rt,
-        |scope| -> Result<Gathered<P::Done>, RunError>
+        |scope| -> Result<JoinedShift<P::Done>, RunError>
             requires sync { IsSync G.row × IsSync R.row × IsSync P.row }
             requires open { P.IsOpen runner.now }
             requires parts { draws.now.parts ≡ P.part_count runner.now }
@@ -114,7 +114,7 @@ where
             requires allowance { (seat.allowance + 1 ≡ left) × (mine.allowance ≡ 1) }
             requires some { 1 < left }
             requires few { worker + left ≤ MOST_SEATS }
-            ensures ok { IfOk result (IsGathered (P.IsDone runner.entry.now) (joined_seats seat mine)) }
+            ensures ok { IfOk result (IsJoinedShift (P.IsDone runner.entry.now) (joined_seats seat mine)) }
             ensures fault { IfErr result (IsWindowFault (P.IsOver runner.entry.now)) }
         {
             let shared = Shared {
@@ -137,7 +137,7 @@ fn run_last<R: Threads + Wait + Sync, P: PartRunner + Sync, S: Starter, G: Gate 
     seat: Seat,
     worker: u32,
     starter: &mut S,
-) -> Result<Gathered<P::Done>, RunError>
+) -> Result<JoinedShift<P::Done>, RunError>
 where
     P::Done: Send,
     P::Tools: Send,
@@ -145,7 +145,7 @@ where
     requires parts { shared.now.draws.now.parts ≡ P.part_count shared.now.runner.now }
     requires of { seat.table ≡ shared.now.draws.now.table }
     requires new { seat.numbers ≡ [] }
-    ensures ok { IfOk result (IsGathered (P.IsDone shared.now.runner.now) seat) }
+    ensures ok { IfOk result (IsJoinedShift (P.IsDone shared.now.runner.now) seat) }
     ensures fault { IfErr result (IsWindowFault (P.IsOver shared.now.runner.now)) }
 {
     // A closure that captures a struct of references loses its postcondition: the struct is taken
@@ -159,13 +159,13 @@ where
     thread::scope(
         thread::scope_env(),
         rt,
-        |scope| -> Result<Gathered<P::Done>, RunError>
+        |scope| -> Result<JoinedShift<P::Done>, RunError>
             requires sync { IsSync G.row × IsSync R.row × IsSync P.row }
             requires open { P.IsOpen runner.now }
             requires parts { draws.now.parts ≡ P.part_count runner.now }
             requires of { seat.table ≡ draws.now.table }
             requires new { seat.numbers ≡ [] }
-            ensures ok { IfOk result (IsGathered (P.IsDone runner.entry.now) seat) }
+            ensures ok { IfOk result (IsJoinedShift (P.IsDone runner.entry.now) seat) }
             ensures fault { IfErr result (IsWindowFault (P.IsOver runner.entry.now)) }
         {
             let shared = Shared {

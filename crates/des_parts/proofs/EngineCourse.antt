@@ -17,11 +17,11 @@ use Rattle.des_model.specs.Windows.{pieces_since}
 use Rattle.des_model.proofs.Audits.{output_next}
 use Rattle.des_window.specs.declared.opening.Opening.{Opening}
 use Rattle.des_window.proofs.Openings.{OpensWith, opens_with}
-use Rattle.des_parts.specs.declared.engine.Engine.{Engine}
+use Rattle.des_parts.specs.declared.engine.WindowEngine.{WindowEngine}
 use Rattle.des_parts.specs.declared.entries.Entry.{Entry}
 use Rattle.des_parts.specs.declared.part_run.Done.{Done}
 use Rattle.des_parts.specs.declared.world.World.{World}
-use Rattle.des_parts.specs.Engine.{IsAt}
+use Rattle.des_parts.specs.WindowEngine.{IsAt}
 use Rattle.des_parts.specs.Entries.{IsMerged, all_entries, entry_of, pieces_of}
 use Rattle.des_parts.specs.Exchanges.{AreDone, AreDoneFrom, entry_lists, events_in}
 use Rattle.des_parts.specs.PartRuns.{IsDone, ran_by}
@@ -75,11 +75,11 @@ module _ {State Body Piece : Type 0} (m : Machine State Body Piece) where
 
 module _ {M S State Body Piece : Type 0} (text : Piece → List ℕ) (m : Machine State Body Piece) (HasCounted : List Piece → S → Type 0) where
   -- what an engine has written is the beginning of a trace
-  pub begin_at : (old now : Option (List ℕ)) (e : Engine M S State Body Piece) → IsAt text m HasCounted old now e → IsBeginning text m old now
+  pub begin_at : (old now : Option (List ℕ)) (e : WindowEngine M S State Body Piece) → IsAt text m HasCounted old now e → IsBeginning text m old now
   begin_at old now e at = begun_at text m old now e.world.count at.written
 
   -- the division says nothing of the run
-  pub at_divided : (old now : Option (List ℕ)) (e f : Engine M S State Body Piece) → IsWorldOf m f.world → f.world.count ≡ e.world.count → f.journal ≡ e.journal
+  pub at_divided : (old now : Option (List ℕ)) (e f : WindowEngine M S State Body Piece) → IsWorldOf m f.world → f.world.count ≡ e.world.count → f.journal ≡ e.journal
       → IsAt text m HasCounted old now e → IsAt text m HasCounted old now f
   at_divided old now e f world count journal at = record {
     world = world;
@@ -90,7 +90,7 @@ module _ {M S State Body Piece : Type 0} (text : Piece → List ℕ) (m : Machin
   }
 
   module _ {Sound : ℕ → State → Type 0} {Fit : Event Body → Type 0} {Room : State → Type 0} (sim : IsSimulable m Sound Fit Room) (old now : Option (List ℕ))
-      (e : Engine M S State Body Piece) (at : IsAt text m HasCounted old now e) where
+      (e : WindowEngine M S State Body Piece) (at : IsAt text m HasCounted old now e) where
     abbrev past : List (Event Body)
     past = history m e.world.count
 
@@ -182,7 +182,7 @@ module _ {M S State Body Piece : Type 0} (text : Piece → List ℕ) (m : Machin
             begin_entries x front = begun_next text m old now x e.world.count (e.world.count + events_in dones) put at.written outputs
                 ((writer_laws text).fronts_then now mid x audits (pieces_of bs) audits_add.written front)
 
-            pub next_at : (f : Engine M S State Body Piece) (new : Option (List ℕ)) → IsWorldOf m f.world → f.world.count ≡ e.world.count + events_in dones
+            pub next_at : (f : WindowEngine M S State Body Piece) (new : Option (List ℕ)) → IsWorldOf m f.world → f.world.count ≡ e.world.count + events_in dones
                 → f.journal.clock ≡ filter (λ u. nat_lt o.time u) e.journal.clock → Adds text HasCounted mid new middle f.journal.scribe (pieces_of bs)
                 → IsAt text m HasCounted old new f
             next_at f new world count clock more =

@@ -33,7 +33,7 @@ module _ {Body : Type 0} where
     pub least : (p : ℕ) (e : PartEvents Body) (x : Event Body) → p < n → Contains (slice_index_or parts p e).later x → t ≤ x.key.time
     pub reached : (p : ℕ) × (p < n) × ((e : PartEvents Body) → (x : Event Body) × Contains (slice_index_or parts p e).later x × (x.key.time ≡ t))
 
-  -- the same, if there is one
+  -- the least time of the later events of the first n parts, if they have any
   abbrev pub LeastIs : List (PartEvents Body) → ℕ → Option ℕ → Type 0
   LeastIs parts n None = (p : ℕ) (e : PartEvents Body) (x : Event Body) → p < n → Contains (slice_index_or parts p e).later x → ⊥
   LeastIs parts n (Some t) = IsLeastTime parts n t

@@ -7,6 +7,6 @@ pub mod Worlds
 pub mod Delivery
 pub mod Exchanges
 pub mod Entries
-pub mod Engine
+pub mod WindowEngine
 pub mod Ordering
 pub mod PickedRuns

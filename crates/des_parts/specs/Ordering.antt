@@ -23,7 +23,7 @@ module _ {State Body Piece : Type 0} where
   abbrev pub parts_of : List (Done State Body Piece) → List ℕ
   parts_of dones = map (λ (done : Done State Body Piece). done.part) dones
 
-  -- it is what its part leaves, in the world's window up to the horizon
+  -- the result is what its part leaves, in the world's window up to the horizon
   abbrev pub IsResult : Machine State Body Piece → (Known : Piece → Type 0) → World State Body → (horizon : ℕ) → Done State Body Piece → Type 0
   IsResult m Known w horizon done = IsDone m Known w horizon done.part done
 
@@ -45,7 +45,7 @@ module _ {State Body Piece : Type 0} where
   IsToCome part [] = ⊥
   IsToCome part (done ∷ dones) = (done.part ≡ part) ⊎ IsToCome part dones
 
-  -- those that are still to come are of these, and of parts below the number
+  -- the results that are still to come are among these, and of parts below the number
   abbrev pub AreOf : List (Done State Body Piece) → (parts : ℕ) → List (Done State Body Piece) → Type 0
   AreOf dones parts rest = AllByRecursion (λ (done : Done State Body Piece). (done.part < parts) × Contains dones done) rest
 

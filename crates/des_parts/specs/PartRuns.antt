@@ -110,7 +110,7 @@ module _ {State Body Piece : Type 0} where
       → Queue Body → Type 0
   IsRunningAt m Known w horizon run q = (e : PartEvents Body) → IsRunning m Known w horizon (slice_index_or w.parts.items run.part e).due.items run q
 
-  -- it has run nothing so far
+  -- the run of this part in the world's next window has begun, and has run no event so far
   pub record HasBegun (m : Machine State Body Piece) (Known : Piece → Type 0) (w : World State Body) (horizon part : ℕ)
       (run : PartRun State Body Piece) : Type 0 where
     pub part_is : run.part ≡ part

@@ -33,20 +33,21 @@ module _ {Body : Type 0} where
   shown s = record { worker = s.0; step = shown_step s.1 }
 
 module _ {State Body Piece : Type 0} where
-  -- a worker can take a step if it has a part, or not all parts were drawn
+  -- there is such a worker, and it has a part
   abbrev pub has_part : Option (Worker State Body Piece) → Bool
   has_part None = false
   has_part (Some x) = is_some x.run
 
-  -- of these workers and places for results
+  -- of these workers and places for results: the worker can take a step, since it has a part, or not all parts were
+  -- drawn
   abbrev pub can_go_with : (drawn : ℕ) → List (Worker State Body Piece) → List (Option (Done State Body Piece)) → ℕ → Bool
   can_go_with drawn workers dones i = has_part (slice_get workers i) || nat_lt drawn (length dones)
 
-  -- the same of a window
+  -- the worker can take a step in the window: it has a part, or not all parts were drawn
   abbrev pub can_go : PickedWindow State Body Piece → ℕ → Bool
   can_go b = can_go_with b.drawn b.workers.items b.dones.items
 
--- the lowest of the first n workers that can
+-- the lowest of the first n workers that can take a step, by this test
 abbrev pub lowest_by : (ℕ → Bool) → ℕ → Option ℕ
 lowest_by can zero = None
 lowest_by can (suc n) = option_or (lowest_by can n) (if can n then Some n else None)
@@ -80,7 +81,7 @@ module _ {State Body Piece : Type 0} where
     IsPartOf drawn w p (Some done) = IsDone m Known world horizon p done × (p < drawn)
         × (w.part p ≡ record { ran = ran_by m world horizon done; sealed = true })
 
-    -- it is this window of the window machine
+    -- these workers and places for results, with this many parts drawn, make this window of the window machine
     pub record IsPickedWith (drawn : ℕ) (workers : List (Worker State Body Piece)) (dones : List (Option (Done State Body Piece)))
         (w : Window Body) : Type 0 where
       pub history_is : w.history ≡ history m world.count
@@ -96,7 +97,7 @@ module _ {State Body Piece : Type 0} where
       -- a part that was drawn is done, or some worker has it
       pub held : (p : ℕ) → p < w.drawn → ((w.part p).sealed ≡ true) ⊎ ((i : ℕ) × (i < length workers) × (w.held i ≡ Some p))
 
-    -- the same of a window whose workers take turns
+    -- the window, whose workers take turns, is this window of the window machine
     abbrev pub IsPicked : PickedWindow State Body Piece → Window Body → Type 0
     IsPicked b = IsPickedWith b.drawn b.workers.items b.dones.items
 
@@ -108,20 +109,20 @@ module _ {State Body Piece : Type 0} where
       pub picked : IsPicked new (after_step w worker step)
 
   module _ (m : Machine State Body Piece) (world : World State Body) (horizon : ℕ) where
-    -- a bound on the steps that are left
+    -- a bound on the steps that are left to a worker for the run of a part; 0 if it has no part
     abbrev pub weight_of : Option (PartRun State Body Piece) → ℕ
     weight_of None = 0
     weight_of (Some run) = m.max_events - (world.count + length run.entries.items) + 1
 
-    -- the same for a worker
+    -- a bound on the steps that are left to a worker for the part that it has
     abbrev pub weight : Worker State Body Piece → ℕ
     weight x = weight_of x.run
 
-    -- and for these workers, with the parts that are not drawn yet
+    -- a bound on the steps that are left to these workers, with those for the parts that are not drawn yet
     abbrev pub potential_with : (drawn : ℕ) → List (Worker State Body Piece) → (parts : ℕ) → ℕ
     potential_with drawn workers parts = (parts - drawn) * (m.max_events - world.count + 2) + sum_by weight workers
 
-    -- and for a window
+    -- a bound on the steps that are left in a window
     abbrev pub potential : PickedWindow State Body Piece → ℕ
     potential b = potential_with b.drawn b.workers.items (length b.dones.items)
 

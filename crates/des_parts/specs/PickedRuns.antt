@@ -17,7 +17,8 @@ module _ {State Body Piece : Type 0} where
     pub history_left : List (Event Body)
     pub goes : Goes m (λ _. d) workers (begun m 0 []) picks steps history_left
 
-  -- these are its steps up to the first `count` events, and these picks are left
+  -- these are the steps of the window machine under the picks, up to the first `count` events of the run, and these
+  -- picks are left
   pub record HasCome (m : Machine State Body Piece) (d : Division) (workers : ℕ) (picks rest : List ℕ) (count : ℕ) (taken : List Taken) : Type 0 where
     pub number : ℕ
     pub steps : List (ℕ × Step Body)

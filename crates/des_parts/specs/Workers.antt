@@ -57,7 +57,7 @@ module _ {State Body Piece : Type 0} where
       × ((next : PartRun State Body Piece) × HasRunOne m Known w horizon run new next)
   HasGoneOn m Known w horizon run new (progress.Sealed done) = IsDone m Known w horizon run.part done × (done.events ≡ length run.entries.items) × IsIdle new
 
-  -- one step
+  -- the worker has taken one step: it has drawn a part, run an event of its part, or come to the part's end
   abbrev pub HasProgressed : Machine State Body Piece → (Known : Piece → Type 0) → World State Body → (horizon drawn : ℕ)
       → (old new : Worker State Body Piece) → Progress State Body Piece → Type 0
   HasProgressed m Known w horizon drawn old new progress.Drew = HasDrawn m Known w horizon drawn old new

@@ -24,7 +24,7 @@ module _ {Body : Type 0} where
   abbrev pub events_of : PartEvents Body → List (Event Body)
   events_of e = e.due.items ++ e.later
 
-  -- those below the horizon are due, the others come later
+  -- the events of a part below the horizon are due, the others come later
   pub record IsSplit (horizon : ℕ) (e : PartEvents Body) : Type 0 where
     pub early : AllByRecursion (λ (x : Event Body). x.key.time < horizon) e.due.items
     pub late : AllByRecursion (λ (x : Event Body). horizon ≤ x.key.time) e.later

@@ -4,7 +4,7 @@ ghost use Rattle.des_machine.specs.Runs.{IsBeginning, IsRun};
 ghost use Rattle.des_model.specs.Histories.{IsOverLimit};
 ghost use Rattle.des_output.specs.Watched.{wrapped, has_failed};
 ghost use Rattle.des_output.specs.Writing.{is_write};
-ghost use Rattle.des_parts.specs.Engine.{IsAt};
+ghost use Rattle.des_parts.specs.WindowEngine.{IsAt};
 ghost use Rattle.des_parts.specs.Exchanges.{AreDone, events_in};
 
 use crate::entries::{merge_entries, put_entries};
@@ -18,17 +18,22 @@ use des_window::{Division, Opening};
 use std::alloc::Global;
 use std::io::Write;
 
-/// A run by windows: the world, and what the scribe has so far.
+/// A run by windows: the world, and what the scribe has so far. Each has a clock of audits: the
+/// world's says where a window must end, the journal's which audits are to be made.
 #[doc(hidden)]
 #[derive(Drop)]
-pub struct Engine<M: Machine, S> {
+pub struct WindowEngine<M: Machine, S> {
     pub world: World<M::State, M::Body>,
     pub journal: Journal<S>,
 }
 
-impl<M: Machine, S: Scribe<M> + Drop> Engine<M, S> {
+impl<M: Machine, S: Scribe<M> + Drop> WindowEngine<M, S> {
     /// The start of a run.
-    pub fn start(alloc: Global, machine: &M, division: &Division) -> Result<Engine<M, S>, RunError>
+    pub fn start(
+        alloc: Global,
+        machine: &M,
+        division: &Division,
+    ) -> Result<WindowEngine<M, S>, RunError>
         ensures at { IfOk result (λ engine. (now : Option (List ℕ)) → IsAt (S.text machine.now) (M.model machine.now) (S.HasCounted machine.now) now now engine) }
         ensures count { IfOk result (λ engine. engine.world.count ≡ 0) }
         ensures division { IfOk result (λ engine. engine.world.division ≡ division.now) }
@@ -40,7 +45,7 @@ impl<M: Machine, S: Scribe<M> + Drop> Engine<M, S> {
         let world = World::start(alloc, machine, division)?;
         let clock = AuditClock::new(machine.audit_times(alloc)?);
         let scribe = S::start(alloc, machine);
-        Ok(Engine {
+        Ok(WindowEngine {
             world,
             journal: Journal { scribe, clock },
         })

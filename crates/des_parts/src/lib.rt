@@ -29,7 +29,7 @@ pub use world::World;
 #[doc(hidden)]
 pub use copies::Copies;
 #[doc(hidden)]
-pub use engine::Engine;
+pub use engine::WindowEngine;
 #[doc(hidden)]
 pub use part_run::PartRun;
 #[doc(hidden)]

@@ -17,7 +17,7 @@ use des_machine::Machine;
 use des_queue::WindowQueue;
 use std::alloc::Global;
 
-/// A part's queue may take fewer events than this in a window. It fails for want of memory before.
+/// A part's queue may take fewer events than this in a window. No memory has room for so many.
 const MOST_PUSHES: u64 = 1 << 40;
 
 /// What a part ran in a window.

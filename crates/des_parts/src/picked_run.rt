@@ -3,11 +3,11 @@ ghost use Rattle.std.specs.Prelude.{◌≡◌, ◌≢◌, ◌⊎◌, ◌<◌, �
 ghost use Rattle.des_machine.specs.Runs.{IsRun};
 ghost use Rattle.des_output.specs.Watched.{wrapped, has_failed};
 ghost use Rattle.des_output.specs.Writing.{is_write};
-ghost use Rattle.des_parts.specs.Engine.{IsAt};
+ghost use Rattle.des_parts.specs.WindowEngine.{IsAt};
 ghost use Rattle.des_parts.specs.PickedRuns.{AreStepsOf, report_in};
 
 use crate::copies::CopiesStates;
-use crate::engine::Engine;
+use crate::engine::WindowEngine;
 use crate::picked_window::PickedWindow;
 use crate::step::Taken;
 use crate::window::Window;
@@ -53,7 +53,7 @@ pub fn run_picked<M: CopiesStates, S: Scribe<M> + Drop, W: Write>(
     ensures bad { result ≡ Err RunError.BadDivision → (length division.now.of_node ≢ (M.model machine.now).nodes) × (writer.new ≡ writer.old) }
     ensures only { IfErr result (λ e. (e ≡ RunError.Memory) ⊎ (e ≡ RunError.TooManyEvents) ⊎ (e ≡ RunError.Write) ⊎ (e ≡ RunError.BadDivision)) }
 {
-    let mut engine = Engine::<M, S>::start(alloc, machine, division)?;
+    let mut engine = WindowEngine::<M, S>::start(alloc, machine, division)?;
     let outcome = run_windows(&mut engine, alloc, machine, turns, writer);
     // By one call: at each end of a function a struct is dropped field by field.
     drop(engine);
@@ -62,7 +62,7 @@ pub fn run_picked<M: CopiesStates, S: Scribe<M> + Drop, W: Write>(
 
 /// Runs the windows of a run that has started, and finishes it.
 fn run_windows<M: CopiesStates, S: Scribe<M> + Drop, W: Write>(
-    engine: &mut Engine<M, S>,
+    engine: &mut WindowEngine<M, S>,
     alloc: Global,
     machine: &M,
     turns: Turns<'_>,

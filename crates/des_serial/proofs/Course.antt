@@ -63,8 +63,8 @@ use Rattle.des_model.proofs.Runs.{history_is_legal, possible_from_legal}
 use Rattle.des_output.specs.Writing.{AppendsFront}
 use Rattle.des_queue.specs.EventKey.{event_key}
 use Rattle.des_queue.proofs.Inserting.{AreApart, ordered_apart}
-use Rattle.des_serial.specs.declared.engine.Engine.{Engine}
-use Rattle.des_serial.specs.Engine.{HasTaken, IsAt, IsAtWith}
+use Rattle.des_serial.specs.declared.engine.SerialEngine.{SerialEngine}
+use Rattle.des_serial.specs.SerialEngine.{HasTaken, IsAt, IsAtWith}
 
 abbrev value : Option ℕ → ℕ
 value (Some time) = time
@@ -102,12 +102,12 @@ module _ {M S State Body Piece : Type 0} (text : Piece → List ℕ) (m : Machin
   module _ {Sound : ℕ → State → Type 0} {Fit : Event Body → Type 0} {Room : State → Type 0} (sim : IsSimulable m Sound Fit Room) where
     -- the scribe has counted few pieces, and few audits are left
     pub counted_few : (size : S → ℕ) → ((pieces : List Piece) (s : S) → HasCounted pieces s → size s ≡ length pieces) → (old now : Option (List ℕ))
-        (e : Engine M S State Body Piece) (events : List (Event Body)) → IsAtWith text m HasCounted old now e events
+        (e : SerialEngine M S State Body Piece) (events : List (Event Body)) → IsAtWith text m HasCounted old now e events
         → size e.journal.scribe + length e.journal.clock ≡ e.count + length m.audit_times
     counted_few size sized old now e events at =
         omega (arith, sized _ _ at.counted, pieces_and_audits m (history m e.count) e.journal.clock at.audits, at.world.long)
 
-    module _ (old now : Option (List ℕ)) (e : Engine M S State Body Piece) (event : Event Body) (t : HasTaken text m HasCounted old now e event) where
+    module _ (old now : Option (List ℕ)) (e : SerialEngine M S State Body Piece) (event : Event Body) (t : HasTaken text m HasCounted old now e event) where
       abbrev here : List (Event Body)
       here = history m e.count
 
@@ -212,7 +212,7 @@ module _ {M S State Body Piece : Type 0} (text : Piece → List ℕ) (m : Machin
           pub made_apart : AreApart (e.pending ++ made)
           made_apart = next_world.apart
 
-          pub next_at : (f : Engine M S State Body Piece) (mid new : Option (List ℕ)) (middle : S) (piece : Piece) → piece ≡ (m.effect s event).piece
+          pub next_at : (f : SerialEngine M S State Body Piece) (mid new : Option (List ℕ)) (middle : S) (piece : Piece) → piece ≡ (m.effect s event).piece
               → f.states.items ≡ set states event.target (m.effect s event).state
               → ((x : Event Body) → Contains f.pending x ↔ Contains (e.pending ++ made) x) → InKeyOrder event_key f.pending → f.made.items ≡ []
               → f.journal.clock ≡ filter (λ u. nat_lt event.key.time u) e.journal.clock → f.count ≡ e.count + 1
@@ -241,7 +241,7 @@ module _ {M S State Body Piece : Type 0} (text : Piece → List ℕ) (m : Machin
 
     -- The start
 
-    pub start_at : (now : Option (List ℕ)) (e : Engine M S State Body Piece) → AreStatesAfter m [] e.states.items
+    pub start_at : (now : Option (List ℕ)) (e : SerialEngine M S State Body Piece) → AreStatesAfter m [] e.states.items
         → ((x : Event Body) → Contains e.pending x ↔ Contains m.start_events x) → InKeyOrder event_key e.pending
         → e.journal.clock ≡ m.audit_times → HasCounted [] e.journal.scribe → e.count ≡ 0 → e.made.items ≡ [] → IsAt text m HasCounted now now e
     start_at now e states_are same ordered clock_is counted count_is none_made =
@@ -258,7 +258,7 @@ module _ {M S State Body Piece : Type 0} (text : Piece → List ℕ) (m : Machin
 
     -- The end
 
-    module _ (old now : Option (List ℕ)) (e : Engine M S State Body Piece) (at : IsAt text m HasCounted old now e) where
+    module _ (old now : Option (List ℕ)) (e : SerialEngine M S State Body Piece) (at : IsAt text m HasCounted old now e) where
       pub over_limit : (es : List (Event Body)) (time : ℕ) → es ≡ e.pending → Some time ≡ time_of_first es → InKeyOrder event_key es → time < m.duration
           → m.max_events ≤ e.count → IsOverLimit m
       over_limit [] time is some ordered in_time full = absurd (none-some time (sym some))

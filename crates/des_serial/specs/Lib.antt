@@ -1,1 +1,1 @@
-pub mod Engine
+pub mod SerialEngine

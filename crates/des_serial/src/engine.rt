@@ -8,7 +8,7 @@ ghost use Rattle.des_model.specs.Histories.{IsOverLimit};
 ghost use Rattle.des_output.specs.Watched.{wrapped, has_failed};
 ghost use Rattle.des_output.specs.Writing.{is_write};
 ghost use Rattle.des_queue.specs.EventKey.{event_key};
-ghost use Rattle.des_serial.specs.Engine.{HasTaken, IsAt};
+ghost use Rattle.des_serial.specs.SerialEngine.{HasTaken, IsAt};
 
 use des_event::{Event, RunError};
 use des_machine::{AuditClock, Journal, Machine, Scribe};
@@ -20,7 +20,7 @@ use std::io::Write;
 /// A run in progress: what the nodes know, which events are still to come, and what the scribe has so
 /// far.
 #[derive(Drop)]
-pub struct Engine<M: Machine, S> {
+pub struct SerialEngine<M: Machine, S> {
     pub states: Vec<M::State>,
     pub pending: Pending<M::Body>,
     pub journal: Journal<S>,
@@ -30,9 +30,9 @@ pub struct Engine<M: Machine, S> {
     pub count: u64,
 }
 
-impl<M: Machine, S: Scribe<M> + Drop> Engine<M, S> {
+impl<M: Machine, S: Scribe<M> + Drop> SerialEngine<M, S> {
     /// The start of a run.
-    pub fn start(alloc: Global, machine: &M) -> Result<Engine<M, S>, RunError>
+    pub fn start(alloc: Global, machine: &M) -> Result<SerialEngine<M, S>, RunError>
         ensures at { IfOk result (λ engine. (now : Option (List ℕ)) → IsAt (S.text machine.now) (M.model machine.now) (S.HasCounted machine.now) now now engine) }
         ensures only { IfErr result (λ e. e ≡ RunError.Memory) }
     {
@@ -41,7 +41,7 @@ impl<M: Machine, S: Scribe<M> + Drop> Engine<M, S> {
         let states = machine.start_states(alloc)?;
         let pending = pending_at_start(alloc, machine)?;
         let scribe = S::start(alloc, machine);
-        Ok(Engine {
+        Ok(SerialEngine {
             states,
             pending,
             journal: Journal { scribe, clock },

@@ -4,7 +4,7 @@ ghost use Rattle.des_machine.specs.Runs.{IsRun};
 ghost use Rattle.des_output.specs.Watched.{wrapped, has_failed};
 ghost use Rattle.des_output.specs.Writing.{is_write};
 
-use crate::engine::Engine;
+use crate::engine::SerialEngine;
 use des_event::RunError;
 use des_machine::{Machine, Scribe};
 use des_output::Watched;
@@ -23,7 +23,7 @@ pub fn run_serial<M: Machine, S: Scribe<M> + Drop, W: Write>(
     ensures writer { has_failed writer.new ≡ is_write result }
     ensures only { IfErr result (λ e. (e ≡ RunError.Memory) ⊎ (e ≡ RunError.Write) ⊎ (e ≡ RunError.TooManyEvents)) }
 {
-    let mut engine = Engine::<M, S>::start(alloc, machine)?;
+    let mut engine = SerialEngine::<M, S>::start(alloc, machine)?;
     let outcome = engine.run(alloc, machine, writer);
     // By one call: at the end of a function a struct is dropped field by field.
     drop(engine);

@@ -3,7 +3,7 @@ use Rattle.std.proofs.Common.{◌≡◌, ◌+◌, ℕ, suc, List, [], ◌∷◌,
 use Rattle.std.specs.Prelude.{IfSome}
 use Rattle.des_team.specs.Chronicles.{Chronicle}
 use Rattle.des_team.specs.declared.layout.Layout.{Layout}
-use Rattle.des_team.specs.declared.part.Finished.{Finished}
+use Rattle.des_team.specs.declared.part.Done.{Done}
 use Rattle.des_team.specs.Orders.{AreResultsFrom, IsResultOf}
 
 module _ {M : Type 0} where
@@ -18,8 +18,8 @@ module _ {M : Type 0} where
 
 module _ {M State Body Piece S : Type 0} where
   -- the result of one part more
-  pub push_result : (ch : Chronicle State Body Piece S) (l : Layout) (count horizon k part : ℕ) (fs : List (Finished M S State Body Piece))
-      (f : Finished M S State Body Piece) → AreResultsFrom ch l count horizon k fs
+  pub push_result : (ch : Chronicle State Body Piece S) (l : Layout) (count horizon k part : ℕ) (fs : List (Done M S State Body Piece))
+      (f : Done M S State Body Piece) → AreResultsFrom ch l count horizon k fs
       → part ≡ k + length fs → IsResultOf ch l part count horizon f → AreResultsFrom ch l count horizon k (fs ++ f ∷ [])
   push_result ch l count horizon k part [] f each at is = (subst (λ p. IsResultOf ch l p count horizon f) (omega (arith, at)) is, tt)
   push_result ch l count horizon k part (g ∷ fs) f each at is =

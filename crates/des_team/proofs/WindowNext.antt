@@ -12,7 +12,7 @@ use Rattle.des_machine.specs.Simulable.{IsSimulable}
 use Rattle.des_window.specs.Openings.{sooner}
 use Rattle.des_team.specs.Chronicles.{Chronicle}
 use Rattle.des_team.specs.declared.layout.Layout.{Layout}
-use Rattle.des_team.specs.declared.part.Finished.{Finished}
+use Rattle.des_team.specs.declared.part.Done.{Done}
 use Rattle.des_team.specs.declared.team.Team.{Team}
 use Rattle.des_team.specs.Exchanges.{soonest}
 use Rattle.des_team.specs.Orders.{AreResults, HaveNoFault}
@@ -26,27 +26,27 @@ use Rattle.des_team.proofs.WindowParts.{after_window, made_there, pending_part, 
 
 module _ {M State Body Piece S : Type 0} where
   -- what a part has left, and what it made for others
-  abbrev pub left_of : Finished M S State Body Piece → List (Event Body)
+  abbrev pub left_of : Done M S State Body Piece → List (Event Body)
   left_of f = f.parcel.part.value.pending ++ all_of f.parcel.part.value.outbox
 
-  abbrev pub all_left : List (Finished M S State Body Piece) → List (Event Body)
+  abbrev pub all_left : List (Done M S State Body Piece) → List (Event Body)
   all_left [] = []
   all_left (f ∷ fs) = left_of f ++ all_left fs
 
-  left_in : (fs : List (Finished M S State Body Piece)) (q : ℕ) (f : Finished M S State Body Piece) (x : Event Body) → q < length fs
+  left_in : (fs : List (Done M S State Body Piece)) (q : ℕ) (f : Done M S State Body Piece) (x : Event Body) → q < length fs
       → Contains (left_of (get_or fs q f)) x → Contains (all_left fs) x
   left_in [] q f x lt c = absurd (omega (arith, lt))
   left_in (g ∷ fs) zero f x lt c = contains_left (left_of g) (all_left fs) x c
   left_in (g ∷ fs) (suc q) f x lt c = contains_right (left_of g) (all_left fs) x (left_in fs q f x (omega (arith, lt)) c)
 
   -- whose event it is
-  record IsLeft (fs : List (Finished M S State Body Piece)) (x : Event Body) : Type 0 where
+  record IsLeft (fs : List (Done M S State Body Piece)) (x : Event Body) : Type 0 where
     pub place : ℕ
     pub inside : place < length fs
-    pub result : Finished M S State Body Piece
+    pub result : Done M S State Body Piece
     pub among : Contains (left_of (get_or fs place result)) x
 
-  left_from : (fs : List (Finished M S State Body Piece)) (x : Event Body) → Contains (all_left fs) x → IsLeft fs x
+  left_from : (fs : List (Done M S State Body Piece)) (x : Event Body) → Contains (all_left fs) x → IsLeft fs x
   left_from [] x c = absurd (contains_none x c)
   left_from (g ∷ fs) x c = ⊎_elim
       (λ k. record { place = 0; inside = omega arith; result = g; among = k })
@@ -54,8 +54,8 @@ module _ {M State Body Piece S : Type 0} where
       (contains_append (left_of g) (all_left fs) x c)
 
   -- the soonest of the times is the least time of all
-  soonest_after : (fs : List (Finished M S State Body Piece)) (least : Option ℕ) (es : List (Event Body)) → LeastTimeIs es least
-      → ((q : ℕ) (f : Finished M S State Body Piece) → q < length fs → LeastTimeIs (left_of (get_or fs q f)) (get_or fs q f).next)
+  soonest_after : (fs : List (Done M S State Body Piece)) (least : Option ℕ) (es : List (Event Body)) → LeastTimeIs es least
+      → ((q : ℕ) (f : Done M S State Body Piece) → q < length fs → LeastTimeIs (left_of (get_or fs q f)) (get_or fs q f).next)
       → (all : List (Event Body)) → ((x : Event Body) → Contains all x ↔ (Contains es x ⊎ Contains (all_left fs) x)) → LeastTimeIs all (soonest least fs)
   soonest_after [] least es is each all same = least_of_both es [] all least None is least_of_none same
   soonest_after (f ∷ fs) least es is each all same = soonest_after fs (sooner least f.next) (es ++ left_of f)
@@ -107,12 +107,12 @@ module _ {State Body Piece S : Type 0} where
 
 module _ {M State Body Piece S : Type 0} (ch : Chronicle State Body Piece S) {Sound : ℕ → State → Type 0} {Fit : Event Body → Type 0} {Room : State
     → Type 0} (ok : IsSimulable ch.machine Sound Fit Room) (l : Layout) (t : Team M S State Body Piece) (can : CanSend ch l t)
-    (fs : List (Finished M S State Body Piece))
+    (fs : List (Done M S State Body Piece))
     (results : AreResults ch l t.count t.window.horizon fs) (none : HaveNoFault fs) where
   abbrev later : List (Event Body)
   later = after_window ch ok l t can fs results none
 
-  left_pending : (q : ℕ) (f : Finished M S State Body Piece) → q < l.division.parts → (x : Event Body) → Contains (left_of (get_or fs q f)) x
+  left_pending : (q : ℕ) (f : Done M S State Body Piece) → q < l.division.parts → (x : Event Body) → Contains (left_of (get_or fs q f)) x
       → Contains (pending ch.machine later) x
   left_pending q f lt x c =
       let run = result_of ch ok l t can fs results none q f lt in

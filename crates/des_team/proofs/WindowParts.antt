@@ -16,7 +16,7 @@ use Rattle.des_model.proofs.WindowCourse.{possible_run, since_apart, since_fresh
 use Rattle.des_machine.specs.Simulable.{IsSimulable}
 use Rattle.des_team.specs.Chronicles.{Chronicle}
 use Rattle.des_team.specs.declared.layout.Layout.{Layout}
-use Rattle.des_team.specs.declared.part.Finished.{Finished}
+use Rattle.des_team.specs.declared.part.Done.{Done}
 use Rattle.des_team.specs.declared.part.OwnedPart.{OwnedPart}
 use Rattle.des_team.specs.declared.team.Team.{Team}
 use Rattle.des_team.specs.Orders.{AreResults, HaveNoFault}
@@ -30,11 +30,11 @@ use Rattle.des_team.proofs.WindowShares.{share_same}
 
 module _ {M State Body Piece S : Type 0} where
   -- what a result has for a part
-  abbrev pub sent_to_part : (part : ℕ) → Finished M S State Body Piece → List (Event Body)
+  abbrev pub sent_to_part : (part : ℕ) → Done M S State Body Piece → List (Event Body)
   sent_to_part part f = get_or f.parcel.part.value.outbox part []
 
   -- what the results have for a part, each one list
-  abbrev pub sent_by : List (Finished M S State Body Piece) → (part : ℕ) → List (List (Event Body))
+  abbrev pub sent_by : List (Done M S State Body Piece) → (part : ℕ) → List (List (Event Body))
   sent_by fs part = map (sent_to_part part) fs
 
 module _ {Body : Type 0} where
@@ -62,7 +62,7 @@ module _ {State Body Piece S : Type 0} where
 
 module _ {M State Body Piece S : Type 0} (ch : Chronicle State Body Piece S) {Sound : ℕ → State → Type 0} {Fit : Event Body → Type 0} {Room : State
     → Type 0} (ok : IsSimulable ch.machine Sound Fit Room) (l : Layout) (t : Team M S State Body Piece) (can : CanSend ch l t)
-    (fs : List (Finished M S State Body Piece))
+    (fs : List (Done M S State Body Piece))
     (results : AreResults ch l t.count t.window.horizon fs) (none : HaveNoFault fs) where
   abbrev pub lists : ℕ → List (Event Body)
   lists q = ran ch ok l t can fs results none q
@@ -77,7 +77,7 @@ module _ {M State Body Piece S : Type 0} (ch : Chronicle State Body Piece S) {So
   abbrev pub after_window : List (Event Body)
   after_window = course.taken ++ before
 
-  abbrev pub result_of : (q : ℕ) (f : Finished M S State Body Piece) → q < l.division.parts
+  abbrev pub result_of : (q : ℕ) (f : Done M S State Body Piece) → q < l.division.parts
       → IsRunOf ch l t.count t.window.horizon q (events_at fs q) (get_or fs q f)
   result_of q f lt = run_at ch ok l t can fs results none q f lt
 
@@ -132,7 +132,7 @@ module _ {M State Body Piece S : Type 0} (ch : Chronicle State Body Piece S) {So
   pending_part x c = node_in_range ch.machine (w ch ok l t can fs results none) l.division can.layout.divides x.target (pending_target x c)
 
   -- a part with its mail
-  module _ (p : ℕ) (inside : p < l.division.parts) (f : Finished M S State Body Piece) (inbox : List (Event Body)) (outbox : List (List (Event Body)))
+  module _ (p : ℕ) (inside : p < l.division.parts) (f : Done M S State Body Piece) (inbox : List (Event Body)) (outbox : List (List (Event Body)))
       (out_long : length outbox ≡ l.division.parts) (received : inbox ≡ all_of (sent_by fs p)) where
     abbrev mail : List (List (Event Body))
     mail = sent_by fs p

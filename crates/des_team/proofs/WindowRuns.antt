@@ -15,7 +15,7 @@ use Rattle.des_window.proofs.Openings.{OpensWith, opens_with}
 use Rattle.des_team.specs.Chronicles.{Chronicle}
 use Rattle.des_team.specs.Entries.{entries_of}
 use Rattle.des_team.specs.declared.layout.Layout.{Layout}
-use Rattle.des_team.specs.declared.part.Finished.{Finished}
+use Rattle.des_team.specs.declared.part.Done.{Done}
 use Rattle.des_team.specs.declared.team.Team.{Team}
 use Rattle.des_team.specs.Orders.{AreResults, AreResultsFrom, HasRun, HaveNoFault, IsResultOf}
 use Rattle.des_team.specs.Outputs.{IsText}
@@ -27,7 +27,7 @@ use Rattle.des_team.proofs.TeamMail.{first}
 
 module _ {M State Body Piece S : Type 0} where
   -- the part has run these events of its window, this many
-  pub record IsRunOf (ch : Chronicle State Body Piece S) (l : Layout) (count horizon part n : ℕ) (f : Finished M S State Body Piece) : Type 0 where
+  pub record IsRunOf (ch : Chronicle State Body Piece S) (l : Layout) (count horizon part n : ℕ) (f : Done M S State Body Piece) : Type 0 where
     pub part_is : f.parcel.part.value.part ≡ part
     pub sealed : IsSealedRun ch.machine l.division (history ch.machine count) horizon part (ran_first ch.machine l count horizon part n)
     pub long : length (ran_first ch.machine l count horizon part n) ≡ n
@@ -41,11 +41,11 @@ module _ {M State Body Piece S : Type 0} where
     pub next_is : LeastTimeIs (f.parcel.part.value.pending ++ all_of f.parcel.part.value.outbox) f.next
     pub text_is : IsText (entries_of ch.text (pieces_since ch.machine (history ch.machine count) (ran_first ch.machine l count horizon part n))) f.parcel.output
 
-  run_of_result : (ch : Chronicle State Body Piece S) (l : Layout) (part count horizon : ℕ) (f : Finished M S State Body Piece)
+  run_of_result : (ch : Chronicle State Body Piece S) (l : Layout) (part count horizon : ℕ) (f : Done M S State Body Piece)
       → IsResultOf ch l part count horizon f → f.fault ≡ None
       → IsRunOf ch l count horizon part f.events f
   run_of_result ch l part count horizon f is none =
-      let run : HasRun ch l f = subst (λ o. IfNone o (HasRun ch l f)) none is.finished.ran in
+      let run : HasRun ch l f = subst (λ o. IfNone o (HasRun ch l f)) none is.done.ran in
       subst (λ c. IsRunOf ch l c horizon part f.events f) is.count_is
       (subst (λ z. IsRunOf ch l f.parcel.count z part f.events f) is.horizon_is
       (subst (λ p. IsRunOf ch l f.parcel.count f.parcel.horizon p f.events f) is.part_is (record {
@@ -60,9 +60,9 @@ module _ {M State Body Piece S : Type 0} where
         text_is = run.text_is;
       })))
 
-  runs_from : (ch : Chronicle State Body Piece S) (l : Layout) (count horizon k : ℕ) (fs : List (Finished M S State Body Piece))
+  runs_from : (ch : Chronicle State Body Piece S) (l : Layout) (count horizon k : ℕ) (fs : List (Done M S State Body Piece))
       → AreResultsFrom ch l count horizon k fs → HaveNoFault fs
-      → (q : ℕ) (f : Finished M S State Body Piece) → q < length fs → IsRunOf ch l count horizon (k + q) (get_or fs q f).events (get_or fs q f)
+      → (q : ℕ) (f : Done M S State Body Piece) → q < length fs → IsRunOf ch l count horizon (k + q) (get_or fs q f).events (get_or fs q f)
   runs_from ch l count horizon k [] each none q f lt = absurd (omega (arith, lt))
   runs_from ch l count horizon k (g ∷ fs) each none zero f lt = subst (λ p. IsRunOf ch l count horizon p g.events g) (omega arith)
       (run_of_result ch l k count horizon g each.0 (none 0 g (omega arith)))
@@ -71,12 +71,12 @@ module _ {M State Body Piece S : Type 0} where
       (runs_from ch l count horizon (suc k) fs each.1 (λ i d i_lt. none (suc i) d (omega (arith, i_lt))) q f (omega (arith, lt)))
 
   -- the number of events of the part at a place
-  abbrev pub events_at : List (Finished M S State Body Piece) → ℕ → ℕ
+  abbrev pub events_at : List (Done M S State Body Piece) → ℕ → ℕ
   events_at [] q = 0
   events_at (f ∷ fs) zero = f.events
   events_at (f ∷ fs) (suc q) = events_at fs q
 
-  events_there : (fs : List (Finished M S State Body Piece)) (q : ℕ) (f : Finished M S State Body Piece) → q < length fs
+  events_there : (fs : List (Done M S State Body Piece)) (q : ℕ) (f : Done M S State Body Piece) → q < length fs
       → (get_or fs q f).events ≡ events_at fs q
   events_there [] q f lt = absurd (omega (arith, lt))
   events_there (g ∷ fs) zero f lt = refl
@@ -87,13 +87,13 @@ sum_first n zero = refl
 sum_first n (suc k) = omega (arith, sum_first n k)
 
 module _ {M State Body Piece S : Type 0} where
-  events_sum : (fs : List (Finished M S State Body Piece)) → events_in fs ≡ sum_to (events_at fs) (length fs)
+  events_sum : (fs : List (Done M S State Body Piece)) → events_in fs ≡ sum_to (events_at fs) (length fs)
   events_sum [] = refl
   events_sum (f ∷ fs) = ap (λ z. f.events + z) (events_sum fs) ∙ sym (sum_first (events_at (f ∷ fs)) (length fs))
 
 module _ {M State Body Piece S : Type 0} (ch : Chronicle State Body Piece S) {Sound : ℕ → State → Type 0} {Fit : Event Body → Type 0} {Room : State
     → Type 0} (ok : IsSimulable ch.machine Sound Fit Room) (l : Layout) (t : Team M S State Body Piece) (can : CanSend ch l t)
-    (fs : List (Finished M S State Body Piece))
+    (fs : List (Done M S State Body Piece))
     (results : AreResults ch l t.count t.window.horizon fs) (none : HaveNoFault fs) where
   abbrev pub past : List (Event Body)
   past = history ch.machine t.count
@@ -113,7 +113,7 @@ module _ {M State Body Piece S : Type 0} (ch : Chronicle State Body Piece S) {So
   abbrev pub ran : ℕ → List (Event Body)
   ran q = ran_first ch.machine l t.count t.window.horizon q (events_at fs q)
 
-  pub run_at : (q : ℕ) (f : Finished M S State Body Piece) → q < l.division.parts → IsRunOf ch l t.count t.window.horizon q (events_at fs q) (get_or fs q f)
+  pub run_at : (q : ℕ) (f : Done M S State Body Piece) → q < l.division.parts → IsRunOf ch l t.count t.window.horizon q (events_at fs q) (get_or fs q f)
   run_at q f lt =
       let inside : q < length fs = omega (arith, lt, results.long) in
       subst (λ n. IsRunOf ch l t.count t.window.horizon q n (get_or fs q f)) (events_there fs q f inside)

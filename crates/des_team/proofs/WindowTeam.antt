@@ -11,7 +11,7 @@ use Rattle.des_machine.proofs.Puts.{fronts_longer, fronts_then, writes_then}
 use Rattle.des_machine.proofs.Runs.{begun_next}
 use Rattle.des_team.specs.Chronicles.{Chronicle}
 use Rattle.des_team.specs.declared.layout.Layout.{Layout}
-use Rattle.des_team.specs.declared.part.Finished.{Finished}
+use Rattle.des_team.specs.declared.part.Done.{Done}
 use Rattle.des_team.specs.declared.part.OwnedPart.{OwnedPart}
 use Rattle.des_team.specs.declared.part.Parcel.{Parcel}
 use Rattle.des_team.specs.declared.team.Team.{Team}
@@ -33,7 +33,7 @@ use Rattle.des_team.proofs.WindowTexts.{window_adds, window_entries, window_leav
 
 module _ {M State Body Piece S : Type 0} where
   -- what the parts that came back have for one of them is what the results have for it
-  mail_of_results : (part : ℕ) (fs : List (Finished M S State Body Piece)) (mid : List (Option (Parcel M S State Body Piece))) → AreBack fs mid
+  mail_of_results : (part : ℕ) (fs : List (Done M S State Body Piece)) (mid : List (Option (Parcel M S State Body Piece))) → AreBack fs mid
       → length fs ≡ length mid
       → mail_for part mid ≡ all_of (sent_by fs part)
   mail_of_results part [] [] back long = refl
@@ -47,7 +47,7 @@ module _ {M State Body Piece S : Type 0} where
 
 module _ {M State Body Piece S : Type 0} (ch : Chronicle State Body Piece S) {Sound : ℕ → State → Type 0} {Fit : Event Body → Type 0} {Room : State
     → Type 0} (ok : IsSimulable ch.machine Sound Fit Room) (l : Layout) (t : Team M S State Body Piece) (can : CanSend ch l t)
-    (fs : List (Finished M S State Body Piece))
+    (fs : List (Done M S State Body Piece))
     (results : AreResults ch l t.count t.window.horizon fs) (none : HaveNoFault fs) (mid : List (Option (Parcel M S State Body Piece))) (back : AreBack fs mid)
     (mid_long : length mid ≡ length t.parcels.items) where
   pub parts_back : length fs ≡ length mid
@@ -73,7 +73,7 @@ module _ {M State Body Piece S : Type 0} (ch : Chronicle State Body Piece S) {So
 
   module _ (new : List (Option (Parcel M S State Body Piece))) (exchanged : HaveExchanged mid new) where
     -- a part with its mail
-    parcel_here : (p : ℕ) (f : Finished M S State Body Piece) (before after : Parcel M S State Body Piece) → p < l.division.parts
+    parcel_here : (p : ℕ) (f : Done M S State Body Piece) (before after : Parcel M S State Body Piece) → p < l.division.parts
         → before.part.value ≡ (get_or fs p f).parcel.part.value
         → IsText [] before.output → HasExchanged (length mid) p mid before after
         → IsHere ch l (history ch.machine (t.count + events_in fs)) p after
@@ -114,7 +114,7 @@ module _ {M State Body Piece S : Type 0} where
   )
 
 module _ {M State Body Piece S : Type 0} (ch : Chronicle State Body Piece S) {Sound : ℕ → State → Type 0} {Fit : Event Body → Type 0} {Room : State
-    → Type 0} (ok : IsSimulable ch.machine Sound Fit Room) (l : Layout) (t : Team M S State Body Piece) (fs : List (Finished M S State Body Piece))
+    → Type 0} (ok : IsSimulable ch.machine Sound Fit Room) (l : Layout) (t : Team M S State Body Piece) (fs : List (Done M S State Body Piece))
     (results : AreResults ch l t.count t.window.horizon fs)
     (none : HaveNoFault fs) (old now : Option (List ℕ)) (opened : IsOpened ch l old now t) where
   abbrev before : List (Event Body)

@@ -27,7 +27,7 @@ use Rattle.des_team.specs.Chronicles.{Chronicle}
 use Rattle.des_team.specs.Entries.{Entry, entries_of, entry_at, entry_bytes, entry_key}
 use Rattle.des_team.specs.declared.layout.Layout.{Layout}
 use Rattle.des_team.specs.declared.output.Output.{Output}
-use Rattle.des_team.specs.declared.part.Finished.{Finished}
+use Rattle.des_team.specs.declared.part.Done.{Done}
 use Rattle.des_team.specs.declared.team.Team.{Team}
 use Rattle.des_team.specs.Exchanges.{outputs_of}
 use Rattle.des_team.specs.Orders.{AreResults, HaveNoFault}
@@ -90,7 +90,7 @@ sorted_ordered (b ∷ bs) apart = ordered_put entry_key b (sorted bs) (sorted_or
 
 module _ {M State Body Piece S : Type 0} (ch : Chronicle State Body Piece S) {Sound : ℕ → State → Type 0} {Fit : Event Body → Type 0} {Room : State
     → Type 0} (ok : IsSimulable ch.machine Sound Fit Room) (l : Layout) (t : Team M S State Body Piece) (can : CanSend ch l t)
-    (fs : List (Finished M S State Body Piece))
+    (fs : List (Done M S State Body Piece))
     (results : AreResults ch l t.count t.window.horizon fs) (none : HaveNoFault fs) where
   abbrev before : List (Event Body)
   before = past ch ok l t can fs results none
@@ -174,7 +174,7 @@ module _ {M State Body Piece S : Type 0} (ch : Chronicle State Body Piece S) {So
   lists_merge = record { ordered = lists_ordered 0 l.division.parts (omega arith); apart = lists_apart 0 l.division.parts (omega arith) }
 
   -- the texts of the results
-  text_at : (q : ℕ) (f : Finished M S State Body Piece) → q < l.division.parts → IsText (part_entries q) (get_or fs q f).parcel.output
+  text_at : (q : ℕ) (f : Done M S State Body Piece) → q < l.division.parts → IsText (part_entries q) (get_or fs q f).parcel.output
   text_at q f lt =
       let run = run_at ch ok l t can fs results none q f lt in
       run.text_is
@@ -188,7 +188,7 @@ module _ {M State Body Piece S : Type 0} (ch : Chronicle State Body Piece S) {So
   list_at k (suc n) zero lt = ap part_entries (omega arith)
   list_at k (suc n) (suc q) lt = list_at (suc k) n q (omega (arith, lt)) ∙ ap part_entries (omega arith)
 
-  output_at : (gs : List (Finished M S State Body Piece)) (q : ℕ) (f : Finished M S State Body Piece) (o : Output) → q < length gs
+  output_at : (gs : List (Done M S State Body Piece)) (q : ℕ) (f : Done M S State Body Piece) (o : Output) → q < length gs
       → get_or (outputs_of gs) q o ≡ (get_or gs q f).parcel.output
   output_at [] q f o lt = absurd (omega (arith, lt))
   output_at (g ∷ gs) zero f o lt = refl
@@ -200,7 +200,7 @@ module _ {M State Body Piece S : Type 0} (ch : Chronicle State Body Piece S) {So
 
   lists_texts : AreTexts told_lists (outputs_of fs)
   lists_texts = record {
-    long = length-map fs (λ (f : Finished M S State Body Piece). f.parcel.output) ∙ results.long ∙ sym (length-map all_lists told
+    long = length-map fs (λ (f : Done M S State Body Piece). f.parcel.output) ∙ results.long ∙ sym (length-map all_lists told
         ∙ lists_long 0 l.division.parts);
     each = λ q o lt.
         let inside : q < l.division.parts = omega (arith, lt, length-map all_lists told, lists_long 0 l.division.parts) in

@@ -8,9 +8,11 @@ pub record Entry : Type 0 where
   pub key : Key
   pub bytes : List ℕ
 
+-- the key of the event that left the entry, by which the texts of the parts are merged
 abbrev pub entry_key : Entry → Key
 entry_key e = e.key
 
+-- the text that the event adds to the trace, in bytes; most events add none
 abbrev pub entry_bytes : Entry → List ℕ
 entry_bytes e = e.bytes
 
@@ -18,7 +20,7 @@ entry_bytes e = e.bytes
 abbrev pub entry_at : {Body Piece : Type 0} → (Piece → List ℕ) → Event Body × Piece → Entry
 entry_at text x = record { key = x.0.key; bytes = text x.1 }
 
--- those of events with their pieces, the newest first; of the entries the oldest is first
+-- the entries of events with their pieces: the newest event is first, and of the entries the oldest is first
 abbrev pub entries_of : {Body Piece : Type 0} → (Piece → List ℕ) → List (Event Body × Piece) → List Entry
 entries_of text pairs = reverse (map (entry_at text) pairs)
 

@@ -3,7 +3,7 @@ use Rattle.std.specs.Prelude.{◌≡◌, ◌⊎◌, ◌<◌, ◌≤◌, ◌++◌
 use Rattle.des_event.specs.declared.event.Event.{Event}
 use Rattle.des_window.specs.Openings.{sooner}
 use Rattle.des_team.specs.declared.output.Output.{Output}
-use Rattle.des_team.specs.declared.part.Finished.{Finished}
+use Rattle.des_team.specs.declared.part.Done.{Done}
 use Rattle.des_team.specs.declared.part.OwnedPart.{OwnedPart}
 use Rattle.des_team.specs.declared.part.Parcel.{Parcel}
 use Rattle.des_team.specs.Mail.{all_of}
@@ -12,11 +12,11 @@ use Rattle.des_team.specs.Owned.{with_part}
 
 module _ {M State Body Piece S : Type 0} where
   -- the texts of results
-  abbrev pub outputs_of : List (Finished M S State Body Piece) → List Output
-  outputs_of fs = map (λ (f : Finished M S State Body Piece). f.parcel.output) fs
+  abbrev pub outputs_of : List (Done M S State Body Piece) → List Output
+  outputs_of fs = map (λ (f : Done M S State Body Piece). f.parcel.output) fs
 
   -- the earliest of the times of the next events
-  abbrev pub soonest : Option ℕ → List (Finished M S State Body Piece) → Option ℕ
+  abbrev pub soonest : Option ℕ → List (Done M S State Body Piece) → Option ℕ
   soonest least [] = least
   soonest least (f ∷ fs) = soonest (sooner least f.next) fs
 
@@ -24,8 +24,9 @@ module _ {M State Body Piece S : Type 0} where
   abbrev pub IsBack : OwnedPart M S State Body Piece → Option (Parcel M S State Body Piece) → Type 0
   IsBack part place = (parcel : Parcel M S State Body Piece) × (place ≡ Some parcel) × (parcel.part.value ≡ part) × IsText [] parcel.output
 
-  abbrev pub AreBack : List (Finished M S State Body Piece) → List (Option (Parcel M S State Body Piece)) → Type 0
-  AreBack fs parcels = (p : ℕ) (f : Finished M S State Body Piece) → p < length fs
+  -- the part of each result is back at the place of its number, with an empty text; other places may hold anything
+  abbrev pub AreBack : List (Done M S State Body Piece) → List (Option (Parcel M S State Body Piece)) → Type 0
+  AreBack fs parcels = (p : ℕ) (f : Done M S State Body Piece) → p < length fs
       → IsBack (slice_index_or fs p f).parcel.part.value (slice_index_or parcels p None)
 
   -- nothing but the text of the parcel is another one, which is empty
@@ -59,6 +60,7 @@ module _ {M State Body Piece S : Type 0} where
     pub none_in : part.inbox ≡ []
     pub none_own : slice_index_or part.outbox p [] ≡ []
 
+  -- all parts are here and ready to exchange mail: none has anything in its inbox, and none has made mail for itself
   abbrev pub AreReady : List (Option (Parcel M S State Body Piece)) → Type 0
   AreReady parcels = (p : ℕ) → p < length parcels → (parcel : Parcel M S State Body Piece) × (slice_index_or parcels p None ≡ Some parcel)
       × IsReady (length parcels) p parcel.part.value
@@ -77,5 +79,7 @@ module _ {M State Body Piece S : Type 0} where
     pub each : (p : ℕ) (before : Parcel M S State Body Piece) → p < length old → slice_index_or old p None ≡ Some before
         → (after : Parcel M S State Body Piece) × (slice_index_or new p None ≡ Some after) × HasExchanged n p old before after
 
+  -- the exchange of mail after a window is complete: each part has in its inbox what all parts had for it, and no
+  -- part has anything left to send
   abbrev pub HaveExchanged : List (Option (Parcel M S State Body Piece)) → List (Option (Parcel M S State Body Piece)) → Type 0
   HaveExchanged old new = HaveExchangedTo (length old) old new

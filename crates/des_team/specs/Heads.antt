@@ -9,10 +9,11 @@ use Rattle.des_team.specs.Entries.{Entry, entry_bytes, put_filled}
 use Rattle.des_team.specs.declared.output.Head.{Head}
 use Rattle.des_team.specs.declared.output.Mark.{Mark}
 
+-- the key of a part's first event whose text is not yet written
 abbrev pub head_key : Head → Key
 head_key head = head.key
 
--- by key, in reverse
+-- the order of heads: by key, in reverse
 abbrev pub head_cmp : Head → Head → Ordering
 head_cmp a b = key_cmp (head_key b) (head_key a)
 

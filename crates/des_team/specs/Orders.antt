@@ -14,7 +14,7 @@ use Rattle.des_team.specs.declared.layout.Layout.{Layout}
 use Rattle.des_team.specs.declared.output.Output.{Output}
 use Rattle.des_team.specs.declared.part.OwnedPart.{OwnedPart}
 use Rattle.des_team.specs.declared.part.Parcel.{Parcel}
-use Rattle.des_team.specs.declared.part.Finished.{Finished}
+use Rattle.des_team.specs.declared.part.Done.{Done}
 use Rattle.des_team.specs.Layouts.{IsLayout}
 use Rattle.des_team.specs.Mail.{all_of}
 use Rattle.des_team.specs.Outputs.{IsText}
@@ -37,7 +37,7 @@ module _ {M State Body Piece S : Type 0} where
     pub none_sent : HasSentAll p
     pub no_text : IsText [] o
 
-  -- so it is with the part of the parcel
+  -- the part of the parcel may run its window, which the parcel names
   abbrev pub IsOrder : Chronicle State Body Piece S → Layout → Parcel M S State Body Piece → Type 0
   IsOrder ch l o = MayRun ch l o.count o.horizon o.part.value o.output
 
@@ -64,37 +64,39 @@ module _ {M State Body Piece S : Type 0} where
     pub next_is : LeastTimeIs (p.pending ++ all_of p.outbox) next
     pub text_is : IsText (entries_of ch.text (pieces_since ch.machine (history ch.machine count) (ran_first ch.machine l count horizon p.part n))) o
 
-  -- so it is with the part of the result
-  abbrev pub HasRun : Chronicle State Body Piece S → Layout → Finished M S State Body Piece → Type 0
+  -- the part of the result has run its window
+  abbrev pub HasRun : Chronicle State Body Piece S → Layout → Done M S State Body Piece → Type 0
   HasRun ch l f = HasRunAll ch l f.parcel.count f.parcel.horizon f.events f.next f.parcel.part.value f.parcel.output
 
 module _ {State Body Piece : Type 0} where
-  -- or there is a fault: memory, or too many events
+  -- a fault that the run may have: memory, or too many events
   abbrev pub IsFault : Machine State Body Piece → RunError → Type 0
   IsFault m e = (e ≡ run.Memory) ⊎ ((e ≡ run.TooManyEvents) × IsOverLimit m)
 
 module _ {M State Body Piece S : Type 0} where
-  pub record IsFinished (ch : Chronicle State Body Piece S) (l : Layout) (f : Finished M S State Body Piece) : Type 0 where
+  -- the result of a part's window: the part has run the window to its end, or there is a fault that the run may have,
+  -- and nothing is known of the part
+  pub record IsDone (ch : Chronicle State Body Piece S) (l : Layout) (f : Done M S State Body Piece) : Type 0 where
     pub ran : IfNone f.fault (HasRun ch l f)
     pub failed : IfSome f.fault (IsFault ch.machine)
 
   -- the result of this part in this window
-  pub record IsResultOf (ch : Chronicle State Body Piece S) (l : Layout) (part count horizon : ℕ) (f : Finished M S State Body Piece) : Type 0 where
+  pub record IsResultOf (ch : Chronicle State Body Piece S) (l : Layout) (part count horizon : ℕ) (f : Done M S State Body Piece) : Type 0 where
     pub part_is : f.parcel.part.value.part ≡ part
     pub count_is : f.parcel.count ≡ count
     pub horizon_is : f.parcel.horizon ≡ horizon
-    pub finished : IsFinished ch l f
+    pub done : IsDone ch l f
 
   -- the results of the parts from this one on
-  abbrev pub AreResultsFrom : Chronicle State Body Piece S → Layout → (count horizon part : ℕ) → List (Finished M S State Body Piece) → Type 0
+  abbrev pub AreResultsFrom : Chronicle State Body Piece S → Layout → (count horizon part : ℕ) → List (Done M S State Body Piece) → Type 0
   AreResultsFrom ch l count horizon part [] = ⊤
   AreResultsFrom ch l count horizon part (f ∷ fs) = IsResultOf ch l part count horizon f × AreResultsFrom ch l count horizon (suc part) fs
 
   -- the results of all parts
-  pub record AreResults (ch : Chronicle State Body Piece S) (l : Layout) (count horizon : ℕ) (fs : List (Finished M S State Body Piece)) : Type 0 where
+  pub record AreResults (ch : Chronicle State Body Piece S) (l : Layout) (count horizon : ℕ) (fs : List (Done M S State Body Piece)) : Type 0 where
     pub long : length fs ≡ l.division.parts
     pub each : AreResultsFrom ch l count horizon 0 fs
 
-  -- none of them has a fault
-  abbrev pub HaveNoFault : List (Finished M S State Body Piece) → Type 0
-  HaveNoFault fs = All (λ (f : Finished M S State Body Piece). f.fault ≡ None) fs
+  -- none of the results has a fault
+  abbrev pub HaveNoFault : List (Done M S State Body Piece) → Type 0
+  HaveNoFault fs = All (λ (f : Done M S State Body Piece). f.fault ≡ None) fs

@@ -17,6 +17,7 @@ pub record IsMarked (entries : List Entry) (o : Output) : Type 0 where
   pub text_is : o.text.items ≡ flat_map entry_bytes entries
   pub marks_are : o.marks.items ≡ marks_from 0 entries
 
+-- the event has a text; one without a text needs no mark
 abbrev pub has_bytes : Entry → Bool
 has_bytes b = not (length b.bytes == 0)
 

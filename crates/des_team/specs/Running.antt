@@ -33,7 +33,8 @@ module _ {Body : Type 0} where
   sent_to d part q made = filter (λ x. part_of d x.target == q && is_for_others d part x) made
 
 module _ {M State Body Piece S : Type 0} where
-  -- those for its own nodes are pending, the others are in the lists of their parts; the least time of the others is known
+  -- of the events that the part made, those for its own nodes are pending, the others are in the lists of their parts;
+  -- the least time of the others is known
   pub record HasSent (d : Division) (made : List (Event Body)) (old new : OwnedPart M S State Body Piece) (soonest : Option ℕ) : Type 0 where
     pub kept : (x : Event Body) → Contains new.pending x ↔ (Contains old.pending x ⊎ (Contains made x × (part_of d x.target ≡ old.part)))
     pub ordered : InKeyOrder event_key new.pending
@@ -57,7 +58,7 @@ module _ {M State Body Piece S : Type 0} where
     pub out_long : length p.outbox ≡ l.division.parts
     pub none_made : p.made.items ≡ []
 
-  -- its target has acted on the event
+  -- the part has handled the event: the event's target has acted on it
   pub record HasHandled (ch : Chronicle State Body Piece S) (l : Layout) (event : Event Body) (old new : OwnedPart M S State Body Piece) (before after : Output)
       (soonest : Option ℕ) : Type 0 where
     pub same_inbox : new.inbox ≡ old.inbox

@@ -23,7 +23,7 @@ module _ {M State Body Piece S : Type 0} where
     pub none_made : p.made.items ≡ []
     pub none_counted : HasCounted [] p.scribe
 
-  -- these are the first n parts
+  -- these are the first n parts, which have no states and no events
   pub record AreEmptyParts (HasCounted : List Piece → S → Type 0) (parts n : ℕ) (ps : List (OwnedPart M S State Body Piece)) : Type 0 where
     pub long : length ps ≡ n
     pub each : (p : ℕ) (o : OwnedPart M S State Body Piece) → p < n → IsEmptyPart HasCounted parts p (slice_index_or ps p o)
@@ -35,22 +35,24 @@ module _ {State : Type 0} where
   states_for d part node (s ∷ ss) = let rest = states_for d part (suc node) ss in if part_of d node == part then s ∷ rest else rest
 
 module _ {M State Body Piece S : Type 0} where
-  -- the part has its states of these besides
+  -- of these states the part has those of its own nodes, after those that it had
   pub record HasStates (d : Division) (part : ℕ) (states : List State) (old new : OwnedPart M S State Body Piece) : Type 0 where
     pub states_are : new.states.items ≡ old.states.items ++ states_for d part 0 states
     pub others : new ≡ record old { states = new.states }
 
+  -- each part has the states of its own nodes added after those that it had, and is otherwise unchanged
   pub record HaveStates (d : Division) (states : List State) (old new : List (OwnedPart M S State Body Piece)) : Type 0 where
     pub long : length new ≡ length old
     pub each : (p : ℕ) (o : OwnedPart M S State Body Piece) → p < length old → HasStates d p states (slice_index_or old p o) (slice_index_or new p o)
 
-  -- of these events the part has its own ones pending; the rest is still to come
+  -- of these events those for the part's own nodes are pending; the rest is still to come
   pub record HasEvents (d : Division) (part : ℕ) (sent rest : List (Event Body)) (old new : OwnedPart M S State Body Piece) : Type 0 where
     pub same : (x : Event Body) → Contains new.pending x ↔ (Contains sent x × (part_of d x.target ≡ part))
     pub ordered : InKeyOrder event_key new.pending
     pub apart : AreApart (new.pending ++ rest)
     pub others : new ≡ record old { pending = new.pending }
 
+  -- each event that was dealt out is pending at the part of its target, and no part has any other event pending
   pub record HaveEvents (d : Division) (sent rest : List (Event Body)) (old new : List (OwnedPart M S State Body Piece)) : Type 0 where
     pub long : length new ≡ length old
     pub each : (p : ℕ) (o : OwnedPart M S State Body Piece) → p < length old → HasEvents d p sent rest (slice_index_or old p o) (slice_index_or new p o)
@@ -60,6 +62,7 @@ module _ {M State Body Piece S : Type 0} where
     pub part_is : parcel.part.value ≡ part
     pub no_text : IsText [] parcel.output
 
+  -- each part is in a parcel at the place of its number, without a text
   pub record AreParcelsOf (parts : List (OwnedPart M S State Body Piece)) (parcels : List (Option (Parcel M S State Body Piece))) : Type 0 where
     pub long : length parcels ≡ length parts
     pub each : (p : ℕ) (o : OwnedPart M S State Body Piece) → p < length parts

@@ -10,14 +10,14 @@ use Rattle.des_machine.specs.Runs.{Writes}
 use Rattle.des_window.specs.Openings.{opening_after}
 use Rattle.des_team.specs.Chronicles.{Chronicle}
 use Rattle.des_team.specs.declared.layout.Layout.{Layout}
-use Rattle.des_team.specs.declared.part.Finished.{Finished}
+use Rattle.des_team.specs.declared.part.Done.{Done}
 use Rattle.des_team.specs.declared.part.Parcel.{Parcel}
 use Rattle.des_team.specs.declared.team.Team.{Team}
 use Rattle.des_team.specs.Layouts.{IsLayout}
 use Rattle.des_team.specs.Outputs.{IsText}
 use Rattle.des_team.specs.Owned.{HasSentAll, IsOwned}
 
--- a time before the end
+-- the time, if it is before the end
 abbrev pub before_end : ℕ → Option ℕ → Option ℕ
 before_end duration None = None
 before_end duration (Some t) = if nat_lt t duration then Some t else None
@@ -37,7 +37,7 @@ module _ {State Body Piece S : Type 0} where
 
 module _ {M State Body Piece S : Type 0} where
   -- how many events the parts ran together
-  abbrev pub events_in : List (Finished M S State Body Piece) → ℕ
+  abbrev pub events_in : List (Done M S State Body Piece) → ℕ
   events_in [] = 0
   events_in (f ∷ fs) = f.events + events_in fs
 
@@ -48,6 +48,7 @@ module _ {M State Body Piece S : Type 0} where
     pub none_sent : HasSentAll parcel.part.value
     pub no_text : IsText [] parcel.output
 
+  -- no part is with a worker: each is in its place, as the first events of the run leave it
   abbrev pub AreHere : Chronicle State Body Piece S → Layout → List (Event Body) → List (Option (Parcel M S State Body Piece)) → Type 0
   AreHere ch l h parcels = (p : ℕ) → p < l.division.parts
       → (parcel : Parcel M S State Body Piece) × (slice_index_or parcels p None ≡ Some parcel) × IsHere ch l h p parcel

@@ -42,7 +42,7 @@ pub use output::{Mark, Output};
 #[doc(hidden)]
 pub use pace::Pace;
 #[doc(hidden)]
-pub use part::{Finished, OwnedPart, Parcel};
+pub use part::{Done, OwnedPart, Parcel};
 #[doc(hidden)]
 pub use run::run_team_by;
 #[doc(hidden)]

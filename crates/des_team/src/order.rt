@@ -1,11 +1,11 @@
 //! What goes to the workers and what comes back.
 ghost use Rattle.std.specs.Prelude.{◌≡◌, Some, IfSome};
 ghost use Rattle.des_team.specs.Chronicles.{chronicle};
-ghost use Rattle.des_team.specs.Orders.{IsFinished, IsOrder, IsResultOf};
+ghost use Rattle.des_team.specs.Orders.{IsDone, IsOrder, IsResultOf};
 
 use crate::layout::Layout;
 use crate::named::Named;
-use crate::part::{Finished, Parcel};
+use crate::part::{Done, Parcel};
 use des_machine::{Machine, Scribe};
 use std::alloc::Global;
 use std::marker::{Model, PhantomData};
@@ -33,21 +33,21 @@ impl<M: Machine, S: Scribe<M> + Drop, J: Named<M>> Model for Order<M, S, J> {
 /// What the window of a part of the named run leaves.
 #[derive(Drop)]
 pub struct Reply<M: Machine, S: Scribe<M> + Drop, J: Named<M>> {
-    left: Finished<M, S>,
+    left: Done<M, S>,
     of: PhantomData<J>,
 }
 
 impl<M: Machine, S: Scribe<M> + Drop, J: Named<M>> Model for Reply<M, S, J> {
     ghost use Rattle.std.specs.Prelude.{IfSome};
-    ghost use Rattle.des_team.specs.declared.part.Finished.{Finished as AFinished};
+    ghost use Rattle.des_team.specs.declared.part.Done.{Done as ADone};
     ghost use Rattle.des_team.specs.Chronicles.{chronicle};
-    ghost use Rattle.des_team.specs.Orders.{IsFinished};
+    ghost use Rattle.des_team.specs.Orders.{IsDone};
 
-    ghost Value = { AFinished M S M.State M.Body M.Piece };
+    ghost Value = { ADone M S M.State M.Body M.Piece };
 
     ghost view = { λ r. r.left };
 
-    ghost invariant = { λ r. IfSome J.run (λ q. IsFinished (chronicle (M.model q.0) (S.text q.0) (S.HasCounted q.0)) q.1 r.left) };
+    ghost invariant = { λ r. IfSome J.run (λ q. IsDone (chronicle (M.model q.0) (S.text q.0) (S.HasCounted q.0)) q.1 r.left) };
 }
 
 impl<M: Machine, S: Scribe<M> + Drop, J: Named<M>> Order<M, S, J> {
@@ -76,9 +76,9 @@ impl<M: Machine, S: Scribe<M> + Drop, J: Named<M>> Order<M, S, J> {
 
 impl<M: Machine, S: Scribe<M> + Drop, J: Named<M>> Reply<M, S, J> {
     /// What it says of the named run.
-    pub fn open(self, machine: &M, layout: &Layout) -> Finished<M, S>
+    pub fn open(self, machine: &M, layout: &Layout) -> Done<M, S>
         requires { J.run ≡ Some (machine.now, layout.now) }
-        ensures { IsFinished (chronicle (M.model machine.now) (S.text machine.now) (S.HasCounted machine.now)) layout.now result }
+        ensures { IsDone (chronicle (M.model machine.now) (S.text machine.now) (S.HasCounted machine.now)) layout.now result }
     {
         let Reply { left, of: _ } = self;
         left
@@ -92,7 +92,7 @@ impl<M: Machine, S: Scribe<M> + Drop, J: Named<M>> Reply<M, S, J> {
         part: u32,
         count: u64,
         horizon: u64,
-    ) -> Option<Finished<M, S>>
+    ) -> Option<Done<M, S>>
         requires { J.run ≡ Some (machine.now, layout.now) }
         ensures { IfSome result (IsResultOf (chronicle (M.model machine.now) (S.text machine.now) (S.HasCounted machine.now)) layout.now part count horizon) }
     {

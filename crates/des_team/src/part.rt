@@ -6,7 +6,7 @@ ghost use Rattle.des_event.specs.KeyOrder.{InKeyOrder};
 ghost use Rattle.des_model.specs.Windows.{part_of};
 ghost use Rattle.des_queue.specs.EventKey.{event_key};
 ghost use Rattle.des_team.specs.Chronicles.{chronicle};
-ghost use Rattle.des_team.specs.Orders.{HasRunAll, IsFault, IsFinished, IsOrder, MayRun};
+ghost use Rattle.des_team.specs.Orders.{HasRunAll, IsFault, IsDone, IsOrder, MayRun};
 ghost use Rattle.des_team.specs.Running.{HasHandled, HasSent, HasTakenIn, CanHandle, is_due};
 ghost use Rattle.des_team.specs.Owned.{AreApart};
 
@@ -59,7 +59,7 @@ struct WindowBounds {
 
 /// What a window leaves of a part.
 #[derive(Drop)]
-pub struct Finished<M: Machine, S> {
+pub struct Done<M: Machine, S> {
     pub parcel: Parcel<M, S>,
     /// How many events it ran.
     pub events: u64,
@@ -191,9 +191,9 @@ impl<M: Machine, S: Scribe<M> + Drop> OwnedPart<M, S> {
 
 impl<M: Machine, S: Scribe<M> + Drop> Parcel<M, S> {
     /// Runs the part's window.
-    pub fn run(self, alloc: Global, machine: &M, layout: &Layout) -> Finished<M, S>
+    pub fn run(self, alloc: Global, machine: &M, layout: &Layout) -> Done<M, S>
         requires { IsOrder (chronicle (M.model machine.now) (S.text machine.now) (S.HasCounted machine.now)) layout.now self }
-        ensures finished { IsFinished (chronicle (M.model machine.now) (S.text machine.now) (S.HasCounted machine.now)) layout.now result }
+        ensures done { IsDone (chronicle (M.model machine.now) (S.text machine.now) (S.HasCounted machine.now)) layout.now result }
         ensures part { result.parcel.part.value.part ≡ self.part.value.part }
         ensures count { result.parcel.count ≡ self.count }
         ensures horizon { result.parcel.horizon ≡ self.horizon }
@@ -208,13 +208,13 @@ impl<M: Machine, S: Scribe<M> + Drop> Parcel<M, S> {
             .part
             .run_events(alloc, machine, layout, window, output);
         match ran {
-            Ok((events, next)) => Finished {
+            Ok((events, next)) => Done {
                 parcel,
                 events,
                 next,
                 fault: None,
             },
-            Err(error) => Finished {
+            Err(error) => Done {
                 parcel,
                 events: 0,
                 next: None,

@@ -11,7 +11,7 @@ ghost use Rattle.des_output.specs.Writing.{is_write};
 
 use crate::course::Course;
 use crate::output::{Output, write_outputs};
-use crate::part::{Finished, Parcel};
+use crate::part::{Done, Parcel};
 use crate::team::Team;
 use des_event::{Event, Memory, RunError};
 use des_machine::{Machine, Scribe};
@@ -22,7 +22,7 @@ use std::io::Write;
 use std::mem;
 
 /// How many events the parts of a window ran together, or `None` if these are more than `room`.
-fn events_within<M: Machine, S>(room: u64, results: &[Finished<M, S>]) -> Option<u64>
+fn events_within<M: Machine, S>(room: u64, results: &[Done<M, S>]) -> Option<u64>
     ensures some { IfSome result (λ events. (events ≡ events_in results.now) × (events ≤ room)) }
     ensures none { result ≡ None → room < events_in results.now }
 {
@@ -80,11 +80,7 @@ fn exchange_mail<M: Machine, S: Drop>(parcels: &mut Vec<Option<Parcel<M, S>>>) -
 impl<M: Machine, S: Scribe<M> + Drop> Team<M, S> {
     /// Puts the parts of a window's results back, without their texts, and finds the time of the
     /// first event of all. Returns the texts.
-    fn put_back(
-        &mut self,
-        alloc: Global,
-        results: Vec<Finished<M, S>>,
-    ) -> Result<Vec<Output>, Memory>
+    fn put_back(&mut self, alloc: Global, results: Vec<Done<M, S>>) -> Result<Vec<Output>, Memory>
         requires { length results.items ≤ length self.old.parcels.items }
         ensures outputs { IfOk result (λ outputs. outputs.items ≡ outputs_of results.items) }
         ensures back { OnOk result (AreBack results.items self.new.parcels.items) }
@@ -124,7 +120,7 @@ impl<M: Machine, S: Scribe<M> + Drop> Team<M, S> {
     pub fn put_window<W: Write>(
         &mut self,
         course: &Course<'_, M>,
-        results: Vec<Finished<M, S>>,
+        results: Vec<Done<M, S>>,
         writer: &mut Watched<W>,
     ) -> Result<(), RunError>
         requires at { (old : Option (List ℕ)) × IsOpened (chronicle (M.model course.now.machine.now) (S.text course.now.machine.now) (S.HasCounted course.now.machine.now)) course.now.layout.now old (W.contents (wrapped writer.old)) self.old }

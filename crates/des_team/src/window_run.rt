@@ -11,7 +11,7 @@ use crate::course::Course;
 use crate::link::{Link, next_item};
 use crate::named::Named;
 use crate::order::Order;
-use crate::part::Finished;
+use crate::part::Done;
 use crate::team::Team;
 use crate::waiting::is_long;
 use des_event::RunError;
@@ -84,7 +84,7 @@ fn receive<M: Machine, S: Scribe<M> + Drop, J: Named<M>, R: Wait>(
     team: &Team<M, S>,
     link: &mut Link<M, S, J>,
     part: u32,
-) -> Result<Finished<M, S>, RunError>
+) -> Result<Done<M, S>, RunError>
     requires named { J.run ≡ Some (course.now.machine.now, course.now.layout.now) }
     ensures of { IfOk result (IsResultOf (chronicle (M.model course.now.machine.now) (S.text course.now.machine.now) (S.HasCounted course.now.machine.now)) course.now.layout.now part team.now.count team.now.window.horizon) }
     ensures only { IfErr result (λ e. e ≡ RunError.Worker) }
@@ -117,7 +117,7 @@ fn finish_part<M: Machine, S: Scribe<M> + Drop, J: Named<M>, R: Wait>(
     team: &mut Team<M, S>,
     links: &mut [Link<M, S, J>],
     part: u32,
-) -> Result<Finished<M, S>, RunError>
+) -> Result<Done<M, S>, RunError>
     requires named { J.run ≡ Some (course.now.machine.now, course.now.layout.now) }
     requires part { part < length team.old.parcels.items }
     requires can_send { CanSend (chronicle (M.model course.now.machine.now) (S.text course.now.machine.now) (S.HasCounted course.now.machine.now)) course.now.layout.now team.old }
@@ -142,7 +142,7 @@ fn finish_parts<M: Machine, S: Scribe<M> + Drop, J: Named<M>, R: Wait>(
     course: &Course<'_, M>,
     team: &mut Team<M, S>,
     links: &mut [Link<M, S, J>],
-    results: &mut Vec<Finished<M, S>>,
+    results: &mut Vec<Done<M, S>>,
 ) -> Result<(), RunError>
     requires named { J.run ≡ Some (course.now.machine.now, course.now.layout.now) }
     requires can_send { CanSend (chronicle (M.model course.now.machine.now) (S.text course.now.machine.now) (S.HasCounted course.now.machine.now)) course.now.layout.now team.old }
@@ -174,7 +174,7 @@ fn graver_of(one: Option<RunError>, other: Option<RunError>) -> Option<RunError>
 }
 
 /// The gravest fault of the results, if there is one.
-fn gravest_fault<M: Machine, S>(results: &[Finished<M, S>]) -> Option<RunError>
+fn gravest_fault<M: Machine, S>(results: &[Done<M, S>]) -> Option<RunError>
     ensures none { result ≡ None → HaveNoFault results.now }
     ensures gravest { IfSome result (IsGravestOf results.now) }
 {
@@ -193,7 +193,7 @@ pub fn run_window<M: Machine, S: Scribe<M> + Drop, J: Named<M>, R: Wait>(
     course: &Course<'_, M>,
     team: &mut Team<M, S>,
     links: &mut [Link<M, S, J>],
-    results: &mut Vec<Finished<M, S>>,
+    results: &mut Vec<Done<M, S>>,
 ) -> Result<(), RunError>
     requires named { J.run ≡ Some (course.now.machine.now, course.now.layout.now) }
     requires can_send { CanSend (chronicle (M.model course.now.machine.now) (S.text course.now.machine.now) (S.HasCounted course.now.machine.now)) course.now.layout.now team.old }

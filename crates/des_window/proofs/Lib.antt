@@ -1,3 +1,4 @@
+pub mod Clocks
 pub mod Divided
 pub mod EventLists
 pub mod Horizons

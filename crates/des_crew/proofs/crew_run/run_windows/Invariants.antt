@@ -1,6 +1,6 @@
 use Rattle.std.proofs.Common.{◌≡◌, ◌-◌, false}
 use Rattle.des_output.specs.Watched.{wrapped, has_failed}
-use Rattle.des_parts.specs.Engine.{IsAt}
+use Rattle.des_parts.specs.WindowEngine.{IsAt}
 use Rattle.des_crew.proofs.crew_run.run_windows.Given as goal
 
 abbrev pub invariant-loop-opening : goal.invariant-loop-opening

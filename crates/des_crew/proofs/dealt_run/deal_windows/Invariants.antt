@@ -1,6 +1,6 @@
 use Rattle.std.proofs.Common.{◌≡◌, ℕ, ◌-◌, ◌≤◌, false, get_or, length}
 use Rattle.des_output.specs.Watched.{wrapped, has_failed}
-use Rattle.des_parts.specs.Engine.{IsAt}
+use Rattle.des_parts.specs.WindowEngine.{IsAt}
 use Rattle.des_crew.proofs.dealt_run.deal_windows.Given as goal
 
 abbrev pub invariant-loop-opening : goal.invariant-loop-opening

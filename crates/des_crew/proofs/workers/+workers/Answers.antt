@@ -1,6 +1,6 @@
 use Rattle.std.proofs.Common.{rules}
 use Rattle.std.proofs.lemmas.Result.{IfOk-weaker, IfErr-weaker}
-use Rattle.des_crew.proofs.Gathering.{fault_of_either, gathered_joined}
+use Rattle.des_crew.proofs.Gathering.{fault_of_either, shift_joined}
 use Rattle.des_crew.specs.Shifts.{IsShift}
 use Rattle.des_crew.proofs.workers.+workers.Goals as goal
 
@@ -11,7 +11,7 @@ scope-returns g t c =
     let shift : IsShift IsDone IsOver c.captures.mine c.join.result = search (rules, c.join.ensures) in
     let others = c.run_workers-others.ensures in
     record {
-      ok = IfOk-weaker _ _ _ (λ whole j. gathered_joined IsDone IsOver _ _ _ _ whole others.ok shift j) c.gather.ensures.ok;
+      ok = IfOk-weaker _ _ _ (λ whole j. shift_joined IsDone IsOver _ _ _ _ whole others.ok shift j) c.gather.ensures.ok;
       fault = IfErr-weaker _ _ _ (λ fault which. fault_of_either IsDone IsOver c.captures.mine _ c.join.result fault others.fault shift which)
           c.gather.ensures.fault;
     }

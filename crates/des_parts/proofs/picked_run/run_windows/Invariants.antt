@@ -1,7 +1,7 @@
 use Rattle.std.proofs.Common.{◌≡◌, ◌≤◌, ◌-◌, drop, false, length}
 use Rattle.std.specs.List.{AllByRecursion}
 use Rattle.des_output.specs.Watched.{wrapped, has_failed}
-use Rattle.des_parts.specs.Engine.{IsAt}
+use Rattle.des_parts.specs.WindowEngine.{IsAt}
 use Rattle.des_parts.specs.PickedRuns.{HasCome}
 use Rattle.des_parts.specs.Workers.{IsIdle}
 use Rattle.des_parts.proofs.picked_run.run_windows.Given as goal

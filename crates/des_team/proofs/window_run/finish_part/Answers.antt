@@ -11,7 +11,7 @@ returns-in-Some-clause-of g c =
       part_is = c.run.ensures.part ∙ order.part_is;
       count_is = c.run.ensures.count ∙ order.count_is;
       horizon_is = c.run.ensures.horizon ∙ order.horizon_is;
-      finished = c.run.ensures.finished;
+      done = c.run.ensures.done;
     }
 
 pub returns-in-Some-clause-can_send : goal.returns-in-Some-clause-can_send

@@ -1,6 +1,6 @@
 use Rattle.std.proofs.Common.{length, length-append, [], ◌∷◌, List, ap, sym, subst, arith, rules}
 use Rattle.des_team.specs.Chronicles.{chronicle}
-use Rattle.des_team.specs.declared.part.Finished.{Finished}
+use Rattle.des_team.specs.declared.part.Done.{Done}
 use Rattle.des_team.specs.Orders.{AreResultsFrom}
 use Rattle.des_team.proofs.Results.{push_result}
 use Rattle.des_team.proofs.window_run.finish_parts.Goals as goal
@@ -14,7 +14,7 @@ loop-part-preserved g c =
     let f = c.in_ok-left.left in
     record {
       long = omega (arith, ap length c.in_ok-push.ensures.items, length-append old (f ∷ []), c.loop-part.invariant.long);
-      each = subst (λ (fs : List (Finished _ _ _ _ _)). AreResultsFrom ch l c.args.team.now.count c.args.team.now.window.horizon 0 fs)
+      each = subst (λ (fs : List (Done _ _ _ _ _)). AreResultsFrom ch l c.args.team.now.count c.args.team.now.window.horizon 0 fs)
           (sym c.in_ok-push.ensures.items)
           (push_result ch l c.args.team.now.count c.args.team.now.window.horizon 0 c.loop-part.part old f c.loop-part.invariant.each
           (omega (arith, c.loop-part.invariant.long)) (search (rules, c.in_ok-left.ensures.of)));

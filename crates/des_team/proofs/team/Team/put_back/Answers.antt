@@ -3,7 +3,7 @@ use Rattle.std.proofs.lemmas.List.{length-drop, length-set}
 use Rattle.std.specs.Vec.{with_item}
 use Rattle.std.specs.Vec.Iter.{into_iter_items}
 use Rattle.des_queue.proofs.Inserting.{empty}
-use Rattle.des_team.specs.declared.part.Finished.{Finished}
+use Rattle.des_team.specs.declared.part.Done.{Done}
 use Rattle.des_team.specs.declared.team.Team.{Team}
 use Rattle.des_team.specs.Exchanges.{outputs_of, soonest}
 use Rattle.des_team.proofs.PutBack.{all_back, one_back, rest_then}
@@ -16,8 +16,8 @@ loop-result-preserved g c =
     let at = c.loop-result.at in
     let f = c.in-Some.result in
     let steps = c.in-Some.ensures.steps.0 in
-    let before : List (Finished _ _ _ _ _) = into_iter_items c.loop-result.result-iterator in
-    let rest : List (Finished _ _ _ _ _) = into_iter_items c.next.new.self in
+    let before : List (Done _ _ _ _ _) = into_iter_items c.loop-result.result-iterator in
+    let rest : List (Done _ _ _ _ _) = into_iter_items c.next.new.self in
     let inside : at < length t.parcels.items = omega (
       arith,
       ap length c.loop-result.invariant.rest,
@@ -69,7 +69,7 @@ pub returns-clause-outputs : goal.returns-clause-outputs
 returns-clause-outputs g c =
     let none = empty (into_iter_items c.loop-result.result-iterator) (omega (arith, c.in-None.ensures.steps.0, c.loop-result.result-iterator.rest.ok.0)) in
     sym (append-nil c.loop-result.outputs.items)
-    ∙ ap (λ (l : List (Finished _ _ _ _ _)). c.loop-result.outputs.items ++ outputs_of l) (sym none) ∙ c.loop-result.invariant.outputs
+    ∙ ap (λ (l : List (Done _ _ _ _ _)). c.loop-result.outputs.items ++ outputs_of l) (sym none) ∙ c.loop-result.invariant.outputs
 
 pub returns-clause-long : goal.returns-clause-long
 returns-clause-long g c = c.loop-result.invariant.long
@@ -77,7 +77,7 @@ returns-clause-long g c = c.loop-result.invariant.long
 pub returns-clause-next : goal.returns-clause-next
 returns-clause-next g c =
     let none = empty (into_iter_items c.loop-result.result-iterator) (omega (arith, c.in-None.ensures.steps.0, c.loop-result.result-iterator.rest.ok.0)) in
-    ap (λ (l : List (Finished _ _ _ _ _)). soonest c.loop-result.self.next l) (sym none) ∙ c.loop-result.invariant.next
+    ap (λ (l : List (Done _ _ _ _ _)). soonest c.loop-result.self.next l) (sym none) ∙ c.loop-result.invariant.next
 
 pub returns-clause-others : goal.returns-clause-others
 returns-clause-others g c = c.loop-result.invariant.others

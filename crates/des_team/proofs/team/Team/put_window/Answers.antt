@@ -2,7 +2,7 @@ use Rattle.std.proofs.Common.{◌≡◌, ◌∙◌, ◌+◌, ap, arith, length, 
 use Rattle.std.proofs.lemmas.List.{length-map}
 use Rattle.des_model.specs.Histories.{history}
 use Rattle.des_team.specs.Chronicles.{chronicle}
-use Rattle.des_team.specs.declared.part.Finished.{Finished}
+use Rattle.des_team.specs.declared.part.Done.{Done}
 use Rattle.des_team.specs.declared.team.Team.{Team}
 use Rattle.des_team.specs.Outputs.{told}
 use Rattle.des_team.specs.Teams.{events_in}
@@ -220,7 +220,7 @@ pub give_outputs-requires : goal.give_outputs-requires
 give_outputs-requires g c = omega (
   arith,
   ap length c.in_ok-outputs.ensures.outputs,
-  length-map c.args.results.items (λ (f : Finished _ _ _ _ _). f.parcel.output),
+  length-map c.args.results.items (λ (f : Done _ _ _ _ _). f.parcel.output),
   c.in_ok-exchange_mail.ensures.long,
   c.in_ok-outputs.ensures.long,
   c.requires.results.long,

@@ -2,7 +2,7 @@
 use Rattle.std.proofs.Common.{◌∙◌, ap, length, sym}
 use Rattle.des_model.specs.Windows.{Division}
 use Rattle.des_parts.proofs.Endings.{start_at}
-use Rattle.des_parts.proofs.engine.Engine.start.Goals as goal
+use Rattle.des_parts.proofs.engine.WindowEngine.start.Goals as goal
 
 pub returns-clause-at : goal.returns-clause-at
 returns-clause-at g c = λ now.

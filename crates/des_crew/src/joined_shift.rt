@@ -13,18 +13,18 @@ use des_output::graver;
 /// The joined results of the workers of a window: the joined seat, and what the parts that they
 /// drew leave, in the order of its numbers.
 #[derive(Drop)]
-pub struct Gathered<T> {
+pub struct JoinedShift<T> {
     pub seat: Seat,
     pub done: Vec<T>,
 }
 
 /// The result of one worker alone.
-pub(crate) fn alone<T: Drop>(shift: Shift<T>) -> Result<Gathered<T>, RunError>
+pub(crate) fn alone<T: Drop>(shift: Shift<T>) -> Result<JoinedShift<T>, RunError>
     ensures ok { IfOk result (λ g. (g.seat ≡ shift.seat) × (g.done.items ≡ shift.done.items) × (shift.fault ≡ None)) }
     ensures fault { IfErr result (λ e. shift.fault ≡ Some e) }
 {
     match shift.fault {
-        None => Ok(Gathered {
+        None => Ok(JoinedShift {
             seat: shift.seat,
             done: shift.done,
         }),
@@ -35,23 +35,23 @@ pub(crate) fn alone<T: Drop>(shift: Shift<T>) -> Result<Gathered<T>, RunError>
 /// Adds one more worker's seat and results to those of the others.
 fn append<T: Drop>(
     draws: &Draws,
-    others: Gathered<T>,
-    mine: Gathered<T>,
-) -> Result<Gathered<T>, RunError>
+    others: JoinedShift<T>,
+    mine: JoinedShift<T>,
+) -> Result<JoinedShift<T>, RunError>
     requires others { others.seat.table ≡ draws.now.table }
     requires mine { mine.seat.table ≡ draws.now.table }
     ensures seat { IfOk result (λ g. g.seat ≡ joined_seats others.seat mine.seat) }
     ensures done { IfOk result (λ g. g.done.items ≡ others.done.items ++ mine.done.items) }
     ensures memory { IfErr result (λ e. e ≡ RunError.Memory) }
 {
-    let Gathered { mut seat, mut done } = others;
-    let Gathered {
+    let JoinedShift { mut seat, mut done } = others;
+    let JoinedShift {
         seat: last,
         done: mut more,
     } = mine;
     draws.join(&mut seat, last);
     match done.append(&mut more) {
-        Ok(()) => Ok(Gathered { seat, done }),
+        Ok(()) => Ok(JoinedShift { seat, done }),
         Err(_refused) => Err(RunError::Memory),
     }
 }
@@ -59,9 +59,9 @@ fn append<T: Drop>(
 /// The results of the others and of one more worker, or the graver of their faults.
 pub(crate) fn gather<T: Drop>(
     draws: &Draws,
-    others: Result<Gathered<T>, RunError>,
+    others: Result<JoinedShift<T>, RunError>,
     shift: Shift<T>,
-) -> Result<Gathered<T>, RunError>
+) -> Result<JoinedShift<T>, RunError>
     requires others { ForOk others (λ o. o.seat.table ≡ draws.now.table) }
     requires shift { shift.seat.table ≡ draws.now.table }
     ensures ok { IfOk result (JoinsBoth others shift) }

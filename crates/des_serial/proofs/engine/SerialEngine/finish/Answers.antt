@@ -3,7 +3,7 @@ use Rattle.std.proofs.Common.{arith, rules, subst, sym}
 use Rattle.des_machine.specs.Simulable.{AreSound}
 use Rattle.des_machine.proofs.Ends.{are_sound, end_fails, run_ends}
 use Rattle.des_serial.proofs.Course.{at_end, counted_few}
-use Rattle.des_serial.proofs.engine.Engine.finish.Goals as goal
+use Rattle.des_serial.proofs.engine.SerialEngine.finish.Goals as goal
 
 pub put_audits-requires-clause-states : goal.put_audits-requires-clause-states
 put_audits-requires-clause-states g c =

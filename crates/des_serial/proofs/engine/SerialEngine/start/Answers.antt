@@ -1,7 +1,7 @@
 -- The start is the run after no event.
 use Rattle.std.proofs.Common.{◌∙◌, refl}
 use Rattle.des_serial.proofs.Course.{start_at}
-use Rattle.des_serial.proofs.engine.Engine.start.Goals as goal
+use Rattle.des_serial.proofs.engine.SerialEngine.start.Goals as goal
 
 pub returns-clause-at : goal.returns-clause-at
 returns-clause-at g c = λ now.

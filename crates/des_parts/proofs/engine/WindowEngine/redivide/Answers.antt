@@ -1,12 +1,12 @@
 use Rattle.std.proofs.Common.{refl}
-use Rattle.des_parts.specs.declared.engine.Engine.{Engine}
+use Rattle.des_parts.specs.declared.engine.WindowEngine.{WindowEngine}
 use Rattle.des_parts.proofs.EngineCourse.{at_divided}
-use Rattle.des_parts.proofs.engine.Engine.redivide.Goals as goal
+use Rattle.des_parts.proofs.engine.WindowEngine.redivide.Goals as goal
 
 pub returns-clause-at : goal.returns-clause-at
 returns-clause-at g c = λ old now at.
     let k = c.args.machine.now in
-    let f : Engine _ _ _ _ _ = record { world = c.divide_again.new.self; journal = c.args.self.now.journal } in
+    let f : WindowEngine _ _ _ _ _ = record { world = c.divide_again.new.self; journal = c.args.self.now.journal } in
     at_divided (g.S.Scribe.text k) (g.M.Machine.model k) (g.S.Scribe.HasCounted k) old now c.args.self.now f c.in_ok-divide_again.ensures.world
     c.in_ok-divide_again.ensures.count refl at
 

@@ -1,7 +1,7 @@
 use Rattle.std.proofs.Common.{arith, refl}
 use Rattle.std.proofs.lemmas.Grind.{common_steps}
 use Rattle.des_serial.proofs.Course.{over_limit}
-use Rattle.des_serial.proofs.engine.Engine.take_next.Goals as goal
+use Rattle.des_serial.proofs.engine.SerialEngine.take_next.Goals as goal
 
 pub returns-then-self-max_events-clause-over : goal.returns-then-self-max_events-clause-over
 returns-then-self-max_events-clause-over g c = λ same old now at.

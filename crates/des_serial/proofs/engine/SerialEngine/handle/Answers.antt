@@ -17,7 +17,7 @@ use Rattle.des_serial.proofs.Course.{
   taken_sound,
   target_is_node,
 }
-use Rattle.des_serial.proofs.engine.Engine.handle.Goals as goal
+use Rattle.des_serial.proofs.engine.SerialEngine.handle.Goals as goal
 
 pub put_audits-requires-clause-states : goal.put_audits-requires-clause-states
 put_audits-requires-clause-states g c =

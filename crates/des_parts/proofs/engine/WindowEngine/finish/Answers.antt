@@ -4,7 +4,7 @@ use Rattle.des_machine.specs.Simulable.{AreSound}
 use Rattle.des_machine.proofs.Ends.{end_fails, run_ends}
 use Rattle.des_parts.proofs.EngineCourse.{audits_fit, states_sound}
 use Rattle.des_parts.proofs.Endings.{at_end}
-use Rattle.des_parts.proofs.engine.Engine.finish.Goals as goal
+use Rattle.des_parts.proofs.engine.WindowEngine.finish.Goals as goal
 
 pub put_audits-requires-clause-states : goal.put_audits-requires-clause-states
 put_audits-requires-clause-states g c =

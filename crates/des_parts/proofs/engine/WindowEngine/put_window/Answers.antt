@@ -5,14 +5,14 @@ use Rattle.std.specs.List.{All}
 use Rattle.des_machine.specs.Runs.{Adds, WritesFront}
 use Rattle.des_machine.specs.Simulable.{AreSound}
 use Rattle.des_output.specs.Watched.{wrapped}
-use Rattle.des_parts.specs.declared.engine.Engine.{Engine}
+use Rattle.des_parts.specs.declared.engine.WindowEngine.{WindowEngine}
 use Rattle.des_parts.specs.declared.entries.Entry.{Entry}
 use Rattle.des_parts.specs.Entries.{HaveOwnKeys, IsMerged, all_entries, pieces_of}
 use Rattle.des_parts.specs.Exchanges.{events_in}
 use Rattle.des_parts.proofs.EngineCourse.{all_known, audits_fit, begin_at, begin_audits, begin_entries, begin_middle, entries_fit, next_at, states_sound}
 use Rattle.des_parts.proofs.NextWorld.{exchange_over, exchange_some}
 use Rattle.des_parts.proofs.WindowOutput.{can_merge}
-use Rattle.des_parts.proofs.engine.Engine.put_window.Goals as goal
+use Rattle.des_parts.proofs.engine.WindowEngine.put_window.Goals as goal
 
 pub returns-in_default-clause-over : goal.returns-in_default-clause-over
 returns-in_default-clause-over g c = λ _.
@@ -163,7 +163,7 @@ returns-clause-at g c = λ old t.
     let o = c.args.opening in
     let merged = subst (λ (ls : List (Vec (Entry _) Global)). IsMerged ls c.in_ok-entries.entries.items) c.in_ok-lists.ensures.entries
     c.in_ok-entries.ensures in
-    let f : Engine _ _ _ _ _ = record {
+    let f : WindowEngine _ _ _ _ _ = record {
       world = c.exchange_in_order.new.world;
       journal = record { scribe = c.put_entries.new.scribe; clock = c.put_audits.new.self.clock };
     } in

@@ -1,6 +1,6 @@
 use Rattle.std.proofs.Common.{ap, arith, rules, Err}
 use Rattle.des_machine.proofs.Runs.{begun_at, run_failed, run_stopped}
-use Rattle.des_serial.proofs.engine.Engine.run.Goals as goal
+use Rattle.des_serial.proofs.engine.SerialEngine.run.Goals as goal
 
 pub loop-event-init : goal.loop-event-init
 loop-event-init g c = record { at = c.requires.at; sound = c.requires.sound }

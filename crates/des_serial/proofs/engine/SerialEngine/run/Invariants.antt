@@ -1,7 +1,7 @@
 use Rattle.std.proofs.Common.{◌≡◌, ◌-◌, false}
 use Rattle.des_output.specs.Watched.{wrapped, has_failed}
-use Rattle.des_serial.specs.Engine.{IsAt}
-use Rattle.des_serial.proofs.engine.Engine.run.Given as goal
+use Rattle.des_serial.specs.SerialEngine.{IsAt}
+use Rattle.des_serial.proofs.engine.SerialEngine.run.Given as goal
 
 abbrev pub invariant-loop-event : goal.invariant-loop-event
 invariant-loop-event g l = record {
