@@ -11,7 +11,7 @@ use chord_output::{ChordRing, ChordScribe};
 use chord_scenario::Scenario;
 use chord_trace::{Report, Watched};
 use chord_window::Division;
-use des_crew::{Crew, Dealer, Gate, Hands, MOST_SEATS, Starter};
+use des_crew::{AllStart, Crew, Dealer, Gate, Hands, MOST_SEATS, Starter};
 use std::alloc::Global;
 use std::io::Write;
 use std::marker::Sync;
@@ -45,13 +45,12 @@ pub fn run_crew<R: Threads + Wait + Sync, G: Gate + Sync, W: Write>(
     ensures divides { OnOk result (length division.now.of_node ≡ node_count scenario.now) }
     ensures bad { result ≡ Err RunError.BadDivision → (length division.now.of_node ≢ node_count scenario.now) × (writer.new ≡ writer.old) }
 {
-    let ring = ChordRing { scenario };
     let crew = Crew {
         division,
         workers,
         gate,
     };
-    des_crew::run_crew::<ChordRing<'_>, ChordScribe, G, R, W>(rt, alloc, &ring, &crew, writer)
+    run_crew_started(rt, alloc, scenario, &crew, &mut AllStart, writer)
 }
 
 /// Runs a scenario as `run_crew`, but asks a starter before it starts each worker's thread. After a
@@ -64,27 +63,20 @@ pub fn run_crew_started<R: Threads + Wait + Sync, S: Starter, G: Gate + Sync, W:
     rt: &R,
     alloc: Global,
     scenario: &Scenario,
-    division: &Division,
-    workers: u32,
+    crew: &Crew<'_, G>,
     starter: &mut S,
-    gate: &G,
     writer: &mut Watched<W>,
 ) -> Result<Report, RunError>
-    requires workers { (0 < workers) × (workers ≤ MOST_SEATS) }
+    requires workers { (0 < crew.now.workers) × (crew.now.workers ≤ MOST_SEATS) }
     requires sound { has_failed writer.old ≡ false }
     ensures run { IsRun scenario.now (W.contents (wrapped writer.old)) (W.contents (wrapped writer.new)) result }
     ensures writer { has_failed writer.new ≡ is_write result }
-    ensures divides { OnOk result (length division.now.of_node ≡ node_count scenario.now) }
-    ensures bad { result ≡ Err RunError.BadDivision → (length division.now.of_node ≢ node_count scenario.now) × (writer.new ≡ writer.old) }
+    ensures divides { OnOk result (length crew.now.division.now.of_node ≡ node_count scenario.now) }
+    ensures bad { result ≡ Err RunError.BadDivision → (length crew.now.division.now.of_node ≢ node_count scenario.now) × (writer.new ≡ writer.old) }
 {
     let ring = ChordRing { scenario };
-    let crew = Crew {
-        division,
-        workers,
-        gate,
-    };
     des_crew::run_crew_started::<ChordRing<'_>, ChordScribe, S, G, R, W>(
-        rt, alloc, &ring, &crew, starter, writer,
+        rt, alloc, &ring, crew, starter, writer,
     )
 }
 

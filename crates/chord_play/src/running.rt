@@ -5,7 +5,7 @@ ghost use Rattle.chord_play.specs.Plans.{planned};
 ghost use Rattle.des_output.specs.Watched.{wrapped, has_failed};
 ghost use Rattle.des_output.specs.Writing.{is_write};
 
-use chord_crew::{Gate, Starter, run_crew_started};
+use chord_crew::{Crew, Gate, Starter, run_crew_started};
 use chord_event::{Memory, RunError};
 use chord_plan::{Engine, Plan, Split};
 use chord_scenario::Scenario;
@@ -51,16 +51,12 @@ pub fn run_planned<T: Threads + Wait + Sync, S: Starter, G: Gate + Sync, W: Writ
         Engine::Serial => run_serial(alloc, scenario, writer),
         Engine::Crew => {
             let division = divide(alloc, plan, scenario.nodes())?;
-            run_crew_started(
-                rt,
-                alloc,
-                scenario,
-                &division,
-                plan.workers,
-                starter,
+            let crew = Crew {
+                division: &division,
+                workers: plan.workers,
                 gate,
-                writer,
-            )
+            };
+            run_crew_started(rt, alloc, scenario, &crew, starter, writer)
         }
         Engine::Team => {
             let division = divide(alloc, plan, scenario.nodes())?;

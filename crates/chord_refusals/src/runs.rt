@@ -2,7 +2,7 @@
 ghost use Rattle.std.specs.Prelude.{◌<◌, ◌≤◌};
 
 use crate::stop::{Stop, holds, holds_written};
-use chord_crew::{MOST_SEATS, OpenGate, Starter, run_crew_started};
+use chord_crew::{Crew, MOST_SEATS, OpenGate, Starter, run_crew_started};
 use chord_examples::{Engine, Example, Shape, TWO_LOOKUPS, example_groups, run_by, shown, text_of};
 use chord_scenario::read_scenario;
 use chord_trace::Watched;
@@ -122,16 +122,12 @@ pub fn run_started<T: AllocGlobal + Threads + Wait + Sync>(
     let division = Division::blocks(alloc, scenario.nodes(), 2)?;
     let mut starter = Counted { starts: 0 };
     let mut writer = Watched::new(Vec::with_capacity(alloc, expected.len())?);
-    let outcome = run_crew_started(
-        rt,
-        alloc,
-        &scenario,
-        &division,
-        2,
-        &mut starter,
-        &OpenGate,
-        &mut writer,
-    );
+    let crew = Crew {
+        division: &division,
+        workers: 2,
+        gate: &OpenGate,
+    };
+    let outcome = run_crew_started(rt, alloc, &scenario, &crew, &mut starter, &mut writer);
     let written = writer.into_inner();
     holds_written(expected, written.as_slice(), outcome.is_ok())?;
     outcome?;

@@ -9,7 +9,7 @@ use crate::tests::left::Left;
 use crate::tests::ring_of_three::{is_beginning, scenario_of, two_lookups};
 use crate::tests::steps::{holds, value_of};
 use chord_crew::{
-    Balanced, Dealer, Gate, MOST_SEATS, OpenGate, Starter, run_crew_dealt, run_crew_started,
+    Balanced, Crew, Dealer, Gate, MOST_SEATS, OpenGate, Starter, run_crew_dealt, run_crew_started,
 };
 use chord_event::{Memory, RunError};
 use chord_scenario::Scenario;
@@ -216,16 +216,12 @@ fn run_started<T: Abort + AllocGlobal + Threads + Wait + Sync, S: Starter>(
 {
     let alloc = rt.alloc();
     let mut writer = Watched::new(Vec::new(alloc));
-    let outcome = run_crew_started(
-        rt,
-        alloc,
-        scenario,
+    let crew = Crew {
         division,
         workers,
-        starter,
-        &OpenGate,
-        &mut writer,
-    );
+        gate: &OpenGate,
+    };
+    let outcome = run_crew_started(rt, alloc, scenario, &crew, starter, &mut writer);
     (writer.into_inner(), outcome.err())
 }
 

@@ -19,7 +19,7 @@ use chord_queue::WindowQueue;
 use chord_scenario::{Scenario, read_scenario};
 use chord_trace::{Watched, write_block};
 use chord_window::{Division, Done, Window, World, run_part};
-use des_team::{Course, Finished, Layout, OwnedPart, Parcel, Team};
+use des_team::{Course, Done as TeamDone, Layout, OwnedPart, Parcel, Team};
 use std::process::Abort;
 
 /// The number of random scenarios.
@@ -133,7 +133,7 @@ fn by_worker<'a, T: Abort + AllocGlobal>(
 ) -> Leavings
     requires { IsOrder (ring_of course.now.machine.now.scenario.now) course.now.layout.now parcel }
 {
-    let Finished {
+    let TeamDone {
         parcel,
         events,
         fault,
