@@ -30,12 +30,15 @@ twice n = n + n
 -- Others
 
 module _ {A : Type 0} where
+  -- One number is
+  -- below another
   pub record IsSmall (m : ℕ)
       (n : ℕ) : Type 0 where
     pub above : m < n
     -- and not far.
     pub below : n < 2 * m
 
+  -- how many there are.
   unfoldable pub many : (list : List A)
       → ℕ
   many list =
@@ -111,15 +114,16 @@ class PagesTest(TestCase):
         texts = [path.read_text(encoding="utf-8") for path in TOP.glob("crates/*/specs/*.antt")]
         wanted = sorted(name for text in texts for name in re.findall(start, text, re.MULTILINE))
         self.assertLess({"distance", "IsRun", "IsTeam"}, set(wanted))
-        found = re.findall(r"^\| `([^`]+)` \|", page.partition(definitions.HEAD)[2], re.MULTILINE)
-        self.assertEqual(sorted(found), wanted)
+        rows = re.findall(r"^\| `([^`]+)` \| (.*) \|$", page.partition(definitions.HEAD)[2], re.MULTILINE)
+        self.assertEqual(sorted(name for name, _ in rows), wanted)
+        self.assertEqual([name for name, meaning in rows if not meaning or meaning.startswith(";")], [])
         self.assertIn("\n| `distance` | the number of places clockwise from a to b |\n", page)
 
     def test_file_of_definitions(self) -> None:
-        """Comments of several lines, sections, records with comments in them, types of several lines."""
+        """Comments of several lines, sections, records with comments in them."""
         told = definitions.Definition
-        small = told("IsSmall", "`(m : ℕ) (n : ℕ) : Type 0`; `below`: and not far")
-        others = definitions.Part("Others", [small, told("many", "`(list : List A) → ℕ`")])
+        small = told("IsSmall", "One number is below another; `below`: and not far")
+        others = definitions.Part("Others", [small, told("many", "how many there are")])
         parts = definitions.parts_of(SPECS)
         self.assertEqual(parts, [definitions.Part("What the file has", [told("twice", "twice the number")]), others])
         section = definitions.section_of("some_crate", definitions.File("Small", parts))

@@ -38,11 +38,12 @@ use Rattle.chord_audit.specs.declared.audit_line.AuditLine.{AuditLine}
 abbrev pub nodes : Setup → List ℕ
 nodes sc = range_with_len 0 (node_count sc)
 
--- whether a node of this status, or in this state, is a member
+-- the status Member, of a node that has its place in a ring
 abbrev pub is_member_status : Status → Bool
 is_member_status status.Member = true
 is_member_status _ = false
 
+-- the node has the status Member: it is neither down nor still joining
 abbrev pub is_member : NodeState → Bool
 is_member s = is_member_status s.status
 
@@ -74,6 +75,7 @@ is_at (Some m) n = m == n
 abbrev pub comes_back : (next : ℕ → Option ℕ) → (most n : ℕ) → Bool
 comes_back next most n = list_any (λ steps. is_at (after next steps n) n) (range_with_len 1 most)
 
+-- the number of nodes that are members: the fact `members` of an audit line
 abbrev pub member_count : Setup → (ℕ → NodeState) → ℕ
 member_count sc state = count_by (λ n. is_member (state n)) (nodes sc)
 
@@ -111,9 +113,11 @@ is_passed_over sc state x = list_any (λ n. is_member (state n) && is_passed sc 
 abbrev pub is_principal : Setup → (ℕ → NodeState) → (x : ℕ) → Bool
 is_principal sc state x = is_member (state x) && not (is_passed_over sc state x)
 
+-- the number of members whose successor list has no member in it: the fact `dead` of an audit line
 abbrev pub dead_count : Setup → (ℕ → NodeState) → ℕ
 dead_count sc state = count_by (is_dead state) (nodes sc)
 
+-- the number of members that no member's successor list skips: the fact `principals` of an audit line
 abbrev pub principal_count : Setup → (ℕ → NodeState) → ℕ
 principal_count sc state = count_by (is_principal sc state) (nodes sc)
 

@@ -35,10 +35,11 @@ use Rattle.chord_audit.specs.Audit.{after, is_member}
 use Rattle.chord_audit.specs.declared.arcs.Arcs.{Arcs}
 use Rattle.chord_audit.specs.declared.tables.Tables.{Tables}
 
--- what a table says of a node
+-- the table marks node n; false if n is beyond the end of the table
 abbrev pub is_marked : List Bool → ℕ → Bool
 is_marked marks n = slice_index_or marks n false
 
+-- the node, if any, to which a table leads from node n; none if n is beyond the end of the table
 abbrev pub node_at : List (Option ℕ) → ℕ → Option ℕ
 node_at table n = slice_index_or table n None
 
@@ -60,7 +61,7 @@ abbrev pub is_inside_before : (ranks : List ℕ) → (k a : ℕ) → Option ℕ 
 is_inside_before ranks k a None = false
 is_inside_before ranks k a (Some b) = is_inside (slice_index ranks a) k (slice_index ranks b)
 
--- whether it lies between those of two neighbours of a list that a leads
+-- whether rank k lies between the ranks of two neighbours of a list that a leads
 abbrev pub is_inside_list : (ranks : List ℕ) → (k a : ℕ) → List ℕ → Bool
 is_inside_list ranks k a [] = false
 is_inside_list ranks k a (b ∷ rest) = is_inside (slice_index ranks a) k (slice_index ranks b) || is_inside_list ranks k b rest
@@ -73,17 +74,19 @@ is_marked_rank ranks marks n = is_marked marks (slice_index ranks n)
 abbrev pub list_of : List NodeState → ℕ → List ℕ
 list_of states n = slice_index_or (map (λ s. s.succ) states) n []
 
--- whether rank k lies between those of a marked node n and of the one that it leads to, and whether that is so of some node
+-- whether rank k lies between the ranks of a marked node n and of the node that it leads to
 abbrev pub is_skipping : (ranks : List ℕ) → (marks : List Bool) → (best : List (Option ℕ)) → (k n : ℕ) → Bool
 is_skipping ranks marks best k n = is_marked marks n && is_inside_before ranks k n (node_at best n)
 
+-- rank k lies between the ranks of some marked node and of the node that it leads to
 abbrev pub is_skipped_rank : (ranks : List ℕ) → (marks : List Bool) → (best : List (Option ℕ)) → (k : ℕ) → Bool
 is_skipped_rank ranks marks best k = list_any (is_skipping ranks marks best k) (range_with_len 0 (length ranks))
 
--- whether it lies between those of two neighbours of a marked node's list, which the node leads
+-- whether rank k lies between the ranks of two neighbours of the list of a marked node n, which the node leads
 abbrev pub is_passing : (ranks : List ℕ) → (marks : List Bool) → List NodeState → (k n : ℕ) → Bool
 is_passing ranks marks states k n = is_marked marks n && is_inside_list ranks k n (list_of states n)
 
+-- rank k lies between the ranks of two neighbours in the list of some marked node, with the node itself at the front
 abbrev pub is_passed_rank : (ranks : List ℕ) → (marks : List Bool) → List NodeState → (k : ℕ) → Bool
 is_passed_rank ranks marks states k = list_any (is_passing ranks marks states k) (range_with_len 0 (length ranks))
 
@@ -97,6 +100,7 @@ pub record AreRanks (sc : Setup) (ranks : List ℕ) : Type 0 where
 abbrev pub reaches : (first : ℕ) → (far : List ℕ) → (k : ℕ) → Bool
 reaches first far k = nat_lt k first || list_any (λ end. nat_lt k end) (take k far)
 
+-- one of the ways that were added leads past rank k, without beginning or ending there
 abbrev pub covers : Arcs → (k : ℕ) → Bool
 covers arcs k = reaches arcs.first arcs.far.items k
 
@@ -116,6 +120,6 @@ pub record AreTables (sc : Setup) (states : List NodeState) (members : List Bool
   pub passed_each : length passed ≡ length ranks
   pub passed_are : (k : ℕ) → k < length ranks → is_marked passed k ≡ is_passed_rank ranks members states k
 
--- what they hold together
+-- the tables hold what those of an audit hold of each node and of each rank
 abbrev pub HoldFacts : Setup → List NodeState → Tables → Type 0
 HoldFacts sc states t = AreTables sc states t.members.items t.best.items t.ring.items t.ranks.items t.skipped.items t.passed.items

@@ -14,6 +14,7 @@ option_rule name = record (new_rule name) {
   action = Some Set;
 }
 
+-- the option `--scenario`, which takes a file name; a command without it is refused
 abbrev pub scenario_rule : Rule
 scenario_rule = record (new_rule (codes "scenario")) {
   long = Some (codes "scenario");
@@ -22,6 +23,7 @@ scenario_rule = record (new_rule (codes "scenario")) {
   action = Some Set;
 }
 
+-- the option `--latency`, which takes a file name and may be left out
 abbrev pub latency_rule : Rule
 latency_rule = record (new_rule (codes "latency")) {
   long = Some (codes "latency");
@@ -29,6 +31,7 @@ latency_rule = record (new_rule (codes "latency")) {
   action = Some Set;
 }
 
+-- the option `--workers`, which takes the number of worker threads, from 1 to 64
 abbrev pub workers_rule : Rule
 workers_rule = record (new_rule (codes "workers")) {
   long = Some (codes "workers");
@@ -37,6 +40,7 @@ workers_rule = record (new_rule (codes "workers")) {
   parser = Some (parser.Signed (pos 1) (pos 64));
 }
 
+-- the option `--parts`, which takes the number of parts that the nodes are divided into, from 1 to 512
 abbrev pub parts_rule : Rule
 parts_rule = record (new_rule (codes "parts")) {
   long = Some (codes "parts");
@@ -49,12 +53,16 @@ parts_rule = record (new_rule (codes "parts")) {
 abbrev pub Names : Type 0
 Names = Bor (List (Bor Text))
 
+-- the names themselves, in their order
 abbrev pub texts_of : Names → List Text
 texts_of names = map (λ name. name.now) names.now
 
+-- the names are the two ways to divide the nodes: `rr` deals them out in turn, `block` keeps neighbours in the file
+-- together
 abbrev pub IsSplitNames : Names → Type 0
 IsSplitNames names = texts_of names ≡ codes "rr" ∷ codes "block" ∷ []
 
+-- the names are those of the three engines: `serial`, `crew` and `team`, in this order
 abbrev pub IsEngineNames : Names → Type 0
 IsEngineNames names = texts_of names ≡ codes "serial" ∷ codes "crew" ∷ codes "team" ∷ []
 
@@ -65,6 +73,7 @@ pub record OptionNames : Type 0 where
   pub are_splits : IsSplitNames splits
   pub are_engines : IsEngineNames engines
 
+-- the option `--split`, which takes one of these names: the way in which the nodes are divided
 abbrev pub split_rule : Names → Rule
 split_rule names = record (new_rule (codes "split")) {
   long = Some (codes "split");
@@ -73,6 +82,7 @@ split_rule names = record (new_rule (codes "split")) {
   parser = Some (parser.Names names);
 }
 
+-- the option `--engine`, which takes one of these names: the engine that runs the scenario
 abbrev pub engine_rule : Names → Rule
 engine_rule names = record (new_rule (codes "engine")) {
   long = Some (codes "engine");
@@ -81,12 +91,14 @@ engine_rule names = record (new_rule (codes "engine")) {
   parser = Some (parser.Names names);
 }
 
+-- the option `--serial`, which takes no value
 abbrev pub serial_rule : Rule
 serial_rule = record (new_rule (codes "serial")) {
   long = Some (codes "serial");
   action = Some SetTrue;
 }
 
+-- the option `--trace`, which takes the name of the file for the trace
 abbrev pub trace_rule : Rule
 trace_rule = record (new_rule (codes "trace")) {
   long = Some (codes "trace");
@@ -115,12 +127,15 @@ abbrev pub with_rules : App → List Rule → App
 with_rules app [] = app
 with_rules app (r ∷ rules) = with_rules (with_rule app r) rules
 
+-- the command `check` and its options, which name the two input files
 unfoldable pub check_app : App
 check_app = with_rule (with_rule (new_app (codes "check")) scenario_rule) latency_rule
 
+-- the command `ids` and its options, which name the two input files
 unfoldable pub ids_app : App
 ids_app = with_rule (with_rule (new_app (codes "ids")) scenario_rule) latency_rule
 
+-- the command `run` and its options: the input files, the engine, the division of the nodes, and the trace file
 unfoldable pub run_app : OptionNames → App
 run_app names =
     with_rule (with_rule (with_rule (with_rule (with_rule (with_rule (with_rule (with_rule

@@ -37,7 +37,7 @@ engine_named name =
     else if bytes_eq name (codes "crew") then engine.Crew
     else engine.Team
 
--- the engine where none is named
+-- the engine if none is named: the serial one for one worker and one part, and otherwise the team
 abbrev pub engine_for : ℕ → ℕ → Engine
 engine_for workers parts = if (workers == 1) && (parts == 1) then engine.Serial else engine.Team
 

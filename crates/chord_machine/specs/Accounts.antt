@@ -34,7 +34,7 @@ LookupsAreAccountedFor sc = Always sc (λ h n s.
     let lines = lines_along sc h n in
     begun lines ≡ found lines + lost lines + in_progress s + cut_off_along sc h n)
 
--- the sum of this over the first nodes
+-- the sum of a number of each node, over the first nodes
 abbrev pub over_nodes : (nodes : ℕ) → (ℕ → ℕ) → ℕ
 over_nodes zero f = 0
 over_nodes (suc n) f = over_nodes n f + f n
@@ -47,6 +47,6 @@ unended sc h = over_nodes (node_count sc) (λ n. in_progress (state (chord sc) h
 abbrev pub ReportsAddUp : Scenario → Type 0
 ReportsAddUp sc = (report : Report) → IsReport sc report → report.lines.found + report.lines.lost + report.unfinished ≡ report.lines.lookups
 
--- those that it counts as unfinished are in progress at the end of the run, or were cut off
+-- the lookups that a report counts as unfinished are in progress at the end of the run, or were cut off
 abbrev pub UnfinishedAreUnended : Scenario → Type 0
 UnfinishedAreUnended sc = (report : Report) → IsReport sc report → report.unfinished ≡ unended sc (full_history (chord sc))

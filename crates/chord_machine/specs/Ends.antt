@@ -29,20 +29,23 @@ OfLookups sc P =
     (h : List (Event Body)) → IsLegal (chord sc) h → (n : ℕ) → n < node_count sc
     → All (P h n (state (chord sc) h n)) (state (chord sc) h n).lookups
 
--- one timeout for each request that the lookup has sent
+-- the pending timeout of each lookup comes no later than one timeout for each request that the lookup has sent, from
+-- its beginning on
 abbrev pub LookupsAreInTime : Scenario → Type 0
 LookupsAreInTime sc = OfLookups sc (λ h n s lookup. EndsWithin sc h n lookup (sends sc s lookup))
 
--- one for each that it may send
+-- the pending timeout of each lookup comes no later than one timeout for each request that a lookup may send, from its
+-- beginning on
 abbrev pub LookupsAreShort : Scenario → Type 0
 LookupsAreShort sc = OfLookups sc (λ h n s lookup. EndsWithin sc h n lookup (most_sends sc))
 
--- when an event of a run has been taken, no lookup is in progress that began longer before it than that
+-- when an event of a run has been taken, no lookup is in progress that began longer before it than one timeout for each
+-- request that a lookup may send
 abbrev pub NoneLastsLonger : Scenario → Type 0
 NoneLastsLonger sc =
     (h : List (Event Body)) (e : Event Body) → IsLegal (chord sc) (e ∷ h) → (n : ℕ) → n < node_count sc
     → All (λ lookup. e.key.time ≤ lookup.started + most_sends sc * sc.timeout) (state (chord sc) (e ∷ h) n).lookups
 
--- no lookup of a run's trace has taken longer than that
+-- no lookup of a run's trace has taken longer than one timeout for each request that a lookup may send
 abbrev pub LookupsTakeAtMost : Scenario → Type 0
 LookupsTakeAtMost sc = All (TakesAtMost (most_sends sc * sc.timeout)) (lines_of (whole_trace sc))

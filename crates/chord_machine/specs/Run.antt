@@ -17,11 +17,11 @@ trace_after sc events = trace (chord sc) (history (chord sc) events)
 abbrev pub whole_trace : Scenario → List Piece
 whole_trace sc = trace (chord sc) (full_history (chord sc))
 
--- its text
+-- the text of the trace of the whole run
 abbrev pub trace_text : Scenario → List ℕ
 trace_text sc = pieces_text sc (whole_trace sc)
 
--- its report
+-- the report of the trace of the whole run
 abbrev pub IsReport : Scenario → Report → Type 0
 IsReport sc report = IsReportOf sc.profile (whole_trace sc) report
 

@@ -13,11 +13,11 @@ first_other n nodes = find (λ x. not (x == n)) nodes
 abbrev pub first_bootstrap : Scenario → (n : ℕ) → Option ℕ
 first_bootstrap sc n = first_other n sc.bootstraps
 
--- the first one that follows a node in the order of the file
+-- the first bootstrap node other than node n that follows the node `before` in the order of the file
 abbrev pub later_bootstrap : Scenario → (n before : ℕ) → Option ℕ
 later_bootstrap sc n before = find (λ x. nat_lt before x && not (x == n)) sc.bootstraps
 
--- the same, and after the last one the first of all
+-- the next bootstrap node other than node n in the order of the file, and after the last one the first of all
 unfoldable pub next_bootstrap : Scenario → (n before : ℕ) → Option ℕ
 next_bootstrap sc n before = option_or (later_bootstrap sc n before) (first_bootstrap sc n)
 

@@ -22,15 +22,15 @@ abbrev pub tells_lost : Line → Bool
 tells_lost (line.Lost key hops timeouts us) = true
 tells_lost _ = false
 
--- the users' lookups that lines tell of as begun
+-- how many users' lookups lines tell of as begun
 abbrev pub begun : List Line → ℕ
 begun lines = count_by tells_begun lines
 
--- the users' lookups that they tell of as found
+-- how many users' lookups lines tell of as found
 abbrev pub found : List Line → ℕ
 found lines = count_by tells_found lines
 
--- the users' lookups that they tell of as lost
+-- how many users' lookups lines tell of as lost
 abbrev pub lost : List Line → ℕ
 lost lines = count_by tells_lost lines
 

@@ -9,6 +9,6 @@ pub record IsNew (s : NodeState) : Type 0 where
   pub place : s.place ≡ 0
   pub count : s.count ≡ 0
 
--- its turn at time 0
+-- the turn of a node at time 0, before anything is done
 abbrev pub first_turn : NodeState → Turn
 first_turn s = record { time = 0; state = s; events = []; lines = [] }

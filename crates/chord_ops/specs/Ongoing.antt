@@ -61,7 +61,7 @@ pub record Ongoing
   -- it has made no timer for another node
   pub own : (n : ℕ) (t : Timer) (number : ℕ) → n ≢ me → set_for n t number events ≡ 0
 
--- the same of a turn
+-- what the node of a turn waits for is pending, among `rest` or among the turn's events
 abbrev pub IsOngoing : Scenario → (claim : Timer → ℕ) → (owed : ℕ) → (rest : List (Event Body)) → Turn → Type 0
 IsOngoing sc claim owed rest turn =
     Ongoing claim owed sc.retries rest turn.events turn.state.me turn.state.count turn.state.epoch turn.state.status turn.state.calls

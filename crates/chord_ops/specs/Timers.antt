@@ -16,7 +16,7 @@ pub data Timer : Type 0 where
   Rejoin : Timer
   Timeout : Timer
 
--- whether a body is such a timer, with this epoch or number of a call
+-- whether a body is a timer of this kind, with this epoch or number of a call
 abbrev pub is_timer : Body → Timer → (number : ℕ) → Bool
 is_timer (body.StabilizeTick epoch) Stabilize number = epoch == number
 is_timer (body.FingerTick epoch) Finger number = epoch == number
@@ -27,7 +27,7 @@ is_timer (body.Rejoin epoch) Rejoin number = epoch == number
 is_timer (body.Timeout call) Timeout number = call == number
 is_timer _ _ number = false
 
--- how many events of a list are such timers of node n
+-- how many events of a list are timers of node n, of this kind and with this epoch or number of a call
 abbrev pub set_for : (n : ℕ) → Timer → (number : ℕ) → List (Event Body) → ℕ
 set_for n timer number events = count_by (λ e. is_timer e.body timer number && (e.target == n)) events
 

@@ -38,7 +38,7 @@ pub record IsAnswered (text : Scenario → List ℕ) (scenario latency old new :
   pub given : Gives scenario latency setup
   pub out : Appends old new (text setup)
 
--- its first bytes were written
+-- first bytes of the text of the scenario that the two files give were written: all of them, some or none
 pub record HasAnswered (text : Scenario → List ℕ) (scenario latency old new : Option (List ℕ)) : Type 0 where
   pub setup : Scenario
   pub given : Gives scenario latency setup
@@ -64,7 +64,7 @@ pub record IsReported (scenario latency old new : Option (List ℕ)) : Type 0 wh
   pub right : IsReport setup report
   pub out : Appends old new (report_text report)
 
--- its first bytes were written
+-- first bytes of the report of the scenario that the two files give were written: all of them, some or none
 pub record HasReported (scenario latency old new : Option (List ℕ)) : Type 0 where
   pub setup : Scenario
   pub given : Gives scenario latency setup

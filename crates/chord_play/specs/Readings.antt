@@ -15,26 +15,27 @@ pub record Reading (R : Type 0) : Type 0 where
   pub old : Watched R
   pub new : Watched R
 
+-- a watched reader at two moments, together with what is known of the bytes that such a reader has left
 abbrev pub reading : {R : Type 0} → (R → Option (List ℕ)) → (old new : Watched R) → Reading R
 reading remaining old new = record { remaining = remaining; old = old; new = new }
 
--- the text that it had
+-- the text that the reader had at the first moment
 abbrev pub text_of : {R : Type 0} → Reading R → Option (List ℕ)
 text_of r = r.remaining (wrapped r.old)
 
--- what it has left of it
+-- what the reader has left of its text at the second moment
 abbrev pub left_of : {R : Type 0} → Reading R → Option (List ℕ)
 left_of r = r.remaining (wrapped r.new)
 
--- none of its calls failed
+-- none of the reader's calls failed
 abbrev pub IsSound : {R : Type 0} → Reading R → Type 0
 IsSound r = has_failed r.new ≡ false
 
--- one of its calls failed
+-- one of the reader's calls failed
 abbrev pub HasFailed : {R : Type 0} → Reading R → Type 0
 HasFailed r = has_failed r.new ≡ true
 
--- no call was made
+-- no call of the reader was made between the two moments
 abbrev pub IsUntouched : {R : Type 0} → Reading R → Type 0
 IsUntouched r = r.new ≡ r.old
 

@@ -14,7 +14,7 @@ most_bytes = 16777216
 abbrev pub IsTooLong : Option (List ℕ) → Type 0
 IsTooLong text = IfSome text (λ bytes. most_bytes < length bytes)
 
--- it is not
+-- the text is not longer than an input file may be
 abbrev pub IsShort : Option (List ℕ) → Type 0
 IsShort text = IfSome text (λ bytes. length bytes ≤ most_bytes)
 
@@ -33,6 +33,6 @@ IfBothKnown scenario latency Holds = (toml csv : List ℕ) → scenario ≡ Some
 abbrev pub Gives : (scenario latency : Option (List ℕ)) → Scenario → Type 0
 Gives scenario latency sc = IfBothKnown scenario latency (λ toml csv. Accepts toml csv sc)
 
--- the two texts give none, for this reason
+-- the two texts give no scenario, for this reason
 abbrev pub Lacks : (scenario latency : Option (List ℕ)) → ScenarioFault → Type 0
 Lacks scenario latency fault = IfBothKnown scenario latency (λ toml csv. scenario_fault toml csv ≡ Some fault)

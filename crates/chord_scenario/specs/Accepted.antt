@@ -48,10 +48,11 @@ setup_with top nodes commands latencies = record {
   coordinates = coordinates_of (sections top);
 }
 
--- the nodes and the commands of a file
+-- the nodes of a file, in its order
 abbrev pub nodes_in : Members → List Node
 nodes_in top = nodes_of (number_at key.Bits top) (sections top)
 
+-- the commands of a file, in its order, with nodes by their numbers
 abbrev pub commands_in : Members → List Command
 commands_in top = commands_of (number_at key.Bits top) (nodes_in top) (sections top)
 

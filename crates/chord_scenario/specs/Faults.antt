@@ -60,72 +60,88 @@ use Rattle.chord_scenario.specs.Rows.{Row, link_of, is_bad_row, name_one_pair, r
 use Rattle.chord_scenario.specs.Search.{first_some, first_repeat, first_meeting, section_fault, row_fault}
 use Rattle.chord_scenario.specs.KeyFaults.{unknown_key, missing_key, wrong_type, out_of_range}
 
--- a node's name has 1 to 32 letters, digits, `.`, `_` and `-`, and is not `audit`
+-- a byte that a node's name may have: a letter, a digit, `.`, `_` or `-`
 abbrev pub is_name_byte : ℕ → Bool
 is_name_byte b = is_ascii_alphanumeric b || b == 46 || b == 95 || b == 45
 
+-- the bytes are a name that a node may have, of 1 to 32 letters, digits, `.`, `_` and `-`; `audit` is not one, since
+-- the audit lines of a trace have this word in place of a name
 unfoldable pub is_name : List ℕ → Bool
 is_name name = nat_le 1 (length name) && nat_le (length name) 32 && list_all is_name_byte name && not (bytes_eq name (codes "audit"))
 
+-- the fault `BadName` at the first node whose name is not allowed
 unfoldable pub bad_name : List Section → Option ScenarioFault
 bad_name ss = section_fault BadName (λ s. is_node s.at && not (is_name (name_at key.Name s.members))) ss
 
--- two nodes have one name, or one identifier
+-- the fault `SameName` if a node has the name of an earlier one: it has the number of the first such node, after that
+-- of the first node with its name, both from 1
 unfoldable pub same_name : List Node → Option ScenarioFault
 same_name nodes = option_map (λ r. SameName r.first_number r.second_number) (first_repeat (λ x y. bytes_eq x.name y.name) [] nodes)
 
+-- the fault `SameId` if a node has the identifier of an earlier one: it names the first such node, after the first node
+-- with its identifier
 unfoldable pub same_id : List Node → Option ScenarioFault
 same_id nodes = option_map (λ r. SameId r.first.name r.second.name) (first_repeat (λ x y. x.ident == y.ident) [] nodes)
 
--- a command's `node` or `via`, or a name of a row, is no node's
+-- no node has this name
 abbrev pub is_unknown : List Node → List ℕ → Bool
 is_unknown nodes name = is_none (index_of name nodes)
 
+-- a command's `node`, or its `via` if it has one, is not the name of a node
 abbrev pub command_names_unknown : List Node → Section → Bool
 command_names_unknown nodes s =
     is_command s.at
     && (is_unknown nodes (name_at key.Node s.members) || option_map_or (is_unknown nodes) (text_at key.Via s.members) false)
 
+-- a row of three fields has a name that is not that of a node
 abbrev pub row_names_unknown : List Node → Row → Bool
 row_names_unknown nodes r = option_map_or (λ l. is_unknown nodes l.first || is_unknown nodes l.second) (link_of r) false
 
+-- the fault `UnknownNode` at the first command with a name that is no node's, or if there is none, at the first row
+-- with such a name
 unfoldable pub unknown_node : List Node → List Section → List Row → Option ScenarioFault
 unknown_node nodes ss rows =
     option_or (section_fault UnknownNode (command_names_unknown nodes) ss) (row_fault UnknownNode (row_names_unknown nodes) rows)
 
--- fewer initial nodes than a successor list with its owner; in the extended profile a ring may begin with any number
+-- the fault `TooFewInitial` if fewer nodes are initial than a successor list and its owner; none in the extended profile
 unfoldable pub too_few_initial : (extended : Bool) → ℕ → List Node → Option ScenarioFault
 too_few_initial extended list nodes =
     if not extended && nat_lt (count_by (λ x. x.initial) nodes) (list + 1) then Some TooFewInitial else None
 
--- a command after the end
+-- the fault `TimeAfterEnd` at the first command that is not before the end of the run
 unfoldable pub time_after_end : ℕ → List Section → Option ScenarioFault
 time_after_end duration ss = section_fault TimeAfterEnd (λ s. is_command s.at && nat_le duration (number_at key.AtUs s.members)) ss
 
+-- the fault `BadLatencyRow` at the first row that does not have three fields, or has no latency in the third
 unfoldable pub bad_latency_row : List Row → Option ScenarioFault
 bad_latency_row rows = row_fault BadLatencyRow is_bad_row rows
 
--- a join through the node itself, which in the extended profile makes a ring, or a row that names one node twice
+-- the table is that of a join of a node through itself
 abbrev pub joins_itself : Section → Bool
 joins_itself s =
     is_command s.at && is_join (operation_at s.members)
     && bytes_eq (name_at key.Node s.members) (name_at key.Via s.members)
 
+-- a row of three fields has one name twice; rows are for two different nodes
 abbrev pub row_joins_itself : Row → Bool
 row_joins_itself r = option_map_or (λ l. bytes_eq l.first l.second) (link_of r) false
 
+-- the fault `SelfLink` at the first join of a node through itself (no fault in the extended profile, in which it makes
+-- a ring), or if there is none, at the first row that names one node twice
 unfoldable pub self_link : (extended : Bool) → List Section → List Row → Option ScenarioFault
 self_link extended ss rows =
     option_or (if extended then None else section_fault SelfLink joins_itself ss) (row_fault SelfLink row_joins_itself rows)
 
--- a row names the pair of an earlier one
+-- the fault `SameLinkTwice` at the first row that names the pair of an earlier row
 unfoldable pub same_link_twice : List Row → Option ScenarioFault
 same_link_twice rows = option_map (λ r. SameLinkTwice (place.Row r.second_number)) (first_repeat name_one_pair [] rows)
 
--- two nodes are nearer than the window is long
+-- the latency of two nodes by the rows, or else the default
 abbrev pub latency_by_rows : ℕ → List Row → Node → Node → ℕ
 latency_by_rows default rows x y = unwrap_or (row_latency x.name y.name rows) default
 
+-- the fault `LatencyBelowWindow` if the latency of two nodes, by the rows or else the default, is below the window: it
+-- names the pair with the earliest first node, then the earliest second one
 unfoldable pub latency_below_window : ℕ → ℕ → List Node → List Row → Option ScenarioFault
 latency_below_window window default nodes rows =
     option_map (λ p. LatencyBelowWindow p.0.name p.1.name)
@@ -142,21 +158,27 @@ lowest_from left_out n [] = None
 lowest_from left_out n (c ∷ cs) =
     let later = lowest_from left_out (n + 1) cs in if n == left_out then later else Some (lower (n, c.height) later)
 
--- the first of the lowest nodes (no node has the number that is left out), and the first of the lowest of the others
+-- the number and the height of the lowest node, the first one if several are as low; none if there is no node. The
+-- number that is left out is that of no node
 abbrev pub lowest : List Coordinates → Option (ℕ × ℕ)
 lowest coordinates = lowest_from (length coordinates) 0 coordinates
 
+-- the number and the height of the lowest of the other nodes, the first one if several are as low; none if there is no
+-- other node
 abbrev pub next_lowest : ℕ × ℕ → List Coordinates → Option (ℕ × ℕ)
 next_lowest one coordinates = lowest_from one.0 0 coordinates
 
+-- the name of the node of this number, from 0, and an empty name if there is no such node
 abbrev pub name_in : List Node → ℕ → List ℕ
 name_in nodes i = unwrap_or (option_map (λ n. n.name) (slice_get nodes i)) []
 
--- the sum of the two least heights is below the window
+-- the fault `LatencyBelowWindow` for these two nodes, if their heights add up to less than the window
 abbrev pub low_pair : ℕ → List Node → ℕ × ℕ → ℕ × ℕ → Option ScenarioFault
 low_pair window nodes one other =
     if nat_lt (one.1 + other.1) window then Some (LatencyBelowWindow (name_in nodes one.0) (name_in nodes other.0)) else None
 
+-- the fault `LatencyBelowWindow` for the two lowest nodes, if their heights add up to less than the window, wherever
+-- they are; none if fewer than two nodes have coordinates
 unfoldable pub heights_below_window : ℕ → List Node → List Coordinates → Option ScenarioFault
 heights_below_window window nodes coordinates =
     option_and_then (λ one. option_and_then (low_pair window nodes one) (next_lowest one coordinates)) (lowest coordinates)

@@ -67,9 +67,11 @@ key_name key.Do = codes "do"
 key_name key.Via = codes "via"
 key_name key.Key = codes "key"
 
+-- a key that each table of its kind must have, with what it may hold
 abbrev pub required : FileKey → Form → Entry
 required k form = record { 0 = k; 1 = form; 2 = Required }
 
+-- a key that a table may lack, with what it may hold
 abbrev pub optional : FileKey → Form → Entry
 optional k form = record { 0 = k; 1 = form; 2 = Optional }
 
@@ -105,7 +107,7 @@ top_keys_of most_bits most_listed most_nodes most_events own =
 abbrev pub network_keys_and : List Entry → List Entry
 network_keys_and more = optional key.LossPpm (Whole 0 1000000) ∷ optional key.SpreadUs (Whole 0 1000000000) ∷ more
 
--- the keys that the extended profile adds to these
+-- the keys of the top table that only the extended profile has
 abbrev pub extended_keys : List Entry
 extended_keys =
     optional key.Retries (Whole 0 3)
@@ -128,12 +130,15 @@ extended_keys =
     ∷ optional key.CreateAlone Boolean
     ∷ []
 
+-- the keys of the top table by profile: the limits of bits, successor lists, nodes and events differ, and the later
+-- profiles have more keys
 abbrev pub top_keys : (profile : ℕ) → List Entry
 top_keys profile =
     if profile == 4 then top_keys_of 128 32 65536 100000000000 (network_keys_and extended_keys)
     else if profile == 2 then top_keys_of 128 16 4096 50000000 (network_keys_and [])
     else top_keys_of 64 16 512 50000000 []
 
+-- the keys of `[churn]`: the bounds of lives and of down times, and in the extended profile the chance of a leave
 abbrev pub churn_keys : (profile : ℕ) → List Entry
 churn_keys profile =
     required key.LifeMinUs interval
@@ -142,6 +147,7 @@ churn_keys profile =
     ∷ required key.DownMaxUs interval
     ∷ (if profile == 4 then optional key.LeavePpm (Whole 0 1000000) ∷ [] else [])
 
+-- the keys of `[lookups]`: the bounds of the time from one lookup of a node to its next, in every profile
 abbrev pub lookups_keys : List Entry
 lookups_keys = required key.GapMinUs interval ∷ required key.GapMaxUs interval ∷ []
 
@@ -161,6 +167,7 @@ coordinate_keys =
     ∷ optional key.HeightUs (Whole 0 100000000)
     ∷ []
 
+-- the keys of a node's table; only in the extended profile may a node be a bootstrap node or have coordinates
 abbrev pub node_keys : (profile : ℕ) → List Entry
 node_keys profile =
     required key.Name Text
@@ -169,6 +176,7 @@ node_keys profile =
     ∷ optional key.Churn Boolean
     ∷ (if profile == 4 then optional key.Bootstrap Boolean ∷ coordinate_keys else [])
 
+-- the keys of a command's table; only a join must have `via`, and only a lookup `key`
 abbrev pub command_keys : (profile : ℕ) → List Entry
 command_keys profile =
     required key.AtUs (Whole 0 1000000000000)

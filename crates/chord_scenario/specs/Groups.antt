@@ -24,15 +24,15 @@ use Rattle.chord_scenario.specs.Sections.{Section}
 use Rattle.chord_scenario.specs.Settings.{coordinates_of}
 use Rattle.chord_scenario.specs.Values.{number_at}
 
--- of the keys
+-- the questions of the keys
 abbrev pub key_questions : ℕ → ℕ → List Section → List (Option ScenarioFault)
 key_questions profile bits ss = unknown_key profile ss ∷ missing_key profile ss ∷ wrong_type profile ss ∷ out_of_range profile bits ss ∷ []
 
--- of the nodes
+-- the questions of the nodes
 abbrev pub node_questions : List Section → List Node → List (Option ScenarioFault)
 node_questions ss nodes = bad_name ss ∷ same_name nodes ∷ same_id nodes ∷ []
 
--- of the commands and rows, each for itself
+-- the questions of the commands and rows, each for itself
 abbrev pub link_questions : (extended : Bool) → ℕ → ℕ → List Section → List Node → List Row → List (Option ScenarioFault)
 link_questions extended list duration ss nodes rows =
     unknown_node nodes ss rows
@@ -42,12 +42,12 @@ link_questions extended list duration ss nodes rows =
     ∷ self_link extended ss rows
     ∷ []
 
--- of the pairs that rows or coordinates link
+-- the questions of the pairs that rows or coordinates link
 abbrev pub pair_questions : ℕ → ℕ → List Node → List Coordinates → List Row → List (Option ScenarioFault)
 pair_questions window default nodes coordinates rows =
     same_link_twice rows ∷ below_window window default nodes coordinates rows ∷ rows_and_coordinates coordinates rows ∷ []
 
--- of all that links nodes
+-- the questions of all that links nodes
 abbrev pub late_questions : Members → List Section → List Node → List Row → List (Option ScenarioFault)
 late_questions top ss nodes rows =
     link_questions (number_at key.Profile top == 4) (number_at key.List top) (number_at key.DurationUs top) ss nodes rows

@@ -4,6 +4,8 @@ use Rattle.chord_scenario.specs.declared.scenario.Scenario.TheInside.{Inside}
 use Rattle.chord_scenario.specs.Latencies.{square_or_zeros}
 use Rattle.chord_scenario.specs.Setup.{Setup}
 
+-- what contracts see of a scenario, from its fields: if it keeps no square of latencies, since no row gives any, they
+-- see one of zeros
 abbrev pub setup_of : Inside → Setup
 setup_of s = record {
   profile = s.profile;

@@ -74,13 +74,15 @@ pub record AreKept (nodes : List Node) (text : List ℕ) (kept : List (Option Ro
   pub are_rows : AreRecords default_config st.StartRecord (strip_bom text) rows
   pub are_kept : kept ≡ map (kept_link nodes) rows
 
--- the questions of a row, asked of what is kept of it
+-- the row does not have three fields, or its third is no latency
 abbrev pub keeps_bad_row : Option RowLink → Bool
 keeps_bad_row kept = option_map_or (λ l. is_none l.latency) kept true
 
+-- one of the row's two names is not that of a node; false if the row does not have three fields
 abbrev pub keeps_unknown : Option RowLink → Bool
 keeps_unknown kept = option_map_or (λ l. is_none l.first || is_none l.second) kept false
 
+-- the row names one node twice; false if the row does not have three fields
 abbrev pub keeps_itself : Option RowLink → Bool
 keeps_itself kept = option_map_or (λ l. l.itself) kept false
 

@@ -18,10 +18,12 @@ is_allowed leaves None = false
 is_allowed leaves (Some Leave) = leaves
 is_allowed leaves (Some _) = true
 
+-- there is an operation, and it is a join
 abbrev pub is_join : Option Operation → Bool
 is_join (Some Join) = true
 is_join _ = false
 
+-- there is an operation, and it is a lookup
 abbrev pub is_lookup : Option Operation → Bool
 is_lookup (Some Lookup) = true
 is_lookup _ = false

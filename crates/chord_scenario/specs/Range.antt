@@ -25,6 +25,7 @@ pub record IsSpanUpTo (most : ℕ) (span : Span) : Type 0 where
 abbrev pub IsSpan : Span → Type 0
 IsSpan span = IsSpanUpTo 1000000000 span
 
+-- lives and down times are from 1 microsecond to 1,000 seconds; the chance of a leave is at most a million millionths
 pub record IsChurn (churn : Churn) : Type 0 where
   pub life : IsSpan churn.life
   pub down : IsSpan churn.down
@@ -42,6 +43,8 @@ IsActionOf sc action.Crash = Unit {0}
 IsActionOf sc action.Leave = Unit {0}
 IsActionOf sc (action.Lookup key) = key < 2 ^ sc.bits
 
+-- a command comes before the end of the run, at a node of the scenario; a node to join through is one too, and a key to
+-- look up lies on the circle
 pub record IsCommandOf (sc : Setup) (command : Command) : Type 0 where
   pub in_time : command.at < sc.duration
   pub node : command.node < node_count sc

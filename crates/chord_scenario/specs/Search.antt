@@ -40,9 +40,10 @@ abbrev pub first_meeting : {A : Type 0} → (A → A → Bool) → List A → Op
 first_meeting meets [] = None
 first_meeting meets (x ∷ xs) = option_or (option_map (λ y. (x, y)) (find (meets x) xs)) (first_meeting meets xs)
 
--- the fault of the first table, or row, of which a test holds
+-- the fault at the first table of which the test holds
 abbrev pub section_fault : (Place → ScenarioFault) → (Section → Bool) → List Section → Option ScenarioFault
 section_fault fault test ss = option_map (λ s. fault s.at) (find test ss)
 
+-- the fault at the first row of which the test holds; rows are counted from 1
 abbrev pub row_fault : {A : Type 0} → (Place → ScenarioFault) → (A → Bool) → List A → Option ScenarioFault
 row_fault fault test rows = option_map (λ p. fault (place.Row p.0)) (find (λ p. test p.1) (enumerate_from 1 rows))

@@ -20,11 +20,12 @@ pub record Section : Type 0 where
 abbrev pub section_of : PlacedTable → Section
 section_of t = record { at = t.at; members = table_view t.table.now }
 
--- the key that holds the tables of a group, and the place of one of them
+-- the key that holds the tables of a group
 abbrev pub key_of : Group → FileKey
 key_of Nodes = key.Node
 key_of Commands = key.Command
 
+-- the place of the table of this number in a group, counted from 1
 abbrev pub place_in : Group → ℕ → Place
 place_in Nodes n = place.Node n
 place_in Commands n = place.Command n

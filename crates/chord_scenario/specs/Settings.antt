@@ -48,6 +48,7 @@ use Rattle.chord_scenario.specs.Operations.{operation_named}
 use Rattle.chord_scenario.specs.Values.{data_at, number_at, truth_at, truth_or, text_at, as_whole, identifier_of}
 use Rattle.chord_scenario.specs.Sections.{Section}
 
+-- the number at a key, and the default if the key holds no whole number from 0
 abbrev pub number_or : ℕ → FileKey → Members → ℕ
 number_or default k ms = unwrap_or (option_and_then as_whole (data_at k ms)) default
 
@@ -92,6 +93,7 @@ on_circle bits n = if nat_lt n (2 ^ bits) then Some n else None
 abbrev pub identifier_at : (bits : ℕ) → FileKey → Members → Option ℕ
 identifier_at bits k ms = option_and_then (on_circle bits) (option_and_then identifier_of (data_at k ms))
 
+-- the name at a key, as bytes, and an empty name if the key holds no text
 abbrev pub name_at : FileKey → Members → List ℕ
 name_at k ms = unwrap_or (text_at k ms) []
 
@@ -113,10 +115,12 @@ is_bootstrap nodes i = unwrap_or (option_map (λ n. n.bootstrap) (slice_get node
 unfoldable pub bootstraps_of : List Node → List ℕ
 bootstraps_of nodes = filter (is_bootstrap nodes) (range_with_len 0 (length nodes))
 
+-- the place is that of a node's table
 abbrev pub is_node : Place → Bool
 is_node (place.Node n) = true
 is_node _ = false
 
+-- the place is that of a command's table
 abbrev pub is_command : Place → Bool
 is_command (place.Command n) = true
 is_command _ = false
@@ -130,6 +134,7 @@ abbrev pub is_placed_section : Section → Bool
 is_placed_section s =
     is_node s.at && (is_some (data_at key.XUs s.members) || is_some (data_at key.YUs s.members) || is_some (data_at key.HeightUs s.members))
 
+-- the coordinates of a node's table in microseconds, each 0 if its key is absent
 abbrev pub coordinates_at : Members → Coordinates
 coordinates_at ms = record { x = number_at key.XUs ms; y = number_at key.YUs ms; height = number_at key.HeightUs ms }
 
@@ -143,6 +148,7 @@ abbrev pub index_from : ℕ → List ℕ → List Node → Option ℕ
 index_from n name [] = None
 index_from n name (x ∷ xs) = if bytes_eq name x.name then Some n else index_from (n + 1) name xs
 
+-- the number, from 0, of the first node of this name; none if no node has the name
 abbrev pub index_of : List ℕ → List Node → Option ℕ
 index_of name nodes = index_from 0 name nodes
 
@@ -161,9 +167,12 @@ action_by bits nodes ms (Some operation.Crash) = Crash
 action_by bits nodes ms (Some operation.Leave) = Leave
 action_by bits nodes ms _ = Lookup (unwrap_or (identifier_at bits key.Key ms) 0)
 
+-- what a command asks its node to do, from its table; a command without an operation counts as a lookup here
 abbrev pub action_of : (bits : ℕ) → List Node → Members → Action
 action_of bits nodes ms = action_by bits nodes ms (operation_at ms)
 
+-- a command from its table, its time in microseconds; a name that is no node's counts as node 0 here, and is refused
+-- elsewhere
 unfoldable pub command_of : (bits : ℕ) → List Node → Members → Command
 command_of bits nodes ms = record { at = number_at key.AtUs ms; node = node_at key.Node nodes ms; action = action_of bits nodes ms }
 
@@ -171,9 +180,12 @@ command_of bits nodes ms = record { at = number_at key.AtUs ms; node = node_at k
 unfoldable pub commands_of : (bits : ℕ) → List Node → List Section → List Command
 commands_of bits nodes ss = map (λ s. command_of bits nodes s.members) (filter (λ s. is_command s.at) ss)
 
+-- the span between the times at two keys, both included, in microseconds; an absent key counts as 0
 abbrev pub span_of : FileKey → FileKey → Members → Span
 span_of least greatest ms = record { least = number_at least ms; greatest = number_at greatest ms }
 
+-- how long churn nodes live and are down, and how often they leave, if the file has `[churn]`; without `leave_ppm` no
+-- life ends with a leave
 unfoldable pub churn_of : Members → Option Churn
 churn_of top =
     option_map
@@ -184,5 +196,7 @@ churn_of top =
     })
     (option_and_then as_table (data_at key.Churn top))
 
+-- the span of times in microseconds from one lookup that a node makes by itself to its next, if the file has
+-- `[lookups]`
 unfoldable pub lookups_of : Members → Option Span
 lookups_of top = option_map (span_of key.GapMinUs key.GapMaxUs) (option_and_then as_table (data_at key.Lookups top))

@@ -8,6 +8,7 @@ use Rattle.chord_scenario.specs.declared.setting.Node.{Node}
 use Rattle.chord_scenario.specs.declared.setting.Rules.{Rules}
 use Rattle.chord_scenario.specs.declared.setting.Span.{Span}
 
+-- a scenario as contracts see it, with defaults in place of absent keys; nodes are numbered from 0
 pub record Setup : Type 0 where
   pub profile : ℕ
   -- identifiers are below 2 ^ bits

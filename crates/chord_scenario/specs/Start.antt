@@ -39,28 +39,31 @@ jittered period jitter = record { least = period; greatest = period + jitter }
 unfoldable pub first_span : Setup → Span → Span
 first_span sc span = if sc.rules.random_start then record { least = 1; greatest = span.greatest } else span
 
--- a timer of a node that comes up
+-- a timer as a node sets it when it comes up, with the span of the first timer of its kind
 abbrev pub at_first : Setup → Span × Body → Span × Body
 at_first sc timer = (first_span sc timer.0, timer.1)
 
 -- The timers of a node: after which times each may come, and what it is.
 
+-- every node's timer of its next stabilization: after the period, and up to a jitter more
 abbrev pub stabilize_timer : Setup → (epoch : ℕ) → Span × Body
 stabilize_timer sc epoch = (jittered sc.stabilize sc.jitters.stabilize, body.StabilizeTick epoch)
 
+-- every node's timer of its next refresh of a finger: after the period, and up to a jitter more
 abbrev pub finger_timer : Setup → (epoch : ℕ) → Span × Body
 finger_timer sc epoch = (jittered sc.finger sc.jitters.finger, body.FingerTick epoch)
 
--- only if the scenario has generated lookups
+-- every node's timer of its next generated lookup, if the scenario has generated lookups
 abbrev pub traffic_timer : Setup → (epoch : ℕ) → Option (Span × Body)
 traffic_timer sc epoch = option_map (λ gap. (gap, body.TrafficTick epoch)) sc.lookups
 
--- only at a churn node
+-- a churn node's timer of the end of its life; other nodes have none
 abbrev pub life_timer : Setup → (n epoch : ℕ) → Option (Span × Body)
 life_timer sc n epoch =
     if is_churn_node sc n then option_map (λ churn. (churn.life, body.LifeEnd epoch)) sc.churn else None
 
--- only if the scenario has checks
+-- every node's timer of the next check of its predecessor, if the scenario has checks: after the period, and up to a
+-- jitter more
 abbrev pub check_timer : Setup → (epoch : ℕ) → Option (Span × Body)
 check_timer sc epoch = if sc.check == 0 then None else Some (jittered sc.check sc.jitters.check, body.CheckTick epoch)
 
@@ -75,7 +78,7 @@ timer_table sc n epoch =
     ∷ option_map (at_first sc) (check_timer sc epoch)
     ∷ []
 
--- the number of rows of the table
+-- the number of rows of the table of timers
 abbrev pub most_timers : ℕ
 most_timers = 5
 

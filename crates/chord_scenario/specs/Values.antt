@@ -59,13 +59,16 @@ truth_at k ms = truth_or false k ms
 abbrev pub text_at : FileKey → Members → Option (List ℕ)
 text_at k ms = option_and_then as_str (data_at k ms)
 
+-- the value is a table
 abbrev pub is_table : Data → Bool
 is_table d = is_some (as_table d)
 
+-- all items of an array are tables, also if there are none
 abbrev pub are_tables : Items → Bool
 are_tables no_items = true
 are_tables (item d ds) = is_table d && are_tables ds
 
+-- the number of items of an array
 abbrev pub item_count : Items → ℕ
 item_count no_items = 0
 item_count (item d ds) = 1 + item_count ds
@@ -101,6 +104,7 @@ identifier_of _ = None
 abbrev pub has_digits : ℕ → Data → Bool
 has_digits most d = option_map_or (λ digits. nat_le (length digits) most) (as_str d) true
 
+-- the number is neither below the least nor above the greatest
 abbrev pub is_within : ℕ → ℕ → ℕ → Bool
 is_within least greatest n = nat_le least n && nat_le n greatest
 

@@ -3,7 +3,7 @@ use Rattle.std.specs.Prelude.{◌+◌, ◌≤◌, ◌==◌, not, List, count_by,
 use Rattle.chord_audit.specs.declared.audit_line.AuditLine.{AuditLine}
 use Rattle.chord_trace.specs.declared.audit_counts.AuditCounts.{AuditCounts}
 
--- all of these audits, and those with each fault
+-- how many these audits are, and how many of them have each fault
 abbrev pub audit_counts_in : List AuditLine → AuditCounts
 audit_counts_in audits = record {
   audits = length audits;

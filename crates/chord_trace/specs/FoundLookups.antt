@@ -4,11 +4,11 @@ use Rattle.chord_trace.specs.Numbers.{greatest, least, counted, hops_of, timeout
 use Rattle.chord_trace.specs.declared.found_lookups.FoundLookups.{FoundLookups}
 use Rattle.chord_trace.specs.declared.found_lookups.Found.{Found}
 
--- how many lookups it has
+-- how many found lookups the tally has
 abbrev pub found_len : FoundLookups → ℕ
 found_len f = f.len
 
--- it has these lookups
+-- the tally has these found lookups
 pub record HasFound (seen : List Found) (f : FoundLookups) : Type 0 where
   pub len : f.len ≡ length seen
   pub hops_sum : f.hops_sum ≡ sum (hops_of seen)

@@ -8,10 +8,11 @@ use Rattle.des_event.specs.declared.key.Key.{Key}
 use Rattle.des_event.specs.Keys.{key_cmp}
 use Rattle.chord_trace.specs.declared.merging.Head.{Head}
 
+-- the key of the first block of a list, by which the lists of a merge are compared
 abbrev pub head_key : Head → Key
 head_key head = head.first.key
 
--- by the first block's key, in reverse
+-- the order of the lists of a merge: by the first block's key, in reverse
 abbrev pub head_cmp : Head → Head → Ordering
 head_cmp a b = key_cmp (head_key b) (head_key a)
 

@@ -11,13 +11,15 @@ abbrev pub least : List ℕ → ℕ
 least [] = 0
 least (n ∷ ns) = fold min n ns
 
--- the hops, the timeouts, and the times, of lookups that were found
+-- how many hops each found lookup took
 abbrev pub hops_of : List Found → List ℕ
 hops_of = map (λ found. found.hops)
 
+-- how many requests of each found lookup had no reply in time
 abbrev pub timeouts_of : List Found → List ℕ
 timeouts_of = map (λ found. found.timeouts)
 
+-- the time that each found lookup took from its start, in microseconds
 abbrev pub times_of : List Found → List ℕ
 times_of = map (λ found. found.us)
 

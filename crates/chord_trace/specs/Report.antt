@@ -10,7 +10,7 @@ use Rattle.chord_trace.specs.declared.piece.Piece.{Piece}
 use Rattle.chord_trace.specs.declared.report.Report.{Report}
 use Rattle.chord_trace.specs.declared.found_lookups.Found.{Found}
 
--- the lookups that were found
+-- the lookups of a trace that were found
 abbrev pub found_lookups : List Piece → List Found
 found_lookups pieces = filter_map found_in (lines_of pieces)
 

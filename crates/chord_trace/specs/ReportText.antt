@@ -17,11 +17,11 @@ numbers_of r =
     ∷ (codes "audits", r.audits.audits) ∷ (codes "ringless", r.audits.ringless)
     ∷ (codes "unordered", r.audits.unordered) ∷ (codes "insufficient", r.audits.insufficient) ∷ []
 
--- those of a network that loses messages
+-- the names and numbers that reports have from the second profile on
 abbrev pub network_numbers_of : Report → List (List ℕ × ℕ)
 network_numbers_of r = (codes "losses", r.lines.losses) ∷ []
 
--- those of the extended profile
+-- the names and numbers that only the report of the extended profile has
 abbrev pub extended_numbers_of : Report → List (List ℕ × ℕ)
 extended_numbers_of r =
     (codes "again", r.lines.again) ∷ (codes "forgotten", r.lines.forgotten) ∷ (codes "leaves", r.lines.leaves)

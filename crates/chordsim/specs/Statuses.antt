@@ -15,7 +15,7 @@ status_of (fault.Scenario fault) = 1
 status_of (fault.Read text) = 1
 status_of (fault.TooLong text) = 1
 
--- 0 if the order was carried out
+-- the exit status for a result: 0 if the order was carried out, and otherwise that for the fault
 abbrev pub status_of_outcome : {A : Type 0} → Result A PlayFault → ℕ
 status_of_outcome (Ok done) = 0
 status_of_outcome (Err fault) = status_of fault

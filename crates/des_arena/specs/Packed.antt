@@ -14,9 +14,12 @@ module _ {X : Type 0} where
   abbrev pub joined : List (List X) → List X
   joined cs = flat_map (λ c. c) cs
 
+  -- what contracts see of an arena: the records of its chunks, one chunk after the other, and 256 places in each chunk
   abbrev pub arena_of : Inside X → Arena X
   arena_of a = arena (joined a.chunks.items) (256 * length a.chunks.items)
 
+  -- the chunks are filled one after the other, the length that the arena keeps is the number of records, and they fit
+  -- in its chunks, which have at most 2 ^ 40 places together
   pub record IsArena (a : Inside X) : Type 0 where
     pub packed : IsPacked a.chunks.items a.len
     pub counted : a.len ≡ length (joined a.chunks.items)

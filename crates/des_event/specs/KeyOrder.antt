@@ -19,9 +19,10 @@ module _ {A : Type 0} (key_of : A → Key) where
   put_in_order x [] = x ∷ []
   put_in_order x (y ∷ ys) = if is_before (key_of x) (key_of y) then x ∷ (y ∷ ys) else y ∷ put_in_order x ys
 
-  -- those before the horizon, and those from it on
+  -- the elements whose time in microseconds is below the horizon, in the order of the list
   abbrev pub before : (horizon : ℕ) → List A → List A
   before horizon xs = filter (λ x. nat_lt (key_of x).time horizon) xs
 
+  -- the elements whose time in microseconds is the horizon or later, in the order of the list
   abbrev pub from_on : (horizon : ℕ) → List A → List A
   from_on horizon xs = filter (λ x. not (nat_lt (key_of x).time horizon)) xs

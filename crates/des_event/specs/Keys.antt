@@ -16,14 +16,15 @@ pub record IsAtMost (a b : Key) : Type 0 where
   pub origin : a.time ≡ b.time → a.origin ≤ b.origin
   pub number : a.time ≡ b.time → a.origin ≡ b.origin → a.number ≤ b.number
 
--- `IsBefore` and equality as tests
+-- `IsBefore` as a test: a comes before b
 abbrev pub is_before : Key → Key → Bool
 is_before a b =
     nat_lt a.time b.time || (a.time == b.time && (nat_lt a.origin b.origin || (a.origin == b.origin && nat_lt a.number b.number)))
 
+-- the two keys have the same time, origin and number; no two events of a run have the same key
 abbrev pub is_same_key : Key → Key → Bool
 is_same_key a b = a.time == b.time && (a.origin == b.origin && a.number == b.number)
 
--- which of the two comes first, as `Key::cmp` returns it
+-- which of two keys comes first, as `Key::cmp` returns it
 abbrev pub key_cmp : Key → Key → Ordering
 key_cmp a b = ordering_then (nat_cmp a.time b.time) (ordering_then (nat_cmp a.origin b.origin) (nat_cmp a.number b.number))

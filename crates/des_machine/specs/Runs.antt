@@ -12,11 +12,11 @@ module _ {Piece : Type 0} (text : Piece → List ℕ) where
   abbrev pub Writes : (old new : Option (List ℕ)) → List Piece → Type 0
   Writes old new pieces = Appends old new (flat_map text pieces)
 
-  -- a beginning of their texts did
+  -- a beginning of the texts of these pieces went to a writer, which held the old bytes
   abbrev pub WritesFront : (old new : Option (List ℕ)) → List Piece → Type 0
   WritesFront old new pieces = AppendsFront old new (flat_map text pieces)
 
-  -- their texts went to the writer, and a scribe has counted them after what it had counted before
+  -- the texts of these pieces went to the writer, and a scribe has counted them after what it had counted before
   pub record Adds {S : Type 0} (HasCounted : List Piece → S → Type 0) (old new : Option (List ℕ)) (before after : S) (pieces : List Piece) : Type 0 where
     pub written : Writes old new pieces
     pub counted : (earlier : List Piece) → HasCounted earlier before → HasCounted (earlier ++ pieces) after

@@ -35,11 +35,12 @@ use Rattle.des_model.specs.Machine.{Machine, Effect}
 abbrev pub has_key : {Body : Type 0} → Key → List (Event Body) → Bool
 has_key k h = list_any (λ e. is_same_key e.key k) h
 
--- the event of least key, if there is one
+-- the one of the two events that comes first in the order of keys, or the only one
 abbrev pub earlier : {Body : Type 0} → Event Body → Option (Event Body) → Event Body
 earlier e None = e
 earlier e (Some x) = if is_before x.key e.key then x else e
 
+-- the event with the least key of a list in any order, and none if the list is empty
 abbrev pub least : {Body : Type 0} → List (Event Body) → Option (Event Body)
 least [] = None
 least (e ∷ es) = Some (earlier e (least es))
@@ -63,7 +64,7 @@ module _ {State Body Piece : Type 0} (m : Machine State Body Piece) where
   all_events [] = m.start_events
   all_events (e ∷ h) = (effect_after h e).events ++ all_events h
 
-  -- those of them that the history has not taken; a key identifies an event
+  -- the events, at the start or made along the history, that the history has not taken; a key identifies an event
   abbrev pub pending : List (Event Body) → List (Event Body)
   pending h = filter (λ e. not (has_key e.key h)) (all_events h)
 

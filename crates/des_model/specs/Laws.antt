@@ -94,11 +94,13 @@ module _ {State Body Piece : Type 0} (m : Machine State Body Piece) where
   abbrev pub OthersKeepTheirStates : Type 0
   OthersKeepTheirStates = (h ran : List (Event Body)) (n : ℕ) → All (λ (e : Event Body). e.target ≢ n) ran → state m (ran ++ h) n ≡ state m h n
 
-  -- The states along a possible history are sound, and the events fit.
+  -- The states of all nodes after a history are sound, and the events at the start and all that were made along it fit.
   pub record Meets (Sound : ℕ → State → Type 0) (Fit : Event Body → Type 0) (h : List (Event Body)) : Type 0 where
     pub sound : (n : ℕ) → n < m.nodes → Sound n (state m h n)
     pub fit : All Fit (all_events m h)
 
+  -- Along each possible history the states of all nodes pass the test `sound`, and the events at the start and all that
+  -- are made pass the test `fit`.
   abbrev pub HistoriesMeet : (ℕ → State → Bool) → (Event Body → Bool) → Type 0
   HistoriesMeet sound fit = (h : List (Event Body)) → IsPossible m h → Meets (λ n s. IsTrue (sound n s)) (λ e. IsTrue (fit e)) h
 
@@ -122,11 +124,11 @@ module _ {State Body Piece : Type 0} (m : Machine State Body Piece) where
   abbrev pub LegalIsUnique : Type 0
   LegalIsUnique = (h : List (Event Body)) → IsLegal m h → h ≡ history m (length h)
 
-  -- And `history` is legal.
+  -- `history` is legal.
   abbrev pub HistoryIsLegal : Type 0
   HistoryIsLegal = (k : ℕ) → IsLegal m (history m k)
 
-  -- It has as many events as requested, or none may follow.
+  -- `history` has as many events as requested, or none may follow.
   abbrev pub HistoryIsWhole : Type 0
   HistoryIsWhole = (k : ℕ) → (length (history m k) ≡ k) ⊎ ((e : Event Body) → IsNext m (history m k) e → ⊥)
 
@@ -200,20 +202,22 @@ module _ {State Body Piece : Type 0} (m : Machine State Body Piece) where
         → Contains (pending m (taken ++ h)) x
         ↔ (Contains (pending m (ran (part_of d x.target) ++ h)) x ⊎ ((p : ℕ) × (p < d.parts) × (p ≢ part_of d x.target) × Contains (made_since m h (ran p)) x))
 
-  -- Lists of parts that were each run independently, until none waits there, do so, whoever ran them.
+  -- Lists of parts that were each run independently, until no event waits there, leave what one event at a time leaves,
+  -- whoever ran them.
   abbrev pub PartsCommute : Type 0
   PartsCommute =
       (d : Division) → Divides d m.nodes → (h : List (Event Body)) (time horizon : ℕ) → MayOpen h time horizon
       → (ran : ℕ → List (Event Body)) → ((p : ℕ) → p < d.parts → IsSealedRun m d h horizon p (ran p)) → Commutes d h horizon ran
 
-  -- The steps of the workers make just such lists, whatever their order.
+  -- In whatever order the workers take steps, the list of each part is that of an independent run, and of one to its
+  -- end if the part is sealed.
   abbrev pub StepsRunParts : Type 0
   StepsRunParts =
       (d : Division) (h : List (Event Body)) (horizon : ℕ) (picks : List ℕ) (p : ℕ)
       → let part = (after_picks m d (opened h horizon) picks).part p in
       IsPartRun m d h horizon p part.ran × (part.sealed ≡ true → IsSealedRun m d h horizon p part.ran)
 
-  -- So a closed window leaves what one event at a time leaves.
+  -- A closed window leaves what one event at a time leaves, in whatever order its workers took steps.
   abbrev pub WindowsCommute : Type 0
   WindowsCommute =
       (d : Division) → Divides d m.nodes → (h : List (Event Body)) (time horizon : ℕ) → MayOpen h time horizon
@@ -246,7 +250,7 @@ module _ {State Body Piece : Type 0} (m : Machine State Body Piece) where
       → output m (ran ++ h) ≡ output m h ++ (map (audit_at m h) (filter (λ t. nat_le t time) (open_audits m h))
       ++ reverse (map (λ b. b.1) (pieces_since m h ran)))
 
-  -- Such a window closes the audits up to its first time: those that are later stay open.
+  -- A window without an audit closes the audits up to its first time: those that are later stay open.
   abbrev pub WindowsCloseAudits : Type 0
   WindowsCloseAudits =
       (h : List (Event Body)) (time horizon : ℕ) → MayOpen h time horizon → All (λ t. (t ≤ time) ⊎ (horizon ≤ t)) m.audit_times

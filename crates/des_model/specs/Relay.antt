@@ -4,9 +4,12 @@ use Rattle.des_event.specs.declared.event.Event.{Event}
 use Rattle.des_model.specs.Machine.{Machine}
 use Rattle.des_model.specs.Histories.{full_history, trace}
 
+-- an event of the relay, by the three numbers of its key, its target and the number that it carries
 abbrev pub message : ℕ → ℕ → ℕ → ℕ → ℕ → Event ℕ
 message time origin number target body = record { key = record { time = time; origin = origin; number = number }; target = target; body = body }
 
+-- the events that a node makes when it gets one, given how many it has made before and the number that it gets: one
+-- less goes to the other node 10 microseconds later, and a 0 to the node itself 1 microsecond later; a 0 makes no event
 abbrev pub relayed : ℕ → Event ℕ → ℕ → List (Event ℕ)
 relayed count e zero = []
 relayed count e (suc left) =
@@ -27,11 +30,14 @@ relay = record {
   audit = λ t states. 1000 + t;
 }
 
+-- each state of a node is sound
 abbrev pub any_state : ℕ → ℕ → Bool
 any_state n s = true
 
+-- the target is one of the two nodes
 abbrev pub has_node : Event ℕ → Bool
 has_node e = nat_lt e.target 2
 
+-- the trace of the whole run: the times of its seven events in microseconds, and 1050 and 1100 for its two audits
 abbrev pub RelayTrace : Type 0
 RelayTrace = trace relay (full_history relay) ≡ 0 ∷ 1 ∷ 10 ∷ 11 ∷ 20 ∷ 21 ∷ 30 ∷ 1050 ∷ 1100 ∷ []

@@ -32,9 +32,11 @@ module _ {State Body Piece : Type 0} (m : Machine State Body Piece) where
   begun_at number h None = Ended h
   begun_at number h (Some e) = Within number (opened h (horizon_from e.key.time))
 
+  -- the run after this history: it opens the window of this number, or has ended if no event may follow
   abbrev pub begun : ℕ → List (Event Body) → Run Body
   begun number h = begun_at number h (next m h)
 
+  -- the worker holds a part, or some part is not drawn yet
   abbrev pub can_step : Division → Window Body → ℕ → Bool
   can_step d w worker = is_some (next_step m d w (w.held worker))
 

@@ -29,6 +29,6 @@ pub record IsWellFormed {State Body Piece : Type 0} (m : Machine State Body Piec
       → All (λ (x : Event Body). x.key.number ≤ m.events_made (m.effect s e).state) (m.effect s e).events
   pub counts_up : (s : State) (e : Event Body) → Sound e.target s → Fit e → m.events_made s ≤ m.events_made (m.effect s e).state
 
--- the same, if soundness and fitness are tests
+-- the machine is well formed, if soundness and fitness are these tests
 abbrev pub IsWellFormedBy : {State Body Piece : Type 0} → Machine State Body Piece → (ℕ → State → Bool) → (Event Body → Bool) → Type 0
 IsWellFormedBy m sound fit = IsWellFormed m (λ n s. IsTrue (sound n s)) (λ e. IsTrue (fit e))

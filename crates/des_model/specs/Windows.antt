@@ -35,10 +35,11 @@ pub record Division : Type 0 where
   pub parts : ℕ
   pub of_node : List ℕ
 
+-- the part of a node, by the node's number; part 0 if the division does not have the node
 abbrev pub part_of : Division → ℕ → ℕ
 part_of d n = slice_index d.of_node n
 
--- it divides this number of nodes
+-- the division is one of this number of nodes: it gives each of them one of its parts
 pub record Divides (d : Division) (nodes : ℕ) : Type 0 where
   pub whole : length d.of_node ≡ nodes
   pub in_range : All (λ p. p < d.parts) d.of_node
@@ -60,6 +61,8 @@ pub record Window (Body : Type 0) : Type 0 where
   pub held : ℕ → Option ℕ
   pub part : ℕ → Part Body
 
+-- a window as it opens after this history, up to this horizon in microseconds: no part is drawn, and none has run an
+-- event
 abbrev pub opened : {Body : Type 0} → List (Event Body) → ℕ → Window Body
 opened h horizon = record {
   history = h;
@@ -79,12 +82,14 @@ pub data Step (Body : Type 0) : Type 0 where
 abbrev pub put : {A : Type 0} → (ℕ → A) → ℕ → A → ℕ → A
 put f i v j = if j == i then v else f j
 
+-- the window after a step of this worker, which draws a part and holds it, runs an event in a part, or seals a part and
+-- gives it up
 abbrev pub after_step : {Body : Type 0} → Window Body → ℕ → Step Body → Window Body
 after_step w worker (Drew p) = record w { drawn = w.drawn + 1; held = put w.held worker (Some p) }
 after_step w worker (Ran p e) = record w { part = put w.part p (record (w.part p) { ran = e ∷ (w.part p).ran }) }
 after_step w worker (Sealed p) = record w { held = put w.held worker None; part = put w.part p (record (w.part p) { sealed = true }) }
 
--- the list of each part
+-- the events that each part has run in the window, the newest first
 abbrev pub ran_by : {Body : Type 0} → Window Body → ℕ → List (Event Body)
 ran_by w p = (w.part p).ran
 
@@ -97,6 +102,7 @@ abbrev pub insert_event : {Body : Type 0} → Event Body → List (Event Body) �
 insert_event e [] = e ∷ []
 insert_event e (x ∷ xs) = if is_before e.key x.key then x ∷ insert_event e xs else e ∷ (x ∷ xs)
 
+-- two lists of events in key order, the newest first, merged into one such list
 abbrev pub merge : {Body : Type 0} → List (Event Body) → List (Event Body) → List (Event Body)
 merge [] ys = ys
 merge (x ∷ xs) ys = insert_event x (merge xs ys)
@@ -106,7 +112,7 @@ abbrev pub merged : {Body : Type 0} → (ℕ → List (Event Body)) → ℕ → 
 merged ran zero = []
 merged ran (suc p) = merge (ran p) (merged ran p)
 
--- the number of these events
+-- how many events the lists of the first n parts have together
 abbrev pub events_run : {Body : Type 0} → (ℕ → List (Event Body)) → ℕ → ℕ
 events_run ran zero = 0
 events_run ran (suc p) = length (ran p) + events_run ran p
@@ -125,7 +131,7 @@ module _ {State Body Piece : Type 0} (m : Machine State Body Piece) where
   IsPartRun d h horizon p [] = ⊤
   IsPartRun d h horizon p (e ∷ ran) = IsPartRun d h horizon p ran × (least (waiting d h horizon p ran) ≡ Some e)
 
-  -- and goes on until none waits there
+  -- the list of a part that runs the least waiting event again and again, until none waits there
   pub record IsSealedRun (d : Division) (h : List (Event Body)) (horizon p : ℕ) (ran : List (Event Body)) : Type 0 where
     pub runs : IsPartRun d h horizon p ran
     pub done : waiting d h horizon p ran ≡ []
@@ -139,19 +145,21 @@ module _ {State Body Piece : Type 0} (m : Machine State Body Piece) where
   running p (Some e) = Ran p e
   running p None = Sealed p
 
+  -- the next step of a worker, given the part that it holds, if any; no step if it holds none and all parts are drawn
   abbrev pub next_step : Division → Window Body → Option ℕ → Option (Step Body)
   next_step d w None = drawing d w
   next_step d w (Some p) = Some (running p (least (waiting d w.history w.horizon p (w.part p).ran)))
 
-  -- one step of one worker; a worker that can take no step is skipped
+  -- the window after this step of the worker; the same window if there is no step
   abbrev pub after_option : Window Body → ℕ → Option (Step Body) → Window Body
   after_option w worker None = w
   after_option w worker (Some s) = after_step w worker s
 
+  -- the window after the next step of this worker; the same window if the worker can take no step
   abbrev pub after_pick : Division → Window Body → ℕ → Window Body
   after_pick d w worker = after_option w worker (next_step d w (w.held worker))
 
-  -- one step of each worker of the list, in its order
+  -- the window after one step of each worker of the list, in its order
   abbrev pub after_picks : Division → Window Body → List ℕ → Window Body
   after_picks d w [] = w
   after_picks d w (worker ∷ picks) = after_picks d (after_pick d w worker) picks

@@ -6,7 +6,8 @@ use Rattle.des_output.specs.declared.watched.Watched.{Watched}
 abbrev pub wrapped : {V : Type 0} → Watched V → V
 wrapped w = w.inner
 
--- one of its calls so far returned an error, or a write took no byte of a piece that is not empty
+-- one of the calls of the reader or writer so far returned an error, or a write took no byte of a piece that is not
+-- empty
 abbrev pub has_failed : {V : Type 0} → Watched V → Bool
 has_failed w = w.failed
 

@@ -21,16 +21,14 @@ module _ {State Body Piece : Type 0} (p : Protocol State Body Piece) where
     pub long : length states ≡ p.nodes
     pub each : (n : ℕ) (d : Counted State) → n < p.nodes → Sound n (slice_index_or states n d).state
 
-  -- it is for a node, and what it says is fit for that node
+  -- the telling is for a node, and what it says is fit for that node
   abbrev pub IsFitTelling : (Fit : ℕ → Body → Type 0) → Telling Body → Type 0
   IsFitTelling Fit t = (t.target < p.nodes) × Fit t.target t.body
 
-  -- It arrives later than it is made, and at another node at least the lookahead later. Made within the run, it arrives at
-  -- a time of 64 bits.
+  -- the telling arrives later than it is made, and at another node at least the lookahead later
   pub record IsDelayed (node : ℕ) (t : Telling Body) : Type 0 where
     pub later : 0 < t.delay
     pub ahead : t.target ≢ node → p.lookahead ≤ t.delay
-    pub in_words : p.duration + t.delay ≤ 2 ^ 64
 
   -- `Sound n` holds of each state of node n, and `Fit n` of all that node n is told; `most` is the most that a node tells
   -- at once

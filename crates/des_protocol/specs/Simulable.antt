@@ -16,13 +16,15 @@ use Rattle.des_protocol.specs.Told.{all_told, told_apart}
 
 module _ {State Body Piece : Type 0} (p : Protocol State Body Piece) (Sound : ℕ → State → Type 0) (Fit : ℕ → Body → Type 0) (most : ℕ)
     (is : IsRunnable p Sound Fit most) where
-  -- what holds of a node and its count, and of an event
+  -- what holds of the state of a node, whatever its count
   abbrev IsSound : ℕ → Counted State → Type 0
   IsSound n s = Sound n s.state
 
+  -- what holds of an event
   abbrev IsFit : Event Body → Type 0
   IsFit e = (e.target < p.nodes) × Fit e.target e.body
 
+  -- what the target of an event makes of it
   abbrev outcome_of : Counted State → Event Body → Outcome State Body Piece
   outcome_of s e = p.outcome s.state e.target e.key.time e.body
 

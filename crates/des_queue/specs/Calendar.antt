@@ -21,6 +21,7 @@ module _ {B : Type 0} where
   abbrev pub events_of : List Entry → Days B → List (Event B)
   events_of due d = in_key_order (events_at (get d.events) (due ++ entries_in d))
 
+  -- what contracts see of a calendar: all its events, those of the opened days and those of later ones, in key order
   abbrev pub calendar_of : Inside B → List (Event B)
   calendar_of c = events_of c.due.items c.days
 
@@ -31,7 +32,7 @@ module _ {B : Type 0} where
     pub opened : IsOpened d due.items
     pub sorted : IsSorted waiting_cmp due.items
 
-  -- besides, an entry is due if there is any event
+  -- the entries and the days are orderly, and an entry is due if there is any event
   pub record IsCalendar (c : Inside B) : Type 0 where
     pub orderly : AreOrderly c.due c.days
     pub whole : c.due.items ≡ [] → HaveNone c.days

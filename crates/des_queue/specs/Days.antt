@@ -26,6 +26,7 @@ module _ {B : Type 0} where
   abbrev pub entries_in : Days B → List Entry
   entries_in d = map (entry_at (get d.events)) (places_in d)
 
+  -- the lists of all days are empty: no event is of a day after the opened ones
   abbrev pub HaveNone : Days B → Type 0
   HaveNone d = places_in d ≡ []
 

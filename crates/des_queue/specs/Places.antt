@@ -17,6 +17,7 @@ use Rattle.des_queue.specs.declared.event_heap.EventHeap.TheInside.{Inside}
 abbrev pub Events : Type 0 → Type 0
 Events B = ℕ → Option (Event B)
 
+-- the key of an event that waits, and the place where the event itself is stored
 abbrev pub Entry : Type 0
 Entry = Waiting ℕ
 
@@ -24,7 +25,7 @@ Entry = Waiting ℕ
 abbrev pub waiting_key : Entry → Key
 waiting_key w = w.key.0
 
--- by key, reversed, and then by place
+-- the order of entries: by key, reversed, and then by place
 abbrev pub waiting_cmp : Entry → Entry → Ordering
 waiting_cmp a b = ordering_then (key_cmp (waiting_key b) (waiting_key a)) (nat_cmp a.place b.place)
 
@@ -42,6 +43,7 @@ module _ {B : Type 0} where
   in_key_order [] = []
   in_key_order (e ∷ es) = put_in_order event_key e (in_key_order es)
 
+  -- what contracts see of a heap: the events of its entries, in key order
   abbrev pub heap_events : Inside B → List (Event B)
   heap_events p = in_key_order (events_at (get p.events) (heap_items p.heap))
 

@@ -8,7 +8,8 @@ use Rattle.des_queue.specs.Queue.{Queue, queue}
 use Rattle.des_queue.specs.declared.window_queue.WindowQueue.TheInside.{Inside}
 
 module _ {B : Type 0} where
-  -- those that wait, and all records since the queue was made or emptied
+  -- what contracts see of the heap: the events that wait, in key order, and the number of all records since the queue
+  -- was made or emptied
   abbrev pub queue_of : Inside B → Queue B
   queue_of q = queue (in_key_order (events_at (slice_get q.records.items) (heap_items q.heap))) (length q.records.items)
 

@@ -14,9 +14,10 @@ scaled high low bound = (high * 2 ^ 32 + low) * bound / 2 ^ 64
 abbrev pub number_at : (seed stream place bound : ℕ) → ℕ
 number_at seed stream place bound = scaled (word seed stream place) (word seed stream (place + 1)) bound
 
--- the number of a group's first two words, and that of its last two
+-- a number below the bound, made of the first and the second word of a group; 0 if the bound is 0
 abbrev pub first_number : (seed stream group bound : ℕ) → ℕ
 first_number seed stream group bound = number_at seed stream (4 * group) bound
 
+-- a number below the bound, made of the third and the fourth word of a group; 0 if the bound is 0
 abbrev pub second_number : (seed stream group bound : ℕ) → ℕ
 second_number seed stream group bound = number_at seed stream (4 * group + 2) bound

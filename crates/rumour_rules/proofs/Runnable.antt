@@ -52,5 +52,4 @@ is_runnable p ranges = record {
     delayed n place = record {
       later = omega (arith, ranges.delay_least);
       ahead = λ other. omega arith;
-      in_words = omega (arith, ranges.delay_most, ranges.duration_most);
     }

@@ -31,10 +31,11 @@ hears_again s node time = record {
   piece = record { time = time; node = node; first = false };
 }
 
+-- what a node does when it hears the rumour: by rule 2 if it has heard it before, and by rule 1 if not
 abbrev pub outcome_of : Settings → Node → (node time : ℕ) → Outcome Node Rumour Told
 outcome_of p s node time = if s.heard then hears_again s node time else hears_first p node time
 
--- there are no audits
+-- the rumour as a protocol: node 0 is told at the start, and there are no audits
 abbrev pub rumour : Settings → Protocol Node Rumour Told
 rumour p = record {
   nodes = p.nodes;

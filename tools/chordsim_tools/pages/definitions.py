@@ -8,7 +8,6 @@ import sys
 import textwrap
 from collections.abc import Iterator
 from dataclasses import dataclass
-from itertools import takewhile
 from pathlib import Path
 
 from chordsim_tools.pages.crates import crates_of, purpose_of
@@ -16,7 +15,7 @@ from chordsim_tools.pages.crates import crates_of, purpose_of
 PAGE = Path("docs") / "definitions.md"
 HEAD = "## The crates\n"
 WIDTH = 100
-DEFINITION = re.compile(r" *(?:(?:abbrev|unfoldable) pub|pub (?:record|data)) (\S+)\s*(.*)")
+DEFINITION = re.compile(r" *(?:(?:abbrev|unfoldable) pub|pub (?:record|data)) (\S+)")
 """The other public names of specs/ are lemmas."""
 MEMBER = re.compile(r" *(?:pub )?(\S+) : ")
 """A field of a record, or a constructor of data."""
@@ -24,7 +23,7 @@ MEMBER = re.compile(r" *(?:pub )?(\S+) : ")
 
 @dataclass(frozen=True)
 class Definition:
-    """A public definition: its name, and the comment above it, or else its signature."""
+    """A public definition: its name, and the comment above it."""
 
     name: str
     meaning: str
@@ -63,21 +62,13 @@ def members_of(lines: list[str]) -> Iterator[str]:
         lines = rest[1:]
 
 
-def signature_of(lines: list[str], start: str) -> str:
-    """The type of a definition whose first line ends with `start`, or the arguments of a record and its type."""
-    indent = len(lines[0]) - len(lines[0].lstrip())
-    more = takewhile(lambda line: line.startswith(" " * (indent + 4)), lines[1:])
-    words = " ".join([start, *(line.strip() for line in more)]).partition(" where")[0]
-    return f"`{words.removeprefix(': ')}`"
-
-
 def definition_of(comment: str, lines: list[str]) -> Definition | None:
     """The definition that these lines are below their comment, if it is public."""
     first = DEFINITION.match(lines[0])
     if first is None:
         return None
     is_type = re.match(r" *pub (record|data) ", lines[0]) is not None
-    told = [comment or signature_of(lines, first.group(2)), *(members_of(lines[1:]) if is_type else ())]
+    told = [comment, *(members_of(lines[1:]) if is_type else ())]
     return Definition(first.group(1), "; ".join(told))
 
 
