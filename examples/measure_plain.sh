@@ -1,8 +1,8 @@
 #!/usr/bin/env bash
-# Times the serial engine of chordsim and the plain program of examples/plain, alternately, on the examples churn64,
-# churn512, lossy64 and churn4096. Both write a trace and a report, which must be the same bytes. Prints for each
+# Times the serial engine of chordsim and the programs plain and fast of examples/plain, by turns, on the examples
+# churn64, churn512, lossy64 and churn4096. All write a trace and a report, which must be the same bytes. Prints for each
 # example and program the seconds of each turn, the processor seconds of each turn (user + system), the least of each,
-# and the greatest resident memory. Then prints the least of the plain program as a ratio to that of chordsim: 1.00 means
+# and the greatest resident memory. Then prints the least of each of the two as a ratio to that of chordsim: 1.00 means
 # as fast.
 #
 #   examples/measure_plain.sh [TURNS]     so many turns, 3 if not said
@@ -11,7 +11,7 @@
 set -eu
 top=$(CDPATH='' cd -- "$(dirname -- "$0")/.." && pwd)
 if ! command -v rustc > /dev/null; then
-    echo "measure_plain: there is no rustc, which builds the plain program: nothing is measured" >&2
+    echo "measure_plain: there is no rustc, which builds the plain programs: nothing is measured" >&2
     exit 0
 fi
 # The launcher takes time of its own, so the program that it would start is timed.
@@ -21,7 +21,7 @@ work=$(mktemp -d)
 trap 'rm -rf "$work"' EXIT
 # What `time` prints: the seconds, and those of the processors for the program and for the system.
 TIMEFORMAT='%3R %3U %3S'
-# GNU time says how much memory a program had. Its own start counts for both programs alike.
+# GNU time says how much memory a program had. Its own start counts for all programs alike.
 gauge=()
 if [ -x /usr/bin/time ]; then
     gauge=(/usr/bin/time -f %M -a -o "$work/memory")
@@ -42,12 +42,15 @@ take() {
     cat "$work/memory" >> "$work/$name.memory"
 }
 
-# Fails if this file of the two programs differs.
-same() {
-    cmp "$work/chordsim.$1" "$work/plain.$1" >&2 || {
-        echo "measure_plain: another $1 of $example" >&2
-        exit 1
-    }
+# Runs a plain program, and fails if it writes another trace or report than chordsim.
+take_plain() {
+    take "$1" "$work/$1" "$work/flat" "$work/$1.trace"
+    for file in trace report; do
+        cmp "$work/chordsim.$file" "$work/$1.$file" >&2 || {
+            echo "measure_plain: another $file of $example by $1" >&2
+            exit 1
+        }
+    done
 }
 
 # The seconds of a row, and the processor seconds.
@@ -76,7 +79,14 @@ ratio() {
     echo "$1 $2" | awk '{ if ($2 > 0) printf "%.2f", $1 / $2; else printf "-" }'
 }
 
-# Times both programs on an example.
+# Prints how long a plain program took, as a ratio to chordsim.
+compare() {
+    printf '    %s/chordsim: %s of the seconds, %s of the processor seconds\n' "$1" \
+        "$(ratio "$(seconds "$1" | least)" "$(seconds chordsim | least)")" \
+        "$(ratio "$(processors "$1" | least)" "$(processors chordsim | least)")"
+}
+
+# Times all programs on an example.
 measure() {
     example=$1
     scenario=$top/examples/$example.toml
@@ -84,19 +94,19 @@ measure() {
     "$top/examples/plain/flatten" "$scenario" -o "$work/flat"
     for ((turn = 0; turn < turns; turn++)); do
         take chordsim "$program" run --serial --scenario "$scenario" --trace "$work/chordsim.trace"
-        take plain "$work/plain" "$work/flat" "$work/plain.trace"
-        same trace
-        same report
+        take_plain plain
+        take_plain fast
     done
     echo "$example ($(sed -n 's/^events //p' "$work/plain.report") events)"
     show chordsim
     show plain
-    printf '    plain/chordsim: %s of the seconds, %s of the processor seconds\n' \
-        "$(ratio "$(seconds plain | least)" "$(seconds chordsim | least)")" \
-        "$(ratio "$(processors plain | least)" "$(processors chordsim | least)")"
+    show fast
+    compare plain
+    compare fast
 }
 
 rustc --edition 2021 -O -o "$work/plain" "$top/examples/plain/main.rs"
+rustc --edition 2021 -O -o "$work/fast" "$top/examples/plain/fast.rs"
 for name in churn64 churn512 lossy64 churn4096; do
     measure "$name"
 done

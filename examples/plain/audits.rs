@@ -2,7 +2,7 @@
 
 use std::fmt;
 
-use crate::circle::between;
+use crate::circle::{between, Ident};
 use crate::scenario::Scenario;
 use crate::state::Node;
 
@@ -20,10 +20,10 @@ pub struct Audit {
 
 impl Audit {
     /// The audit of these states.
-    pub fn of(scenario: &Scenario, nodes: &[Node]) -> Self {
-        let members: Vec<&Node> = nodes.iter().filter(|node| node.is_member()).collect();
+    pub fn of<I: Ident>(scenario: &Scenario<I>, nodes: &[Node<I>]) -> Self {
+        let members: Vec<&Node<I>> = nodes.iter().filter(|node| node.is_member()).collect();
         let best: Vec<Option<u32>> = nodes.iter().map(|x| best_successor(x, nodes)).collect();
-        let has_no_best = |node: &&&Node| best[node.me as usize].is_none();
+        let has_no_best = |node: &&&Node<I>| best[node.me as usize].is_none();
         let dead = members.iter().filter(has_no_best).count();
         let is_in_ring = ring_members(&members, &best);
         let principals = count_principals(scenario, &members);
@@ -55,14 +55,14 @@ impl fmt::Display for Audit {
 }
 
 /// The best successor of a node, if it is a member and has one.
-fn best_successor(node: &Node, nodes: &[Node]) -> Option<u32> {
+fn best_successor<I: Ident>(node: &Node<I>, nodes: &[Node<I>]) -> Option<u32> {
     let is_member = |entry: &u32| nodes[*entry as usize].is_member();
     let mut entries = node.successors.iter().copied();
     entries.find(is_member).filter(|_| node.is_member())
 }
 
 /// Whether each node comes back to itself from best successor to best successor.
-fn ring_members(members: &[&Node], best: &[Option<u32>]) -> Vec<bool> {
+fn ring_members<I>(members: &[&Node<I>], best: &[Option<u32>]) -> Vec<bool> {
     let mut visitor = vec![None; best.len()];
     let mut is_in_ring = vec![false; best.len()];
     for member in members {
@@ -83,7 +83,7 @@ fn ring_members(members: &[&Node], best: &[Option<u32>]) -> Vec<bool> {
 
 /// Whether no ring member lies between a ring member and its best successor. If one does, so does
 /// the next ring member clockwise.
-fn is_ordered(scenario: &Scenario, is_in_ring: &[bool], best: &[Option<u32>]) -> bool {
+fn is_ordered<I: Ident>(scenario: &Scenario<I>, is_in_ring: &[bool], best: &[Option<u32>]) -> bool {
     let mut by_rank = vec![None; is_in_ring.len()];
     for node in scenario.nodes().filter(|&node| is_in_ring[node as usize]) {
         by_rank[scenario.ranks[node as usize] as usize] = Some(node);
@@ -103,18 +103,18 @@ fn is_ordered(scenario: &Scenario, is_in_ring: &[bool], best: &[Option<u32>]) ->
 }
 
 /// How many members no list skips.
-fn count_principals(scenario: &Scenario, members: &[&Node]) -> usize {
+fn count_principals<I: Ident>(scenario: &Scenario<I>, members: &[&Node<I>]) -> usize {
     let rank = |node: u32| scenario.ranks[node as usize] as usize;
     let mut skips = Skips::new(scenario.ranks.len());
     for member in members {
         let mut before = rank(member.me);
-        for &entry in &member.successors {
+        for &entry in member.successors.iter() {
             skips.add(before, rank(entry));
             before = rank(entry);
         }
     }
     let is_skipped = skips.skipped();
-    let is_principal = |member: &&&Node| !is_skipped[rank(member.me)];
+    let is_principal = |member: &&&Node<I>| !is_skipped[rank(member.me)];
     members.iter().filter(is_principal).count()
 }
 

@@ -4,6 +4,7 @@
 
 use crate::circle::{Circle, Ident};
 use crate::scenario::Profile;
+use crate::spans::{Span, Subject, MILLION};
 
 /// The 32-bit words of a block of the cipher.
 const BLOCK_WORDS: usize = 16;
@@ -12,46 +13,8 @@ const BLOCK_WORDS: usize = 16;
 const OWN_WORDS: usize = 4;
 const BLOCK_DRAWS: u64 = (BLOCK_WORDS / OWN_WORDS) as u64;
 
-/// The chances of a loss and of a leave are given in parts of this.
-const MILLION: u32 = 1_000_000;
-
 /// The constants that the state of the cipher begins with.
 const CONSTANTS: [u32; 4] = [0x6170_7865, 0x3320_646e, 0x7962_2d32, 0x6b20_6574];
-
-/// A span of times, from which one is drawn.
-#[derive(Clone, Copy)]
-pub struct Span {
-    least: u64,
-    width: u32,
-}
-
-impl Span {
-    /// The times from the least to the greatest one.
-    pub fn new(least: u64, greatest: u64) -> Self {
-        let width = (greatest - least + 1) as u32;
-        Self { least, width }
-    }
-
-    /// The times from 1 to the greatest one of the span.
-    pub fn from_one(self) -> Self {
-        Self::new(1, self.least + u64::from(self.width) - 1)
-    }
-}
-
-/// What is drawn. In the extended profile this number is the upper half of the stream's number.
-#[derive(Clone, Copy, PartialEq)]
-pub enum Subject {
-    StabilizeTick = 1,
-    FingerTick = 2,
-    TrafficTick = 3,
-    LifeEnd = 4,
-    Rise = 5,
-    Key = 6,
-    Message = 7,
-    CheckTick = 8,
-    FirstFinger = 9,
-    Leave = 10,
-}
 
 /// Where a node takes the words of its draws from.
 pub enum Draws {
@@ -81,27 +44,27 @@ impl Draws {
         span.least + u64::from(number)
     }
 
-    /// A number below a million, for this occasion.
-    pub fn chance(&mut self, subject: Subject, occasion: u64) -> u64 {
-        self.time(Span::new(0, u64::from(MILLION) - 1), subject, occasion)
-    }
-
     /// A key, from as many words as its bits need, the highest word first.
-    pub fn key(&mut self, circle: Circle, time: u64) -> Ident {
-        let count = circle.bits().div_ceil(u32::BITS) as usize;
-        let join = |high, word| high << u32::BITS | Ident::from(word);
-        let number = match self {
-            Self::Stream(stream) => (0..count).map(|_| stream.word()).fold(0, join),
+    pub fn key<I: Ident>(&mut self, circle: Circle<I>, time: u64) -> I {
+        let count = circle.words();
+        match self {
+            Self::Stream(stream) => circle.place((0..count).map(|_| stream.word())),
             Self::OwnWords(own) => {
                 let words = own.words(Subject::Key, time);
-                words.into_iter().take(count).fold(0, join)
+                circle.place(words.into_iter().take(count))
             }
-        };
-        circle.low_bits(number)
+        }
+    }
+
+    /// How much later than its latency the message of this number arrives, by these chances of a loss
+    /// and a spread. None if it is lost.
+    pub fn delay(&mut self, number: u64, loss_ppm: u32, spread_us: u32) -> Option<u64> {
+        let (chance, spread) = self.message(number, spread_us + 1);
+        (chance >= loss_ppm).then_some(u64::from(spread))
     }
 
     /// Two numbers for the message of this number: one below a million, and one below the limit.
-    pub fn message(&mut self, number: u64, limit: u32) -> (u32, u32) {
+    fn message(&mut self, number: u64, limit: u32) -> (u32, u32) {
         match self {
             Self::Stream(stream) => (stream.below(MILLION), stream.below(limit)),
             Self::OwnWords(own) => {
@@ -199,7 +162,7 @@ fn words_in(block: &[u32; BLOCK_WORDS], occasion: u64) -> [u32; OWN_WORDS] {
 /// The part of a limit that two words are of 2^64, rounded down.
 fn below(high: u32, low: u32, limit: u32) -> u32 {
     let number = u64::from(high) << u32::BITS | u64::from(low);
-    (u128::from(number) * u128::from(limit) >> u64::BITS) as u32
+    ((u128::from(number) * u128::from(limit)) >> u64::BITS) as u32
 }
 
 /// A block of a stream.

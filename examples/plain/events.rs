@@ -2,7 +2,7 @@
 
 use std::fmt;
 
-use crate::circle::Ident;
+use crate::lists::Nodes;
 
 /// What a node returns to a step request.
 #[derive(Clone, Copy)]
@@ -31,16 +31,9 @@ pub enum MessageKind {
 }
 
 impl MessageKind {
-    /// Whether a message of this kind has a call.
-    pub fn is_request(self) -> bool {
-        use MessageKind::{GetList, GetState, Ping, Step};
-        matches!(self, Step | GetState | GetList | Ping)
-    }
-}
-
-impl fmt::Display for MessageKind {
-    fn fmt(&self, out: &mut fmt::Formatter) -> fmt::Result {
-        out.write_str(match self {
+    /// The word for it.
+    pub fn name(self) -> &'static str {
+        match self {
             MessageKind::Step => "step",
             MessageKind::GetState => "get-state",
             MessageKind::GetList => "get-list",
@@ -51,20 +44,32 @@ impl fmt::Display for MessageKind {
             MessageKind::StateReply => "state-reply",
             MessageKind::ListReply => "list-reply",
             MessageKind::Pong => "pong",
-        })
+        }
+    }
+
+    /// Whether a message of this kind has a call.
+    pub fn is_request(self) -> bool {
+        use MessageKind::{GetList, GetState, Ping, Step};
+        matches!(self, Step | GetState | GetList | Ping)
+    }
+}
+
+impl fmt::Display for MessageKind {
+    fn fmt(&self, out: &mut fmt::Formatter) -> fmt::Result {
+        out.write_str(self.name())
     }
 }
 
 /// What an event asks of its target. Timers carry the epoch in which they were set. Requests,
 /// replies and timeouts carry the number of their call.
-pub enum Body {
+pub enum Body<I> {
     CmdJoin {
         via: u32,
     },
     CmdCrash,
     CmdLeave,
     CmdLookup {
-        key: Ident,
+        key: I,
     },
     StabilizeTick {
         epoch: u64,
@@ -92,8 +97,8 @@ pub enum Body {
     },
     Step {
         call: u64,
-        key: Ident,
-        avoid: Vec<u32>,
+        key: I,
+        avoid: Nodes,
     },
     GetState {
         call: u64,
@@ -107,7 +112,7 @@ pub enum Body {
     Notify,
     Leave {
         predecessor: Option<u32>,
-        successors: Vec<u32>,
+        successors: Nodes,
     },
     StepReply {
         call: u64,
@@ -116,11 +121,11 @@ pub enum Body {
     StateReply {
         call: u64,
         predecessor: Option<u32>,
-        successors: Vec<u32>,
+        successors: Nodes,
     },
     ListReply {
         call: u64,
-        successors: Vec<u32>,
+        successors: Nodes,
     },
     Pong {
         call: u64,
@@ -128,16 +133,16 @@ pub enum Body {
 }
 
 /// A request that has no number yet.
-pub enum Request {
-    Step { key: Ident, avoid: Vec<u32> },
+pub enum Request<I> {
+    Step { key: I, avoid: Nodes },
     GetState,
     GetList,
     Ping,
 }
 
-impl Request {
+impl<I> Request<I> {
     /// The kind and the body of the request, as the call with this number.
-    pub fn numbered(self, call: u64) -> (MessageKind, Body) {
+    pub fn numbered(self, call: u64) -> (MessageKind, Body<I>) {
         match self {
             Request::Step { key, avoid } => (MessageKind::Step, Body::Step { call, key, avoid }),
             Request::GetState => (MessageKind::GetState, Body::GetState { call }),
@@ -154,8 +159,8 @@ pub const COMMANDS: u32 = 1;
 pub const FIRST_NODE: u32 = 2;
 
 /// An event: its origin, the node at which it happens, and what it asks of the node.
-pub struct Event {
+pub struct Event<I> {
     pub origin: u32,
     pub target: u32,
-    pub body: Body,
+    pub body: Body<I>,
 }

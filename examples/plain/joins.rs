@@ -1,9 +1,10 @@
 //! Joins: how a node comes up, goes on with an attempt, fails, and becomes a member.
 
-use crate::circle::between;
+use crate::circle::{between, Ident};
 use crate::events::{Answer, Body, Request};
+use crate::lines::Line;
+use crate::lists::Nodes;
 use crate::state::{Attempt, Purpose, Status};
-use crate::trace::Line;
 use crate::turn::Turn;
 
 /// The failures that end an attempt.
@@ -15,7 +16,7 @@ const MOST_STEPS: u32 = 128;
 /// The pauses after an attempt, if the next one follows.
 const PAUSES_BETWEEN_ATTEMPTS: u64 = 8;
 
-impl Turn<'_> {
+impl<I: Ident> Turn<'_, I> {
     /// The node through which the node joins. It has one once it has come up.
     fn via(&self) -> u32 {
         self.node.via.expect("a node that has come up has a via")
@@ -47,11 +48,11 @@ impl Turn<'_> {
     }
 
     /// The request for the owner of the node's own identifier.
-    pub fn place_request(&self) -> Request {
+    pub fn place_request(&self) -> Request<I> {
         let attempt = self.node.attempt.as_ref();
         Request::Step {
             key: self.scenario.ident(self.node.me),
-            avoid: attempt.map_or_else(Vec::new, |attempt| attempt.avoid.clone()),
+            avoid: attempt.map_or_else(Nodes::new, |attempt| attempt.avoid.clone()),
         }
     }
 
@@ -117,8 +118,8 @@ impl Turn<'_> {
     fn create(&mut self) {
         let me = self.node.me;
         self.note(Line::Create);
-        self.node.successors = vec![me];
-        self.node.fingers = vec![me; self.scenario.circle.bits() as usize - 1];
+        self.node.successors = Nodes::from([me]);
+        self.node.fingers.point_all(self.scenario, me);
         self.node.status = Status::Member;
         self.node.attempt = None;
     }
@@ -160,7 +161,7 @@ impl Turn<'_> {
 
     /// A node has sent its successor list. If the node's place is at its head, the node takes it, or asks
     /// the head before.
-    pub fn join_list_received(&mut self, predecessor: u32, list: Vec<u32>) {
+    pub fn join_list_received(&mut self, predecessor: u32, list: Nodes) {
         self.attempt().is_answered = true;
         let successors = self.cleaned(predecessor, list);
         let scenario = self.scenario;
@@ -182,7 +183,7 @@ impl Turn<'_> {
 
     /// The successors in the list of the node before this one. The node itself and those that it avoids
     /// are left out, if lists are cleaned. If the node itself is alone there, it is that of a ring of two.
-    fn cleaned(&mut self, predecessor: u32, mut list: Vec<u32>) -> Vec<u32> {
+    fn cleaned(&mut self, predecessor: u32, mut list: Nodes) -> Nodes {
         if self.scenario.ways.clean_lists {
             let me = self.node.me;
             list.retain(|&other| other != me);
@@ -196,12 +197,12 @@ impl Turn<'_> {
     }
 
     /// Becomes a member, with this predecessor and these successors.
-    pub fn become_member(&mut self, predecessor: u32, successors: Vec<u32>) {
+    pub fn become_member(&mut self, predecessor: u32, successors: Nodes) {
         let head = successors[0];
         self.node.predecessor = Some(predecessor);
         self.node.successors = successors;
         self.node.successors.truncate(self.scenario.list);
-        self.node.fingers = vec![head; self.scenario.circle.bits() as usize - 1];
+        self.node.fingers.point_all(self.scenario, head);
         self.node.status = Status::Member;
         self.node.attempt = None;
         self.note(Line::Member {

@@ -1,11 +1,12 @@
 //! Leaves: how a node tells its neighbours that it goes, and what they do then.
 
-use crate::draws::Subject;
+use crate::circle::Ident;
 use crate::events::{Body, MessageKind};
-use crate::trace::Line;
+use crate::lines::Line;
+use crate::spans::{Span, Subject};
 use crate::turn::Turn;
 
-impl Turn<'_> {
+impl<I: Ident> Turn<'_, I> {
     /// A command to leave.
     pub fn on_cmd_leave(&mut self) {
         if self.node.is_down() {
@@ -38,7 +39,12 @@ impl Turn<'_> {
     pub fn ends_with_leave(&mut self, epoch: u64) -> bool {
         let churn = self.scenario.churn.as_ref();
         let leave_ppm = churn.map_or(0, |churn| churn.leave_ppm);
-        leave_ppm > 0 && self.node.draws.chance(Subject::Leave, epoch) < leave_ppm
+        let mut draw = || {
+            self.node
+                .draws
+                .time(Span::of_chances(), Subject::Leave, epoch)
+        };
+        leave_ppm > 0 && draw() < leave_ppm
     }
 
     /// A node has left that had this predecessor and these successors.

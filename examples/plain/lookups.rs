@@ -1,10 +1,10 @@
-//! Lookups: the search for the next node, and how a lookup starts, goes on and ends.
+//! Lookups: how a lookup starts, goes on and ends.
 
-use crate::circle::{between, in_half_open, Ident};
+use crate::circle::{in_half_open, Ident};
 use crate::events::{Answer, Request};
-use crate::scenario::Scenario;
-use crate::state::{Aim, Lookup, Node, Purpose};
-use crate::trace::Line;
+use crate::lines::Line;
+use crate::search::step_answer;
+use crate::state::{Aim, Lookup, Purpose};
 use crate::turn::Turn;
 
 /// The most lookups of a user that a node has at once.
@@ -16,54 +16,20 @@ const LEAST_STEPS: u32 = 112;
 /// The further requests that it may send for each node that it may leave out.
 const STEPS_EACH: u32 = 2;
 
-/// The step answer of a node, for a key and nodes to avoid.
-pub fn step_answer(scenario: &Scenario, node: &Node, key: Ident, avoid: &[u32]) -> Answer {
-    let mut successors = node.successors.iter().copied();
-    let Some(head) = successors.find(|successor| !avoid.contains(successor)) else {
-        return Answer::Stuck;
-    };
-    let (circle, me) = (scenario.circle, scenario.ident(node.me));
-    if in_half_open(me, key, scenario.ident(head)) {
-        return Answer::Owner(head);
-    }
-    let mut closest = head;
-    let mut farthest = circle.distance(me, scenario.ident(head));
-    let others: &[u32] = if scenario.ways.list_routes {
-        &node.successors
-    } else {
-        &[]
-    };
-    for &other in node.fingers.iter().chain(others) {
-        // Fingers that are next to each other are mostly the same node.
-        if other == closest || avoid.contains(&other) {
-            continue;
-        }
-        let ident = scenario.ident(other);
-        if !between(me, ident, key) {
-            continue;
-        }
-        let distance = circle.distance(me, ident);
-        if distance > farthest {
-            (closest, farthest) = (other, distance);
-        }
-    }
-    Answer::Next(closest)
-}
-
-impl Turn<'_> {
+impl<I: Ident> Turn<'_, I> {
     /// Starts a user's lookup of a key, unless too many are in progress.
-    pub fn look_up(&mut self, key: Ident) {
-        let is_user = |lookup: &&Lookup| lookup.aim == Aim::User;
+    pub fn look_up(&mut self, key: I) {
+        let is_user = |lookup: &&Lookup<I>| lookup.aim == Aim::User;
         if self.node.lookups.iter().filter(is_user).count() >= MOST_USER_LOOKUPS {
-            self.note(Line::Busy { key });
+            self.note(Line::Busy { key: key.into() });
         } else {
-            self.note(Line::Lookup { key });
+            self.note(Line::Lookup { key: key.into() });
             self.begin_lookup(key, Aim::User);
         }
     }
 
     /// Starts a lookup, behind all others.
-    pub fn begin_lookup(&mut self, key: Ident, aim: Aim) {
+    pub fn begin_lookup(&mut self, key: I, aim: Aim) {
         self.node.lookups.push(Lookup::new(key, aim, self.time));
         self.walk_lookup(self.node.lookups.len() - 1);
     }
@@ -130,13 +96,13 @@ impl Turn<'_> {
         let lookup = self.node.lookups.remove(index);
         match lookup.aim {
             Aim::User => self.note(Line::Found {
-                key: lookup.key,
+                key: lookup.key.into(),
                 owner: self.name(owner),
                 hops: lookup.hops,
                 timeouts: lookup.timeouts,
                 us: self.time - lookup.started,
             }),
-            Aim::Finger { index } => self.node.fingers[index as usize - 2] = owner,
+            Aim::Finger { index } => self.node.fingers.point(self.scenario, index, owner),
         }
     }
 
@@ -147,10 +113,10 @@ impl Turn<'_> {
     }
 
     /// The line of a lookup that ends without an owner, if it is a user's.
-    pub fn note_lost(&mut self, lookup: &Lookup) {
+    pub fn note_lost(&mut self, lookup: &Lookup<I>) {
         if lookup.aim == Aim::User {
             self.note(Line::Lost {
-                key: lookup.key,
+                key: lookup.key.into(),
                 hops: lookup.hops,
                 timeouts: lookup.timeouts,
                 us: self.time - lookup.started,

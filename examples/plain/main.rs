@@ -5,14 +5,19 @@ mod audits;
 mod circle;
 mod draws;
 mod events;
+mod fingers;
 mod joins;
 mod leaves;
+mod lines;
+mod lists;
 mod lookups;
 mod queue;
 mod report;
 mod rules;
 mod scenario;
+mod search;
 mod simulation;
+mod spans;
 mod state;
 mod trace;
 mod turn;
@@ -45,7 +50,7 @@ fn main() -> ExitCode {
 /// Runs the scenario of a file, and writes its trace to another one.
 fn run(scenario: &str, trace: &str) -> Result<Report, Failure> {
     let text = fs::read_to_string(scenario).map_err(Failure::Read)?;
-    let scenario = Scenario::read(&text);
+    let scenario = Scenario::<u128>::read(&text);
     let trace = Trace::create(trace).map_err(|_| Failure::Write)?;
     Simulation::new(&scenario, trace).run()
 }

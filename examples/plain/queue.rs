@@ -15,16 +15,24 @@ struct Entry {
 }
 
 /// The pending events.
-#[derive(Default)]
-pub struct Queue {
+pub struct Queue<I> {
     entries: BinaryHeap<Reverse<Entry>>,
-    slots: Vec<Option<Event>>,
+    slots: Vec<Option<Event<I>>>,
     free: Vec<u32>,
 }
 
-impl Queue {
+impl<I> Queue<I> {
+    /// No pending events.
+    pub fn new() -> Self {
+        Self {
+            entries: BinaryHeap::new(),
+            slots: Vec::new(),
+            free: Vec::new(),
+        }
+    }
+
     /// Adds an event with this time and number.
-    pub fn push(&mut self, time: u64, number: u64, event: Event) {
+    pub fn push(&mut self, time: u64, number: u64, event: Event<I>) {
         let origin = event.origin;
         let slot = self.store(event);
         self.entries.push(Reverse(Entry {
@@ -36,7 +44,7 @@ impl Queue {
     }
 
     /// Puts an event into a free slot, and returns its number.
-    fn store(&mut self, event: Event) -> u32 {
+    fn store(&mut self, event: Event<I>) -> u32 {
         match self.free.pop() {
             Some(slot) => {
                 self.slots[slot as usize] = Some(event);
@@ -50,7 +58,7 @@ impl Queue {
     }
 
     /// Takes out the event with the least key, if its time is below the end. Returns its time too.
-    pub fn pop_before(&mut self, end: u64) -> Option<(u64, Event)> {
+    pub fn pop_before(&mut self, end: u64) -> Option<(u64, Event<I>)> {
         if self.entries.peek()?.0.time >= end {
             return None;
         }

@@ -3,7 +3,7 @@
 use std::fmt;
 
 use crate::audits::Audit;
-use crate::trace::Line;
+use crate::lines::Line;
 
 /// The numbers of the report. `times_us` has the time of each lookup that was found, in ascending
 /// order after `sort_times`.

@@ -1,17 +1,18 @@
 //! The rule table: what a node does at each body of an event.
 
 use crate::circle::{between, Ident};
-use crate::draws::{Span, Subject};
 use crate::events::{Answer, Body, MessageKind, Request};
-use crate::lookups::step_answer;
+use crate::lines::Line;
+use crate::lists::{self, Nodes};
+use crate::search::step_answer;
+use crate::spans::{Span, Subject};
 use crate::state::{Aim, Call, Purpose};
-use crate::trace::Line;
 use crate::turn::Turn;
 
-impl Turn<'_> {
+impl<I: Ident> Turn<'_, I> {
     /// Acts on an event. The sender matters for messages only.
     #[inline]
-    pub fn act(&mut self, sender: u32, body: Body) {
+    pub fn act(&mut self, sender: u32, body: Body<I>) {
         match body {
             Body::CmdJoin { via } => self.on_cmd_join(via),
             Body::CmdCrash => self.on_cmd_crash(),
@@ -64,7 +65,7 @@ impl Turn<'_> {
     }
 
     /// A command to look up a key.
-    fn on_cmd_lookup(&mut self, key: Ident) {
+    fn on_cmd_lookup(&mut self, key: I) {
         if self.node.is_member() {
             self.look_up(key);
         } else {
@@ -108,7 +109,8 @@ impl Turn<'_> {
         let circle = self.scenario.circle;
         let first = self.first_finger();
         let head = self.node.head();
-        self.node.fingers[..first as usize - 2].fill(head);
+        let scenario = self.scenario;
+        self.node.fingers.point_before(scenario, first, head);
         let index = self.node.next_finger.max(first);
         if index > circle.bits() {
             return;
@@ -128,11 +130,10 @@ impl Turn<'_> {
         let distance =
             circle.distance(self.scenario.ident(self.node.me), self.scenario.ident(head));
         // The start of a finger is a power of two away. A distance of 0 is the whole circle.
-        let covered = Ident::BITS - distance.leading_zeros();
-        let last = if distance == 0 {
+        let last = if distance == I::ZERO {
             circle.bits()
         } else {
-            covered.max(1)
+            distance.length().max(1)
         };
         last + 1
     }
@@ -255,11 +256,7 @@ impl Turn<'_> {
             self.strand();
             return false;
         };
-        for finger in &mut self.node.fingers {
-            if *finger == silent {
-                *finger = head;
-            }
-        }
+        self.node.fingers.replace(self.scenario, silent, head);
         true
     }
 
@@ -267,11 +264,8 @@ impl Turn<'_> {
     /// itself and a silent one.
     fn take_finger(&mut self, silent: u32) {
         let me = self.node.me;
-        let (circle, here) = (self.scenario.circle, self.scenario.ident(me));
-        let others = self.node.fingers.iter().copied();
-        let others = others.filter(|&other| other != me && other != silent);
-        let distance = |&other: &u32| circle.distance(here, self.scenario.ident(other));
-        if let Some(nearest) = others.min_by_key(distance) {
+        let nearest = self.node.fingers.nearest_but(self.scenario, [me, silent]);
+        if let Some(nearest) = nearest {
             self.note(Line::Rescue {
                 successor: self.name(nearest),
             });
@@ -311,7 +305,7 @@ impl Turn<'_> {
     }
 
     /// A request for a step answer.
-    fn on_step(&mut self, sender: u32, call: u64, key: Ident, avoid: &[u32]) {
+    fn on_step(&mut self, sender: u32, call: u64, key: I, avoid: &[u32]) {
         if self.accepts(MessageKind::Step, sender) {
             let answer = step_answer(self.scenario, self.node, key, avoid);
             let reply = Body::StepReply { call, answer };
@@ -402,11 +396,10 @@ impl Turn<'_> {
         };
         match call.purpose {
             Purpose::Owner => return self.owner_answered(number, call.to, predecessor),
-            Purpose::JoinHead { behind } => self.become_member(behind, vec![call.to]),
+            Purpose::JoinHead { behind } => self.become_member(behind, Nodes::from([call.to])),
             _ => {}
         }
-        self.node
-            .renew_successors(call.to, list, self.scenario.list);
+        self.renew_successors(call.to, list);
         let ident = |node: u32| self.scenario.ident(node);
         let is_nearer = |&node: &u32| between(ident(self.node.me), ident(node), ident(call.to));
         match predecessor.filter(is_nearer) {
@@ -417,14 +410,18 @@ impl Turn<'_> {
         }
     }
 
+    /// Makes the successor list of a node and the nodes of its list after it.
+    fn renew_successors(&mut self, first: u32, list: &[u32]) {
+        lists::renew(&mut self.node.successors, first, list, self.scenario.list);
+    }
+
     /// The reply to a request for the successor list.
-    fn on_list_reply(&mut self, sender: u32, number: u64, list: Vec<u32>) {
+    fn on_list_reply(&mut self, sender: u32, number: u64, list: Nodes) {
         let Some(call) = self.answered(MessageKind::ListReply, sender, number) else {
             return;
         };
         if call.purpose == Purpose::List {
-            self.node
-                .renew_successors(call.to, &list, self.scenario.list);
+            self.renew_successors(call.to, &list);
             self.notify_head();
         } else {
             self.join_list_received(call.to, list);

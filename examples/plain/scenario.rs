@@ -4,7 +4,7 @@ use std::collections::HashMap;
 use std::str::{FromStr, SplitAsciiWhitespace};
 
 use crate::circle::{Circle, Ident};
-use crate::draws::Span;
+use crate::spans::Span;
 
 /// Latencies are in a table of all pairs for at most this many nodes.
 const MOST_IN_TABLE: usize = 4096;
@@ -44,24 +44,24 @@ pub struct Churn {
 }
 
 /// What a command does to its node.
-pub enum Action {
+pub enum Action<I> {
     Join { via: u32 },
     Crash,
     Leave,
-    Lookup { key: Ident },
+    Lookup { key: I },
 }
 
 /// A command, its time and its node.
-pub struct Command {
+pub struct Command<I> {
     pub at_us: u64,
     pub node: u32,
-    pub action: Action,
+    pub action: Action<I>,
 }
 
 /// All that a scenario and its latency file say. Nodes are numbered from 0. The rank of a node is
 /// its place in the order of the identifiers. `bootstraps` has the nodes that others try in turn to
 /// join through.
-pub struct Scenario {
+pub struct Scenario<I> {
     pub profile: Profile,
     pub loss_ppm: u32,
     pub spread_us: u32,
@@ -70,7 +70,7 @@ pub struct Scenario {
     pub joins_forever: bool,
     pub has_detail: bool,
     pub ways: Ways,
-    pub circle: Circle,
+    pub circle: Circle<I>,
     pub list: usize,
     pub seed: u64,
     pub duration_us: u64,
@@ -83,16 +83,16 @@ pub struct Scenario {
     pub churn: Option<Churn>,
     pub lookup_gap: Option<Span>,
     pub names: Vec<String>,
-    pub idents: Vec<Ident>,
+    pub idents: Vec<I>,
     pub initial: Vec<bool>,
     pub churns: Vec<bool>,
     pub bootstraps: Vec<u32>,
     pub ranks: Vec<u32>,
     pub latencies: Latencies,
-    pub commands: Vec<Command>,
+    pub commands: Vec<Command<I>>,
 }
 
-impl Scenario {
+impl<I: Ident> Scenario<I> {
     /// Reads a scenario. Panics if the text is not one that `flatten` writes.
     pub fn read(text: &str) -> Self {
         let mut words = Words(text.split_ascii_whitespace());
@@ -114,7 +114,7 @@ impl Scenario {
         let nodes = words.nodes();
         let latencies = words.latencies(nodes.len(), latency_us);
         let commands = words.commands();
-        let idents: Vec<Ident> = nodes.iter().map(|node| node.ident).collect();
+        let idents: Vec<I> = nodes.iter().map(|node| node.ident).collect();
         Self {
             profile,
             loss_ppm,
@@ -148,7 +148,7 @@ impl Scenario {
     }
 
     /// The identifier of a node.
-    pub fn ident(&self, node: u32) -> Ident {
+    pub fn ident(&self, node: u32) -> I {
         self.idents[node as usize]
     }
 
@@ -164,13 +164,13 @@ impl Scenario {
 }
 
 /// The numbers of the bootstrap nodes, in the order of the file.
-fn bootstraps_of(nodes: &[NodeRow]) -> Vec<u32> {
+fn bootstraps_of<I>(nodes: &[NodeRow<I>]) -> Vec<u32> {
     let rows = (0..).zip(nodes).filter(|(_, row)| row.is_bootstrap);
     rows.map(|(node, _)| node).collect()
 }
 
 /// The rank of each node.
-fn ranks_of(idents: &[Ident]) -> Vec<u32> {
+fn ranks_of<I: Ident>(idents: &[I]) -> Vec<u32> {
     let mut ordered: Vec<usize> = (0..idents.len()).collect();
     ordered.sort_unstable_by_key(|&node| idents[node]);
     let mut ranks = vec![0; idents.len()];
@@ -241,9 +241,9 @@ impl Place {
 }
 
 /// A node of the flat form.
-struct NodeRow {
+struct NodeRow<I> {
     name: String,
-    ident: Ident,
+    ident: I,
     is_initial: bool,
     churns: bool,
     is_bootstrap: bool,
@@ -310,7 +310,7 @@ impl<'a> Words<'a> {
     }
 
     /// The nodes, after their number.
-    fn nodes(&mut self) -> Vec<NodeRow> {
+    fn nodes<I: Ident>(&mut self) -> Vec<NodeRow<I>> {
         let count: usize = self.next();
         let row = |_| NodeRow {
             name: self.next(),
@@ -353,13 +353,13 @@ impl<'a> Words<'a> {
     }
 
     /// The commands, after their number.
-    fn commands(&mut self) -> Vec<Command> {
+    fn commands<I: Ident>(&mut self) -> Vec<Command<I>> {
         let count: usize = self.next();
         (0..count).map(|_| self.command()).collect()
     }
 
     /// A command.
-    fn command(&mut self) -> Command {
+    fn command<I: Ident>(&mut self) -> Command<I> {
         let (at_us, node) = (self.next(), self.next());
         let action = match self.word() {
             "join" => Action::Join { via: self.next() },

@@ -4,6 +4,7 @@ use std::fmt;
 use std::io;
 
 use crate::audits::Audit;
+use crate::circle::Ident;
 use crate::events::{Body, Event, COMMANDS, FIRST_NODE};
 use crate::queue::Queue;
 use crate::report::Report;
@@ -30,23 +31,23 @@ impl fmt::Display for Failure {
 }
 
 /// A run of a scenario.
-pub struct Simulation<'a> {
-    scenario: &'a Scenario,
-    nodes: Vec<Node>,
-    queue: Queue,
+pub struct Simulation<'a, I> {
+    scenario: &'a Scenario<I>,
+    nodes: Vec<Node<I>>,
+    queue: Queue<I>,
     trace: Trace,
     next_audit: Option<u64>,
 }
 
-impl<'a> Simulation<'a> {
+impl<'a, I: Ident> Simulation<'a, I> {
     /// The run at its start. The trace is empty.
-    pub fn new(scenario: &'a Scenario, mut trace: Trace) -> Self {
+    pub fn new(scenario: &'a Scenario<I>, mut trace: Trace) -> Self {
         trace.report.has_losses = scenario.profile != Profile::First;
         trace.report.is_extended = scenario.profile == Profile::Extended;
         let mut simulation = Self {
             scenario,
             nodes: first_states(scenario),
-            queue: Queue::default(),
+            queue: Queue::new(),
             trace,
             next_audit: Some(scenario.audit_us.min(scenario.duration_us)),
         };
@@ -105,7 +106,7 @@ impl<'a> Simulation<'a> {
     }
 
     /// The target of an event acts on it.
-    fn take(&mut self, time: u64, event: Event) {
+    fn take(&mut self, time: u64, event: Event<I>) {
         let mut turn = Turn {
             scenario: self.scenario,
             queue: &mut self.queue,
@@ -135,7 +136,7 @@ impl<'a> Simulation<'a> {
 }
 
 /// The event of a command.
-fn event_of(command: &Command) -> Event {
+fn event_of<I: Ident>(command: &Command<I>) -> Event<I> {
     let body = match command.action {
         Action::Join { via } => Body::CmdJoin { via },
         Action::Crash => Body::CmdCrash,

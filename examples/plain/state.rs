@@ -3,6 +3,8 @@
 use crate::circle::Ident;
 use crate::draws::Draws;
 use crate::events::{MessageKind, Request};
+use crate::fingers::Fingers;
+use crate::lists::Nodes;
 use crate::scenario::Scenario;
 
 /// Whether a node takes part in the ring.
@@ -64,21 +66,21 @@ pub enum Aim {
 /// counts the requests that it has sent, `hops` those that were answered, and `timeouts` those that
 /// timed out. It avoids the nodes that did not reply, and dead ends. `last` is the node that answered
 /// last, if the lookup goes on from it.
-pub struct Lookup {
+pub struct Lookup<I> {
     pub call: u64,
-    pub key: Ident,
+    pub key: I,
     pub aim: Aim,
     pub started: u64,
     pub steps: u32,
     pub hops: u32,
     pub timeouts: u32,
-    pub avoid: Vec<u32>,
+    pub avoid: Nodes,
     pub last: Option<u32>,
 }
 
-impl Lookup {
+impl<I: Ident> Lookup<I> {
     /// A lookup that has sent no request.
-    pub fn new(key: Ident, aim: Aim, started: u64) -> Self {
+    pub fn new(key: I, aim: Aim, started: u64) -> Self {
         Self {
             call: 0,
             key,
@@ -87,13 +89,13 @@ impl Lookup {
             steps: 0,
             hops: 0,
             timeouts: 0,
-            avoid: Vec::new(),
+            avoid: Nodes::new(),
             last: None,
         }
     }
 
     /// The request that it sends to the next node.
-    pub fn request(&self) -> Request {
+    pub fn request(&self) -> Request<I> {
         Request::Step {
             key: self.key,
             avoid: self.avoid.clone(),
@@ -107,39 +109,39 @@ impl Lookup {
 pub struct Attempt {
     pub failures: u32,
     pub steps: u32,
-    pub avoid: Vec<u32>,
+    pub avoid: Nodes,
     pub is_answered: bool,
 }
 
 /// What a node knows. `epoch` counts its lives. `via` is the node through which it joined last.
 /// `fingers` has the fingers from the second to the last. `count` is the number of its last event.
-pub struct Node {
+pub struct Node<I> {
     pub me: u32,
     pub status: Status,
     pub epoch: u64,
     pub via: Option<u32>,
     pub predecessor: Option<u32>,
-    pub successors: Vec<u32>,
-    pub fingers: Vec<u32>,
+    pub successors: Nodes,
+    pub fingers: Fingers<I>,
     pub next_finger: u32,
     pub calls: Vec<Call>,
-    pub lookups: Vec<Lookup>,
+    pub lookups: Vec<Lookup<I>>,
     pub attempt: Option<Attempt>,
     pub draws: Draws,
     pub count: u64,
 }
 
-impl Node {
+impl<I: Ident> Node<I> {
     /// A node that has never been up.
-    fn never_up(me: u32, scenario: &Scenario) -> Self {
+    fn never_up(me: u32, scenario: &Scenario<I>) -> Self {
         Self {
             me,
             status: Status::Down,
             epoch: 0,
             via: None,
             predecessor: None,
-            successors: Vec::new(),
-            fingers: Vec::new(),
+            successors: Nodes::new(),
+            fingers: Fingers::new(scenario.ident(me)),
             next_finger: 2,
             calls: Vec::new(),
             lookups: Vec::new(),
@@ -178,14 +180,6 @@ impl Node {
     pub fn lookup_of(&self, call: u64) -> usize {
         let index = self.lookups.iter().position(|lookup| lookup.call == call);
         index.expect("each call of a lookup has its lookup")
-    }
-
-    /// Makes the successor list of a node and the nodes of a list after it.
-    pub fn renew_successors(&mut self, first: u32, list: &[u32], most: usize) {
-        self.successors.clear();
-        self.successors.push(first);
-        self.successors.extend_from_slice(list);
-        self.successors.truncate(most);
     }
 
     /// If the node has itself to join through, it takes the next bootstrap node, if there is one.
@@ -228,9 +222,9 @@ impl Node {
 
 /// The states at the start: each initial node knows the whole ring, and the others are down. A single
 /// initial node is its own successor.
-pub fn first_states(scenario: &Scenario) -> Vec<Node> {
+pub fn first_states<I: Ident>(scenario: &Scenario<I>) -> Vec<Node<I>> {
     let nodes = scenario.nodes();
-    let mut nodes: Vec<Node> = nodes.map(|me| Node::never_up(me, scenario)).collect();
+    let mut nodes: Vec<Node<I>> = nodes.map(|me| Node::never_up(me, scenario)).collect();
     let is_initial = |node: &u32| scenario.initial[*node as usize];
     let initial: Vec<u32> = scenario.nodes().filter(is_initial).collect();
     let mut ring = initial.clone();
@@ -245,18 +239,12 @@ pub fn first_states(scenario: &Scenario) -> Vec<Node> {
 }
 
 /// Makes a node a member of the ring at the start, in which it has this place.
-fn enter_ring(scenario: &Scenario, node: &mut Node, ring: &[u32], place: usize) {
+fn enter_ring<I: Ident>(scenario: &Scenario<I>, node: &mut Node<I>, ring: &[u32], place: usize) {
     let from = |offset: usize| ring[(place + offset) % ring.len()];
     node.status = Status::Member;
     node.epoch = 1;
     node.predecessor = Some(from(ring.len() - 1));
     let others = scenario.list.min(ring.len() - 1).max(1);
     node.successors = (1..=others).map(from).collect();
-    let me = scenario.ident(node.me);
-    let owner = |finger: u32| {
-        let start = scenario.circle.finger_start(me, finger);
-        let at = ring.partition_point(|&other| scenario.ident(other) < start);
-        ring[at % ring.len()]
-    };
-    node.fingers = (2..=scenario.circle.bits()).map(owner).collect();
+    node.fingers.point_into(scenario, ring);
 }

@@ -2,12 +2,14 @@
 
 use std::mem;
 
-use crate::draws::{Span, Subject};
+use crate::circle::Ident;
 use crate::events::{Body, Event, MessageKind, Request, FIRST_NODE};
+use crate::lines::Line;
 use crate::queue::Queue;
 use crate::scenario::{Profile, Scenario};
+use crate::spans::{Span, Subject};
 use crate::state::{Call, Node, Purpose};
-use crate::trace::{Line, Trace};
+use crate::trace::Trace;
 
 /// The latency from a node to itself, in microseconds.
 const OWN_LATENCY: u64 = 1;
@@ -19,16 +21,16 @@ pub enum Sent {
 }
 
 /// A node that acts on an event at this time. `sent` has the messages that lines are to tell of.
-pub struct Turn<'a> {
-    pub scenario: &'a Scenario,
-    pub queue: &'a mut Queue,
+pub struct Turn<'a, I> {
+    pub scenario: &'a Scenario<I>,
+    pub queue: &'a mut Queue<I>,
     pub trace: &'a mut Trace,
-    pub node: &'a mut Node,
+    pub node: &'a mut Node<I>,
     pub time: u64,
     pub sent: Vec<Sent>,
 }
 
-impl<'a> Turn<'a> {
+impl<'a, I: Ident> Turn<'a, I> {
     /// The name of a node.
     pub fn name(&self, node: u32) -> &'a str {
         self.scenario.name(node)
@@ -41,13 +43,15 @@ impl<'a> Turn<'a> {
     }
 
     /// Makes an event for the node itself.
-    pub fn make(&mut self, delay: u64, body: Body) {
+    #[inline]
+    pub fn make(&mut self, delay: u64, body: Body<I>) {
         self.node.count += 1;
         self.queue_event(delay, self.node.me, body);
     }
 
     /// Makes the event of the node's last number pending.
-    fn queue_event(&mut self, delay: u64, target: u32, body: Body) {
+    #[inline]
+    fn queue_event(&mut self, delay: u64, target: u32, body: Body<I>) {
         let event = Event {
             origin: FIRST_NODE + self.node.me,
             target,
@@ -57,7 +61,7 @@ impl<'a> Turn<'a> {
     }
 
     /// Sends a message, which has the node's next number and may be lost.
-    pub fn send(&mut self, kind: MessageKind, to: u32, body: Body) {
+    pub fn send(&mut self, kind: MessageKind, to: u32, body: Body<I>) {
         self.node.count += 1;
         match self.transit(to) {
             Some(delay) => {
@@ -82,13 +86,14 @@ impl<'a> Turn<'a> {
         if self.scenario.profile == Profile::First {
             return Some(latency);
         }
-        let (number, limit) = (self.node.count, self.scenario.spread_us + 1);
-        let (chance, spread) = self.node.draws.message(number, limit);
-        (chance >= self.scenario.loss_ppm).then_some(latency + u64::from(spread))
+        let (loss_ppm, spread_us) = (self.scenario.loss_ppm, self.scenario.spread_us);
+        let count = self.node.count;
+        let delay = self.node.draws.delay(count, loss_ppm, spread_us)?;
+        Some(latency + delay)
     }
 
     /// Sends a request with its timeout, and returns the number of the call.
-    pub fn call(&mut self, to: u32, request: Request, purpose: Purpose) -> u64 {
+    pub fn call(&mut self, to: u32, request: Request<I>, purpose: Purpose) -> u64 {
         let number = self.node.count + 1;
         let (kind, body) = request.numbered(number);
         self.send_with_timeout(kind, to, body, number);
@@ -102,7 +107,7 @@ impl<'a> Turn<'a> {
     }
 
     /// Sends a request of a call, and then the timeout of this sending.
-    fn send_with_timeout(&mut self, kind: MessageKind, to: u32, body: Body, call: u64) {
+    fn send_with_timeout(&mut self, kind: MessageKind, to: u32, body: Body<I>, call: u64) {
         self.send(kind, to, body);
         self.make(self.scenario.timeout_us, Body::Timeout { call });
         if self.scenario.has_detail {
@@ -111,7 +116,15 @@ impl<'a> Turn<'a> {
     }
 
     /// Adds the lines that tell of the messages, behind all others of the event.
+    #[inline]
     pub fn tell(&mut self) {
+        if !self.sent.is_empty() {
+            self.tell_of_sent();
+        }
+    }
+
+    /// Adds the lines that tell of the messages.
+    fn tell_of_sent(&mut self) {
         for message in mem::take(&mut self.sent) {
             match message {
                 Sent::Request { kind, call } => self.tell_of_request(kind, call),
@@ -127,7 +140,7 @@ impl<'a> Turn<'a> {
     fn tell_of_request(&mut self, kind: MessageKind, number: u64) {
         let mut lookups = self.node.lookups.iter();
         let lookup = lookups.find(|lookup| lookup.call == number);
-        let lookup = lookup.map(|lookup| (lookup.key, lookup.started));
+        let lookup = lookup.map(|lookup| (lookup.key.into(), lookup.started));
         let mut calls = self.node.calls.iter();
         let call = calls.find(|call| call.number == number);
         let asked = self.name(call.expect("the call is out").to);
@@ -152,7 +165,7 @@ impl<'a> Turn<'a> {
     }
 
     /// The request of a call, as it was made.
-    fn request_of(&self, call: &Call) -> Request {
+    fn request_of(&self, call: &Call) -> Request<I> {
         match call.purpose {
             Purpose::Lookup => self.node.lookups[self.node.lookup_of(call.number)].request(),
             Purpose::JoinStep => self.place_request(),
@@ -169,7 +182,7 @@ impl<'a> Turn<'a> {
 
     /// Sets a timer of this epoch, after a time of the span. The occasion of the draw is the epoch for
     /// a life and for a time down, and otherwise the time.
-    fn set_timer(&mut self, span: Span, subject: Subject, timer: impl FnOnce(u64) -> Body) {
+    fn set_timer(&mut self, span: Span, subject: Subject, timer: impl FnOnce(u64) -> Body<I>) {
         let epoch = self.node.epoch;
         let occasion = match subject {
             Subject::LifeEnd | Subject::Rise => epoch,
@@ -184,7 +197,7 @@ impl<'a> Turn<'a> {
     pub fn arm(&mut self) {
         let scenario = self.scenario;
         let first = |span: Span| match scenario.ways.random_start {
-            true => span.from_one(),
+            true => span.starting_at_one(),
             false => span,
         };
         self.set_stabilize(first(scenario.stabilize));

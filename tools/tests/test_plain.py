@@ -1,8 +1,9 @@
-"""The plain program of examples/plain against chordsim: the same traces and reports. Skipped if there is no rustc."""
+"""The plain programs of examples/plain against chordsim: the same traces and reports. Skipped if there is no rustc."""
 
 import re
 import shutil
 import subprocess
+from collections.abc import Iterator
 from pathlib import Path
 from tempfile import TemporaryDirectory
 from typing import ClassVar, NamedTuple
@@ -16,7 +17,7 @@ from tests.support.programs import ended, program
 from tests.support.worlds import EXAMPLES, ring, with_detail
 from tests.test_random import expected
 
-SOURCE = EXAMPLES / "plain" / "main.rs"
+SOURCES = {"plain": EXAMPLES / "plain" / "main.rs", "fast": EXAMPLES / "plain" / "fast.rs"}
 COMMAND = EXAMPLES / "plain" / "flatten"
 NAMES = (
     "ring", "churn64", "lossy64", "retries64", "half_crash", "join_storm", "slow_repair", "ninth_timeout", "join_stuck",
@@ -68,37 +69,41 @@ def generated(arguments: str) -> str:
 
 
 class Built(TestCase):
-    """Tests that need the plain program."""
+    """Tests that need the plain programs."""
 
     folder: ClassVar[Path]
 
     @classmethod
     def setUpClass(cls) -> None:
-        """Builds the plain program, which must have no warnings."""
+        """Builds the plain programs, which must have no warnings."""
         rustc = shutil.which("rustc")
         if rustc is None:
             raise SkipTest("there is no rustc")
         cls.folder = Path(cls.enterClassContext(TemporaryDirectory()))
-        command = [rustc, "--edition", "2021", "-O", "-D", "warnings", "-o", str(cls.folder / "plain"), str(SOURCE)]
-        done = subprocess.run(command, capture_output=True, text=True, check=False)
-        assert done.returncode == 0, done.stderr
+        for name, source in SOURCES.items():
+            command = [rustc, "--edition", "2021", "-O", "-D", "warnings", "-o", str(cls.folder / name), str(source)]
+            done = subprocess.run(command, capture_output=True, text=True, check=False)
+            assert done.returncode == 0, done.stderr
 
-    def plain(self, scenario: str, latency: str) -> Outcome:
-        """Runs the plain program on a scenario."""
+    def outcomes(self, scenario: str, latency: str) -> Iterator[tuple[str, Outcome]]:
+        """Runs each of the plain programs on a scenario."""
         flat, trace = self.folder / "flat", self.folder / "ours"
         flat.write_text(flat_form(read_scenario(scenario.encode(), latency.encode())), encoding="utf-8")
-        return outcome([str(self.folder / "plain"), str(flat), str(trace)], trace)
+        for name in SOURCES:
+            yield name, outcome([str(self.folder / name), str(flat), str(trace)], trace)
 
 
 class ReferenceTest(Built):
-    """The plain program and the reference simulator on the same scenarios."""
+    """The plain programs and the reference simulator on the same scenarios."""
 
     def compare(self, toml: str, csv: str) -> None:
         """The same bytes; if there are too many events, one trace is the beginning of the other."""
-        plain, (trace, report) = self.plain(toml, csv), expected(toml, csv)
-        self.assertEqual((plain.status, plain.report), (3, "") if report is None else (0, report))
-        longer, shorter = sorted((plain.trace, trace), key=len, reverse=True)
-        self.assertTrue(longer.startswith(shorter) if report is None else longer == shorter, "another trace")
+        trace, report = expected(toml, csv)
+        for name, plain in self.outcomes(toml, csv):
+            self.assertEqual((plain.status, plain.report), (3, "") if report is None else (0, report), name)
+            longer, shorter = sorted((plain.trace, trace), key=len, reverse=True)
+            same = longer.startswith(shorter) if report is None else longer == shorter
+            self.assertTrue(same, f"another trace of {name}")
 
     def test_extended_profile(self) -> None:
         """Random scenarios."""
@@ -122,19 +127,22 @@ class ReferenceTest(Built):
         text = generated(arguments)
         far = re.sub("x_us = .*\ny_us = .*\nheight_us = .*", lambda found: next(places, found.group()), text)
         for scenario in (text, far):
-            plain, (trace, report) = self.plain(scenario, ""), expected(scenario, "")
-            self.assertEqual((plain.report, plain.trace), (report, trace))
+            self.compare(scenario, "")
+
+    def test_ties(self) -> None:
+        """Timers of all nodes at the same times, and lists that are longer than those in place of the fast program."""
+        arguments = "--profile 4 --nodes 24 --list 12 --jitter 0us --latency 10ms --window 10ms --duration 6s"
+        self.compare(generated(f"{arguments} --lookup-gap 500ms..500ms"), "")
 
     def test_many_rows(self) -> None:
         """Rows of a latency file for more nodes than are in a table."""
         text = generated("--profile 4 --nodes 4097 --latency 2s --window 1ms --duration 10ms --lookups 0.5")
         rows = "".join(f"n{i},n{(7 * i + 1) % 4097},{1000 + i}\n" for i in range(1, 600))
-        plain, (trace, report) = self.plain(text, rows), expected(text, rows)
-        self.assertEqual((plain.report, plain.trace), (report, trace))
+        self.compare(text, rows)
 
 
 class PlainTest(Built):
-    """Both programs on the same scenarios."""
+    """The plain programs and chordsim on the same scenarios."""
 
     @classmethod
     def setUpClass(cls) -> None:
@@ -143,21 +151,21 @@ class PlainTest(Built):
         super().setUpClass()
 
     def compare(self, scenario: str, latency: str) -> int:
-        """Runs both programs on a scenario, compares what they write, and returns the status."""
-        plain = self.plain(scenario, latency)
+        """Runs the programs on a scenario, compares what they write, and returns the status."""
         path = {name: self.folder / name for name in ("scenario", "latency", "theirs")}
         path["scenario"].write_text(scenario, encoding="utf-8")
         path["latency"].write_text(latency, encoding="utf-8")
         inputs = ["--scenario", str(path["scenario"]), "--latency", str(path["latency"])]
         command = [str(program()), "run", "--serial", *inputs, "--trace", str(path["theirs"])]
         proved = outcome(command, path["theirs"])
-        self.assertEqual(plain[:3], proved[:3])
-        if plain.status == 0:
-            self.assertTrue(plain.trace == proved.trace, "another trace")
-        else:
-            # How much of the trace has been written by then is not the same.
-            self.assertTrue(plain.trace.startswith(proved.trace) or proved.trace.startswith(plain.trace))
-        return plain.status
+        for name, plain in self.outcomes(scenario, latency):
+            self.assertEqual(plain[:3], proved[:3], name)
+            if plain.status == 0:
+                self.assertTrue(plain.trace == proved.trace, f"another trace of {name}")
+            else:
+                # How much of the trace has been written by then is not the same.
+                self.assertTrue(plain.trace.startswith(proved.trace) or proved.trace.startswith(plain.trace), name)
+        return proved.status
 
     def test_examples(self) -> None:
         """Those that take no more than a second."""
@@ -173,14 +181,14 @@ class PlainTest(Built):
                 self.compare(*scenario_files(seed))
 
     def test_too_many_events(self) -> None:
-        """Both fail at the same event."""
+        """All fail at the same event."""
         scenario = (EXAMPLES / "ring.toml").read_text(encoding="utf-8")
         longer = scenario.replace("duration_us = 200\n", "duration_us = 20000\n")
         self.assertEqual(self.compare(f"max_events = 100\n{longer}", ""), 3)
 
 
 class FlattenTest(TestCase):
-    """The flat form, which needs neither program."""
+    """The flat form, which needs none of the programs."""
 
     def test_flat_form(self) -> None:
         """The ring with a row of latencies."""

@@ -29,7 +29,7 @@ def ended(main: Callable[[list[str]], int], *arguments: str) -> tuple[int, str, 
 
 @functools.cache
 def program_or_reason() -> Path | str:
-    """The program, or why there is none. The launcher takes half a second to say it, so that it is asked once."""
+    """The program, or why there is none. The launcher looks at all sources to say it, so that it is asked once."""
     try:
         return find_program(build=False) or "there is no program of these sources: build it, or name one by CHORDSIM"
     except Failure as fault:
