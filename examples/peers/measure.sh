@@ -6,7 +6,8 @@
 #   examples/peers/measure.sh PHOLD [TURNS]     the program `phold`, and the number of turns, 3 by default
 #
 # It needs rustc, g++ and Debian's libns3-dev, and GNU time (/usr/bin/time). All programs must print the same report.
-# Without Debian's libsimgrid-dev, and where the memory is too small for SimGrid's actors, it prints `-` for SimGrid.
+# SimGrid, which is by far the slowest, runs in the first turn alone. Without Debian's libsimgrid-dev, or if the memory
+# is too small for its actors, it prints `-` for SimGrid.
 set -eu
 here=$(CDPATH='' cd -- "$(dirname -- "$0")" && pwd)
 phold=$1
@@ -36,7 +37,7 @@ take() {
 # One row: nodes, jobs, remote share, duration.
 row() {
     rm -f "$work"/least.*
-    for _ in $(seq "$turns"); do
+    for turn in $(seq "$turns"); do
         set -- "$1" "$2" "$3" "$4"
         options="--nodes $1 --jobs $2 --remote $3 --duration $4"
         : > "$work/report.serial"
@@ -44,7 +45,7 @@ row() {
         for workers in 1 2 4; do take "workers$workers" "$phold" $options --workers "$workers"; done
         take plain "$work/plain" "$1" "$2" "$3" "$4"
         take ns3 "$work/ns3" "$1" "$2" "$3" "$4"
-        [ ! -e "$work/simgrid" ] || take simgrid "$work/simgrid" "$1" "$2" "$3" "$4"
+        [ ! -e "$work/simgrid" ] || [ "$turn" != 1 ] || take simgrid "$work/simgrid" "$1" "$2" "$3" "$4"
     done
     events=$(awk '$1 == "events" { print $2 }' "$work/report.serial")
     printf 'nodes=%s jobs=%s remote=%s events=%s ' "$1" "$2" "$3" "$events"
