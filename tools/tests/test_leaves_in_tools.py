@@ -351,7 +351,7 @@ class StudyTest(TestCase):
         traffic = Traffic(Scope(600, 100, 0, 0, None, True, True))
         part = b"5 a leave\n5 a send leave b\n150 b leave\n150 b send leave a\n160 b drop leave a\n"
         assert traffic.sift(part) == b"5 a leave\n150 b leave\n160 b drop leave a\n"
-        traffic.read(170, "170 c lose leave a".split())
+        traffic.read("170 c lose leave a")
         assert (traffic.lines["send leave"], traffic.lines["lose leave"]) == (2, 1)
         counts = in_pieces(traffic)["sent-leave"]
         assert (counts[0], sum(counts)) == (1, 3)

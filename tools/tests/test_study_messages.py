@@ -263,12 +263,12 @@ class StudyMessagesTest(TestCase):
     def test_detail_after_a_warmup(self) -> None:
         """The lines from 10 on. A lost request has two lines, and another lost message has one."""
         traffic = Traffic(scope_of({"duration_us": 100, "node": [], "detail": True}, 50, 10, 0))
-        for fields in map(str.split, (
+        for line in (
             "9 a ask step b call=3", "10 a lose step b", "10 a ask step b call=3", "11 a again step b",
             "11 a ask step b call=3", "12 b send step-reply a", "13 b lose step-reply a", "14 b drop ping a",
             "15 a send notify b",
-        )):
-            traffic.read(int(fields[0]), fields)
+        ):
+            traffic.read(line)
         assert {kind: count for kind, count in exact(traffic).items() if count} == {
             "step": 2, "step-reply": 2, "notify": 1}
 

@@ -1,8 +1,10 @@
 """The answers of a run: how many name each node, and how long they take beside a round trip to the node they name."""
 
 from collections import Counter
+from collections.abc import Callable, Iterable
 
 from chordsim_tools.members import Members
+from chordsim_tools.study.reading import Ended, LineReader
 from chordsim_tools.study.repairs import Latency
 from chordsim_tools.study.served import Scope
 from chordsim_tools.study.survival import percentile
@@ -13,7 +15,7 @@ STRETCHES = (10, 50, 90)
 """Those of the stretch, as articles on routing give it."""
 
 
-class Answers:
+class Answers(LineReader):
     """Reads the answers to judged lookups from the lines of a trace."""
 
     def __init__(self, scope: Scope, members: Members, latency: Latency) -> None:
@@ -24,20 +26,18 @@ class Answers:
         self.named: Counter[str] = Counter()
         self.stretches: list[int] = []
 
-    def read(self, line: str) -> None:
-        """Takes one line."""
-        fields = line.split(" ")
-        if fields[2] == "found":
-            self.found(int(fields[0]), fields)
+    def enders(self) -> Iterable[Callable[[Ended], None]]:
+        """All lookups that end."""
+        return [self.end]
 
-    def found(self, time: int, fields: list[str]) -> None:
-        """A lookup has found an owner: TIME NODE found KEY OWNER hops=H timeouts=O us=U."""
-        asker, owner, taken = fields[1], fields[4], int(fields[7].removeprefix("us="))
-        if self.scope.half(time - taken) is None:
+    def end(self, ended: Ended) -> None:
+        """A lookup ends. It has an answer if it has found an owner."""
+        owner = ended.owner
+        if owner is None or self.scope.half(ended.begun) is None:
             return
         self.named[owner] += 1
-        if owner != asker:
-            self.stretches.append(1000 * taken // (2 * self.latency(asker, owner)))
+        if owner != ended.asker:
+            self.stretches.append(1000 * ended.us // (2 * self.latency(ended.asker, owner)))
 
     def numbers(self) -> dict[str, int | str | None]:
         """What a row of runs.csv has of it, at the end of the run."""

@@ -2,11 +2,13 @@
 
 import json
 from collections import Counter
+from collections.abc import Callable, Iterable
 from pathlib import Path
 from typing import Any
 
 from chordsim_tools.files import read_input, sum_of, write_whole
 from chordsim_tools.study.plan import Study
+from chordsim_tools.study.reading import Ended, LineReader, Taker
 from chordsim_tools.study.tables import Row, csv_text, write_tables
 
 POINTS = 100
@@ -14,7 +16,7 @@ POINTS = 100
 CDF, STEPS, TAIL = "cdf.csv", "steps.csv", "tail.csv"
 
 
-class Curves:
+class Curves(LineReader):
     """Reads the lines of a trace. What begins before `warmup_us`, or in the cool-down, counts in the steps alone."""
 
     def __init__(self, duration_us: int, window_us: int, warmup_us: int, cooldown_us: int) -> None:
@@ -27,19 +29,27 @@ class Curves:
         steps = (duration_us + window_us - 1) // window_us
         self.counts = {word: [0] * steps for word in ("timeout", "lose", "again")}
 
-    def read(self, line: str) -> None:
-        """Takes one line."""
-        fields = line.split(" ", 8)
-        word = fields[2]
-        if word in self.counts:
-            self.counts[word][int(fields[0]) // self.window_us] += 1
-        elif word == "lookup":
-            self.begun += int(fields[0]) in self.judged
-        elif word == "found":
-            taken = int(fields[7].removeprefix("us="))
-            if int(fields[0]) - taken in self.judged:
-                self.times.append(taken)
-                self.hops[int(fields[5].removeprefix("hops="))] += 1
+    def takers(self) -> Iterable[tuple[str, Taker]]:
+        """Lookups that begin, and what the network does."""
+        return [("lookup", self.begin), *((word, self.count) for word in self.counts)]
+
+    def enders(self) -> Iterable[Callable[[Ended], None]]:
+        """All lookups that end."""
+        return [self.end]
+
+    def count(self, time: int, fields: list[str]) -> None:
+        """A call times out, or a message is lost or sent again."""
+        self.counts[fields[2]][time // self.window_us] += 1
+
+    def begin(self, time: int, _fields: list[str]) -> None:
+        """A lookup begins."""
+        self.begun += time in self.judged
+
+    def end(self, ended: Ended) -> None:
+        """A lookup ends. One that is lost has no point of a curve."""
+        if ended.owner is not None and ended.begun in self.judged:
+            self.times.append(ended.us)
+            self.hops[ended.hops] += 1
 
     def numbers(self) -> dict[str, Any]:
         """What a result keeps: the times at equal shares of the found lookups, the first and the last among them."""

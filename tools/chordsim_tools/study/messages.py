@@ -5,13 +5,14 @@ import re
 import sys
 from bisect import bisect_left
 from collections import Counter
-from collections.abc import Iterator
+from collections.abc import Callable, Iterable, Iterator
 from dataclasses import dataclass
 from typing import Any
 
 from chordsim_tools.messages import MESSAGES, REPLIES, REQUESTS, messages_made
 from chordsim_tools.study.asked import AskLines
 from chordsim_tools.study.pieces import COLUMN, cell_of
+from chordsim_tools.study.reading import Ended, LineReader, Taker
 from chordsim_tools.study.served import PIECES, Population, Scope
 
 ENDS = ("crash", "join-failed")
@@ -30,7 +31,7 @@ def time_of(line: bytes) -> int:
     return int(word) if word.isdigit() else sys.maxsize
 
 
-class Traffic:
+class Traffic(LineReader):
     """Counts the lines of a trace that say something of messages, from `warmup_us` to the end."""
 
     def __init__(self, scope: Scope) -> None:
@@ -43,18 +44,30 @@ class Traffic:
         """What lines say was made in each piece of the judged span."""
         self.asked = AskLines()
 
-    def read(self, time: int, fields: list[str]) -> None:
-        """Takes a line that is not of an audit."""
-        word = fields[2]
-        if time < self.scope.warmup_us:
-            return
-        if word in ("found", "lost"):
-            hops, timeouts = (int(field.partition("=")[2]) for field in fields[-3:-1])
-            self.hops += hops
-            self.timeouts += timeouts
-        if word in ("drop", "lose", "late", "ask", "send"):
-            word = f"{word} {fields[3]}"
-        self.add(word, time, 1)
+    def takers(self) -> Iterable[tuple[str, Taker]]:
+        """Lines of messages, and those of nodes that come and go."""
+        return [
+            *((word, self.message) for word in ("drop", "lose", "ask", "send")),
+            *((word, self.move) for word in ("join", "member", *ENDS)),
+        ]
+
+    def enders(self) -> Iterable[Callable[[Ended], None]]:
+        """All lookups that end."""
+        return [self.end]
+
+    def message(self, time: int, fields: list[str]) -> None:
+        """A message is dropped, lost or, with detail, made."""
+        self.add(f"{fields[2]} {fields[3]}", time, 1)
+
+    def move(self, time: int, fields: list[str]) -> None:
+        """A node comes or goes."""
+        self.add(fields[2], time, 1)
+
+    def end(self, ended: Ended) -> None:
+        """A lookup ends."""
+        if ended.time >= self.scope.warmup_us:
+            self.hops += ended.hops
+            self.timeouts += ended.timeouts
 
     def add(self, word: str, time: int, count: int) -> None:
         """Counts so many more from `warmup_us` on, and in the piece of their time, if it is judged."""

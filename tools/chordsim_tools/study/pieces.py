@@ -1,8 +1,9 @@
 """Numbers in pieces of the judged span, by which a page sees whether they are steady."""
 
-from collections.abc import Iterable
+from collections.abc import Callable, Iterable
 
 from chordsim_tools.members import Members
+from chordsim_tools.study.reading import Ended, LineReader, Taker
 from chordsim_tools.study.served import PIECES, Integral, Scope
 
 LEAST_LOOKUPS = {"50": 10, "90": 20, "99": 100, "99.9": 1000}
@@ -24,7 +25,7 @@ def cell_of(values: Iterable[int]) -> str:
     return " ".join(map(str, values))
 
 
-class Pieces:
+class Pieces(LineReader):
     """Reads the lines of a trace. Lookups count by their begin; those that are cut off are left out."""
 
     def __init__(self, scope: Scope, members: Members) -> None:
@@ -36,26 +37,30 @@ class Pieces:
         self.lost = [0] * PIECES
         self.sums = {word: [0] * PIECES for word in ("hops", "timeouts", "us")}
 
-    def read(self, line: str) -> None:
-        """Takes one line."""
-        fields = line.split(" ")
-        if fields[2] in ("member", "create", "crash", "leave", "stranded"):
-            self.member_time.change(int(fields[0]), len(self.members.places) - self.member_time.count)
-        elif fields[2] in ("found", "lost"):
-            self.end(int(fields[0]), fields)
+    def takers(self) -> Iterable[tuple[str, Taker]]:
+        """The lines that change the members."""
+        return [(word, self.move) for word in ("member", "create", "crash", "leave", "stranded")]
 
-    def end(self, time: int, fields: list[str]) -> None:
+    def enders(self) -> Iterable[Callable[[Ended], None]]:
+        """All lookups that end."""
+        return [self.end]
+
+    def move(self, time: int, _fields: list[str]) -> None:
+        """A member comes or goes."""
+        self.member_time.change(time, len(self.members.places) - self.member_time.count)
+
+    def end(self, ended: Ended) -> None:
         """A lookup ends."""
-        ended = {word: int(number) for word, _, number in (field.partition("=") for field in fields[-3:])}
-        place = self.scope.piece(time - ended["us"])
+        place = self.scope.piece(ended.begun)
         if place is None:
             return
-        for word, number in ended.items():
-            self.sums[word][place] += number
-        if fields[2] == "found":
-            self.times[place].append(ended["us"])
-        else:
+        self.sums["hops"][place] += ended.hops
+        self.sums["timeouts"][place] += ended.timeouts
+        self.sums["us"][place] += ended.us
+        if ended.owner is None:
             self.lost[place] += 1
+        else:
+            self.times[place].append(ended.us)
 
     def numbers(self) -> dict[str, int | str | None]:
         """What a row of runs.csv has of it, at the end of the run."""

@@ -6,6 +6,7 @@ not vanish."""
 
 from collections.abc import Iterable
 from dataclasses import dataclass, replace
+from functools import cached_property
 from typing import Any
 
 from chordsim_tools.scenario.defaults import joins_forever
@@ -30,9 +31,14 @@ class Scope:
         """The end of the span of the judged lookups."""
         return self.duration_us - self.cooldown_us
 
+    @cached_property
+    def halves(self) -> tuple[int, int, int]:
+        """Where the two halves of this span begin, and its end."""
+        return self.warmup_us, (self.warmup_us + self.end()) // 2, self.end()
+
     def bounds(self) -> list[int]:
-        """Where the two halves of this span begin, its end, and the end of the run."""
-        return [self.warmup_us, (self.warmup_us + self.end()) // 2, self.end(), self.duration_us]
+        """The same, and the end of the run."""
+        return [*self.halves, self.duration_us]
 
     def edges(self) -> list[int]:
         """The first time of each piece of this span, and its end."""
@@ -41,7 +47,7 @@ class Scope:
 
     def piece(self, time: int) -> int | None:
         """The piece of this span in which a time is."""
-        first, end = self.warmup_us, self.end()
+        first, _, end = self.halves
         return (time - first) * PIECES // (end - first) if first <= time < end else None
 
     def within(self, begin: int, end: int) -> "Scope":
@@ -50,9 +56,8 @@ class Scope:
 
     def half(self, begin: int) -> int | None:
         """The half in which a lookup begins, if it is judged."""
-        if not self.warmup_us <= begin < self.end():
-            return None
-        return int(begin >= self.bounds()[1])
+        first, second, end = self.halves
+        return int(begin >= second) if first <= begin < end else None
 
 
 def scope_of(top: dict[str, Any], window_us: int, warmup_us: int, cooldown_us: int) -> Scope:

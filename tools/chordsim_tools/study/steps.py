@@ -34,6 +34,8 @@ class Steps:
         self.population = population
         self.steps = [Step() for _ in range((scope.duration_us + scope.window_us - 1) // scope.window_us)]
         self.at = 0
+        self.until = scope.window_us
+        """When the open step is over."""
         self.since = 0
 
     def now(self) -> Step:
@@ -46,10 +48,11 @@ class Steps:
 
     def go_to(self, time: int, members: int) -> None:
         """Closes the steps that end by a time; so many nodes have been members since the last line."""
-        while self.at < len(self.steps) and (self.at + 1) * self.scope.window_us <= time:
+        while self.until <= time and self.at < len(self.steps):
             self.add_away(self.end_of(self.at))
             self.steps[self.at].members = members
             self.at += 1
+            self.until += self.scope.window_us
 
     def end_of(self, step: int) -> int:
         """The end of a step. The last one may be shorter."""

@@ -14,6 +14,7 @@ from chordsim_tools.study.document import toml_text
 from chordsim_tools.study.messages import Span, message_numbers, time_of
 from chordsim_tools.study.pieces import Pieces
 from chordsim_tools.study.program import Program
+from chordsim_tools.study.reading import Readers
 from chordsim_tools.study.repairs import Latency, Repairs, latencies_of
 from chordsim_tools.study.served import scope_of
 from chordsim_tools.study.trace import TraceReader
@@ -76,21 +77,14 @@ def result_of(task: Task, program: Path, scenario: Path, latency: Path | None) -
     latency_us = latencies_of(top, task.latency or b"")
     pieces = Pieces(reader.scope, reader.members)
     answers = Answers(reader.scope, reader.members, latency_us)
-
-    def read(line: str) -> None:
-        """Each reader takes a line."""
-        reader.read(line)
-        curves.read(line)
-        trouble.read(line)
-        pieces.read(line)
-        answers.read(line)
+    readers = Readers(reader, curves, trouble, pieces, answers)
 
     def sift(part: bytes) -> bytes:
         """The lines of detail are counted many at once, and the others are left."""
         reader.traffic.asked.forget(time_of(part) - top["timeout_us"])
         return reader.traffic.sift(part)
 
-    report = caller.run(read, sift)
+    report = caller.run(readers.read, sift)
     if (reader.all_lookups, reader.all_found) != (report.get("lookups"), report.get("found")):
         raise Failure(3, "the report does not count the lines of the trace")
     numbers = reader.numbers()

@@ -1,16 +1,22 @@
 """What a study takes from a trace: right and wrong answers, times, audits, members, and numbers over time."""
 
-from collections.abc import Mapping
+from collections.abc import Callable, Iterable, Mapping
+from itertools import chain
 
 from chordsim_tools.members import Members
 from chordsim_tools.study.messages import Traffic
 from chordsim_tools.study.pieces import COLUMN, cell_of
+from chordsim_tools.study.reading import Ended, LineReader, Taker
 from chordsim_tools.study.served import Scope
 from chordsim_tools.study.steps import Steps
 from chordsim_tools.study.view import Numbers, View
 
 
-class TraceReader:
+MOVES = ("join", "member", "create", "crash", "leave", "stranded", "join-failed", "ignored")
+"""The words of lines by which a node comes, goes or does not do what a command says."""
+
+
+class TraceReader(LineReader):
     """Reads the lines of a trace in their order. What begins outside of the judged spans counts in the steps alone."""
 
     def __init__(self, members: Members, scope: Scope, spans: Mapping[str, Scope] | None = None) -> None:
@@ -24,6 +30,8 @@ class TraceReader:
         self.judged, self.population = self.view.judged, self.view.population
         self.traffic = Traffic(scope)
         self.over_time = Steps(scope, self.population)
+        self.open: dict[str, list[int]] = {}
+        """When the lookups of each node began that have not ended."""
         self.all_lookups = self.all_found = 0
         self.audit_members: list[int] = []
         self.whole = self.torn = 0
@@ -31,53 +39,61 @@ class TraceReader:
         self.ended_ringless = self.right_ringless = 0
         self.stranded_at: int | None = None
 
-    def read(self, line: str) -> None:
-        """Takes one line."""
-        fields = line.split(" ")
-        time = int(fields[0])
-        self.over_time.go_to(time, len(self.members.places))
-        if fields[1] == "audit":
-            self.audit(time, fields)
-            return
-        self.traffic.read(time, fields)
-        match fields[2]:
-            case "lookup":
-                self.lookup(time, fields[1])
-            case "found":
-                self.found(time, fields)
-            case "lost":
-                self.lost(time, fields)
-            case "busy":
-                self.refuse(time, fields[1])
-            case "join" | "member" | "create" | "crash" | "leave" | "stranded" | "join-failed" | "ignored":
-                self.move(time, fields)
+    def takers(self) -> Iterable[tuple[str, Taker]]:
+        """All lines that change something, and those of messages."""
+        return [
+            ("audit", self.audit), ("lookup", self.lookup), ("busy", self.refuse),
+            *((word, self.move) for word in MOVES), *self.traffic.takers(),
+        ]
 
-    def lookup(self, time: int, name: str) -> None:
+    def enders(self) -> Iterable[Callable[[Ended], None]]:
+        """All lookups that end."""
+        return [self.end, *self.traffic.enders()]
+
+    def go_to(self, time: int) -> None:
+        """Closes the steps that are over. Call it before anything changes."""
+        self.over_time.go_to(time, len(self.members.places))
+
+    def lookup(self, time: int, fields: list[str]) -> None:
         """A lookup begins."""
+        self.go_to(time)
+        self.open.setdefault(fields[1], []).append(time)
         self.all_lookups += 1
         self.over_time.now().lookups += 1
         for view in self.views:
-            view.judged.begin(time, name)
+            view.judged.begin(time)
 
-    def found(self, time: int, fields: list[str]) -> None:
+    def end(self, ended: Ended) -> None:
+        """A lookup ends."""
+        self.go_to(ended.time)
+        begins = self.open.get(ended.asker, [])
+        if ended.begun in begins:
+            begins.remove(ended.begun)
+        if ended.owner is None:
+            self.lost(ended)
+        else:
+            self.found(ended, ended.owner)
+
+    def found(self, ended: Ended, owner: str) -> None:
         """A lookup has found an owner."""
-        right = self.members.is_owner(fields[4], int(fields[3]))
+        right = self.members.is_owner(owner, ended.key)
         self.all_found += 1
-        self.over_time.now().found += 1
-        self.over_time.now().right += right
+        step = self.over_time.now()
+        step.found += 1
+        step.right += right
         self.end_without_ring(right)
-        begun = self.over_time.begun_at(time - int(fields[7].removeprefix("us=")))
+        begun = self.over_time.begun_at(ended.begun)
         begun.ended += 1
         begun.right_of_ended += right
         for view in self.views:
-            view.judged.answer(time, fields, right)
+            view.judged.answer(ended, owner, right)
 
-    def lost(self, time: int, fields: list[str]) -> None:
+    def lost(self, ended: Ended) -> None:
         """A lookup ends without an owner."""
         self.end_without_ring(False)
-        self.over_time.begun_at(time - int(fields[6].removeprefix("us="))).ended += 1
+        self.over_time.begun_at(ended.begun).ended += 1
         for view in self.views:
-            view.judged.give_up(time, fields)
+            view.judged.give_up(ended)
 
     def end_without_ring(self, right: bool) -> None:
         """A lookup ends. It counts if the last audit has found no ring."""
@@ -85,20 +101,25 @@ class TraceReader:
             self.ended_ringless += 1
             self.right_ringless += right
 
-    def refuse(self, time: int, name: str) -> None:
+    def refuse(self, time: int, fields: list[str]) -> None:
         """A lookup of a node cannot begin."""
+        self.go_to(time)
+        name = fields[1]
         self.over_time.now().refused += self.population.is_up.get(name, False)
         for view in self.views:
             view.judged.refuse(time, name, view.population)
 
     def move(self, time: int, fields: list[str]) -> None:
         """A node comes, goes or does not do what a command says."""
+        self.go_to(time)
         name, word = fields[1], fields[2]
         self.over_time.add_away(time)
         if fields[2:4] == ["ignored", "lookup"]:
             self.over_time.now().refused += self.population.is_up.get(name, False)
         for view in self.views:
             view.move(time, fields)
+        if word in ("crash", "leave"):
+            self.cut_off(time, name)
         if word in ("member", "create"):
             self.members.add(name, time)
         elif word in ("crash", "leave", "stranded"):
@@ -106,8 +127,15 @@ class TraceReader:
         if word == "stranded" and self.stranded_at is None:
             self.stranded_at = time
 
+    def cut_off(self, time: int, name: str) -> None:
+        """A node crashes or leaves: its lookups are cut off."""
+        begins = self.open.pop(name, [])
+        for view in self.views:
+            view.judged.go(time, begins)
+
     def audit(self, time: int, fields: list[str]) -> None:
         """An audit: TIME audit members=M dead=D ring=R ordered=yes|no ..."""
+        self.go_to(time)
         facts = dict(word.split("=") for word in fields[2:])
         if facts["ring"] != "0":
             self.ringless_since = None
@@ -133,8 +161,10 @@ class TraceReader:
     def numbers(self) -> Numbers:
         """What a row of runs.csv has beside the report. Call it once, at the end of the trace."""
         self.over_time.finish(len(self.members.places))
+        begins = list(chain.from_iterable(self.open.values()))
+        self.open = {}
         for view in self.views:
-            view.end()
+            view.end(begins)
         audits = len(self.audit_members)
         return {
             **self.view.judged_numbers(),

@@ -1,16 +1,18 @@
 """What timeouts do: members that are taken for dead, successors that are removed, and members that strand."""
 
 from collections import Counter
+from collections.abc import Iterable
 from typing import Any
 
 from chordsim_tools.members import Members
 from chordsim_tools.study.asked import AskLines
+from chordsim_tools.study.reading import LineReader, Taker
 
-WORDS = ("timeout", "again", "stranded", "join-failed")
+WORDS = ("again", "stranded", "join-failed")
 STATES = ("get-state", "state-reply")
 
 
-class Trouble:
+class Trouble(LineReader):
     """Counts from `warmup_us` to the end. Each line is read here after the members have changed by it."""
 
     def __init__(self, members: Members, top: dict[str, Any], warmup_us: int, asked: AskLines | None = None) -> None:
@@ -25,17 +27,25 @@ class Trouble:
         self.states_lost: dict[tuple[str, str], int] = {}
         self.asked = asked
 
-    def read(self, line: str) -> None:
-        """Takes one line."""
-        fields = line.split(" ", 5)
-        time, name, word = int(fields[0]), fields[1], fields[2]
-        if word == "lose" and fields[3] in STATES:
-            asker, asked = (name, fields[4]) if fields[3] == STATES[0] else (fields[4], name)
+    def takers(self) -> Iterable[tuple[str, Taker]]:
+        """Messages that are lost, timeouts, and what is only counted."""
+        return [("lose", self.lose), ("timeout", self.time_out), *((word, self.count) for word in WORDS)]
+
+    def lose(self, time: int, fields: list[str]) -> None:
+        """A message is lost: TIME NODE lose KIND RECEIVER."""
+        if fields[3] in STATES:
+            asker, asked = (fields[1], fields[4]) if fields[3] == STATES[0] else (fields[4], fields[1])
             self.states_lost[asker, asked] = time
-        if word in WORDS:
-            self.lines[word] += time >= self.warmup_us
-            if word == "timeout" and self.members.is_member(fields[3]):
-                self.taken_for_dead(time, (name, fields[3]))
+
+    def count(self, time: int, fields: list[str]) -> None:
+        """A line of another word."""
+        self.lines[fields[2]] += time >= self.warmup_us
+
+    def time_out(self, time: int, fields: list[str]) -> None:
+        """A node is taken for dead: TIME NODE timeout SILENT."""
+        self.count(time, fields)
+        if self.members.is_member(fields[3]):
+            self.taken_for_dead(time, (fields[1], fields[3]))
 
     def taken_for_dead(self, time: int, pair: tuple[str, str]) -> None:
         """A member is taken for dead. It leaves a list if it was asked for its state and that or the reply was lost.

@@ -26,12 +26,10 @@ class View:
         if word == "ignored" and rest == ["lookup"]:
             self.judged.refuse(time, name, self.population)
         self.population.read(time, name, word, rest[0] if rest else None)
-        if word in ("crash", "leave"):
-            self.judged.go(time, name)
 
-    def end(self) -> None:
-        """The run ends."""
-        self.judged.finish()
+    def end(self, begins: Iterable[int]) -> None:
+        """The run ends, and cuts off the lookups that began at these times."""
+        self.judged.finish(begins)
         self.population.end(self.scope.duration_us)
 
     def judged_numbers(self) -> Numbers:
