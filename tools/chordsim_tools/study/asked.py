@@ -6,11 +6,11 @@ import re
 from dataclasses import dataclass
 
 LINE = re.compile(
-    rb"^(\d+) ([^ \n]+) (?:ask (?:step|(get-state)) ([^ \n]+) call=(\d+)(?: (key=[^\n]+))?"
-    rb"|lookup (\d+)|(?:found|lost) (\d+)[^\n]* timeouts=(\d+) us=(\d+)|(crash|leave))$", re.MULTILINE
+    rb"\n(\d+) ([^ \n]+) (?:ask (?:step|(get-state)) ([^ \n]+) call=(\d+)(?: (key=[^\n]+))?"
+    rb"|lookup (\d+)|(?:found|lost) (\d+)[^\n]* timeouts=(\d+) us=(\d+)|(crash|leave))(?=\n)"
 )
 """A request for a step or a state, with the lookup that it is of; begin and end of a lookup; the end of its asker's
-life."""
+life. Each line has the line feed before it, since that is found sooner than the begin of a line."""
 
 
 @dataclass(slots=True)
@@ -35,7 +35,7 @@ class AskLines:
     def read(self, lines: bytes) -> int:
         """Takes whole lines of a trace; gives how many messages they add."""
         count, nobody = 0, Asked()
-        for time, node, state, asked, call, lookup, begun, ended, timeouts, taken, goes in LINE.findall(lines):
+        for time, node, state, asked, call, lookup, begun, ended, timeouts, taken, goes in LINE.findall(b"\n" + lines):
             if lookup:
                 one = self.open.get(node, {}).get(lookup)
                 if one is not None:

@@ -17,8 +17,8 @@ from chordsim_tools.study.served import PIECES, Population, Scope
 
 ENDS = ("crash", "join-failed")
 """The words of lines after which a node is down, in the profiles whose messages are estimated."""
-ASKS, SENDS = (re.compile(rb"^\d+ [^ \n]+ %b [^\n]*\n" % word, re.MULTILINE) for word in (b"ask", b"send"))
-"""Lines of detail."""
+ASKS, SENDS = (re.compile(rb"\n\d+ [^ \n]+ %b [^\n]*(?=\n)" % word) for word in (b"ask", b"send"))
+"""Lines of detail, each with the line feed before it, which is found sooner than the begin of a line."""
 OF_LOOKUPS = "of lookups"
 """The word for the messages of users' lookups in a run with detail, among those of its lines."""
 MADE = (*(f"ask {kind}" for kind in REQUESTS), *(f"send {kind}" for kind in MESSAGES if kind not in REQUESTS))
@@ -29,6 +29,11 @@ def time_of(line: bytes) -> int:
     """The time of the first line; the report comes after all times."""
     word = line.partition(b" ")[0]
     return int(word) if word.isdigit() else sys.maxsize
+
+
+def without(lines: re.Pattern[bytes], part: bytes) -> bytes:
+    """Whole lines of a trace, but for some."""
+    return lines.sub(b"", b"\n" + part)[1:]
 
 
 class Traffic(LineReader):
@@ -85,10 +90,10 @@ class Traffic(LineReader):
         for time, lines in self.parted(part):
             for made in MADE:
                 self.add(made, time, lines.count(f" {made} ".encode()))
-        rest = SENDS.sub(b"", part)
+        rest = without(SENDS, part)
         for time, lines in self.parted(rest):
             self.add(OF_LOOKUPS, time, self.asked.read(lines))
-        return ASKS.sub(b"", rest)
+        return without(ASKS, rest)
 
     def parted(self, part: bytes) -> Iterator[tuple[int, bytes]]:
         """These lines, parted if a piece of the judged span begins or ends among them, each part with its first time.
