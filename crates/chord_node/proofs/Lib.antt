@@ -6,5 +6,6 @@ pub mod Rings
 pub mod Rotations
 pub mod RotationStart
 pub mod Rounds
+pub mod RunLists
 pub mod Sorting
 pub mod Tried

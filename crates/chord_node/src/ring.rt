@@ -8,6 +8,7 @@ ghost use Rattle.chord_node.specs.Places.{placed, ring, successor, two_rounds};
 ghost use Rattle.chord_node.specs.Ring.{clockwise, finger, first_member, first_via, initial_ring, initial_state, or_itself};
 
 use crate::bootstraps::first_bootstrap;
+use crate::fingers::Fingers;
 use crate::lists::{first_other, push_if_empty};
 use crate::rotation::first_looked_up;
 use crate::state::{NodeState, Status};
@@ -172,7 +173,7 @@ fn fingers(
     scenario: &Scenario,
     rounds: &[Place],
     node: u32,
-) -> Result<Listed<u32>, Memory>
+) -> Result<Fingers, Memory>
     requires node { node < node_count scenario.now }
     requires member { is_initial scenario.now node ≡ true }
     requires rounds { rounds.now ≡ two_rounds scenario.now }
@@ -181,7 +182,7 @@ fn fingers(
     scenario.recall_range();
     let circle = scenario.circle();
     let home = scenario.ident(node);
-    let mut fingers = Listed::new(alloc);
+    let mut fingers = Fingers::new(alloc);
     let mut last = node;
     let mut beyond = 2;
     for i in 2..circle.bits() + 1 {
@@ -192,7 +193,8 @@ fn fingers(
         }
         fingers.push(last)?;
     }
-    Ok(fingers)
+    // A copy has no room to spare.
+    fingers.try_clone()
 }
 
 /// The number of timers of a member at the start: two, one more for its generated lookups if the

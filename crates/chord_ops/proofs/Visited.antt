@@ -1,8 +1,6 @@
 -- A node that is looked at twice in a row counts once, in the search for the closest preceding node.
-use Rattle.std.proofs.Common.{◌≡◌, ◌==◌, ℕ, Bool, true, false, List, [], ◌∷◌, ◌++◌, ◌∙◌, refl, nat_lt, arith, Some, None}
-use Rattle.std.proofs.lemmas.Grind.{common_steps}
-use Rattle.std.proofs.lemmas.Bool.Decides.{nat_tests}
-use Rattle.std.specs.List.{filter, fold, list_all}
+use Rattle.std.proofs.Common.{◌≡◌, ℕ, Bool, true, false, List, [], ◌∷◌, ◌++◌, ◌∙◌, refl, nat_lt, Some, None}
+use Rattle.std.specs.List.{filter, fold}
 use Rattle.std.specs.Prelude.{if◌then◌else◌}
 use Rattle.chord_scenario.specs.declared.scenario.Scenario.{Scenario}
 use Rattle.chord_circle.specs.Circle.{distance}
@@ -27,15 +25,6 @@ visited_again sc n key avoid c x =
       | true ↦ farther_again sc n c x (nat_lt (far sc n c) (far sc n x)) refl
       | false ↦ refl
     ]
-
--- to look at nodes that are all the last one changes nothing
-pub visited_repeats : (sc : Scenario) (n key : ℕ) (avoid : List ℕ) (c x : ℕ) (xs : List ℕ) → visited sc n key avoid c x ≡ c → list_all (λ y. y == x) xs ≡ true
-    → fold (visited sc n key avoid) c xs ≡ c
-visited_repeats sc n key avoid c x [] again all = refl
-visited_repeats sc n key avoid c x (y ∷ ys) again all =
-    let same : y ≡ x = grind (arith, nat_tests, common_steps) in
-    let rest : list_all (λ z. z == x) ys ≡ true = grind (arith, nat_tests, common_steps) in
-    rw (same, again) (visited_repeats sc n key avoid c x ys again rest)
 
 -- to search among the nodes that precede the key is to look at all nodes one after the other
 pub visited_all : (sc : Scenario) (n key : ℕ) (avoid : List ℕ) (c : ℕ) (xs : List ℕ)

@@ -41,9 +41,9 @@ fn nearest_finger(scenario: &Scenario, state: &NodeState, silent: u32) -> Option
     ensures known { IfSome result (λ node. node < node_count scenario.now) }
 {
     let mut nearest = None;
-    for finger in state.fingers.as_slice() {
-        if *finger != state.me && *finger != silent {
-            nearest = nearer(scenario, state.me, nearest, *finger);
+    for run in state.fingers.runs() {
+        if run.node != state.me && run.node != silent {
+            nearest = nearer(scenario, state.me, nearest, run.node);
         }
     }
     nearest
@@ -113,7 +113,7 @@ impl Turn {
             }
             return Ok(false);
         };
-        self.state.fingers.replace(silent, head);
+        self.state.fingers.replace(silent, head)?;
         Ok(true)
     }
 }
