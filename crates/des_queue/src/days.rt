@@ -22,7 +22,7 @@ const DAY: u64 = 1024;
 const MOST: usize = 8192;
 
 /// The most room that a list keeps when it is emptied.
-const KEPT: usize = 256;
+const KEPT: usize = 64;
 
 /// Events, and those of later days by day. A list has the places of the events of one day, and only
 /// days after the last opened one have any.
@@ -70,6 +70,7 @@ impl<B: Drop> Days<B> {
     /// The index of the list that takes an event of this time, once there is room for it. None if the
     /// day of the time has no list or is too far ahead, if the list has no room, or if an allocation
     /// fails.
+    #[inline(always)]
     pub fn list_for(&mut self, time: u64, room: usize) -> Option<usize>
         requires { AreDays self.old room }
         ensures days { AreDays self.new room }
