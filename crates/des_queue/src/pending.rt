@@ -11,6 +11,9 @@ use des_event::{Copied, Event, Memory};
 use std::alloc::Global;
 use std::marker::Model;
 
+/// For how many events a list that is being emptied may have room.
+const SPARE: usize = 4096;
+
 /// The events that are still to come, which contracts see as their list in the order of their keys.
 ///
 /// Most events go into a calendar: a list for each of the next days, of which only the next one is
@@ -82,7 +85,7 @@ impl<B: Drop> Pending<B> {
         // The first event goes in first: the calendar opens the day of the first event that it takes,
         // and events of days before it would go into the heap.
         sort_down(&mut events);
-        self.insert_from(&mut events)
+        self.move_all(&mut events)
     }
 
     /// Adds the events of a list, which is empty afterwards and keeps its memory. After an error
@@ -157,6 +160,24 @@ impl<B: Drop> Pending<B> {
         }
     }
 
+    /// Adds the events of a list, the last one first, and frees the memory of the list on the way.
+    fn move_all(&mut self, events: &mut Vec<Event<B>>) -> Result<(), Memory>
+        requires { AllPairs (λ a b. a.key ≢ b.key) (self.old ++ events.old.items) }
+        ensures same { OnOk result ((x : AnEvent B) → Contains self.new x ↔ Contains (self.old ++ events.old.items) x) }
+        ensures ordered { InKeyOrder event_key self.new }
+    {
+        while let Some(last) = events.pop() {
+            free_spare(events);
+            self.recall_order();
+            if let Err(_failed) = self.put(last) {
+                self.recall_order();
+                return Err(Memory);
+            }
+        }
+        self.recall_order();
+        Ok(())
+    }
+
     /// Adds an event, or drops it if an allocation fails.
     #[inline(always)]
     fn put(&mut self, event: Event<B>) -> Result<(), Memory>
@@ -183,6 +204,16 @@ impl<B: Copied + Drop> Pending<B> {
         copies.append(&mut others)?;
         sort_up(&mut copies);
         Ok(copies)
+    }
+}
+
+/// Frees the memory that a list of events does not need, if it is much. Otherwise a long list would have
+/// all its memory until its last event is taken, beside the places to which its events go.
+fn free_spare<B>(events: &mut Vec<Event<B>>)
+    ensures { events.new.items ≡ events.old.items }
+{
+    if events.capacity() - events.len() > SPARE {
+        events.shrink_to_fit();
     }
 }
 
