@@ -11,7 +11,7 @@ use des_event::{Copied, Event, Memory};
 use std::alloc::Global;
 use std::marker::Model;
 
-/// For how many events a list that is being emptied may have room.
+/// For how many events more a list that is being emptied may always have room.
 const SPARE: usize = 4096;
 
 /// The events that are still to come, which contracts see as their list in the order of their keys.
@@ -207,12 +207,13 @@ impl<B: Copied + Drop> Pending<B> {
     }
 }
 
-/// Frees the memory that a list of events does not need, if it is much. Otherwise a long list would have
-/// all its memory until its last event is taken, beside the places to which its events go.
+/// Frees the memory that a list of events does not need, if it is more than an eighth of what it needs.
+/// Otherwise a long list would have all its memory until its last event is taken, beside the places to
+/// which its events go.
 fn free_spare<B>(events: &mut Vec<Event<B>>)
     ensures { events.new.items ≡ events.old.items }
 {
-    if events.capacity() - events.len() > SPARE {
+    if events.capacity() - events.len() > SPARE + events.len() / 8 {
         events.shrink_to_fit();
     }
 }
