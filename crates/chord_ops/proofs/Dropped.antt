@@ -17,15 +17,28 @@ use Rattle.chord_ops.specs.Turns.{when_some}
 use Rattle.chord_ops.proofs.KeptFields.{with_fingers, with_succ}
 use Rattle.chord_ops.proofs.KeptRules.{first_known}
 
+-- whether node x is nearer than node y
+abbrev is_nearer : Scenario → (n x y : ℕ) → Bool
+is_nearer sc n x y = nat_lt (distance sc.bits (ident_of sc n) (ident_of sc x)) (distance sc.bits (ident_of sc n) (ident_of sc y))
+
 -- the nearer of two nodes of the scenario is the scenario's
 pub nearer_known : (sc : Scenario) (n : ℕ) (o : Option ℕ) (x : ℕ) → IfSome o (λ y. y < node_count sc) → x < node_count sc
     → IfSome (nearer sc n o x) (λ y. y < node_count sc)
 nearer_known sc n None x known at = at
-nearer_known sc n (Some y) x known at = by (nat_lt (distance sc.bits (ident_of sc n) (ident_of sc x)) (distance sc.bits (ident_of sc n) (ident_of sc y)))
+nearer_known sc n (Some y) x known at = by (is_nearer sc n x y)
   where
     by : (b : Bool) → IfSome (if b then Some x else Some y) (λ z. z < node_count sc)
     by true = at
     by false = known
+
+-- to look at a node again changes nothing
+pub nearer_again : (sc : Scenario) (n : ℕ) (o : Option ℕ) (x : ℕ) → nearer sc n (nearer sc n o x) x ≡ nearer sc n o x
+nearer_again sc n None x = elim (is_nearer sc n x x) as (λ t. (if t then Some x else Some x) ≡ Some x) [ true ↦ refl | false ↦ refl ]
+nearer_again sc n (Some y) x = by (is_nearer sc n x y) refl
+  where
+    by : (b : Bool) → is_nearer sc n x y ≡ b → nearer sc n (if b then Some x else Some y) x ≡ (if b then Some x else Some y)
+    by true is = elim (is_nearer sc n x x) as (λ t. (if t then Some x else Some x) ≡ Some x) [ true ↦ refl | false ↦ refl ]
+    by false is = rw (is) refl
 
 nearest_known : (sc : Scenario) (n : ℕ) (o : Option ℕ) (xs : List ℕ) → IfSome o (λ y. y < node_count sc) → AllNodes sc xs
     → IfSome (fold (nearer sc n) o xs) (λ y. y < node_count sc)

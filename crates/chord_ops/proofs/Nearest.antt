@@ -1,23 +1,17 @@
 -- A search for the nearest of the fingers finds the nearest.
-use Rattle.std.proofs.Common.{◌≡◌, ℕ, ◌≤◌, Bool, true, false, List, [], ◌∷◌, Option, Some, None, suc, refl, subst, arith, nat_lt}
+use Rattle.std.proofs.Common.{◌≡◌, ℕ, ◌≤◌, Bool, true, false, List, [], ◌∷◌, Some, None, suc, refl, subst, arith, nat_lt}
 use Rattle.std.proofs.lemmas.Bool.Decides.{nat_tests}
 use Rattle.std.proofs.lemmas.List.Elements.{All-cons, All-head, All-nil, All-tail}
 use Rattle.std.proofs.lemmas.Option.{same_Some}
 use Rattle.std.specs.List.{All, Contains, filter, fold}
 use Rattle.std.specs.Prelude.{if◌then◌else◌}
 use Rattle.des_event.proofs.Members.{filter_contains}
-use Rattle.chord_circle.specs.Circle.{distance}
 use Rattle.chord_scenario.specs.declared.scenario.Scenario.{Scenario}
-use Rattle.chord_scenario.specs.World.{ident_of}
 use Rattle.chord_node.specs.declared.state.NodeState.{NodeState}
 use Rattle.chord_ops.specs.Gone.{IsNearestFinger, is_another}
 use Rattle.chord_ops.specs.Rules.{nearer}
 use Rattle.chord_ops.specs.Search.{distance_to}
 use Rattle.chord_ops.proofs.Farthest.{all_passing, within}
-
--- how far a node is from node n
-abbrev far : Scenario → (n x : ℕ) → ℕ
-far sc n x = distance sc.bits (ident_of sc n) (ident_of sc x)
 
 -- x is the nearest of these
 record IsNearest (sc : Scenario) (s : NodeState) (xs : List ℕ) (x : ℕ) : Type 0 where
@@ -70,12 +64,3 @@ nearest_found sc s silent r is =
       another = parts.1;
       nearest = all_passing (is_another s silent) (λ y. distance_to sc s r ≤ distance_to sc s y) s.fingers h.nearest;
     }
-
--- to look at a node again changes nothing
-pub nearer_again : (sc : Scenario) (n : ℕ) (o : Option ℕ) (x : ℕ) → nearer sc n (nearer sc n o x) x ≡ nearer sc n o x
-nearer_again sc n None x = elim (nat_lt (far sc n x) (far sc n x)) as (λ t. (if t then Some x else Some x) ≡ Some x) [ true ↦ refl | false ↦ refl ]
-nearer_again sc n (Some y) x = by (nat_lt (far sc n x) (far sc n y)) refl
-  where
-    by : (b : Bool) → nat_lt (far sc n x) (far sc n y) ≡ b → nearer sc n (if b then Some x else Some y) x ≡ (if b then Some x else Some y)
-    by true is = elim (nat_lt (far sc n x) (far sc n x)) as (λ t. (if t then Some x else Some x) ≡ Some x) [ true ↦ refl | false ↦ refl ]
-    by false is = rw (is) refl

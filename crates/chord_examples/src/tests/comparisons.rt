@@ -132,7 +132,7 @@ pub fn is_same_state(one: &NodeState, other: &NodeState) -> bool {
         && one.via == other.via
         && one.prdc == other.prdc
         && one.succ.as_slice() == other.succ.as_slice()
-        && one.fingers.as_slice() == other.fingers.as_slice()
+        && one.fingers.runs() == other.fingers.runs()
         && one.next_finger == other.next_finger
         && one.calls.as_slice() == other.calls.as_slice()
         && are_same_lookups(one.lookups.as_slice(), other.lookups.as_slice())

@@ -1,4 +1,4 @@
-//! Tests, and what they share: `comparisons`, `gates`, `left`, `random_texts`, `ring_of_three` and `steps`.
+//! Tests, and what they share: `comparisons`, `fingers`, `gates`, `left`, `random_texts`, `ring_of_three` and `steps`.
 mod arenas;
 mod audits;
 mod by_engine;
@@ -10,6 +10,7 @@ mod copies;
 mod crews;
 mod dealers;
 mod divisions;
+mod fingers;
 mod first_ring;
 mod gates;
 mod later_profiles;

@@ -1,12 +1,13 @@
 //! Step answers on the ring of three.
 ghost use Rattle.std.specs.Prelude.{◌≡◌, true};
+ghost use Rattle.chord_node.specs.Fingers.{expanded};
 ghost use Rattle.chord_node.specs.Invariant.{AllNodes};
 
 use crate::tests::ring_of_three::ring_of_three;
 use crate::tests::steps::{holds, value_of};
 use chord_circle::Raw;
 use chord_event::Answer;
-use chord_node::{NodeState, initial_ring};
+use chord_node::{NodeState, Run, initial_ring};
 use chord_ops::{closest_preceding, step_answer};
 use chord_scenario::Scenario;
 use std::process::Abort;
@@ -55,6 +56,18 @@ fn are_known(scenario: &Scenario, nodes: &[u32]) -> bool
     nodes.iter().all(|node| *node < scenario.nodes())
 }
 
+/// Whether the nodes of all these runs are the scenario's.
+fn are_fingers_known(scenario: &Scenario, runs: &[Run]) -> bool
+    ensures { result ≡ true → AllNodes scenario.now (expanded runs.now) }
+{
+    for run in runs {
+        if run.node >= scenario.nodes() {
+            return false;
+        }
+    }
+    true
+}
+
 /// On the ring of three, n0 has the successors n1 and n3 and the fingers n3 and n0, n1 the successors
 /// n3 and n0 and the same fingers, and n3 the successors n0 and n1 and n0 as both fingers. So each
 /// node knows the owner of a key up to its first successor that is not to be avoided. For any other
@@ -76,7 +89,7 @@ fn ends_as_listed(rt: &impl Abort, scenario: &Scenario, state: &NodeState, searc
     let (_, key, avoid, closest, answer) = search;
     assert!(rt; state.me < scenario.nodes());
     assert!(rt; are_known(scenario, state.succ.as_slice()));
-    assert!(rt; are_known(scenario, state.fingers.as_slice()));
+    assert!(rt; are_fingers_known(scenario, state.fingers.runs()));
     let place = scenario.circle().low_bits(*key);
     let found = closest_preceding(scenario, state, place, avoid);
     holds(rt, found == *closest, search);

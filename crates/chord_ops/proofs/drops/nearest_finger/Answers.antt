@@ -10,8 +10,7 @@ use Rattle.chord_node.specs.Fingers.{expanded}
 use Rattle.chord_node.specs.Invariant.{AllNodes}
 use Rattle.chord_node.proofs.RunLists.{run_known}
 use Rattle.chord_ops.specs.Rules.{nearer}
-use Rattle.chord_ops.proofs.Dropped.{nearer_known}
-use Rattle.chord_ops.proofs.Nearest.{nearer_again}
+use Rattle.chord_ops.proofs.Dropped.{nearer_again, nearer_known}
 use Rattle.chord_ops.proofs.RunFolds.{kept_until}
 use Rattle.chord_ops.proofs.drops.nearest_finger.Goals.{then-run-state+then-run-silent, else-run-state, else-run-state-via-then-run-state+else-run-silent, else-run-state-via-else-run-state}
 use Rattle.chord_ops.proofs.drops.nearest_finger.Goals as goal
