@@ -193,8 +193,7 @@ fn fingers(
         }
         fingers.push(last)?;
     }
-    // A copy has no room to spare.
-    fingers.try_clone()
+    Ok(fingers)
 }
 
 /// The number of timers of a member at the start: two, one more for its generated lookups if the
