@@ -1,0 +1,6 @@
+pub mod Counting
+pub mod Owned
+pub mod Scanned
+pub mod Scans
+pub mod Undone
+pub mod Walked
