@@ -1,4 +1,5 @@
 pub mod Counting
+pub mod Lookups
 pub mod Owned
 pub mod Scanned
 pub mod Scans

@@ -1,43 +1,7 @@
 -- The right owner, as a relation and as it is computed.
-use Rattle.std.proofs.Common.{
-  ◌≡◌,
-  ◌⊎◌,
-  inl,
-  inr,
-  ℕ,
-  ◌+◌,
-  ◌<◌,
-  ◌≤◌,
-  ◌^◌,
-  ◌&&◌,
-  ◌==◌,
-  Bool,
-  true,
-  false,
-  cond,
-  is_some,
-  unwrap_or,
-  List,
-  [],
-  ◌∷◌,
-  nat_lt,
-  Option,
-  Some,
-  None,
-  refl,
-  sym,
-  ap,
-  ◌∙◌,
-  arith,
-  ltb-true,
-  ltb-false,
-  le-ltb,
-  lt-ltb,
-  zero-add,
-  count_by,
-}
+use Rattle.std.proofs.Common.{◌≡◌, ◌⊎◌, inl, inr, ℕ, ◌<◌, ◌≤◌, ◌^◌, ◌&&◌, ◌==◌, Bool, true, false, cond, is_some, unwrap_or, List, [], ◌∷◌, nat_lt, Option, Some, None, refl, sym, ap, ◌∙◌, arith, ltb-false, le-ltb}
 use Rattle.std.specs.List.{find}
-use Rattle.std.proofs.lemmas.Bool.{and_parts, and_right, and_left, false≢true, eqb-true, cases_lt, cases_Bool}
+use Rattle.std.proofs.lemmas.Bool.{and_parts, and_right, and_left, false≢true, eqb-true, cases_Bool}
 use Rattle.chord_audit.specs.Audit.{nodes}
 use Rattle.chord_circle.proofs.Distance.{distance-injective}
 use Rattle.chord_judge.proofs.Counting.{find_only, find_none, count_none, count_zero}

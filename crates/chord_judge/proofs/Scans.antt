@@ -1,43 +1,12 @@
 -- The first marked place from a key on is that of the key's right owner.
-use Rattle.std.proofs.Common.{
-  ◌≡◌,
-  ◌⊎◌,
-  inl,
-  inr,
-  ℕ,
-  ◌+◌,
-  ◌-◌,
-  ◌==◌,
-  ◌<◌,
-  ◌≤◌,
-  ◌^◌,
-  Bool,
-  true,
-  false,
-  List,
-  Option,
-  Some,
-  None,
-  length,
-  get_or,
-  take,
-  drop,
-  refl,
-  sym,
-  ap,
-  ◌∙◌,
-  subst,
-  arith,
-  length-drop,
-}
-use Rattle.std.specs.List.{list_any}
+use Rattle.std.proofs.Common.{◌≡◌, ◌⊎◌, inl, inr, ℕ, ◌+◌, ◌-◌, ◌==◌, ◌<◌, ◌≤◌, ◌^◌, Bool, true, false, List, Some, None, length, get_or, take, drop, refl, sym, ap, ◌∙◌, subst, arith, length-drop}
 use Rattle.std.proofs.lemmas.Bool.{cases_lt, eqb-true, false≢true}
 use Rattle.std.proofs.lemmas.List.{get_or-drop, get_or-take, length-take-le}
 use Rattle.std.proofs.lemmas.List.Folds.{Any-from_list_any}
 use Rattle.chord_circle.proofs.Distance.{distance-ahead, distance-behind}
 use Rattle.chord_judge.proofs.Owned.{no_owner, owner_is}
 use Rattle.chord_judge.proofs.Scanned.{IsFirst, first_found, none_found, place_of}
-use Rattle.chord_judge.specs.Owners.{IsRightOwner, right_owner, way}
+use Rattle.chord_judge.specs.Owners.{right_owner, way}
 use Rattle.chord_judge.specs.Places.{AreAllPlaces, first_marked, is_marked}
 use Rattle.chord_judge.specs.declared.places.Place.{Place}
 use Rattle.chord_scenario.specs.Range.{IsInRange}

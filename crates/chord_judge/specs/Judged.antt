@@ -11,6 +11,7 @@ use Rattle.chord_judge.specs.declared.row.Lookup.{Lookup}
 use Rattle.chord_judge.specs.declared.row.Row.{Row}
 use Rattle.chord_judge.specs.declared.told.Told.{Told}
 use Rattle.chord_scenario.specs.Setup.{Setup}
+use Rattle.chord_trace.specs.Kinds.{is_lookup}
 
 -- the lookup is of this node
 abbrev pub is_of : (node : ℕ) → Lookup → Bool
@@ -76,3 +77,7 @@ rows_after sc (told ∷ before) = rows_after sc before ++ rows_by sc before (ope
 -- of the trace cuts off
 abbrev pub judged : Setup → List Told → List Row
 judged sc lines = rows_after sc (reverse lines) ++ map (ends_by ended.Trace) (open_after (reverse lines))
+
+-- the line says that a lookup begins
+abbrev pub is_begin : Told → Bool
+is_begin told = is_lookup told.line

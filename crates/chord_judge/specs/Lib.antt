@@ -1,7 +1,9 @@
 pub mod Inside
 pub mod Judged
+pub mod Lines
 pub mod Members
 pub mod Owners
 pub mod Places
 pub mod Rows
+pub mod Table
 pub mod Tellings

@@ -1,5 +1,5 @@
 -- What a line may say that is told to a judge.
-use Rattle.std.specs.Prelude.{ℕ, ◌<◌, ◌^◌}
+use Rattle.std.specs.Prelude.{◌<◌, ◌^◌}
 use Rattle.chord_event.specs.declared.line.Line.{Line}
 use Rattle.chord_event.specs.declared.line.Line.TheVariants as line
 use Rattle.chord_judge.specs.declared.told.Told.{Told}

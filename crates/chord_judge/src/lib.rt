@@ -2,12 +2,20 @@
 #![tactic(auto)]
 
 mod judge;
+mod laws;
+mod lines;
 mod members;
+mod names;
 mod open;
 mod places;
 mod row;
+mod stream;
+mod table;
 mod told;
+mod words;
 
 pub use judge::{Judge, JudgeFault};
+pub use laws::{each_lookup_has_a_row, right_owners_are_unique};
 pub use row::{Answer, End, Lookup, Row};
+pub use stream::{TableFault, judge_trace};
 pub use told::Told;

@@ -1,5 +1,4 @@
 use Rattle.std.proofs.Common.{◌≡◌, ◌∙◌, ◌++◌, ◌∷◌, ◌<◌, ℕ, suc, Bool, true, cond, List, length, get_or, take, drop, sym, ap}
-use Rattle.std.specs.List.{remove}
 use Rattle.std.proofs.Math.Seq.{drop-cons}
 use Rattle.chord_judge.specs.Judged.{is_ended_by, without_first}
 use Rattle.chord_judge.specs.declared.row.Lookup.{Lookup}

@@ -1,14 +1,9 @@
-use Rattle.std.proofs.Common.{◌≡◌, ◌∙◌, ◌^◌, ◌<◌, ◌≤◌, ℕ, Bool, true, false, List, Option, Some, refl, sym, ap, arith}
+use Rattle.std.proofs.Common.{◌≡◌, ◌∙◌, ℕ, Bool, true, false, Option, refl, sym, ap}
 use Rattle.std.proofs.lemmas.Bool.{false≢true}
 use Rattle.chord_judge.proofs.Owned.{owner_is, owner_only, passes_only}
 use Rattle.chord_judge.proofs.Undone.{right_now}
-use Rattle.chord_judge.specs.Judged.{answer_of}
 use Rattle.chord_judge.specs.Members.{is_member_after}
 use Rattle.chord_judge.specs.Owners.{is_right_owner, right_owner, was_right_owner}
-use Rattle.chord_judge.specs.declared.row.Answer.{Answer}
-use Rattle.chord_scenario.specs.Range.{IsInRange}
-use Rattle.chord_scenario.specs.Setup.{Setup}
-use Rattle.chord_scenario.specs.World.{node_count}
 use Rattle.chord_judge.proofs.judge.Judge.answer.Goals as goal
 
 pub returns-then-strict : goal.returns-then-strict

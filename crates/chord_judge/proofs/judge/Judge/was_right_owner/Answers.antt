@@ -1,7 +1,7 @@
-use Rattle.std.proofs.Common.{◌≡◌, ◌∙◌, ◌-◌, ◌+◌, ◌<◌, ◌≤◌, ◌++◌, ◌∷◌, [], ℕ, suc, Bool, List, cond, nat_lt, ◌&&◌, length, get_or, take, sym, ap, subst, arith}
+use Rattle.std.proofs.Common.{◌≡◌, ◌∙◌, ◌-◌, ◌+◌, ◌<◌, ◌≤◌, ◌++◌, ◌∷◌, [], ℕ, Bool, List, cond, nat_lt, ◌&&◌, length, get_or, take, sym, ap, subst, arith}
 use Rattle.std.proofs.lemmas.List.{take_more}
 use Rattle.chord_judge.proofs.Walked.{HasWalked, walked_all, walked_on, walked_right, walked_stop}
-use Rattle.chord_judge.specs.Owners.{was_right_owner, way}
+use Rattle.chord_judge.specs.Owners.{way}
 use Rattle.chord_judge.specs.declared.members.Change.{Change}
 use Rattle.chord_judge.specs.declared.told.Told.{Told}
 use Rattle.chord_scenario.specs.Setup.{Setup}

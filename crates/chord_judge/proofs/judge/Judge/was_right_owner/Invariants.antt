@@ -1,4 +1,4 @@
-use Rattle.std.proofs.Common.{◌≡◌, ◌≤◌, ℕ, List, length, take}
+use Rattle.std.proofs.Common.{◌≡◌, ◌≤◌, List, length, take}
 use Rattle.chord_judge.proofs.Walked.{HasWalked}
 use Rattle.chord_judge.specs.Inside.{HoldMembers, changes_after}
 use Rattle.chord_judge.specs.Members.{is_member_after}

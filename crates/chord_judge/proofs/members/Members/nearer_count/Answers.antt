@@ -1,4 +1,4 @@
-use Rattle.std.proofs.Common.{◌≡◌, ◌∙◌, ◌&&◌, ◌+◌, ◌<◌, ℕ, Bool, cond, nat_lt, count_by, sym, ap, arith}
+use Rattle.std.proofs.Common.{◌≡◌, ◌∙◌, ◌&&◌, ◌+◌, ℕ, Bool, cond, nat_lt, count_by, ap, arith}
 use Rattle.std.specs.List.{range_with_len}
 use Rattle.chord_audit.proofs.Lists.{count_same}
 use Rattle.chord_judge.proofs.Counting.{count_most, count_next}

@@ -1,9 +1,8 @@
-use Rattle.std.proofs.Common.{◌≡◌, ◌∙◌, ◌<◌, ◌≤◌, ◌-◌, ◌^◌, ℕ, Bool, List, Option, Some, None, drop, take, length, get_or, refl, sym, ap, subst, true, false, arith, ltb, ltb-true, ltb-false, rules}
+use Rattle.std.proofs.Common.{◌≡◌, ◌∙◌, ◌<◌, ◌≤◌, ◌-◌, ◌^◌, ℕ, Bool, List, Option, Some, None, drop, take, length, get_or, sym, ap, subst, true, false, arith, ltb, ltb-true, ltb-false, rules}
 use Rattle.std.proofs.lemmas.List.{take_rest}
 use Rattle.std.specs.List.Sorted.{IsNonDecreasingBy, IsPartitionPoint}
 use Rattle.std.proofs.lemmas.List.Sorted.{IsPartitionPoint-from_clause, IsPartitionedBy-ltb}
 use Rattle.chord_judge.proofs.Scans.{IsSearch, scanned_ahead, scanned_behind, scanned_none}
-use Rattle.chord_judge.specs.Inside.{HoldMembers}
 use Rattle.chord_judge.specs.Owners.{right_owner}
 use Rattle.chord_judge.specs.Places.{AreAllPlaces, first_marked, is_marked}
 use Rattle.chord_judge.specs.declared.places.Place.{Place}
