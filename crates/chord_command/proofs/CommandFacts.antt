@@ -48,6 +48,7 @@ use Rattle.chord_command.specs.Commands.{
   OptionNames,
   check_app,
   ids_app,
+  judge_app,
   run_app,
   scenario_rule,
   latency_rule,
@@ -168,6 +169,18 @@ ids_is_simple = refl
 pub ids_is_free : is_simple_and_free ids_app ≡ true
 unfolding ids_app clap_on_literals
 ids_is_free = refl
+
+pub judge_is_simple : is_simple judge_app ≡ true
+unfolding judge_app clap_on_literals
+judge_is_simple = refl
+
+pub judge_is_free : is_simple_and_free judge_app ≡ true
+unfolding judge_app clap_on_literals
+judge_is_free = refl
+
+pub judge_rules : (c : Command) → app_of c ≡ judge_app → HasRules c (scenario_rule ∷ latency_rule ∷ trace_rule ∷ [])
+unfolding judge_app
+judge_rules c same = has_rules c judge_app same refl refl refl
 
 pub ids_rules : (c : Command) → app_of c ≡ ids_app → HasRules c (scenario_rule ∷ latency_rule ∷ [])
 unfolding ids_app

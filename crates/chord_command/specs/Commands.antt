@@ -110,6 +110,10 @@ trace_rule = record (new_rule (codes "trace")) {
 abbrev pub rules_of_files : List Rule
 rules_of_files = scenario_rule ∷ latency_rule ∷ []
 
+-- the options of `judge`
+abbrev pub rules_of_judge : List Rule
+rules_of_judge = scenario_rule ∷ latency_rule ∷ trace_rule ∷ []
+
 -- the options of `run`
 abbrev pub rules_of_run : OptionNames → List Rule
 rules_of_run names =
@@ -134,6 +138,10 @@ check_app = with_rule (with_rule (new_app (codes "check")) scenario_rule) latenc
 -- the command `ids` and its options, which name the two input files
 unfoldable pub ids_app : App
 ids_app = with_rule (with_rule (new_app (codes "ids")) scenario_rule) latency_rule
+
+-- the command `judge` and its options: the input files and the trace file
+unfoldable pub judge_app : App
+judge_app = with_rule (with_rule (with_rule (new_app (codes "judge")) scenario_rule) latency_rule) trace_rule
 
 -- the command `run` and its options: the input files, the engine, the division of the nodes, and the trace file
 unfoldable pub run_app : OptionNames → App

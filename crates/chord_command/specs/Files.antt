@@ -11,6 +11,7 @@ use Rattle.chord_plan.specs.declared.text.Text.TheVariants as text
 abbrev pub files_of : Order → Files
 files_of (order.Check files) = files
 files_of (order.Ids files) = files
+files_of (order.Judge files trace) = files
 files_of (order.Run files plan trace) = files
 
 -- the name of the file of a text, which is empty if the order names none

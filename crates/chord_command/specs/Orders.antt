@@ -5,7 +5,7 @@ use Rattle.std.specs.Option.{option_map_or}
 use Rattle.std.specs.Str.{bytes_eq}
 use Rattle.std.specs.Str.Parse.{IsNumeral, digits_value, without_leading_plus}
 use Rattle.clap.specs.Words.{Row, Text, fault_of, first_of, matches_of, one_of, takes}
-use Rattle.chord_command.specs.Commands.{OptionNames, check_app, ids_app, run_app}
+use Rattle.chord_command.specs.Commands.{OptionNames, check_app, ids_app, judge_app, run_app}
 use Rattle.chord_command.specs.declared.order.Files.{Files}
 use Rattle.chord_plan.specs.declared.plan.Engine.{Engine}
 use Rattle.chord_plan.specs.declared.plan.Engine.TheVariants as engine
@@ -68,6 +68,10 @@ abbrev pub HasOptions : List Row → Files → Plan → Option (String Global) �
 HasOptions rows files plan trace =
     HasFiles rows files × HasPlan rows plan × (first_of (codes "trace") rows ≡ option_map string_bytes trace)
 
+-- the files and the trace file that these options name
+abbrev pub IsJudged : List Row → Files → Option (String Global) → Type 0
+IsJudged rows files trace = HasFiles rows files × (first_of (codes "trace") rows ≡ option_map string_bytes trace)
+
 -- the arguments from `run` on give these files, this plan and this trace
 abbrev pub IsRunOf : List Text → Files → Plan → Option (String Global) → Type 0
 IsRunOf words files plan trace =
@@ -81,6 +85,9 @@ IsOrderOf words (order.Check files) =
 IsOrderOf words (order.Ids files) =
     (command_word words ≡ Some (codes "ids")) × (fault_of ids_app (drop 1 words) ≡ [])
     × HasFiles (matches_of ids_app (drop 1 words)) files
+IsOrderOf words (order.Judge files trace) =
+    (command_word words ≡ Some (codes "judge")) × (fault_of judge_app (drop 1 words) ≡ [])
+    × IsJudged (matches_of judge_app (drop 1 words)) files trace
 IsOrderOf words (order.Run files plan trace) =
     (command_word words ≡ Some (codes "run")) × IsRunOf (drop 1 words) files plan trace
 
@@ -89,5 +96,6 @@ abbrev pub TakesWords : List Text → Type 0
 TakesWords words =
     ((command_word words ≡ Some (codes "check")) × (takes check_app (drop 1 words) ≡ true))
     ⊎ ((command_word words ≡ Some (codes "ids")) × (takes ids_app (drop 1 words) ≡ true))
+    ⊎ ((command_word words ≡ Some (codes "judge")) × (takes judge_app (drop 1 words) ≡ true))
     ⊎ ((command_word words ≡ Some (codes "run"))
     × ((names : OptionNames) → takes (run_app names) (drop 1 words) ≡ true))

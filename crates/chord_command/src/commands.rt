@@ -1,7 +1,7 @@
 //! The command line of the program, for clap to read.
 ghost use Rattle.std.specs.Prelude.{◌≡◌, false, List, IfOk};
 ghost use Rattle.clap.specs.Words.{Rule, app_of, new_app, rule_of};
-ghost use Rattle.chord_command.specs.Commands.{HaveRules, IsEngineNames, IsSplitNames, Names, OptionNames, check_app, engine_rule, ids_app, latency_rule, option_rule, parts_rule, rules_of_files, rules_of_run, run_app, scenario_rule, serial_rule, split_rule, trace_rule, with_rules, workers_rule};
+ghost use Rattle.chord_command.specs.Commands.{HaveRules, IsEngineNames, IsSplitNames, Names, OptionNames, check_app, engine_rule, ids_app, judge_app, latency_rule, option_rule, parts_rule, rules_of_files, rules_of_judge, rules_of_run, run_app, scenario_rule, serial_rule, split_rule, trace_rule, with_rules, workers_rule};
 
 use clap::{Arg, ArgAction, Command, value_parser};
 use std::alloc::{AllocError, Global};
@@ -14,6 +14,7 @@ const VERSION: &str = "0.2.0";
 pub fn whole_command<'a>(alloc: Global) -> Result<Command<'a>, AllocError> {
     let whole = with_command(described(alloc), check_command(alloc))?;
     let whole = with_command(whole, ids_command(alloc))?;
+    let whole = with_command(whole, judge_command(alloc))?;
     with_command(whole, run_command(alloc))
 }
 
@@ -67,6 +68,20 @@ pub fn ids_command<'a>(alloc: Global) -> Result<Command<'a>, AllocError>
     command_with(alloc, "ids", "chordsim ids", about, file_arguments(alloc)?)
 }
 
+/// The command `judge`.
+pub fn judge_command<'a>(alloc: Global) -> Result<Command<'a>, AllocError>
+    ensures { IfOk result (λ c. app_of c ≡ judge_app) }
+{
+    let about = "Reads a trace of the scenario, and prints what became of each lookup, as CSV";
+    command_with(
+        alloc,
+        "judge",
+        "chordsim judge",
+        about,
+        judge_arguments(alloc)?,
+    )
+}
+
 /// The command `run`.
 pub fn run_command<'a>(alloc: Global) -> Result<Command<'a>, AllocError>
     ensures { IfOk result (λ c. (names : OptionNames) × (app_of c ≡ run_app names)) }
@@ -96,6 +111,18 @@ fn file_arguments<'a>(alloc: Global) -> Result<Vec<Arg<'a>>, AllocError>
     ensures { IfOk result (λ v. HaveRules v.items rules_of_files) }
 {
     let arguments = vec![in alloc; scenario_argument(alloc), latency_argument(alloc)]?;
+    Ok(arguments)
+}
+
+/// The files of a scenario, and the trace of a run of it.
+fn judge_arguments<'a>(alloc: Global) -> Result<Vec<Arg<'a>>, AllocError>
+    ensures { IfOk result (λ v. HaveRules v.items rules_of_judge) }
+{
+    let arguments = vec![in alloc;
+        scenario_argument(alloc),
+        latency_argument(alloc),
+        read_trace_argument(alloc),
+    ]?;
     Ok(arguments)
 }
 
@@ -196,6 +223,14 @@ fn serial_argument<'a>(alloc: Global) -> Arg<'a>
             "Same as --engine serial, and wins over --engine; --workers, --parts and --split are then ignored",
         )
         .action(ArgAction::SetTrue)
+}
+
+fn read_trace_argument<'a>(alloc: Global) -> Arg<'a>
+    ensures rule { rule_of result ≡ trace_rule }
+    ensures local { result.global ≡ false }
+{
+    let help = "File with the trace of a run of the scenario [default: standard input]";
+    option_argument(alloc, "trace", "FILE", help)
 }
 
 fn trace_argument<'a>(alloc: Global) -> Arg<'a>

@@ -11,6 +11,12 @@ pub enum Order {
     Check(Files),
     /// Print the identifier of each node.
     Ids(Files),
+    /// Judge the lookups of a trace of the scenario, which is in the file of this name, or comes from
+    /// standard input.
+    Judge {
+        files: Files,
+        trace: Option<String>,
+    },
     /// Run the scenario. The trace goes to the file of this name, or to standard output.
     Run {
         files: Files,
@@ -27,6 +33,7 @@ impl Order {
         match self {
             Order::Check(files) => files,
             Order::Ids(files) => files,
+            Order::Judge { files, .. } => files,
             Order::Run { files, .. } => files,
         }
     }

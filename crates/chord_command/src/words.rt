@@ -2,11 +2,11 @@
 ghost use Rattle.std.specs.Prelude.{◌≡◌, ◌↔◌, Some, IsTrue, true, map, codes, is_some, option_map, string_bytes, [], OnOk, IfOk, IfErr, IfSome};
 ghost use Rattle.clap.specs.Words.{fault_of, first_of, first_value, found_of, kind_of, matches_of, one_of, one_text, rows_of, takes};
 ghost use Rattle.clap.specs.declared.error.kind.ErrorKind.TheVariants.{OutOfMemory};
-ghost use Rattle.chord_command.specs.Commands.{OptionNames, check_app, ids_app, run_app};
-ghost use Rattle.chord_command.specs.Orders.{HasFiles, HasOptions, HasPlan, IsCountUpTo, IsOrderOf, IsRunOf, TakesWords, count_or, engine_for, engine_named, engine_of};
+ghost use Rattle.chord_command.specs.Commands.{OptionNames, check_app, ids_app, judge_app, run_app};
+ghost use Rattle.chord_command.specs.Orders.{HasFiles, HasOptions, HasPlan, IsCountUpTo, IsJudged, IsOrderOf, IsRunOf, TakesWords, count_or, engine_for, engine_named, engine_of};
 ghost use Rattle.chord_command.specs.declared.words.WordFault.TheVariants.{Memory};
 
-use crate::commands::{check_command, ids_command, run_command, whole_command};
+use crate::commands::{check_command, ids_command, judge_command, run_command, whole_command};
 use crate::order::{Files, Order};
 use chord_plan::{Engine, Plan, Split};
 use clap::error::ErrorKind;
@@ -44,7 +44,7 @@ impl From<Error> for WordFault {
     }
 }
 
-/// Reads the arguments of the program, its name first, then `check`, `ids` or `run`, and then options.
+/// Reads the arguments of the program, its name first, then `check`, `ids`, `judge` or `run`, and then options.
 /// Arguments that clap does not take are refused; so are `--help` and `--version`, with the text to print.
 pub fn read_words(alloc: Global, words: Vec<String>) -> Result<Order, WordFault>
     ensures order { IfOk result (IsOrderOf (map string_bytes words.items)) }
@@ -67,6 +67,10 @@ fn order_in(alloc: Global, words: &[String]) -> Result<Order, WordFault>
     match name.as_str() {
         "check" => Ok(Order::Check(files_of_check(alloc, rest)?)),
         "ids" => Ok(Order::Ids(files_of_ids(alloc, rest)?)),
+        "judge" => {
+            let (files, trace) = judge_options(alloc, rest)?;
+            Ok(Order::Judge { files, trace })
+        }
         "run" => {
             let (files, plan, trace) = run_options(alloc, rest)?;
             Ok(Order::Run { files, plan, trace })
@@ -93,6 +97,29 @@ fn files_of_ids(alloc: Global, words: &[String]) -> Result<Files, WordFault>
     let command = ids_command(alloc)?;
     let matches = command.try_get_matches_from(words)?;
     files_in(alloc, &matches)
+}
+
+fn judge_options(alloc: Global, words: &[String]) -> Result<(Files, Option<String>), WordFault>
+    ensures accepted { OnOk result (fault_of judge_app (map string_bytes words.now) ≡ []) }
+    ensures options { IfOk result (λ r. IsJudged (matches_of judge_app (map string_bytes words.now)) r.0 r.1) }
+    ensures taken { takes judge_app (map string_bytes words.now) ≡ true → IfErr result (λ e. e ≡ WordFault.Memory) }
+{
+    let command = judge_command(alloc)?;
+    let matches = command.try_get_matches_from(words)?;
+    judge_options_in(alloc, &matches)
+}
+
+fn judge_options_in(
+    alloc: Global,
+    matches: &ArgMatches<'_>,
+) -> Result<(Files, Option<String>), WordFault>
+    requires { is_some (first_value (found_of matches.now) (codes "scenario")) ≡ true }
+    ensures options { IfOk result (λ r. IsJudged (rows_of (found_of matches.now)) r.0 r.1) }
+    ensures memory { IfErr result (λ e. e ≡ WordFault.Memory) }
+{
+    let trace = text_in(alloc, matches, "trace")?;
+    let files = files_in(alloc, matches)?;
+    Ok((files, trace))
 }
 
 fn run_options(alloc: Global, words: &[String]) -> Result<RunOptions, WordFault>

@@ -4,6 +4,7 @@ ghost use Rattle.std.specs.Io.Buffered.{writer_inner};
 ghost use Rattle.std.specs.Process.{exit_status};
 ghost use Rattle.des_output.specs.Watched.{has_failed};
 
+use crate::judging::{conclude_table, judge};
 use crate::status::{conclude, refuse_trace};
 use chord_command::{Files, Order};
 use chord_event::RunError;
@@ -20,7 +21,7 @@ use std::{fs, io};
 
 /// Carries out the order, and returns the exit status: 0 on success, 1 if a file is refused, 2 if the trace would
 /// overwrite an input file, 3 if the run fails. What is printed goes to the console.
-pub fn carry_out<T: FileSystem + AllocGlobal + Threads + Wait + Sync, C: Print + Eprint>(
+pub fn carry_out<T: FileSystem + AllocGlobal + Input + Threads + Wait + Sync, C: Print + Eprint>(
     rt: &T,
     console: &C,
     order: &Order,
@@ -30,6 +31,10 @@ pub fn carry_out<T: FileSystem + AllocGlobal + Threads + Wait + Sync, C: Print +
     let _held = hold_standard_streams(rt);
     if let Some(text) = overwritten_by_trace(rt, order) {
         return refuse_trace(console, order.files(), text);
+    }
+    if let Order::Judge { files, trace } = order {
+        let outcome = judge(rt, console, files, trace.as_ref());
+        return conclude_table(console, files, trace.as_ref(), outcome);
     }
     let outcome = perform(rt, console, order);
     conclude(console, order.files(), outcome)
@@ -93,6 +98,8 @@ pub fn perform<T: FileSystem + AllocGlobal + Threads + Wait + Sync, C: Print>(
             let asked = Question::Idents;
             tell(rt.alloc(), asked, &mut scenario, &mut latency, &mut output)
         }
+        // `carry_out` takes these orders itself.
+        Order::Judge { .. } => Ok(()),
         Order::Run { plan, trace, .. } => match trace {
             Some(name) => {
                 let file = or_write_fault(fs::create(rt, name.as_str()))?;
@@ -108,10 +115,10 @@ pub fn perform<T: FileSystem + AllocGlobal + Threads + Wait + Sync, C: Print>(
     }
 }
 
-type Texts<F> = (Watched<F>, Watched<LatencyFile<F>>);
+pub(crate) type Texts<F> = (Watched<F>, Watched<LatencyFile<F>>);
 
 /// Opens the two files, the scenario file first.
-fn open<T: FileSystem>(rt: &T, files: &Files) -> Result<Texts<T::File>, PlayFault>
+pub(crate) fn open<T: FileSystem>(rt: &T, files: &Files) -> Result<Texts<T::File>, PlayFault>
     ensures scenario_sound { IfOk result (λ texts. has_failed texts.0 ≡ false) }
     ensures latency_sound { IfOk result (λ texts. has_failed texts.1 ≡ false) }
 {
@@ -147,7 +154,7 @@ fn run_to<T: AllocGlobal + Threads + Wait + Sync, R: Read, Q: Read, V: Write + D
 }
 
 /// A buffer in front of a writer. The only error is a failed allocation.
-fn buffered<V: Write + Drop>(alloc: Global, writer: V) -> Result<BufWriter<V>, PlayFault>
+pub(crate) fn buffered<V: Write + Drop>(alloc: Global, writer: V) -> Result<BufWriter<V>, PlayFault>
     ensures memory { IfErr result (λ fault. fault ≡ PlayFault.Run RunError.Memory) }
     ensures inner { IfOk result (λ buffer. writer_inner buffer ≡ writer) }
 {

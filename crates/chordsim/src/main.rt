@@ -3,6 +3,7 @@
 
 mod execution;
 mod failure;
+mod judging;
 mod status;
 
 use chord_command::read_process;
