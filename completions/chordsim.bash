@@ -11,7 +11,7 @@ _chordsim() {
         previous=${COMP_WORDS[COMP_CWORD - 2]}
     fi
     if [ "$COMP_CWORD" -eq 1 ]; then
-        mapfile -t COMPREPLY < <(compgen -W "check ids run help --help --version" -- "$current")
+        mapfile -t COMPREPLY < <(compgen -W "check ids judge run help --help --version" -- "$current")
         return
     fi
     case $previous in
@@ -31,8 +31,9 @@ _chordsim() {
     esac
     case $command in
     check | ids) options="--scenario --latency --help" ;;
+    judge) options="--scenario --latency --trace --help" ;;
     run) options="--scenario --latency --workers --parts --split --engine --serial --trace --help" ;;
-    help) [ "$COMP_CWORD" -eq 2 ] && options="check ids run help" ;;
+    help) [ "$COMP_CWORD" -eq 2 ] && options="check ids judge run help" ;;
     esac
     mapfile -t COMPREPLY < <(compgen -W "$options" -- "$current")
 }

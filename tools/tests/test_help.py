@@ -10,7 +10,7 @@ from pathlib import Path
 from tests.support.programs import program
 
 TOP = Path(__file__).resolve().parents[2]
-COMMANDS = ["check", "ids", "run"]
+COMMANDS = ["check", "ids", "judge", "run"]
 # The options that have a list of values.
 CHOICES = ["--split", "--engine"]
 
