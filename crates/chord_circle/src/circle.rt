@@ -1,6 +1,6 @@
 //! The circle of identifiers: distances, intervals and finger starts.
 ghost use Rattle.std.specs.Prelude.{◌≡◌, ℕ, ◌+◌, ◌-◌, ◌%◌, ◌^◌, ◌<◌, ◌≤◌, ◌↔◌, IsTrue, IsSome, IfSome};
-ghost use Rattle.chord_circle.specs.Circle.{distance, between, digit_count, in_half_open, finger_beyond, finger_start};
+ghost use Rattle.chord_circle.specs.Circle.{distance, between, digit_count, in_half_open, finger_beyond, finger_start, way_to};
 ghost use Rattle.chord_circle.specs.Names.{ident_of_name};
 
 use crate::ident::{Ident, Raw};
@@ -93,10 +93,20 @@ impl Circle {
         requires b { b < 2 ^ self.now }
         ensures { result ≡ distance self.now a b }
     {
-        if a <= b {
-            b.raw() - a.raw()
+        b.raw().wrapping_sub(a.raw()) & self.last
+    }
+
+    /// The greatest distance from `a` that does not reach `b`, clockwise. If they are the same place,
+    /// the way is the whole circle.
+    pub fn distance_before(&self, a: Ident, b: Ident) -> Raw
+        requires a { a < 2 ^ self.now }
+        requires b { b < 2 ^ self.now }
+        ensures { result + 1 ≡ way_to self.now a b }
+    {
+        if a == b {
+            self.last
         } else {
-            self.last - (a.raw() - b.raw()) + 1
+            self.distance(a, b) - 1
         }
     }
 

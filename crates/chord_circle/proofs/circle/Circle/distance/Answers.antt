@@ -1,10 +1,7 @@
-use Rattle.std.proofs.Common.{arith}
-use Rattle.chord_circle.proofs.Distance.{distance-ahead}
-use Rattle.std.proofs.lemmas.Grind.{common_steps}
+use Rattle.chord_circle.proofs.Distance.{distance-masked}
 use Rattle.chord_circle.proofs.circle.Circle.distance.Goals as goal
 
-pub returns-then-le : goal.returns-then-le
-returns-then-le c = grind (arith, distance-ahead)
-
-pub returns-else-le : goal.returns-else-le
-returns-else-le c = grind (arith, common_steps)
+pub returns : goal.returns
+returns c =
+    rw (c.raw.ensures, c.raw-2.ensures, ← c.self.view_is)
+    (distance-masked c.self.inside.bits c.args.a c.args.b c.self.inside.last c.self.invariant.1 c.self.invariant.2 (rw (c.self.view_is) c.requires.a))
