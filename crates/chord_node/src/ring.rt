@@ -244,7 +244,8 @@ fn first_member(
         fingers: fingers(alloc, scenario, rounds, node)?,
         next_finger: first_looked_up(scenario, node, Some(first_node(met, node))),
         calls: Listed::new(alloc),
-        lookups: Listed::new(alloc),
+        // Room for one lookup: most nodes never have two, and a list without room begins with four.
+        lookups: Listed::from_vec(Vec::with_capacity(alloc, 1)?),
         join: None,
         place: timers,
         count: timers,

@@ -9,7 +9,7 @@ use Rattle.chord_node.specs.Fingers.{expanded, run_nodes}
 use Rattle.chord_node.proofs.RunLists.{expanded_until}
 
 -- repeats of a node that changes nothing change nothing
-pub fold_repeats : {A : Type 0} (f : A → ℕ → A) (c : A) (x k : ℕ) → f c x ≡ c → fold f c (replicate k x) ≡ c
+fold_repeats : {A : Type 0} (f : A → ℕ → A) (c : A) (x k : ℕ) → f c x ≡ c → fold f c (replicate k x) ≡ c
 fold_repeats f c x zero again = refl
 fold_repeats {A} f c x (suc k) again = ap (λ (d : A). fold f d (replicate k x)) again ∙ fold_repeats f c x k again
 

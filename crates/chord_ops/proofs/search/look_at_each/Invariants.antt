@@ -1,6 +1,7 @@
 use Rattle.std.proofs.Common.{◌≡◌, ◌<◌, take}
 use Rattle.std.specs.List.{fold}
-use Rattle.chord_scenario.specs.World.{node_count}
+use Rattle.chord_circle.specs.Circle.{distance}
+use Rattle.chord_scenario.specs.World.{ident_of, node_count}
 use Rattle.chord_ops.specs.Search.{visited}
 use Rattle.chord_ops.proofs.search.look_at_each.Given as goal
 
@@ -8,4 +9,4 @@ abbrev pub invariant-loop-node : goal.invariant-loop-node
 invariant-loop-node l =
     (l.closest ≡ fold (visited l.scenario l.way.me l.way.key l.avoid) l.fn.seen.closest (take l.node-index l.nodes))
     × (l.closest < node_count l.scenario)
-    × (visited l.scenario l.way.me l.way.key l.avoid l.closest l.last ≡ l.closest)
+    × (l.so_far ≡ distance l.scenario.bits l.way.home (ident_of l.scenario l.closest))
