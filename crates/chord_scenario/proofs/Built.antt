@@ -26,13 +26,9 @@ use Rattle.std.proofs.Common.{
 use Rattle.std.proofs.lemmas.List.{append-nil, drop_all, drop_more}
 use Rattle.chord_scenario.specs.declared.key.Place.{Place}
 use Rattle.chord_scenario.specs.declared.key.Place.TheVariants as place
-use Rattle.chord_scenario.specs.Settings.{is_node, is_command}
+use Rattle.chord_scenario.specs.Settings.{is_command}
 
--- a place that is that of no node, or of no command
-pub no-node : (at : Place) → ((n : ℕ) → at ≡ place.Node n → ⊥) → is_node at ≡ false
-no-node (place.Node n) other = absurd (other n refl)
-no-node _ other = refl
-
+-- a place that is that of no command
 pub no-command : (at : Place) → ((n : ℕ) → at ≡ place.Command n → ⊥) → is_command at ≡ false
 no-command (place.Command n) other = absurd (other n refl)
 no-command _ other = refl

@@ -74,7 +74,7 @@ module _ {profile bits : ℕ} {needs : Needs} {s : Section} (sound : IsSound pro
   not_missing : (e : Entry) → Lists e → is_missing needs s e ≡ false
   not_missing e is = of_found (λ x. is_missing needs s x ≡ false) (λ x. bytes_eq (key_name e.0) (key_name x.0)) (keys_at profile s.at) e is sound.present
 
-  not_wrong : (e : Entry) → Lists e → has_wrong_type s e ≡ false
+  pub not_wrong : (e : Entry) → Lists e → has_wrong_type s e ≡ false
   not_wrong e is = of_found (λ x. has_wrong_type s x ≡ false) (λ x. bytes_eq (key_name e.0) (key_name x.0)) (keys_at profile s.at) e is sound.typed
 
   pub not_out : (e : Entry) → Lists e → is_out_of_range bits s e ≡ false

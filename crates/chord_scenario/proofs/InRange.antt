@@ -32,9 +32,10 @@ use Rattle.chord_scenario.proofs.FirstRepeat.{mapped_none}
 use Rattle.chord_scenario.proofs.LatencyFacts.{first_of, latencies_fit}
 use Rattle.chord_scenario.proofs.LeaveFacts.{no_leave_commands}
 use Rattle.chord_scenario.proofs.Ranges.{filter-range_below}
+use Rattle.chord_scenario.proofs.NodeCounts.{few_nodes, two_nodes}
 use Rattle.chord_scenario.proofs.NodeFacts.{no_repeat, enough_initial, a_node_churns, commands_fit}
 use Rattle.chord_scenario.proofs.SoundSections.{IsSound, sound_sections, holds_in_file}
-use Rattle.chord_scenario.proofs.TopFacts.{profile_known, profile_small, bits_fit, numbers_fit, churn_there, churn_in_range, no_leaves, lookups_in_range, few_nodes, few_commands, two_nodes}
+use Rattle.chord_scenario.proofs.TopFacts.{profile_known, profile_small, bits_fit, numbers_fit, churn_there, churn_in_range, no_leaves, lookups_in_range, few_commands}
 
 -- no question finds a fault
 answers_none : (qs : List (Option ScenarioFault)) → first_answer qs ≡ None → AllByRecursion (λ q. q ≡ None) qs
@@ -64,17 +65,18 @@ pub record KeysFit (top : Members) : Type 0 where
   pub profile : number_at key.Profile top ≤ 4
   pub least : 3 ≤ number_at key.Bits top
   pub greatest : number_at key.Bits top ≤ 128
-  pub nodes : length (nodes_in top) ≤ 65536
+  pub nodes : length (nodes_in top) ≤ 16842752
 
 pub keys_fit : (profile bits : ℕ) (top : Members) → first_answer (key_questions profile bits (sections top)) ≡ None → KeysFit top
 keys_fit profile bits top h =
     let needs = needs_of (sections top) in
-    let s = (holds_in_file (IsSound profile bits needs) top (sound_sections profile bits (sections top) h)).top in
+    let all = holds_in_file (IsSound profile bits needs) top (sound_sections profile bits (sections top) h) in
+    let s = all.top in
     record {
       profile = profile_small (number_at key.Profile top) (profile_known profile bits needs top s);
       least = (bits_fit profile bits needs top s).low;
       greatest = (bits_fit profile bits needs top s).high;
-      nodes = few_nodes profile bits needs top s (number_at key.Bits top);
+      nodes = few_nodes profile bits needs top all (number_at key.Bits top);
     }
 
 -- nodes of other numbers are at other places
@@ -133,12 +135,12 @@ module _ (profile : ℕ) (top : Members) (rows : List Row) (cells : List ℕ) (i
       let none = faultless top rows own late in
       let numbers = numbers_fit profile bits needs top sound.top is_profile (nodes_in top) (commands_in top) cells in
       let coordinates = coordinates_fit profile bits needs sc bits (sections top) refl refl (sound_sections profile bits (sections top) keys) in
-      let enough : 2 ≤ node_count sc = two_nodes profile bits needs top sound.top bits in
+      let enough : 2 ≤ node_count sc = two_nodes profile bits needs top sound bits in
       record {
         numbers = numbers;
         nodes = record {
           least = enough;
-          greatest = few_nodes profile bits needs top sound.top bits;
+          greatest = few_nodes profile bits needs top sound bits;
           on_circle = idents_on_circle sc on_circle;
           apart = idents_apart sc none.idents;
           bootstraps = bootstraps_known sc.nodes;

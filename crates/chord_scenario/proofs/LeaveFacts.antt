@@ -55,6 +55,7 @@ module _ (profile bits : ℕ) (needs : Needs) (not_extended : profile == 4 ≡ f
   stays place.Churn ms circle nodes is sound = absurd (false≢true is)
   stays place.Lookups ms circle nodes is sound = absurd (false≢true is)
   stays (place.Node n) ms circle nodes is sound = absurd (false≢true is)
+  stays (place.Nodes n) ms circle nodes is sound = absurd (false≢true is)
   stays (place.Row n) ms circle nodes is sound = absurd (false≢true is)
   stays (place.Command n) ms circle nodes is sound =
       asks_no_leave circle nodes ms (operation_at ms)

@@ -26,6 +26,8 @@ pub mod Ranges
 pub mod SoundSections
 pub mod Entries
 pub mod TopFacts
+pub mod EachNode
+pub mod NodeCounts
 pub mod NodeFacts
 pub mod BootstrapFacts
 pub mod LeaveFacts

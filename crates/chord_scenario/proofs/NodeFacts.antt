@@ -1,67 +1,31 @@
 -- What a file without faults says of its nodes and commands.
-use Rattle.std.proofs.Common.{
-  ◌≡◌,
-  ◌∙◌,
-  sym,
-  ap,
-  refl,
-  ℕ,
-  zero,
-  suc,
-  ◌+◌,
-  ◌<◌,
-  ◌≤◌,
-  ◌^◌,
-  Bool,
-  true,
-  false,
-  ◌&&◌,
-  ◌||◌,
-  List,
-  [],
-  ◌∷◌,
-  ◌++◌,
-  length,
-  map,
-  filter,
-  find,
-  get_or,
-  slice_get,
-  nat_le,
-  nat_lt,
-  Option,
-  Some,
-  None,
-  option_map,
-  unwrap_or,
-  inl,
-  inr,
-  arith,
-  count_by,
-}
+use Rattle.std.proofs.Common.{◌≡◌, ◌∙◌, sym, subst, refl, ℕ, zero, suc, ◌+◌, ◌<◌, ◌≤◌, ◌^◌, Bool, true, false, ◌&&◌, List, [], ◌∷◌, ◌++◌, length, map, filter, find, get_or, slice_get, nat_le, nat_lt, Option, Some, None, option_map, unwrap_or, inl, inr, arith, count_by}
 use Rattle.std.specs.Option.{option_and_then}
-use Rattle.std.specs.List.{AllByRecursion, list_any, enumerate_from}
+use Rattle.std.specs.List.{AllByRecursion, list_any, enumerate_from, range_with_len}
 use Rattle.std.proofs.lemmas.Bool.{cases_Bool, false≢true, ltb-true}
 use Rattle.std.proofs.lemmas.Bool.Decides.{nat_tests}
 use Rattle.std.proofs.lemmas.Nat.{pow_pos}
-use Rattle.std.proofs.lemmas.Option.{same_Some}
 use Rattle.chord_scenario.specs.declared.setting.Node.{Node}
+use Rattle.chord_scenario.specs.declared.key.Place.{Place}
+use Rattle.chord_scenario.specs.declared.key.Place.TheVariants as place
 use Rattle.chord_scenario.specs.declared.key.FileKey.{FileKey}
 use Rattle.chord_scenario.specs.declared.key.FileKey.TheVariants as key
 use Rattle.chord_scenario.specs.declared.operation.Operation.{Operation}
 use Rattle.chord_scenario.specs.declared.operation.Operation.TheVariants as operation
 use Rattle.chord_scenario.specs.declared.fault.ScenarioFault.TheVariants.{TimeAfterEnd}
 use Rattle.toml.specs.Data.{Members}
-use Rattle.chord_scenario.specs.Values.{data_at, number_at, truth_at, identifier_of}
+use Rattle.chord_scenario.specs.Values.{data_at, number_at, identifier_of}
 use Rattle.chord_scenario.specs.Sections.{Section}
 use Rattle.chord_scenario.specs.Search.{first_repeat, repeat_of}
 use Rattle.chord_scenario.specs.Settings.{
   on_circle,
-  is_node,
   is_command,
+  flags_at,
   name_at,
   node_of,
+  nodes_at,
   nodes_of,
+  numbered_node,
   index_of,
   node_at,
   operation_at,
@@ -76,6 +40,7 @@ use Rattle.chord_scenario.specs.Range.{IsActionOf, IsCommandOf}
 use Rattle.chord_scenario.specs.Setup.{Setup}
 use Rattle.chord_scenario.specs.World.{node_count, is_churn_node}
 use Rattle.chord_scenario.proofs.DistinctNames.{or_none}
+use Rattle.chord_scenario.proofs.EachNode.{at_index, each-made, each-mapped}
 use Rattle.chord_scenario.proofs.FirstRepeat.{mapped_none}
 use Rattle.chord_scenario.proofs.LatencyLemmas.{index_of-below}
 
@@ -147,38 +112,44 @@ enough_initial false list nodes is h =
 
 -- Nodes that churn
 
-abbrev nodes_among : ℕ → List Section → List Node
-nodes_among bits ss = map (λ s. node_of bits s.members) (filter (λ s. is_node s.at) ss)
+-- the nodes of a table that is none of nodes that churn do not churn
+calm_at : (bits : ℕ) (p : Place) (ms : Members) → is_churn_section (record { at = p; members = ms }) ≡ false
+    → AllByRecursion (λ (n : Node). n.churn ≡ false) (nodes_at bits p ms)
+unfolding node_of numbered_node
+calm_at bits place.Top ms h = tt
+calm_at bits place.Churn ms h = tt
+calm_at bits place.Lookups ms h = tt
+calm_at bits (place.Node n) ms h = (h, tt)
+calm_at bits (place.Nodes n) ms h =
+    each-mapped (λ (n : Node). n.churn ≡ false) (numbered_node bits (name_at key.Prefix ms) (flags_at ms)) (range_with_len 0 (number_at key.Count ms)) (λ number. h)
+calm_at bits (place.Command n) ms h = tt
+calm_at bits (place.Row n) ms h = tt
 
-churns_from : (bits : ℕ) (s : Section) (ss : List Section) (n : Node) (i : ℕ) → n.churn ≡ true → is_node s.at ≡ true
-    → ((k : ℕ) → slice_get (nodes_among bits ss) k ≡ Some n → list_any is_churn_section ss ≡ true)
-    → slice_get (node_of bits s.members ∷ nodes_among bits ss) i ≡ Some n → list_any is_churn_section (s ∷ ss) ≡ true
-unfolding node_of
-churns_from bits s ss n zero churns here later h =
-    let own : truth_at key.Churn s.members ≡ true = ap (λ (m : Node). m.churn) (same_Some _ _ h) ∙ churns in rw (here, own) refl
-churns_from bits s ss n (suc k) churns here later h = or_later (is_churn_section s) (list_any is_churn_section ss) (later k h)
-  where
-    or_later : (a b : Bool) → b ≡ true → (a || b) ≡ true
-    or_later true b e = refl
-    or_later false b e = e
-
-churns_among : (bits : ℕ) (ss : List Section) (n : Node) → n.churn ≡ true → (i : ℕ) → slice_get (nodes_among bits ss) i ≡ Some n
-    → list_any is_churn_section ss ≡ true
-churns_among bits [] n churns i h = absurd (cc)
-churns_among bits (s ∷ ss) n churns i h =
-    elim (cases_Bool (is_node s.at)) [
-      | inl here ↦ churns_from bits s ss n i churns here (churns_among bits ss n churns) (rw here at h)
-      | inr other ↦ rw other (churns_among bits ss n churns i (rw other at h))
+calm_each : (ss : List Section) → list_any is_churn_section ss ≡ false → AllByRecursion (λ s. is_churn_section s ≡ false) ss
+calm_each [] h = tt
+calm_each (s ∷ ss) h =
+    elim (cases_Bool (is_churn_section s)) [
+      | inl here ↦ absurd (false≢true (sym (rw here at h)))
+      | inr other ↦ (other, calm_each ss (rw other at h))
     ]
 
 pub a_node_churns : (sc : Setup) (bits : ℕ) (ss : List Section) (i : ℕ) → sc.nodes ≡ nodes_of bits ss → is_churn_node sc i ≡ true
     → list_any is_churn_section ss ≡ true
 unfolding nodes_of is_churn_node
-a_node_churns sc bits ss i nodes h = by_case (slice_get sc.nodes i) refl h
+a_node_churns sc bits ss i nodes h =
+    elim (cases_Bool (list_any is_churn_section ss)) [
+      | inl some ↦ some
+      | inr none ↦
+          let Calm = λ (n : Node). n.churn ≡ false in
+          let calm = each-made Calm (λ s. is_churn_section s ≡ false) (λ s. nodes_at bits s.at s.members) ss
+          (λ s one. calm_at bits s.at s.members one) (calm_each ss none) in
+          absurd (by_case (slice_get sc.nodes i) refl h (subst (AllByRecursion Calm) (sym nodes) calm))
+    ]
   where
-    by_case : (o : Option Node) → slice_get sc.nodes i ≡ o → unwrap_or (option_map (λ n. n.churn) o) false ≡ true → list_any is_churn_section ss ≡ true
-    by_case None e g = absurd (false≢true g)
-    by_case (Some n) e g = churns_among bits ss n g i (ap (λ ns. slice_get ns i) (sym nodes) ∙ e)
+    by_case : (o : Option Node) → slice_get sc.nodes i ≡ o → unwrap_or (option_map (λ n. n.churn) o) false ≡ true
+        → AllByRecursion (λ (n : Node). n.churn ≡ false) sc.nodes → ⊥
+    by_case None e g calm = false≢true g
+    by_case (Some n) e g calm = false≢true (sym (at_index (λ (n : Node). n.churn ≡ false) sc.nodes i n calm e) ∙ g)
 
 -- Commands
 

@@ -1,6 +1,7 @@
 -- The numbers of a range that pass a test.
-use Rattle.std.proofs.Common.{◌≡◌, ◌∙◌, ℕ, zero, suc, ◌+◌, ◌<◌, ◌≤◌, Bool, true, false, cond, List, [], ◌∷◌, ◌++◌, sym, ap, arith, add-one, append-nil}
+use Rattle.std.proofs.Common.{◌≡◌, ◌∙◌, ℕ, zero, suc, ◌+◌, ◌<◌, ◌≤◌, Bool, true, false, cond, List, [], ◌∷◌, ◌++◌, map, replicate, sym, ap, arith, add-one, append-nil, append_assoc}
 use Rattle.std.specs.List.{All, AllByRecursion, filter, range_with_len}
+use Rattle.std.proofs.lemmas.List.{map_push, replicate_more}
 use Rattle.std.proofs.lemmas.List.Elements.{All-filter, All-from_recursion, filter-append}
 
 pub range-more : (a n : ℕ) → range_with_len a (n + 1) ≡ range_with_len a n ++ (a + n) ∷ []
@@ -10,6 +11,21 @@ range-more a n = rw add-one (go a n)
     go a zero = let e : a + 0 ≡ a = omega arith in ap (λ (k : ℕ). k ∷ []) (sym e)
     go a (suc n) = let e : a + 1 + n ≡ a + suc n = omega arith in ap (λ (ks : List ℕ). a ∷ ks)
         (go (a + 1) n ∙ ap (λ (k : ℕ). range_with_len (a + 1) n ++ k ∷ []) e)
+
+-- one more that is made of the next number
+pub mapped-range_more : {A : Type 0} (make : ℕ → A) (before done more : List A) (n : ℕ) (x : A) → more ≡ done ++ x ∷ []
+    → done ≡ before ++ map make (range_with_len 0 n) → x ≡ make n → more ≡ before ++ map make (range_with_len 0 (n + 1))
+mapped-range_more make before done more n x added h is =
+    let so_far = map make (range_with_len 0 n) in
+    let e : 0 + n ≡ n = omega arith in
+    let next = ap (map make) (range-more 0 n ∙ ap (λ (k : ℕ). range_with_len 0 n ++ k ∷ []) e) ∙ map_push make (range_with_len 0 n) n in
+    added ∙ ap (λ l. l ++ x ∷ []) h ∙ append_assoc before so_far (x ∷ []) ∙ ap (λ y. before ++ (so_far ++ y ∷ [])) is ∙ ap (λ l. before ++ l) (sym next)
+
+-- and one more that is always the same
+pub replicated_more : {A : Type 0} (before done more : List A) (n : ℕ) (x : A) → more ≡ done ++ x ∷ [] → done ≡ before ++ replicate n x
+    → more ≡ before ++ replicate (n + 1) x
+replicated_more before done more n x added h =
+    added ∙ ap (λ l. l ++ x ∷ []) h ∙ append_assoc before (replicate n x) (x ∷ []) ∙ ap (λ l. before ++ l) (replicate_more n x)
 
 pub filter-range_more : (p : ℕ → Bool) (n : ℕ) → filter p (range_with_len 0 (n + 1)) ≡ filter p (range_with_len 0 n) ++ cond (p n) (n ∷ []) []
 filter-range_more p n =

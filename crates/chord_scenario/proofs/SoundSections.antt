@@ -6,7 +6,7 @@ use Rattle.std.proofs.lemmas.Bool.{cases_Bool, and_parts, false≢true, leb-true
 use Rattle.toml.specs.Data.{Data, Members}
 use Rattle.chord_scenario.specs.declared.key.Place.TheVariants as place
 use Rattle.chord_scenario.specs.declared.key.FileKey.TheVariants as key
-use Rattle.chord_scenario.specs.declared.key.Group.TheVariants.{Nodes, Commands}
+use Rattle.chord_scenario.specs.declared.key.Group.TheVariants.{Nodes, Classes, Commands}
 use Rattle.chord_scenario.specs.declared.key.Entry.{Entry}
 use Rattle.chord_scenario.specs.declared.keys_check.Needs.{Needs}
 use Rattle.chord_scenario.specs.declared.key.Form.TheVariants.{Whole, Profile}
@@ -103,6 +103,7 @@ pub record HoldsInFile (P : Section → Type 0) (file : Members) : Type 0 where
   pub top : P (record { at = place.Top; members = file })
   pub churn : AllByRecursion P (table_at place.Churn (data_at key.Churn file))
   pub lookups : AllByRecursion P (table_at place.Lookups (data_at key.Lookups file))
+  pub classes : AllByRecursion P (tables_of Classes (data_at key.Nodes file))
 
 pub holds_in_file : (P : Section → Type 0) (file : Members) → AllByRecursion P (sections file) → HoldsInFile P file
 unfolding sections
@@ -111,12 +112,14 @@ holds_in_file P file h =
     let churn = table_at place.Churn (data_at key.Churn file) in
     let lookups = table_at place.Lookups (data_at key.Lookups file) in
     let nodes = tables_of Nodes (data_at key.Node file) in
+    let classes = tables_of Classes (data_at key.Nodes file) in
     let commands = tables_of Commands (data_at key.Command file) in
-    let to_nodes = (all-append P (first ++ churn ++ lookups ++ nodes) commands h).0 in
+    let to_classes = (all-append P (first ++ churn ++ lookups ++ nodes ++ classes) commands h).0 in
+    let (to_nodes, of_classes) = all-append P (first ++ churn ++ lookups ++ nodes) classes to_classes in
     let to_lookups = (all-append P (first ++ churn ++ lookups) nodes to_nodes).0 in
     let (to_churn, of_lookups) = all-append P (first ++ churn) lookups to_lookups in
     let (of_top, of_churn) = all-append P first churn to_churn in
-    record { top = of_top.0; churn = of_churn; lookups = of_lookups }
+    record { top = of_top.0; churn = of_churn; lookups = of_lookups; classes = of_classes }
 
 -- what a test of whole numbers says
 tested : (test : ℕ → Bool) (default : ℕ) (o : Option ℕ) → option_map_or test o false ≡ true → test (unwrap_or o default) ≡ true

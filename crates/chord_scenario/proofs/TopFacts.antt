@@ -35,7 +35,7 @@ use Rattle.std.proofs.Common.{
   if◌then◌else◌,
   length-append,
 }
-use Rattle.std.specs.Option.{option_map_or, option_and_then, is_some, unwrap_or}
+use Rattle.std.specs.Option.{option_map_or, option_and_then, is_some}
 use Rattle.std.specs.List.{AllByRecursion}
 use Rattle.std.proofs.lemmas.Bool.{cases_Bool, and_parts, eqb-true, false≢true, leb-true}
 use Rattle.std.proofs.lemmas.Bool.Decides.{nat_tests}
@@ -50,15 +50,15 @@ use Rattle.chord_scenario.specs.declared.keys_check.Needs.{Needs}
 use Rattle.chord_scenario.specs.declared.key.Form.TheVariants.{Table, Tables, Whole}
 use Rattle.chord_scenario.specs.declared.key.Presence.TheVariants.{ForChurn}
 use Rattle.chord_scenario.specs.declared.key.Group.{Group}
-use Rattle.chord_scenario.specs.declared.key.Group.TheVariants.{Nodes, Commands}
+use Rattle.chord_scenario.specs.declared.key.Group.TheVariants.{Nodes, Classes, Commands}
 use Rattle.chord_scenario.specs.declared.setting.Churn.{Churn}
 use Rattle.chord_scenario.specs.declared.setting.Command.{Command}
 use Rattle.chord_scenario.specs.declared.setting.Node.{Node}
-use Rattle.chord_scenario.specs.FileKeys.{key_name, required, optional}
-use Rattle.chord_scenario.specs.KeyFaults.{is_listed, is_out_of_range}
-use Rattle.chord_scenario.specs.Values.{agrees, are_tables, as_whole, data_at, number_at, truth_at, truth_or, has_type, is_within, item_count, is_profile, is_in_range}
+use Rattle.chord_scenario.specs.FileKeys.{key_name, optional}
+use Rattle.chord_scenario.specs.KeyFaults.{is_listed}
+use Rattle.chord_scenario.specs.Values.{agrees, data_at, number_at, truth_at, truth_or, has_type, is_within, item_count, is_profile, is_in_range}
 use Rattle.chord_scenario.specs.Sections.{Section, place_in, table_at, tables_among, tables_of, sections}
-use Rattle.chord_scenario.specs.Settings.{number_or, check_of, is_node, is_command, join_pause_of, node_of, nodes_of, command_of, commands_of, churn_of, jitters_of, lookups_of, rules_of}
+use Rattle.chord_scenario.specs.Settings.{number_or, check_of, is_command, join_pause_of, command_of, commands_of, churn_of, jitters_of, lookups_of, rules_of}
 use Rattle.chord_scenario.specs.Accepted.{setup_with}
 use Rattle.chord_scenario.specs.Range.{AreJitters, IsSpan, IsChurn, IsInterval, NumbersInRange, first_rules, most_events}
 use Rattle.chord_scenario.proofs.SoundSections.{IsSound, Fits, HoldsInFile}
@@ -521,53 +521,22 @@ module _ (test : Place → Bool) where
       kept true e = refl
       kept false e = absurd (false≢true (sym e))
 
-  -- the tables of an array of tables, if the test lets their places pass
-  chosen-all_among : (g : Group) → ((n : ℕ) → test (place_in g n) ≡ true) → (n : ℕ) (ds : Items) → are_tables ds ≡ true
-      → item_count ds ≤ length (chosen (tables_among g n ds))
-  chosen-all_among g own n no_items typed = omega arith
-  chosen-all_among g own n (item (string s) ds) typed = absurd (false≢true typed)
-  chosen-all_among g own n (item (integer z) ds) typed = absurd (false≢true typed)
-  chosen-all_among g own n (item (float x) ds) typed = absurd (false≢true typed)
-  chosen-all_among g own n (item (boolean b) ds) typed = absurd (false≢true typed)
-  chosen-all_among g own n (item (datetime t) ds) typed = absurd (false≢true typed)
-  chosen-all_among g own n (item (array es) ds) typed = absurd (false≢true typed)
-  chosen-all_among g own n (item (table ms) ds) typed = rw (own n) (omega (arith, chosen-all_among g own (n + 1) ds typed))
-
-  -- an array of tables has no fewer than its least number
-  chosen-least_of : (g : Group) → ((n : ℕ) → test (place_in g n) ≡ true) → (bits least greatest : ℕ) (agrees : Data → Bool) (d : Data)
-      → has_type (Tables least greatest) d ≡ true → not (is_in_range bits (Tables least greatest) d && agrees d) ≡ false
-      → least ≤ length (chosen (tables_of g (Some d)))
-  unfolding is_in_range has_type
-  chosen-least_of g own bits least greatest agrees (string s) typed h = absurd (false≢true typed)
-  chosen-least_of g own bits least greatest agrees (integer z) typed h = absurd (false≢true typed)
-  chosen-least_of g own bits least greatest agrees (float x) typed h = absurd (false≢true typed)
-  chosen-least_of g own bits least greatest agrees (boolean b) typed h = absurd (false≢true typed)
-  chosen-least_of g own bits least greatest agrees (datetime t) typed h = absurd (false≢true typed)
-  chosen-least_of g own bits least greatest agrees (table ms) typed h = absurd (false≢true typed)
-  chosen-least_of g own bits least greatest agrees (array ds) typed h =
-      let (fits, agree) = and_parts (is_within least greatest (item_count ds)) (agrees (array ds))
-      (kept (is_within least greatest (item_count ds) && agrees (array ds)) h) in
-      let (low, high) = and_parts (nat_le least (item_count ds)) (nat_le (item_count ds) greatest) fits in
-      omega (arith, chosen-all_among g own 1 ds typed, leb-true least (item_count ds) low)
-    where
-      kept : (b : Bool) → not b ≡ false → b ≡ true
-      kept true e = refl
-      kept false e = absurd (false≢true (sym e))
-
   chosen-sections : (top : Members) → test place.Top ≡ false → test place.Churn ≡ false → test place.Lookups ≡ false
-      → length (chosen (sections top)) ≡ length (chosen (tables_of Nodes (data_at key.Node top))) + length
-      (chosen (tables_of Commands (data_at key.Command top)))
+      → length (chosen (sections top)) ≡ length (chosen (tables_of Nodes (data_at key.Node top)))
+      + length (chosen (tables_of Classes (data_at key.Nodes top))) + length (chosen (tables_of Commands (data_at key.Command top)))
   unfolding sections
   chosen-sections top not_top not_churn not_lookups =
       let first = record { at = place.Top; members = top } ∷ [] in
       let churn = table_at place.Churn (data_at key.Churn top) in
       let lookups = table_at place.Lookups (data_at key.Lookups top) in
       let nodes = tables_of Nodes (data_at key.Node top) in
+      let classes = tables_of Classes (data_at key.Nodes top) in
       let commands = tables_of Commands (data_at key.Command top) in
       let no_first : length (chosen first) ≡ 0 = rw not_top refl in
       omega (
         arith,
-        chosen-append (first ++ churn ++ lookups ++ nodes) commands,
+        chosen-append (first ++ churn ++ lookups ++ nodes ++ classes) commands,
+        chosen-append (first ++ churn ++ lookups ++ nodes) classes,
         chosen-append (first ++ churn ++ lookups) nodes,
         chosen-append (first ++ churn) lookups,
         chosen-append first churn,
@@ -577,50 +546,6 @@ module _ (test : Place → Bool) where
       )
 
 module _ (profile bits : ℕ) (needs : Needs) (top : Members) (s : IsSound profile bits needs (record { at = place.Top; members = top })) where
-  nodes_fit : length (filter (λ s. is_node s.at) (tables_of Nodes (data_at key.Node top))) ≤ 65536
-  nodes_fit =
-      elim (profile_cases profile) [
-        | inl extended ↦ most_nodes 65536 (rw extended refl)
-        | inr (inl is) ↦ omega (arith, most_nodes 4096 (rw (is.not_extended, is.second) refl))
-        | inr (inr is) ↦ omega (arith, most_nodes 512 (rw (is.not_extended, is.not_second) refl))
-      ]
-    where
-      most_nodes : (most : ℕ) → Lists s (required key.Node (Tables 2 most)) → length (filter (λ s. is_node s.at) (tables_of Nodes (data_at key.Node top))) ≤ most
-      most_nodes most is = chosen-most_of is_node Nodes bits 2 most _ (data_at key.Node top) (not_out s (required key.Node (Tables 2 most)) is)
-
-  nodes_there : 2 ≤ length (filter (λ s. is_node s.at) (tables_of Nodes (data_at key.Node top)))
-  nodes_there =
-      elim (profile_cases profile) [
-        | inl extended ↦ least_nodes 65536 (rw extended refl)
-        | inr (inl is) ↦ least_nodes 4096 (rw (is.not_extended, is.second) refl)
-        | inr (inr is) ↦ least_nodes 512 (rw (is.not_extended, is.not_second) refl)
-      ]
-    where
-      least_nodes : (most : ℕ) → Lists s (required key.Node (Tables 2 most)) → 2 ≤ length (filter (λ s. is_node s.at) (tables_of Nodes (data_at key.Node top)))
-      least_nodes most is =
-          let e = required key.Node (Tables 2 most) in
-          let (d, there, typed) = has_typed s e is refl in
-          let out : is_out_of_range bits (record { at = place.Top; members = top }) e ≡ false = not_out s e is in
-          rw there (chosen-least_of is_node Nodes (λ n. refl) bits 2 most (λ d. agrees top key.Node (unwrap_or (as_whole d) 0)) d typed (rw there at out))
-
-  pub two_nodes : (circle : ℕ) → 2 ≤ length (nodes_of circle (sections top))
-  unfolding nodes_of
-  two_nodes circle =
-      let ss = filter (λ s. is_node s.at) (sections top) in
-      omega (arith, length-map ss (λ s. node_of circle s.members), chosen-sections is_node top refl refl refl, nodes_there)
-
-  pub few_nodes : (circle : ℕ) → length (nodes_of circle (sections top)) ≤ 65536
-  unfolding nodes_of
-  few_nodes circle =
-      let ss = filter (λ s. is_node s.at) (sections top) in
-      omega (
-        arith,
-        length-map ss (λ s. node_of circle s.members),
-        chosen-sections is_node top refl refl refl,
-        nodes_fit,
-        chosen-none_of is_node Commands (λ n. refl) (data_at key.Command top),
-      )
-
   pub few_commands : (circle : ℕ) (nodes : List Node) → length (commands_of circle nodes (sections top)) ≤ 100000
   unfolding commands_of
   few_commands circle nodes =
@@ -630,5 +555,6 @@ module _ (profile bits : ℕ) (needs : Needs) (top : Members) (s : IsSound profi
         length-map ss (λ s. command_of circle nodes s.members),
         chosen-sections is_command top refl refl refl,
         chosen-none_of is_command Nodes (λ n. refl) (data_at key.Node top),
+        chosen-none_of is_command Classes (λ n. refl) (data_at key.Nodes top),
         chosen-most_of is_command Commands bits 0 100000 _ (data_at key.Command top) (not_out s (optional key.Command (Tables 0 100000)) (in_each profile refl refl refl)),
       )

@@ -51,11 +51,12 @@ use Rattle.chord_scenario.specs.declared.fault.ScenarioFault.TheVariants.{
   LatencyBelowWindow,
   RowsAndCoordinates,
 }
+use Rattle.chord_scenario.specs.declared.key.Place.{Place}
 use Rattle.chord_scenario.specs.declared.key.Place.TheVariants as place
 use Rattle.chord_scenario.specs.Operations.{is_join}
 use Rattle.chord_scenario.specs.Values.{number_at, text_at}
 use Rattle.chord_scenario.specs.Sections.{Section, sections}
-use Rattle.chord_scenario.specs.Settings.{is_node, is_command, operation_at, name_at, index_of, nodes_of, coordinates_of}
+use Rattle.chord_scenario.specs.Settings.{is_command, operation_at, name_at, index_of, nodes_of, coordinates_of}
 use Rattle.chord_scenario.specs.Rows.{Row, link_of, is_bad_row, name_one_pair, row_latency, rows_of}
 use Rattle.chord_scenario.specs.Search.{first_some, first_repeat, first_meeting, section_fault, row_fault}
 use Rattle.chord_scenario.specs.KeyFaults.{unknown_key, missing_key, wrong_type, out_of_range}
@@ -69,9 +70,20 @@ is_name_byte b = is_ascii_alphanumeric b || b == 46 || b == 95 || b == 45
 unfoldable pub is_name : List ℕ → Bool
 is_name name = nat_le 1 (length name) && nat_le (length name) 32 && list_all is_name_byte name && not (bytes_eq name (codes "audit"))
 
--- the fault `BadName` at the first node whose name is not allowed
+-- the bytes are a prefix that the names of a class may have, of 1 to 25 letters, digits, `.`, `_` and `-`: with up to
+-- seven digits after them they are a name
+unfoldable pub is_prefix : List ℕ → Bool
+is_prefix prefix = nat_le 1 (length prefix) && nat_le (length prefix) 25 && list_all is_name_byte prefix
+
+-- the table at this place is that of a node whose name is not allowed, or of a class whose prefix is not
+abbrev pub has_bad_name : Place → Members → Bool
+has_bad_name (place.Node n) ms = not (is_name (name_at key.Name ms))
+has_bad_name (place.Nodes n) ms = not (is_prefix (name_at key.Prefix ms))
+has_bad_name _ ms = false
+
+-- the fault `BadName` at the first node whose name is not allowed, or the first class whose prefix is not
 unfoldable pub bad_name : List Section → Option ScenarioFault
-bad_name ss = section_fault BadName (λ s. is_node s.at && not (is_name (name_at key.Name s.members))) ss
+bad_name ss = section_fault BadName (λ s. has_bad_name s.at s.members) ss
 
 -- the fault `SameName` if a node has the name of an earlier one: it has the number of the first such node, after that
 -- of the first node with its name, both from 1

@@ -6,7 +6,7 @@ use Rattle.chord_scenario.specs.declared.key.FileKey.{FileKey}
 use Rattle.chord_scenario.specs.declared.key.FileKey.TheVariants as key
 use Rattle.chord_scenario.specs.declared.key.Form.{Form}
 use Rattle.chord_scenario.specs.declared.key.Form.TheVariants.{Whole, Profile, Text, Operation, Boolean, Identifier, Table, Tables}
-use Rattle.chord_scenario.specs.declared.key.Presence.TheVariants.{Required, Optional, ForChurn, ForCoordinates, ForJoin, ForLookup}
+use Rattle.chord_scenario.specs.declared.key.Presence.TheVariants.{Required, Optional, WithoutClasses, ForChurn, ForCoordinates, ForJoin, ForLookup}
 use Rattle.chord_scenario.specs.declared.key.Entry.{Entry}
 
 -- a key as the file writes it
@@ -47,6 +47,7 @@ key_name key.CreateAlone = codes "create_alone"
 key_name key.Churn = codes "churn"
 key_name key.Lookups = codes "lookups"
 key_name key.Node = codes "node"
+key_name key.Nodes = codes "nodes"
 key_name key.Command = codes "command"
 key_name key.LifeMinUs = codes "life_min_us"
 key_name key.LifeMaxUs = codes "life_max_us"
@@ -62,6 +63,8 @@ key_name key.Bootstrap = codes "bootstrap"
 key_name key.XUs = codes "x_us"
 key_name key.YUs = codes "y_us"
 key_name key.HeightUs = codes "height_us"
+key_name key.Count = codes "count"
+key_name key.Prefix = codes "prefix"
 key_name key.AtUs = codes "at_us"
 key_name key.Do = codes "do"
 key_name key.Via = codes "via"
@@ -79,10 +82,10 @@ optional k form = record { 0 = k; 1 = form; 2 = Optional }
 abbrev pub interval : Form
 interval = Whole 1 1000000000
 
--- the keys at top, by the most bits of a circle, the most entries of a successor list, the most nodes of a file, the most
--- events of a run, and the keys that only this profile has
-abbrev pub top_keys_of : (most_bits most_listed most_nodes most_events : ℕ) → (own : List Entry) → List Entry
-top_keys_of most_bits most_listed most_nodes most_events own =
+-- the keys at top, by the most bits of a circle, the most entries of a successor list, the most events of a run, the keys
+-- that only this profile has, and those that hold the nodes
+abbrev pub top_keys_of : (most_bits most_listed most_events : ℕ) → (own nodes : List Entry) → List Entry
+top_keys_of most_bits most_listed most_events own nodes =
     required key.Profile Profile
     ∷ required key.Bits (Whole 3 most_bits)
     ∷ required key.List (Whole 1 most_listed)
@@ -99,8 +102,8 @@ top_keys_of most_bits most_listed most_nodes most_events own =
     ∷ own
     ++ record { 0 = key.Churn; 1 = Table; 2 = ForChurn }
     ∷ optional key.Lookups Table
-    ∷ required key.Node (Tables 2 most_nodes)
-    ∷ optional key.Command (Tables 0 100000)
+    ∷ nodes
+    ++ optional key.Command (Tables 0 100000)
     ∷ []
 
 -- the keys that the second profile adds, with those that another one has besides
@@ -130,13 +133,21 @@ extended_keys =
     ∷ optional key.CreateAlone Boolean
     ∷ []
 
+-- the key that holds the nodes, by the most nodes of a file
+abbrev pub nodes_up_to : (most : ℕ) → List Entry
+nodes_up_to most = required key.Node (Tables 2 most) ∷ []
+
+-- the keys that hold the nodes and the classes of nodes: a file with classes need not have other nodes
+abbrev pub nodes_and_classes : List Entry
+nodes_and_classes = record { 0 = key.Node; 1 = Tables 2 65536; 2 = WithoutClasses } ∷ optional key.Nodes (Tables 1 16) ∷ []
+
 -- the keys of the top table by profile: the limits of bits, successor lists, nodes and events differ, and the later
 -- profiles have more keys
 abbrev pub top_keys : (profile : ℕ) → List Entry
 top_keys profile =
-    if profile == 4 then top_keys_of 128 32 65536 100000000000 (network_keys_and extended_keys)
-    else if profile == 2 then top_keys_of 128 16 4096 50000000 (network_keys_and [])
-    else top_keys_of 64 16 512 50000000 []
+    if profile == 4 then top_keys_of 128 32 100000000000 (network_keys_and extended_keys) nodes_and_classes
+    else if profile == 2 then top_keys_of 128 16 50000000 (network_keys_and []) (nodes_up_to 4096)
+    else top_keys_of 64 16 50000000 [] (nodes_up_to 512)
 
 -- the keys of `[churn]`: the bounds of lives and of down times, and in the extended profile the chance of a leave
 abbrev pub churn_keys : (profile : ℕ) → List Entry
@@ -176,6 +187,18 @@ node_keys profile =
     ∷ optional key.Churn Boolean
     ∷ (if profile == 4 then optional key.Bootstrap Boolean ∷ coordinate_keys else [])
 
+-- the keys of a class of nodes, which only the extended profile has; `initial` and those after it are of each of its nodes
+abbrev pub class_keys : (profile : ℕ) → List Entry
+class_keys profile =
+    if profile == 4
+    then required key.Count (Whole 2 1048576)
+    ∷ required key.Prefix Text
+    ∷ optional key.Initial Boolean
+    ∷ optional key.Churn Boolean
+    ∷ optional key.Bootstrap Boolean
+    ∷ coordinate_keys
+    else []
+
 -- the keys of a command's table; only a join must have `via`, and only a lookup `key`
 abbrev pub command_keys : (profile : ℕ) → List Entry
 command_keys profile =
@@ -192,5 +215,6 @@ keys_at profile place.Top = top_keys profile
 keys_at profile place.Churn = churn_keys profile
 keys_at profile place.Lookups = lookups_keys
 keys_at profile (place.Node n) = node_keys profile
+keys_at profile (place.Nodes n) = class_keys profile
 keys_at profile (place.Command n) = command_keys profile
 keys_at profile (place.Row n) = []

@@ -7,7 +7,7 @@ use Rattle.chord_scenario.specs.declared.key.Place.{Place}
 use Rattle.chord_scenario.specs.declared.key.FileKey.{FileKey}
 use Rattle.chord_scenario.specs.declared.key.FileKey.TheVariants as key
 use Rattle.chord_scenario.specs.declared.key.Presence.{Presence}
-use Rattle.chord_scenario.specs.declared.key.Presence.TheVariants.{Required, Optional, ForChurn, ForCoordinates, ForJoin, ForLookup}
+use Rattle.chord_scenario.specs.declared.key.Presence.TheVariants.{Required, Optional, WithoutClasses, ForChurn, ForCoordinates, ForJoin, ForLookup}
 use Rattle.chord_scenario.specs.declared.key.Entry.{Entry}
 use Rattle.chord_scenario.specs.declared.keys_check.Needs.{Needs}
 use Rattle.chord_scenario.specs.declared.fault.ScenarioFault.{ScenarioFault}
@@ -17,7 +17,7 @@ use Rattle.chord_scenario.specs.Operations.{is_join, is_lookup}
 use Rattle.chord_scenario.specs.Values.{data_at, truth_at, as_whole, has_type, is_in_range, agrees}
 use Rattle.chord_scenario.specs.Sections.{Section}
 use Rattle.chord_scenario.specs.Search.{first_some, section_fault}
-use Rattle.chord_scenario.specs.Settings.{is_node, is_placed_section, operation_at}
+use Rattle.chord_scenario.specs.Settings.{has_nodes, is_placed_section, operation_at}
 
 -- the fault at the first listed key of a table of which the test holds; none if there is no such key
 abbrev pub key_fault_in : ℕ → (Place → FileKey → ScenarioFault) → (Section → Entry → Bool) → Section → Option ScenarioFault
@@ -41,19 +41,20 @@ has_unlisted profile p (member name d ms) = not (is_listed profile p name) || ha
 unfoldable pub unknown_key : ℕ → List Section → Option ScenarioFault
 unknown_key profile ss = section_fault UnknownKey (λ s. has_unlisted profile s.at s.members) ss
 
--- a node's table with `churn = true`
+-- a table of a node or of a class with `churn = true`
 abbrev pub is_churn_section : Section → Bool
-is_churn_section s = is_node s.at && truth_at key.Churn s.members
+is_churn_section s = has_nodes s.at && truth_at key.Churn s.members
 
 -- what the nodes of a file ask of its tables
 abbrev pub needs_of : List Section → Needs
 needs_of ss = record { churn = list_any is_churn_section ss; coordinates = list_any is_placed_section ss }
 
--- a table must have a key of this presence: always, by its own operation, or because nodes of the file have churn or
--- coordinates
+-- a table must have a key of this presence: always, if it has no classes, by its own operation, or because nodes of the
+-- file have churn or coordinates
 abbrev pub is_required : Needs → Section → Presence → Bool
 is_required needs s Required = true
 is_required needs s Optional = false
+is_required needs s WithoutClasses = is_none (data_at key.Nodes s.members)
 is_required needs s ForChurn = needs.churn
 is_required needs s ForCoordinates = needs.coordinates
 is_required needs s ForJoin = is_join (operation_at s.members)

@@ -112,11 +112,11 @@ pub record NumbersInRange (sc : Setup) : Type 0 where
   pub jitters : AreJitters sc.jitters
   pub one_jitter : sc.profile ≤ 2 → sc.jitters ≡ record { stabilize = sc.jitter; finger = sc.jitter; check = sc.jitter }
 
--- no two nodes are at one place of the circle; bootstrap nodes are in the order of the file, and only the extended
--- profile has any
+-- at most 65,536 nodes have tables of their own, and up to 16 classes have at most 1,048,576 each; no two nodes are at one
+-- place of the circle; bootstrap nodes are in the order of the file, and only the extended profile has any
 pub record NodesInRange (sc : Setup) : Type 0 where
   pub least : 2 ≤ node_count sc
-  pub greatest : node_count sc ≤ 65536
+  pub greatest : node_count sc ≤ 16842752
   pub on_circle : (i : ℕ) → i < node_count sc → ident_of sc i < 2 ^ sc.bits
   pub apart : (i j : ℕ) → i < node_count sc → j < node_count sc → ident_of sc i ≡ ident_of sc j → i ≡ j
   pub bootstraps : All (λ i. i < node_count sc) sc.bootstraps

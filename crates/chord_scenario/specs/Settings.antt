@@ -11,7 +11,9 @@ use Rattle.std.specs.Prelude.{
   List,
   [],
   ◌∷◌,
+  ◌++◌,
   map,
+  flat_map,
   filter,
   bytes_eq,
   nat_lt,
@@ -23,6 +25,8 @@ use Rattle.std.specs.Prelude.{
   option_and_then,
   unwrap_or,
   length,
+  replicate,
+  decimal,
   slice_get,
   if◌then◌else◌,
 }
@@ -35,6 +39,7 @@ use Rattle.chord_scenario.specs.declared.key.FileKey.{FileKey}
 use Rattle.chord_scenario.specs.declared.key.FileKey.TheVariants as key
 use Rattle.chord_scenario.specs.declared.setting.Coordinates.{Coordinates}
 use Rattle.chord_scenario.specs.declared.setting.Node.{Node}
+use Rattle.chord_scenario.specs.declared.node.Flags.{Flags}
 use Rattle.chord_scenario.specs.declared.setting.Jitters.{Jitters}
 use Rattle.chord_scenario.specs.declared.setting.Rules.{Rules}
 use Rattle.chord_scenario.specs.declared.setting.Span.{Span}
@@ -107,6 +112,24 @@ node_of bits ms = record {
   bootstrap = truth_at key.Bootstrap ms;
 }
 
+-- what a table says of each of its nodes
+abbrev pub flags_at : Members → Flags
+flags_at ms = record { initial = truth_at key.Initial ms; churn = truth_at key.Churn ms; bootstrap = truth_at key.Bootstrap ms }
+
+-- the node of this number in a class: its name is the prefix followed by the number, and its identifier comes from its name
+unfoldable pub numbered_node : (bits : ℕ) → (prefix : List ℕ) → Flags → (number : ℕ) → Node
+numbered_node bits prefix flags number = record {
+  name = prefix ++ decimal number;
+  ident = ident_of_name bits (prefix ++ decimal number);
+  initial = flags.initial;
+  churn = flags.churn;
+  bootstrap = flags.bootstrap;
+}
+
+-- the nodes of a class, which are numbered from 0
+abbrev pub class_of : (bits : ℕ) → Members → List Node
+class_of bits ms = map (numbered_node bits (name_at key.Prefix ms) (flags_at ms)) (range_with_len 0 (number_at key.Count ms))
+
 -- whether the node of this number is a bootstrap node
 abbrev pub is_bootstrap : List Node → ℕ → Bool
 is_bootstrap nodes i = unwrap_or (option_map (λ n. n.bootstrap) (slice_get nodes i)) false
@@ -115,33 +138,49 @@ is_bootstrap nodes i = unwrap_or (option_map (λ n. n.bootstrap) (slice_get node
 unfoldable pub bootstraps_of : List Node → List ℕ
 bootstraps_of nodes = filter (is_bootstrap nodes) (range_with_len 0 (length nodes))
 
--- the place is that of a node's table
-abbrev pub is_node : Place → Bool
-is_node (place.Node n) = true
-is_node _ = false
+-- the place is that of a table of nodes: of one node, or of a class
+abbrev pub has_nodes : Place → Bool
+has_nodes (place.Node n) = true
+has_nodes (place.Nodes n) = true
+has_nodes _ = false
 
 -- the place is that of a command's table
 abbrev pub is_command : Place → Bool
 is_command (place.Command n) = true
 is_command _ = false
 
+-- the nodes of a table, by its place
+abbrev pub nodes_at : (bits : ℕ) → Place → Members → List Node
+nodes_at bits (place.Node n) ms = node_of bits ms ∷ []
+nodes_at bits (place.Nodes n) ms = class_of bits ms
+nodes_at bits _ ms = []
+
 -- the nodes of a file, in order
 unfoldable pub nodes_of : (bits : ℕ) → List Section → List Node
-nodes_of bits ss = map (λ s. node_of bits s.members) (filter (λ s. is_node s.at) ss)
+nodes_of bits ss = flat_map (λ s. nodes_at bits s.at s.members) ss
 
--- a node has one of the keys of coordinates
+-- a node or a class has one of the keys of coordinates
 abbrev pub is_placed_section : Section → Bool
 is_placed_section s =
-    is_node s.at && (is_some (data_at key.XUs s.members) || is_some (data_at key.YUs s.members) || is_some (data_at key.HeightUs s.members))
+    has_nodes s.at && (is_some (data_at key.XUs s.members) || is_some (data_at key.YUs s.members) || is_some (data_at key.HeightUs s.members))
 
--- the coordinates of a node's table in microseconds, each 0 if its key is absent
+-- the coordinates of a table of nodes in microseconds, each 0 if its key is absent
 abbrev pub coordinates_at : Members → Coordinates
 coordinates_at ms = record { x = number_at key.XUs ms; y = number_at key.YUs ms; height = number_at key.HeightUs ms }
 
+-- how many nodes a table describes, by its place
+abbrev pub size_at : Place → Members → ℕ
+size_at (place.Node n) ms = 1
+size_at (place.Nodes n) ms = number_at key.Count ms
+size_at _ ms = 0
+
+-- the coordinates of each node of a table, by its place: the nodes of a class have the same
+abbrev pub places_at : Place → Members → List Coordinates
+places_at at ms = replicate (size_at at ms) (coordinates_at ms)
+
 -- the coordinates of the nodes of a file, in order, if nodes have them
 unfoldable pub coordinates_of : List Section → List Coordinates
-coordinates_of ss =
-    if list_any is_placed_section ss then map (λ s. coordinates_at s.members) (filter (λ s. is_node s.at) ss) else []
+coordinates_of ss = if list_any is_placed_section ss then flat_map (λ s. places_at s.at s.members) ss else []
 
 -- the number, from n, of the first node of this name
 abbrev pub index_from : ℕ → List ℕ → List Node → Option ℕ

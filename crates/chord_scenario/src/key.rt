@@ -1,19 +1,21 @@
 //! The tables of a scenario file: their places, their keys, and what each key holds.
 
 ghost use Rattle.std.specs.Prelude.{◌≡◌};
-ghost use Rattle.chord_scenario.specs.FileKeys.{churn_keys, command_keys, keys_at, key_name, node_keys, top_keys};
+ghost use Rattle.chord_scenario.specs.FileKeys.{churn_keys, command_keys, keys_at, key_name, class_keys, node_keys, top_keys};
 ghost use Rattle.chord_scenario.specs.Sections.{key_of, place_in};
 
 use std::fmt;
 
-/// The place of a table of the scenario file, or of a row of the latency file. Nodes, commands and
-/// rows are counted from 1.
+/// The place of a table of the scenario file, or of a row of the latency file. Nodes, classes of
+/// nodes, commands and rows are counted from 1.
 #[derive(Clone, Copy)]
 pub enum Place {
     Top,
     Churn,
     Lookups,
     Node(usize),
+    /// A class of nodes.
+    Nodes(usize),
     Command(usize),
     Row(usize),
 }
@@ -25,6 +27,7 @@ impl fmt::Display for Place {
             Place::Churn => f.write_str("churn"),
             Place::Lookups => f.write_str("lookups"),
             Place::Node(number) => write!(f, "node {number}"),
+            Place::Nodes(number) => write!(f, "nodes {number}"),
             Place::Command(number) => write!(f, "command {number}"),
             Place::Row(number) => write!(f, "row {number}"),
         }
@@ -70,6 +73,7 @@ pub enum FileKey {
     Churn,
     Lookups,
     Node,
+    Nodes,
     Command,
     LifeMinUs,
     LifeMaxUs,
@@ -85,6 +89,8 @@ pub enum FileKey {
     XUs,
     YUs,
     HeightUs,
+    Count,
+    Prefix,
     AtUs,
     Do,
     Via,
@@ -92,7 +98,7 @@ pub enum FileKey {
 }
 
 /// The keys as the file writes them, in the order of `FileKey`.
-static KEY_NAMES: [&str; 55] = [
+static KEY_NAMES: [&str; 58] = [
     "profile",
     "bits",
     "list",
@@ -129,6 +135,7 @@ static KEY_NAMES: [&str; 55] = [
     "churn",
     "lookups",
     "node",
+    "nodes",
     "command",
     "life_min_us",
     "life_max_us",
@@ -144,6 +151,8 @@ static KEY_NAMES: [&str; 55] = [
     "x_us",
     "y_us",
     "height_us",
+    "count",
+    "prefix",
     "at_us",
     "do",
     "via",
@@ -182,9 +191,11 @@ pub(crate) enum Form {
 pub(crate) enum Presence {
     Required,
     Optional,
-    /// In a file with a node that has `churn = true`.
+    /// In a file without classes of nodes.
+    WithoutClasses,
+    /// In a file with a node or a class that has `churn = true`.
     ForChurn,
-    /// In a file with a node that has one of the keys of coordinates.
+    /// In a file with a node or a class that has one of the keys of coordinates.
     ForCoordinates,
     /// In a command that joins.
     ForJoin,
@@ -196,6 +207,7 @@ pub(crate) enum Presence {
 #[derive(Clone, Copy)]
 pub(crate) enum Group {
     Nodes,
+    Classes,
     Commands,
 }
 
@@ -206,6 +218,7 @@ impl Group {
     {
         match self {
             Group::Nodes => FileKey::Node,
+            Group::Classes => FileKey::Nodes,
             Group::Commands => FileKey::Command,
         }
     }
@@ -216,6 +229,7 @@ impl Group {
     {
         match self {
             Group::Nodes => Place::Node(number),
+            Group::Classes => Place::Nodes(number),
             Group::Commands => Place::Command(number),
         }
     }
@@ -352,7 +366,13 @@ const NODES: Entry = Entry(FileKey::Node, Form::Tables(2, 512), Presence::Requir
 
 const MANY_NODES: Entry = Entry(FileKey::Node, Form::Tables(2, 4096), Presence::Required);
 
-const MOST_NODES: Entry = Entry(FileKey::Node, Form::Tables(2, 65536), Presence::Required);
+const MOST_NODES: Entry = Entry(
+    FileKey::Node,
+    Form::Tables(2, 65_536),
+    Presence::WithoutClasses,
+);
+
+const CLASSES: Entry = Entry(FileKey::Nodes, Form::Tables(1, 16), Presence::Optional);
 
 const COMMANDS: Entry = Entry(
     FileKey::Command,
@@ -374,7 +394,7 @@ static NETWORK_TOP_KEYS: [Entry; 19] = [
 ];
 
 /// The keys at top in the extended profile.
-static EXTENDED_TOP_KEYS: [Entry; 37] = [
+static EXTENDED_TOP_KEYS: [Entry; 38] = [
     PROFILE,
     WIDE_BITS,
     LONG_LIST,
@@ -411,6 +431,7 @@ static EXTENDED_TOP_KEYS: [Entry; 37] = [
     CHURN,
     LOOKUPS,
     MOST_NODES,
+    CLASSES,
     COMMANDS,
 ];
 
@@ -478,6 +499,17 @@ const HEIGHT: Entry = Entry(
 
 /// The keys of a node in the extended profile.
 static PLACED_NODE_KEYS: [Entry; 8] = [NAME, LONG_ID, INITIAL, CHURNS, BOOTSTRAP, X, Y, HEIGHT];
+
+const COUNT: Entry = Entry(
+    FileKey::Count,
+    Form::Whole(2, 1_048_576),
+    Presence::Required,
+);
+
+const PREFIX: Entry = Entry(FileKey::Prefix, Form::Text, Presence::Required);
+
+/// The keys of a class of nodes, which only the extended profile has.
+static CLASS_KEYS: [Entry; 8] = [COUNT, PREFIX, INITIAL, CHURNS, BOOTSTRAP, X, Y, HEIGHT];
 
 const AT: Entry = Entry(
     FileKey::AtUs,
@@ -549,6 +581,16 @@ fn node_keys(profile: u64) -> &'static [Entry]
     }
 }
 
+/// The keys of a class of nodes in a profile.
+fn class_keys(profile: u64) -> &'static [Entry]
+    ensures { result.now ≡ class_keys profile }
+{
+    match profile {
+        4 => &CLASS_KEYS,
+        _ => &[],
+    }
+}
+
 /// The keys of the table at a place, in order. A `profile` other than the numbers 2 and 4 is checked
 /// with the keys of the first profile.
 pub(crate) fn keys_at(profile: u64, place: Place) -> &'static [Entry]
@@ -559,6 +601,7 @@ pub(crate) fn keys_at(profile: u64, place: Place) -> &'static [Entry]
         Place::Churn => churn_keys(profile),
         Place::Lookups => &LOOKUPS_KEYS,
         Place::Node(_) => node_keys(profile),
+        Place::Nodes(_) => class_keys(profile),
         Place::Command(_) => command_keys(profile),
         Place::Row(_) => &[],
     }

@@ -6,7 +6,7 @@ ghost use Rattle.std.specs.BTreeMap.{keys};
 ghost use Rattle.toml.specs.View.{table_view};
 ghost use Rattle.chord_scenario.specs.Sections.{section_of};
 ghost use Rattle.chord_scenario.specs.declared.fault.ScenarioFault.TheVariants.{MissingKey, WrongType, OutOfRange};
-ghost use Rattle.chord_scenario.specs.Settings.{is_placed_section};
+ghost use Rattle.chord_scenario.specs.Settings.{has_nodes, is_placed_section};
 ghost use Rattle.chord_scenario.specs.KeyFaults.{key_fault_in, is_listed, has_unlisted, unknown_key, is_churn_section, needs_of, is_required, is_missing, missing_key, has_wrong_type, wrong_type, is_out_of_range, out_of_range};
 
 use crate::fault::ScenarioFault;
@@ -54,11 +54,18 @@ pub(crate) fn unknown_key(profile: u64, tables: &[PlacedTable<'_>]) -> Option<Sc
     None
 }
 
-/// Whether a table is a node that churns.
+/// Whether a place is that of a table of nodes: of one node, or of a class.
+fn has_nodes(at: Place) -> bool
+    ensures { result ≡ has_nodes at }
+{
+    matches!(at, Place::Node(_) | Place::Nodes(_))
+}
+
+/// Whether a table is a node that churns, or a class of such nodes.
 fn is_churn_section(table: &PlacedTable<'_>) -> bool
     ensures { result ≡ is_churn_section (section_of table.now) }
 {
-    matches!(table.at, Place::Node(_)) && truth_at(table.table, FileKey::Churn)
+    has_nodes(table.at) && truth_at(table.table, FileKey::Churn)
 }
 
 /// Whether some node churns.
@@ -73,11 +80,11 @@ fn has_churn_node(tables: &[PlacedTable<'_>]) -> bool
     false
 }
 
-/// Whether a table is a node that has one of the keys of coordinates.
+/// Whether a table is a node or a class that has one of the keys of coordinates.
 fn is_placed_section(table: &PlacedTable<'_>) -> bool
     ensures { result ≡ is_placed_section (section_of table.now) }
 {
-    matches!(table.at, Place::Node(_))
+    has_nodes(table.at)
         && (value_at(table.table, FileKey::XUs).is_some()
             || value_at(table.table, FileKey::YUs).is_some()
             || value_at(table.table, FileKey::HeightUs).is_some())
@@ -119,6 +126,7 @@ fn is_required(needs: Needs, table: &PlacedTable<'_>, presence: Presence) -> boo
     match presence {
         Presence::Required => true,
         Presence::Optional => false,
+        Presence::WithoutClasses => value_at(table.table, FileKey::Nodes).is_none(),
         Presence::ForChurn => needs.churn,
         Presence::ForCoordinates => needs.coordinates,
         Presence::ForJoin => matches!(operation_at(table.table), Some(Operation::Join)),

@@ -71,7 +71,7 @@ pub(crate) fn cell_at(cells: &[u32], n: usize, i: usize, j: usize) -> u32
 /// The square of latencies that rows give, which is empty if there are no rows, or the first row
 /// that names the pair of an earlier one.
 pub(crate) fn latencies(alloc: Global, rows: &Rows<'_>) -> Result<Vec<u32>, ScenarioFault>
-    requires few { length rows.now.names.nodes.now ≤ 65536 }
+    requires few { length rows.now.names.nodes.now ≤ 16842752 }
     requires known { row_fault UnknownNode (row_names_unknown rows.now.names.nodes.now) (rows_of rows.now.text.now) ≡ None }
     requires good { bad_latency_row (rows_of rows.now.text.now) ≡ None }
     ensures once { IfOk result (λ _. same_link_twice (rows_of rows.now.text.now) ≡ None) }

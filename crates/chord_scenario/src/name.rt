@@ -1,8 +1,12 @@
 //! Names of nodes.
-ghost use Rattle.std.specs.Prelude.{◌≡◌, ℕ, List, string_bytes, IfOk};
+ghost use Rattle.std.specs.Prelude.{◌≡◌, ◌++◌, ℕ, List, decimal, string_bytes, IfOk};
 
 use std::alloc::{AllocError, Global};
+use std::fmt::Write as _;
 use std::marker::Model;
+
+/// Room in bytes for the digits of each number of a class of nodes.
+const ROOM_FOR_DIGITS: usize = 7;
 
 /// A node's name, which contracts see as its bytes.
 #[derive(Drop)]
@@ -26,6 +30,15 @@ impl Name {
         Ok(Name {
             text: String::from_str(alloc, text)?,
         })
+    }
+
+    /// The name that a prefix and a number make.
+    pub fn numbered(alloc: Global, prefix: &str, number: u64) -> Result<Self, AllocError>
+        ensures { IfOk result (λ n. n ≡ prefix.now ++ decimal number) }
+    {
+        let mut text = String::with_capacity(alloc, prefix.len() + ROOM_FOR_DIGITS)?;
+        write!(text, "{prefix}{number}")?;
+        Ok(Name { text })
     }
 
     /// The name as a text.

@@ -1,10 +1,10 @@
 //! The nodes of a scenario file.
-ghost use Rattle.std.specs.Prelude.{◌≡◌, ◌<◌, ◌≤◌, ◌^◌, IfOk, IfSome, length, map, option_and_then};
+ghost use Rattle.std.specs.Prelude.{◌≡◌, ◌<◌, ◌≤◌, ◌^◌, ◌++◌, IfOk, IfSome, OnOk, length, map, option_and_then, replicate};
 ghost use Rattle.std.specs.List.{All};
 ghost use Rattle.chord_scenario.specs.Values.{data_at, identifier_of};
 ghost use Rattle.toml.specs.View.{table_view};
 ghost use Rattle.chord_scenario.specs.Sections.{section_of};
-ghost use Rattle.chord_scenario.specs.Settings.{bootstraps_of, coordinates_at, coordinates_of, identifier_at, name_at, node_of, nodes_of};
+ghost use Rattle.chord_scenario.specs.Settings.{bootstraps_of, class_of, coordinates_at, coordinates_of, flags_at, identifier_at, name_at, node_of, nodes_at, nodes_of, numbered_node, size_at};
 
 use crate::key::{FileKey, Place};
 use crate::keys_check::has_placed_node;
@@ -67,7 +67,86 @@ fn node(alloc: Global, circle: Circle, table: &Table) -> Result<Node, AllocError
     })
 }
 
-/// The coordinates of the node that a table describes.
+/// What a table says of each of its nodes: whether it is a member at the start, whether it goes down
+/// and rises by itself, and whether it is a bootstrap node.
+#[derive(Clone, Copy)]
+pub(crate) struct Flags {
+    pub initial: bool,
+    pub churn: bool,
+    pub bootstrap: bool,
+}
+
+/// What a table says of each of its nodes.
+fn flags_at(table: &Table) -> Flags
+    ensures { result ≡ flags_at (table_view table.now) }
+{
+    Flags {
+        initial: truth_at(table, FileKey::Initial),
+        churn: truth_at(table, FileKey::Churn),
+        bootstrap: truth_at(table, FileKey::Bootstrap),
+    }
+}
+
+/// The node of a number in a class.
+#[tactic(auto, unfolding(crate::specs::Settings::numbered_node))]
+fn numbered_node(
+    alloc: Global,
+    circle: Circle,
+    prefix: &str,
+    flags: Flags,
+    number: u64,
+) -> Result<Node, AllocError>
+    ensures value { IfOk result (λ n. n ≡ numbered_node circle prefix.now flags number) }
+    ensures on_circle { IfOk result (λ n. n.ident < 2 ^ circle) }
+{
+    let name = Name::numbered(alloc, prefix, number)?;
+    let ident = circle.ident_of_name(name.as_str().as_bytes());
+    Ok(Node {
+        name,
+        ident,
+        initial: flags.initial,
+        churn: flags.churn,
+        bootstrap: flags.bootstrap,
+    })
+}
+
+/// Adds the nodes of the class that a table describes.
+fn push_class(
+    alloc: Global,
+    circle: Circle,
+    table: &Table,
+    nodes: &mut Vec<Node>,
+) -> Result<(), AllocError>
+    ensures value { OnOk result (nodes.new.items ≡ nodes.old.items ++ class_of circle (table_view table.now)) }
+    ensures on_circle { OnOk result (All (λ n. n.ident < 2 ^ circle) nodes.old.items → All (λ n. n.ident < 2 ^ circle) nodes.new.items) }
+{
+    let prefix = name_at(table, FileKey::Prefix);
+    let flags = flags_at(table);
+    for number in 0..number_at(table, FileKey::Count) {
+        nodes.push(numbered_node(alloc, circle, prefix, flags, number)?)?;
+    }
+    Ok(())
+}
+
+/// Adds the nodes that a table describes: one, or those of a class.
+fn push_nodes(
+    alloc: Global,
+    circle: Circle,
+    table: &PlacedTable<'_>,
+    nodes: &mut Vec<Node>,
+) -> Result<(), AllocError>
+    ensures value { OnOk result (nodes.new.items ≡ nodes.old.items ++ nodes_at circle table.now.at (table_view table.now.table.now)) }
+    ensures on_circle { OnOk result (All (λ n. n.ident < 2 ^ circle) nodes.old.items → All (λ n. n.ident < 2 ^ circle) nodes.new.items) }
+{
+    match table.at {
+        Place::Node(_) => nodes.push(node(alloc, circle, table.table)?)?,
+        Place::Nodes(_) => push_class(alloc, circle, table.table, nodes)?,
+        _ => {}
+    }
+    Ok(())
+}
+
+/// The coordinates of each node that a table describes.
 fn coordinates_at(table: &Table) -> Coordinates
     ensures { result ≡ coordinates_at (table_view table.now) }
 {
@@ -75,6 +154,31 @@ fn coordinates_at(table: &Table) -> Coordinates
         x: number_at(table, FileKey::XUs),
         y: number_at(table, FileKey::YUs),
         height: number_at(table, FileKey::HeightUs),
+    }
+}
+
+/// Adds one place so many times.
+fn push_places(
+    coordinates: &mut Vec<Coordinates>,
+    place: Coordinates,
+    count: u64,
+) -> Result<(), AllocError>
+    ensures { OnOk result (coordinates.new.items ≡ coordinates.old.items ++ replicate count place) }
+{
+    for _added in 0..count {
+        coordinates.push(place)?;
+    }
+    Ok(())
+}
+
+/// How many nodes a table describes.
+fn size_of(table: &PlacedTable<'_>) -> u64
+    ensures { result ≡ size_at table.now.at (table_view table.now.table.now) }
+{
+    match table.at {
+        Place::Node(_) => 1,
+        Place::Nodes(_) => number_at(table.table, FileKey::Count),
+        _ => 0,
     }
 }
 
@@ -91,9 +195,11 @@ pub(crate) fn coordinates(
         return Ok(coordinates);
     }
     for table in tables {
-        if let Place::Node(_) = table.at {
-            coordinates.push(coordinates_at(table.table))?;
-        }
+        push_places(
+            &mut coordinates,
+            coordinates_at(table.table),
+            size_of(table),
+        )?;
     }
     Ok(coordinates)
 }
@@ -101,7 +207,7 @@ pub(crate) fn coordinates(
 /// The bootstrap nodes, in the order of the file.
 #[tactic(auto, unfolding(crate::specs::Settings::bootstraps_of))]
 pub(crate) fn bootstraps(alloc: Global, nodes: &[Node]) -> Result<Vec<u32>, AllocError>
-    requires { length nodes.now ≤ 65536 }
+    requires { length nodes.now ≤ 16842752 }
     ensures { IfOk result (λ v. v.items ≡ bootstraps_of nodes.now) }
 {
     let mut bootstraps = Vec::new(alloc);
@@ -125,9 +231,7 @@ pub(crate) fn nodes(
 {
     let mut nodes = Vec::new(alloc);
     for table in tables {
-        if let Place::Node(_) = table.at {
-            nodes.push(node(alloc, circle, table.table)?)?;
-        }
+        push_nodes(alloc, circle, table, &mut nodes)?;
     }
     Ok(nodes)
 }

@@ -2,9 +2,10 @@
 
 ghost use Rattle.std.specs.Prelude.{◌≡◌, IfOk, map, take, find, option_map, option_copied, bytes_eq, ◌==◌, count_by};
 ghost use Rattle.std.specs.List.{list_all, enumerate_from};
+ghost use Rattle.toml.specs.View.{table_view};
 ghost use Rattle.chord_scenario.specs.Sections.{section_of};
 ghost use Rattle.chord_scenario.specs.Index.{NumbersIdents};
-ghost use Rattle.chord_scenario.specs.Faults.{is_name_byte, is_name, bad_name, same_name, same_id, too_few_initial};
+ghost use Rattle.chord_scenario.specs.Faults.{is_name_byte, is_name, is_prefix, has_bad_name, bad_name, same_name, same_id, too_few_initial};
 
 use crate::fault::ScenarioFault;
 use crate::key::{FileKey, Place};
@@ -40,13 +41,33 @@ fn is_name(name: &str) -> bool
     1 <= bytes.len() && bytes.len() <= 32 && are_name_bytes(bytes) && name != "audit"
 }
 
-/// The first node whose name is no name.
+/// Whether a text is a prefix that the names of a class of nodes may have.
+#[tactic(auto, unfolding(crate::specs::Faults::is_prefix))]
+fn is_prefix(prefix: &str) -> bool
+    ensures { result ≡ is_prefix prefix.now }
+{
+    let bytes = prefix.as_bytes();
+    1 <= bytes.len() && bytes.len() <= 25 && are_name_bytes(bytes)
+}
+
+/// Whether a table is a node whose name is no name, or a class whose prefix is none.
+fn has_bad_name(table: &PlacedTable<'_>) -> bool
+    ensures { result ≡ has_bad_name table.now.at (table_view table.now.table.now) }
+{
+    match table.at {
+        Place::Node(_) => !is_name(name_at(table.table, FileKey::Name)),
+        Place::Nodes(_) => !is_prefix(name_at(table.table, FileKey::Prefix)),
+        _ => false,
+    }
+}
+
+/// The first node whose name is no name, or the first class whose prefix is none.
 #[tactic(auto, unfolding(crate::specs::Faults::bad_name))]
 pub(crate) fn bad_name(tables: &[PlacedTable<'_>]) -> Option<ScenarioFault>
     ensures { result ≡ bad_name (map section_of tables.now) }
 {
     for table in tables {
-        if matches!(table.at, Place::Node(_)) && !is_name(name_at(table.table, FileKey::Name)) {
+        if has_bad_name(table) {
             return Some(ScenarioFault::BadName(table.at));
         }
     }

@@ -132,7 +132,7 @@ fn checked_distances(
     tables: &[PlacedTable<'_>],
     rows: &Rows<'_>,
 ) -> Result<Distances, ScenarioFault>
-    requires few { length rows.now.names.nodes.now ≤ 65536 }
+    requires few { length rows.now.names.nodes.now ≤ 16842752 }
     requires distinct { same_name rows.now.names.nodes.now ≡ None }
     requires known { row_fault UnknownNode (row_names_unknown rows.now.names.nodes.now) (rows_of rows.now.text.now) ≡ None }
     requires good { bad_latency_row (rows_of rows.now.text.now) ≡ None }
@@ -170,7 +170,7 @@ fn link_nodes(
     names: Names<'_>,
     csv: &[u8],
 ) -> Result<Linked, ScenarioFault>
-    requires few { length names.nodes.now ≤ 65536 }
+    requires few { length names.nodes.now ≤ 16842752 }
     requires distinct { same_name names.nodes.now ≡ None }
     ensures sound { IfOk result (λ _. first_answer (late_questions (table_view top.now) (map section_of tables.now) names.entry.nodes.now (rows_of csv.now)) ≡ None) }
     ensures good { IfOk result (λ _. bad_latency_row (rows_of csv.now) ≡ None) }
@@ -221,7 +221,7 @@ fn checked_names<'a>(
     tables: &[PlacedTable<'_>],
     nodes: &'a [Node],
 ) -> Result<Names<'a>, ScenarioFault>
-    requires { length nodes.now ≤ 65536 }
+    requires { length nodes.now ≤ 16842752 }
     ensures nodes { IfOk result (λ names. names.nodes.now ≡ nodes.entry.now) }
     ensures sound { IfOk result (λ _. first_answer (node_questions (map section_of tables.now) nodes.entry.now) ≡ None) }
     ensures refused { IfErr result (λ e. (e ≡ ScenarioFault.Memory) ⊎ (first_answer (node_questions (map section_of tables.now) nodes.entry.now) ≡ Some e)) }

@@ -77,6 +77,7 @@ pub(crate) fn tables_in<'a>(
     push_table(&mut tables, Place::Churn, value_at(top, FileKey::Churn))?;
     push_table(&mut tables, Place::Lookups, value_at(top, FileKey::Lookups))?;
     push_tables(&mut tables, Group::Nodes, value_at(top, FileKey::Node))?;
+    push_tables(&mut tables, Group::Classes, value_at(top, FileKey::Nodes))?;
     push_tables(
         &mut tables,
         Group::Commands,

@@ -180,9 +180,9 @@ returns-clause-square c =
     subst (λ l. HasLatencies nodes l c.loop-i.cells.items) (take_all c.loop-i.i rows over) c.loop-i.invariant.has in
     rw (square-full (length nodes) c.loop-i.cells.items all.size) all
 
--- a square for at most 65,536 nodes has fewer than 2 ^ 64 cells
-square_fits : (n : ℕ) → n ≤ 65536 → n * n < 18446744073709551616
-square_fits n few = omega (arith, mul-le n n 65536 65536 few few)
+-- a square for at most 16,842,752 nodes has fewer than 2 ^ 64 cells
+square_fits : (n : ℕ) → n ≤ 16842752 → n * n < 18446744073709551616
+square_fits n few = omega (arith, mul-le n n 16842752 16842752 few few)
 
 pub overflow_mul-n : goal.overflow_mul-n
 overflow_mul-n c = omega (arith, square_fits (length c.args.rows.now.names.nodes.now) c.requires.few)
