@@ -5,6 +5,7 @@ mod by_engine;
 mod by_example;
 mod by_plan;
 mod circles;
+mod classes;
 mod comparisons;
 mod copies;
 mod crews;
