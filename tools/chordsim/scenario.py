@@ -2,7 +2,7 @@
 
 import json
 import os
-from collections.abc import Iterable, Mapping, Sequence
+from collections.abc import Iterable, Iterator, Mapping, Sequence
 from dataclasses import dataclass, field, replace
 from functools import cached_property
 from typing import Any
@@ -17,7 +17,8 @@ from chordsim_tools.explain.traps import events_trap, greatest_latency, traps_of
 from chordsim_tools.files import check_apart, read_input, write_whole
 from chordsim_tools.generate.hosts import name_of_group
 from chordsim_tools.quantities import UNIT_NAMES, time_of
-from chordsim_tools.scenario.tables import EXTENDED, GREATEST_SIZE, has_type, parse_toml
+from chordsim_tools.scenario.classes import class_names
+from chordsim_tools.scenario.tables import EXTENDED, GREATEST_SIZE, MOST_OF_CLASS, has_type, parse_toml
 from chordsim_tools.study.document import toml_text
 
 Nodes = str | Iterable[str]
@@ -129,9 +130,10 @@ class Scenario:
 
     @cached_property
     def nodes(self) -> tuple[str, ...]:
-        """The names of the nodes, in the order of the file."""
-        tables = self._top.get("node", [])
-        return tuple(str(node.get("name")) for node in tables) if has_type(tables, "tables") else ()
+        """The names of the nodes, in the order of the file, those of classes last."""
+        tables, classes = (self._top.get(key, []) for key in ("node", "nodes"))
+        names = tuple(str(node.get("name")) for node in tables) if has_type(tables, "tables") else ()
+        return names + (tuple(names_in(classes)) if has_type(classes, "tables") else ())
 
     @cached_property
     def _top(self) -> Mapping[str, Any]:
@@ -204,6 +206,14 @@ class Scenario:
             return f"<Scenario of {len(self.text)} characters that are no TOML>"
         count = len(commands) if has_type(commands, "tables") else 0
         return f"<Scenario nodes={nodes} commands={count}{'' if self.latency is None else ' with latencies'}>"
+
+
+def names_in(classes: Iterable[Mapping[str, Any]]) -> Iterator[str]:
+    """The names of the nodes of these classes, as far as they have a prefix and a number that is not too great."""
+    for one in classes:
+        count = one.get("count")
+        if has_type(one.get("prefix"), "text") and isinstance(count, int) and count <= MOST_OF_CLASS:
+            yield from class_names(one)
 
 
 def files_of(scenario: Scenario) -> Files:

@@ -42,7 +42,7 @@ class ExplainCoordinatesTest(TestCase):
         (found,) = faults(changed(("seed = 1", "seed = 1\nheight_us = 5")))
         assert found.hints == [f"{hint}, and put it below a heading [[node]]"]
         (found,) = faults(changed(EXTENDED, ("seed = 1", "seed = 1\nheight_us = 5")))
-        assert found.hints == ["`height_us` is a key of [[node]]"]
+        assert found.hints == ["`height_us` is a key of [[node]] and of [[nodes]]"]
 
     def test_low_heights(self) -> None:
         """Both nodes and their heights are told, at the first one's line: 25 and two lines for the coordinates."""

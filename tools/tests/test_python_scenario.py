@@ -43,7 +43,17 @@ create_alone = true
 churn = { life_min_us = 1, life_max_us = 2, down_min_us = 3, down_max_us = 4, leave_ppm = 5 }
 lookups = { gap_min_us = 5, gap_max_us = 6 }
 command = [{ at_us = 7, do = "join", node = "n1", via = "n1" }, { at_us = 8, do = "lookup", node = "n0", key = "f" }]
-""" + IN_THE_PLANE + 'churn = true\nbootstrap = true\n[[node]]\nname = "n\\u0034"\nid = "ff"\nx_us = 1\ny_us = 0x10\n'
+""" + IN_THE_PLANE + 'churn = true\nbootstrap = true\n[[node]]\nname = "n\\u0034"\nid = "ff"\nx_us = 1\ny_us = 0x10\n' + """\
+[[nodes]]
+count = 2
+prefix = "m"
+initial = true
+churn = true
+bootstrap = true
+x_us = 0
+y_us = 9
+height_us = 8
+"""
 """A scenario with each key that there is."""
 
 
@@ -62,7 +72,7 @@ class ScenarioTest(TestCase):
     def test_change_keeps_all_keys(self) -> None:
         """Each key of the formats is in the text, and after a change has its value; so it is with examples."""
         tables = tomllib.loads(EVERYTHING)
-        places = {"top": [tables], "node": tables["node"], "command": tables["command"]}
+        places = {"top": [tables], **{name: tables[name] for name in ("node", "nodes", "command")}}
         places |= {name: [tables[name]] for name in ("churn", "lookups")}
         for kind, keys in EXTENDED.tables.items():
             self.assertEqual({key.name for key in keys}, {name for table in places[kind] for name in table})

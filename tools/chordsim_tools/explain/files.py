@@ -7,7 +7,7 @@ from typing import Any
 from chordsim_tools.explain.hints import shown
 from chordsim_tools.explain.positions import Path, Position, Positions
 from chordsim_tools.scenario.faults import Document
-from chordsim_tools.scenario.tables import GREATEST_INTEGER, Key, Place, Row
+from chordsim_tools.scenario.tables import GREATEST_INTEGER, MOST_OF_PREFIX, Key, Place, Row
 
 
 @dataclass
@@ -104,6 +104,8 @@ def allowed_at(key: Key, bits: int | None) -> str:
         return "one of " + ", ".join(f'"{word}"' for word in key.among)
     if key.name == "name":
         return "a text of 1 to 32 letters, digits, `.`, `_` and `-`, but not \"audit\""
+    if key.name == "prefix":
+        return f"a text of 1 to {MOST_OF_PREFIX} letters, digits, `.`, `_` and `-`"
     if key.kind == "integer":
         return integers_at(key)
     if key.kind == "id":

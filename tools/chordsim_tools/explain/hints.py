@@ -11,7 +11,10 @@ from chordsim_tools.scenario.tables import (
     BILLION, PROFILES, Key, Profile, Row, has_type, is_hexadecimal, is_in_own_range,
 )
 
-HEADINGS = {"top": "the top", "churn": "[churn]", "lookups": "[lookups]", "node": "[[node]]", "command": "[[command]]"}
+HEADINGS = {
+    "top": "the top", "churn": "[churn]", "lookups": "[lookups]", "node": "[[node]]", "nodes": "[[nodes]]",
+    "command": "[[command]]",
+}
 SEPARATORS = {";": "semicolons", "\t": "tabs", "|": "bars", ":": "colons", " ": "blanks"}
 
 
@@ -39,7 +42,7 @@ def of_unknown_key(name: str, place: str, table: dict[str, Any], profile: Profil
     """A key that is like it, or the table or the profile that has it."""
     kind = place.split()[0]
     later = later_keys(profile)
-    if name in later:
+    if name in later and not (name == "nodes" and are_nodes(table[name])):
         return [of_later_key(name, *later[name], kind)]
     headings = HEADINGS if kind == "top" else {}
     keys = profile.tables[kind]
@@ -56,6 +59,11 @@ def of_unknown_key(name: str, place: str, table: dict[str, Any], profile: Profil
     return [] if meant is None else [f"did you mean `{meant}`? {of_later_key(meant, *later[meant], kind)}"]
 
 
+def are_nodes(value: Any) -> bool:
+    """Whether what is under the heading of classes are tables of single nodes."""
+    return has_type(value, "tables") and not any({"count", "prefix"} & table.keys() for table in value)
+
+
 def of_other_table(name: str, owners: list[str]) -> str:
     """That tables of these kinds have this key."""
     if "top" in owners:
@@ -68,7 +76,8 @@ def later_keys(profile: Profile) -> dict[str, tuple[int, str]]:
     later: dict[str, tuple[int, str]] = {}
     for number, other in PROFILES.items():
         for kind, keys in other.tables.items():
-            present = {key.name for key in profile.tables[kind]}
+            # A class has mostly keys of a node.
+            present = {key.name for key in profile.tables.get(kind, profile.tables["node"])}
             for name in (key.name for key in keys if key.name not in present):
                 later.setdefault(name, (number, kind))
     return later
@@ -90,6 +99,8 @@ def of_missing_key(key: str, place: str, table: dict[str, Any], profile: Profile
         hints.append(f"a {table.get('do')} needs `{key}`")
     if key == "churn":
         hints.append("a node has `churn = true`: write the table [churn], or take that away")
+    if key == "node" and "nodes" in listed:
+        hints.append("a class of nodes, [[nodes]], is enough too")
     if key in ("x_us", "y_us"):
         hints.append("if one node has `x_us`, `y_us` or `height_us`, each node has `x_us` and `y_us`")
     return hints
@@ -181,7 +192,7 @@ def of_profile(value: Any, key: Key, place: str) -> list[str]:
         return of_profile_number(value)
     # Each profile has all keys of the earlier ones, with ranges that are no narrower.
     for number, other in PROFILES.items():
-        wider = next((one for one in other.tables[place.split()[0]] if one.name == key.name), key)
+        wider = next((one for one in other.tables.get(place.split()[0], []) if one.name == key.name), key)
         if is_in_own_range(value, wider):
             unit = {"tables": " tables", "id": " hexadecimal digits, and 128 bits"}.get(key.kind, "")
             return [f"profile {number} allows up to {wider.greatest}{unit}: write profile = {number}"]
@@ -205,20 +216,20 @@ def of_range(value: int, key: Key) -> list[str]:
     return []
 
 
-def of_name(name: str) -> list[str]:
-    """What is wrong with a node's name."""
+def of_name(name: str, most: int, is_prefix: bool = False) -> list[str]:
+    """What is wrong with a node's name, or with the prefix of names, of at most so many bytes."""
     if name == "":
-        return ["the name is empty"]
+        return [f"the {'prefix' if is_prefix else 'name'} is empty"]
     if name == "audit":
         return ["`audit` begins the audit lines of a trace: choose another name"]
     bad = sorted({shown(c) for c in name if not re.fullmatch(r"[A-Za-z0-9._-]", c)})
     hints = []
     if bad:
         hints.append("not allowed in a name: " + " ".join(f"'{c}'" for c in bad))
-        allowed = re.sub(r"[^A-Za-z0-9._-]+", "-", name.strip())[:32]
+        allowed = re.sub(r"[^A-Za-z0-9._-]+", "-", name.strip())[:most]
         if re.search(r"[A-Za-z0-9]", allowed):
             hints.append(f'"{allowed}" is allowed')
-    if len(name.encode()) > 32:
+    if len(name.encode()) > most:
         hints.append(f"it has {len(name.encode())} bytes")
     return hints
 

@@ -30,7 +30,8 @@ def allowed(fault: NotToml) -> str:
         return "a number of 64 bits"
     if fault.offset is not None:
         return "a text in UTF-8"
-    return "a TOML document: lines KEY = VALUE, headings [churn], [lookups], [[node]], [[command]], and # comments"
+    headings = "[churn], [lookups], [[node]], [[nodes]], [[command]]"
+    return f"a TOML document: lines KEY = VALUE, headings {headings}, and # comments"
 
 
 def line_of(text: str, number: int) -> str:
@@ -58,12 +59,13 @@ def meant(reason: str, line: str, positions: Positions) -> list[str]:
     """What was likely meant."""
     heading = line.split("#")[0].strip()
     name = heading.strip("[] \t")
-    if heading.startswith("[") and name in ("node", "command") and heading != f"[[{name}]]":
-        return [f"begin each {name} with the heading [[{name}]], with two brackets on each side"]
+    if heading.startswith("[") and name in ("node", "nodes", "command") and heading != f"[[{name}]]":
+        table = "class of nodes" if name == "nodes" else name
+        return [f"begin each {table} with the heading [[{name}]], with two brackets on each side"]
     if reason.startswith(("Cannot overwrite", "Cannot declare", "Cannot redefine", "Cannot mutate")):
         return doubled(positions)
     if heading.startswith("["):
-        return ["a heading stands alone on its line: [churn], [lookups], [[node]] or [[command]]"]
+        return ["a heading stands alone on its line: [churn], [lookups], [[node]], [[nodes]] or [[command]]"]
     key, equals, value = line.partition("=")
     if not equals and ":" in line:
         return [f"write = for the colon: {shown(line.strip().replace(':', ' =', 1))}"]

@@ -12,6 +12,7 @@ from chordsim_tools.explain.world_traps import world_traps
 from chordsim_tools.known import known
 from chordsim_tools.quantities import time_text
 from chordsim_tools.scenario import coordinates
+from chordsim_tools.scenario.classes import expanded, node_count, node_sections
 from chordsim_tools.scenario.defaults import check_us, is_extended
 from chordsim_tools.scenario.reading import jitters_of
 from chordsim_tools.scenario.tables import EXTENDED, PROFILES, rows_of
@@ -44,18 +45,21 @@ def warn(traps: list[str]) -> None:
 
 def greatest_latency(top: dict[str, Any], latency: bytes) -> int:
     """The greatest latency of two nodes, with the spread."""
-    if "x_us" in top["node"][0]:
-        nodes = [known(coordinates.coordinates_of(node)) for node in top["node"]]
+    # Of a class, whose nodes are all at one place, two are enough.
+    sections = [*node_sections(top), *top.get("nodes", [])]
+    if "x_us" in sections[0]:
+        nodes = [known(coordinates.coordinates_of(section)) for section in sections]
         return coordinates.greatest_latency(nodes) + int(top.get("spread_us", 0))
     rows = rows_of(latency)
-    count = len(top["node"])
+    count = node_count(top)
     default = top["latency_us"] if len(rows) < count * (count - 1) // 2 else 0
     return int(max([default, *(int(row.fields[2]) for row in rows)]) + top.get("spread_us", 0))
 
 
 def traps_of(top: dict[str, Any], greatest: int) -> list[str]:
     """The traps of a scenario that is accepted, with this greatest latency."""
-    return [*timeout_trap(top["timeout_us"], greatest, top.get("retries", 0)), *duration_traps(top), *world_traps(top)]
+    of_timeouts = timeout_trap(top["timeout_us"], greatest, top.get("retries", 0))
+    return [*of_timeouts, *duration_traps(top), *world_traps(expanded(top))]
 
 
 def timeout_trap(timeout: int, greatest: int, retries: int = 0) -> list[str]:
@@ -85,7 +89,7 @@ def timer_events(top: dict[str, Any]) -> float:
     """How many events the timers of the nodes make, roughly, with the messages that follow from them."""
     lookups = top.get("lookups") or {}
     gap = (lookups.get("gap_min_us", 0) + lookups.get("gap_max_us", 0)) / 2
-    nodes = len(top["node"])
+    nodes = node_count(top)
     way = 2 + 2 * math.log2(nodes)
     jitters = jitters_of(top)
     rate = 8 / (top["stabilize_us"] + jitters.stabilize_us / 2) + way / (top["finger_us"] + jitters.finger_us / 2)

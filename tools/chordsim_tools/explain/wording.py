@@ -8,8 +8,9 @@ from chordsim_tools.explain.files import Explanation, Files, allowed_at, in_word
 from chordsim_tools.explain.hints import heading_of, shown
 from chordsim_tools.explain.positions import Position
 from chordsim_tools.known import known
-from chordsim_tools.scenario.faults import Fault
-from chordsim_tools.scenario.tables import BILLION, COORDINATES, Key, is_in_own_range
+from chordsim_tools.reference.circle import Circle
+from chordsim_tools.scenario.faults import Fault, Node, ident_of
+from chordsim_tools.scenario.tables import BILLION, COORDINATES, MOST_OF_PREFIX, Key, is_in_own_range
 
 Parts = tuple[str, str, str, list[str]]
 """What is wrong, what is there, what is allowed, and what was likely meant."""
@@ -107,31 +108,48 @@ def out_of_range(fault: Fault, files: Files) -> Parts:
 def bad_name(fault: Fault, files: Files) -> Parts:
     """S6."""
     value, _, written, allowed = value_and_key(fault, files)
-    return "this is not allowed as a node's name", written, allowed, hints.of_name(value)
+    if fault.key == "prefix":
+        likely = hints.of_name(value, MOST_OF_PREFIX, is_prefix=True)
+        return "names of nodes may not begin with this", written, allowed, likely
+    return "this is not allowed as a node's name", written, allowed, hints.of_name(value, 32)
+
+
+def told_in_file(node: Node) -> str:
+    """A node by its number; one of a class also by its name and its class."""
+    return f'{node.told} ("{node.name}" of {node.place.name})' if node.is_of_class else node.told
+
+
+def more_told(fault: Fault) -> str:
+    """How many further nodes of the same class have the same fault."""
+    return "" if fault.count == 1 else f"; so it is with {fault.count - 1} more of {fault.place}"
 
 
 def same_name(fault: Fault, files: Files) -> Parts:
     """S7."""
+    first, node = known(fault.nodes)
     _, _, written, _ = value_and_key(fault, files)
-    line = files.line(fault.other, "name")
-    return f"{fault.other} has this name already, at {line}", written, "a name that no other node has", []
+    line = files.line(fault.other, first.naming)
+    found = f'"{node.name}", by prefix = {written}' if node.is_of_class else written
+    what = f"{told_in_file(first)} has this name already, at {line}{more_told(fault)}"
+    return what, found, "a name that no other node has", []
 
 
 def same_id(fault: Fault, files: Files) -> Parts:
     """S8."""
-    node, first = files.place(fault.place), files.place(fault.other)
-    ident = files.document.ident(node)
+    first, node = known(fault.nodes)
     bits = files.document.top.usable("bits")
-    line = files.line(fault.other, "id" if "id" in first.table else "name")
+    ident = ident_of(node, Circle(bits))
+    line = files.line(fault.other, "id" if "id" in first.place.table else first.naming)
     likely = [
-        f"{place.name} has no `id`: it is made of the name, the first {bits} bits of the name's SHA-1 digest"
-        for place in (first, node)
-        if "id" not in place.table
+        f"{told_in_file(one)} has no `id`: it is made of the name, the first {bits} bits of the name's SHA-1 digest"
+        for one in (first, node)
+        if "id" not in one.place.table
     ]
     if likely:
-        likely.append("give it an `id`, or take more bits, or another name")
+        an_id = "take" if node.is_of_class else "give it an `id`, or take"
+        likely.append(f"{an_id} more bits, or another {'prefix' if node.is_of_class else 'name'}")
     found = f"identifier {ident} (in hexadecimal {ident:x})"
-    what = f"{fault.other} has this identifier already, at {line}"
+    what = f"{told_in_file(first)} has this identifier already, at {line}{more_told(fault)}"
     return what, found, "an identifier that no other node has", likely
 
 
@@ -155,7 +173,7 @@ def unknown_node(fault: Fault, files: Files) -> Parts:
 def too_few_initial(_: Fault, files: Files) -> Parts:
     """S10."""
     entries = files.document.top.table["list"]
-    count = len([node for node in files.document.nodes if node.table.get("initial")])
+    count = len([node for node in files.document.sections if node.table.get("initial")])
     more = entries + 1 - count
     likely = [f"write initial = true at {more} more node{'s' if more > 1 else ''}"]
     if len(files.document.nodes) < entries + 1:
@@ -208,7 +226,7 @@ def same_link(fault: Fault, files: Files) -> Parts:
 
 def below_window(fault: Fault, files: Files) -> Parts:
     """S15."""
-    if fault.place.startswith("node "):
+    if fault.nodes is not None:
         return low_heights(fault, files)
     top = files.document.top.table
     pair = pair_of(fault)
@@ -243,7 +261,7 @@ def rows_and_coordinates(_: Fault, files: Files) -> Parts:
     """S16."""
     count = len(files.document.rows)
     names = {key.name for key in COORDINATES}
-    first = next(node for node in files.document.nodes if names & set(node.table))
+    first = next(section for section in files.document.sections if names & set(section.table))
     likely = [f"run it without the latency file, or take the coordinates away, from {first.name} on"]
     what = "nodes have coordinates, and the latency file has a row"
     return what, f"{count} row{'' if count == 1 else 's'}", "no row: the coordinates give all latencies", likely

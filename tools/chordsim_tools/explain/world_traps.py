@@ -5,6 +5,7 @@ from itertools import groupby
 from typing import Any
 
 from chordsim_tools.quantities import time_text
+from chordsim_tools.scenario.classes import node_count
 from chordsim_tools.scenario.defaults import is_extended, join_pause_us, joins_forever
 from chordsim_tools.scenario.reading import jitters_of
 
@@ -21,7 +22,7 @@ def finger_period(top: dict[str, Any]) -> int:
 
 def skips_near(top: dict[str, Any]) -> bool:
     """Whether fingers that the first successor covers are not looked up."""
-    return is_extended(top) and top.get("skip_near") is not False and bool(top.get("node"))
+    return is_extended(top) and top.get("skip_near") is not False and node_count(top) > 0
 
 
 def finger_count(top: dict[str, Any]) -> int:
@@ -30,7 +31,7 @@ def finger_count(top: dict[str, Any]) -> int:
     Of N nodes at random places these are about one more than log2 N.
     """
     every = int(top["bits"]) - 1
-    return min(every, 1 + math.ceil(math.log2(len(top["node"])))) if skips_near(top) else every
+    return min(every, 1 + math.ceil(math.log2(node_count(top)))) if skips_near(top) else every
 
 
 def finger_round(top: dict[str, Any]) -> int:
@@ -220,6 +221,6 @@ def leave_traps(top: dict[str, Any]) -> list[str]:
 
 
 def world_traps(top: dict[str, Any]) -> list[str]:
-    """All of them."""
+    """All of them, of a scenario whose nodes all have tables of their own."""
     traps = [*round_traps(top), *join_traps(top), *alone_traps(top), *second_ring_traps(top)]
     return [*traps, *lone_maker_traps(top), *bootstrap_traps(top), *leave_traps(top)]

@@ -20,6 +20,7 @@ from chordsim_tools.place import tool
 from chordsim_tools.places import places_text
 from chordsim_tools.regions import read_regions
 from chordsim_tools.scenario.coordinates import greatest_latency
+from chordsim_tools.scenario.faults import Document
 from chordsim_tools.scenario.tables import EXTENDED, GREATEST_SIZE, parse_toml
 
 PROG = tool("latency")
@@ -135,18 +136,18 @@ def names_of(file: str) -> list[str]:
     """The names of a scenario's nodes."""
     content = read_input(file, GREATEST_SIZE, reasons=False)
     try:
-        tables = parse_toml(content).get("node")
+        nodes = Document(parse_toml(content), []).nodes
     except Refused as fault:
         raise Refused(f"{file}: {fault}") from None
-    names: list[str] = []
-    for number, table in enumerate(tables if isinstance(tables, list) else [], start=1):
-        name = table.get("name") if isinstance(table, dict) else None
-        if not isinstance(name, str) or not re.fullmatch(r"[A-Za-z0-9._-]{1,32}", name) or name in names:
-            raise Refused(f"{file}: node {number} has no name of its own")
-        names.append(name)
+    names: dict[str, None] = {}
+    for node in nodes:
+        name = node.name
+        if name is None or not re.fullmatch(r"[A-Za-z0-9._-]{1,32}", name) or name in names:
+            raise Refused(f"{file}: {node.told} has no name of its own")
+        names[name] = None
     if not 2 <= len(names) <= MOST_NODES:
         raise Refused(f"{file}: {len(names)} nodes, not 2 to {MOST_NODES}")
-    return names
+    return list(names)
 
 
 def nodes_of(options: Options) -> list[str]:

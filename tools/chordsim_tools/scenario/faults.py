@@ -1,7 +1,8 @@
 """The faults of the scenario and latency files (docs/formats.md, section 4): all of them, in the order of S1 to S16."""
 
+import heapq
 import re
-from collections.abc import Iterator
+from collections.abc import Iterable, Iterator
 from dataclasses import dataclass
 from functools import cached_property
 from itertools import combinations
@@ -9,14 +10,45 @@ from typing import Any
 
 from chordsim_tools.known import known
 from chordsim_tools.reference.circle import Circle
+from chordsim_tools.scenario.classes import class_names
 from chordsim_tools.scenario.tables import (
-    BILLION, COORDINATES, EXTENDED, Key, Place, Row, has_type, is_in_own_range, places_of, profile_of, value_of_id,
+    BILLION, COORDINATES, EXTENDED, MOST_OF_PREFIX, Key, Place, Row, has_type, is_in_own_range, places_of, profile_of,
+    value_of_id,
 )
+
+AUDIT = ("name", "audit")
+"""The only name that no node may have. A prefix may be this, since a number follows it."""
+
+
+@dataclass(slots=True)
+class Node:
+    """A node: its number, its name if that is a text, and the table that it is of, its own or that of its class."""
+
+    number: int
+    name: str | None
+    place: Place
+
+    @property
+    def told(self) -> str:
+        """The node as the program prints it."""
+        return f"node {self.number}"
+
+    @property
+    def is_of_class(self) -> bool:
+        """Whether it is one of a class."""
+        return self.place.kind == "nodes"
+
+    @property
+    def naming(self) -> str:
+        """The key that its name comes from."""
+        return "prefix" if self.is_of_class else "name"
 
 
 @dataclass
 class Fault:
-    """A fault: its kind, the place as the program prints it, and the table or row and the key or field where it is."""
+    """A fault: its kind, the place as the program prints it, and the table or row and the key or field where it is.
+
+    `nodes` are the two nodes that it is of, if it is of two: the earlier one first."""
 
     kind: str
     answer: str
@@ -24,6 +56,7 @@ class Fault:
     key: str = ""
     other: str = ""
     count: int = 1
+    nodes: tuple[Node, Node] | None = None
 
     @property
     def text(self) -> str:
@@ -40,41 +73,65 @@ class Document:
         self.profile = profile_of(top or {})
         self.top = Place("top", top or {}, self.profile.tables["top"])
         self.places = places_of(self.top.table) if self.is_toml else []
-        self.nodes = [place for place in self.places if place.kind == "node"]
+        self.sections = [place for place in self.places if place.kind in ("node", "nodes")]
+        self.nodes = list(self.each_node())
         self.commands = [place for place in self.places if place.kind == "command"]
         self.rows = rows
+
+    def each_node(self) -> Iterator[Node]:
+        """The nodes of tables, and then those of classes: of these as far as they can be counted and named."""
+        tables = self.top.table.get("node")
+        number = len(tables) if isinstance(tables, list) else 0
+        for place in self.sections:
+            if place.kind == "node":
+                yield Node(int(place.name.partition(" ")[2]), place.usable("name"), place)
+                continue
+            for name in class_names(place.table) if self.is_counted(place) else ():
+                number += 1
+                yield Node(number, name, place)
+
+    def is_counted(self, section: Place) -> bool:
+        """Whether one can say which nodes a class has."""
+        return None not in (self.top.usable("nodes"), section.usable("count"), section.usable("prefix"))
 
     @cached_property
     def numbers(self) -> dict[str, int]:
         """Of each name of a node, which of `nodes` is the first to have it."""
         numbers: dict[str, int] = {}
-        for i, place in enumerate(self.nodes):
-            if isinstance(place.table.get("name"), str):
-                numbers.setdefault(place.table["name"], i)
+        for i, node in enumerate(self.nodes):
+            if node.name is not None:
+                numbers.setdefault(node.name, i)
         return numbers
 
     @cached_property
     def has_coordinates(self) -> bool:
-        """Whether a node has a key of its coordinates, in a profile that has these keys."""
+        """Whether a node or a class has a key of coordinates, in a profile that has these keys."""
         names = {key.name for key in COORDINATES if key in self.profile.tables["node"]}
-        return any(names & node.table.keys() for node in self.nodes)
+        return any(names & section.table.keys() for section in self.sections)
 
     @property
     def has_nodes(self) -> bool:
-        """Whether there is an array of tables of nodes, so that one can say which names are no node's."""
-        return has_type(self.top.table.get("node"), "tables")
+        """Whether there are nodes, and all are known, so that one can say which names are no node's."""
+        listed = {key.name for key in self.top.keys} & self.top.table.keys()
+        given = [self.top.table[name] for name in ("node", "nodes") if name in listed]
+        classes = [section for section in self.sections if section.kind == "nodes"]
+        return bool(given) and all(has_type(one, "tables") for one in given) and all(map(self.is_counted, classes))
 
-    def ident(self, node: Place) -> int | None:
-        """The identifier of a node, if it has one."""
+    @cached_property
+    def idents(self) -> list[int | None]:
+        """The identifier of each of `nodes`, if it has one."""
         bits = self.top.usable("bits")
-        if bits is None:
-            return None
-        if "id" in node.table:
-            value = node.usable("id")
-            ident = None if value is None else value_of_id(value)
-            return ident if ident is not None and ident < 2**bits else None
-        name = node.usable("name")
-        return None if name is None else Circle(bits).identifier_of_name(name)
+        circle = None if bits is None else Circle(bits)
+        return [None if circle is None else ident_of(node, circle) for node in self.nodes]
+
+
+def ident_of(node: Node, circle: Circle) -> int | None:
+    """The identifier of a node on a circle, if it has one."""
+    if not node.is_of_class and "id" in node.place.table:
+        value = node.place.usable("id")
+        ident = None if value is None else value_of_id(value)
+        return ident if ident is not None and ident < 2**circle.bits else None
+    return None if node.name is None else circle.identifier_of_name(node.name)
 
 
 def faults_of(document: Document) -> Iterator[Fault]:
@@ -107,12 +164,12 @@ def unknown_keys(document: Document) -> Iterator[Fault]:
 
 def missing_keys(document: Document) -> Iterator[Fault]:
     """S3."""
-    node_churns = any(node.table.get("churn") is True for node in document.nodes)
+    node_churns = any(section.table.get("churn") is True for section in document.sections)
     for place in document.places:
         for key in place.keys:
             do = place.table.get("do") if place.kind == "command" else None
             wanted = (
-                key.required
+                (key.required and not (key.unless and key.unless in place.table))
                 or (key.name == "churn" and place.kind == "top" and node_churns)
                 or (key.name == "via" and do == "join")
                 or (key.name == "key" and do == "lookup")
@@ -158,33 +215,58 @@ def is_in_range(document: Document, place: Place, key: Key) -> bool:
 
 def bad_names(document: Document) -> Iterator[Fault]:
     """S6."""
-    for node in document.nodes:
-        name = node.usable("name")
-        if name is not None and (not re.fullmatch(r"[A-Za-z0-9._-]{1,32}", name) or name == "audit"):
-            yield Fault("S6 BadName", node.name, node.name, "name")
+    for section in document.sections:
+        key, most = ("name", 32) if section.kind == "node" else ("prefix", MOST_OF_PREFIX)
+        name = section.usable(key)
+        if name is not None and (not re.fullmatch(rf"[A-Za-z0-9._-]{{1,{most}}}", name) or (key, name) == AUDIT):
+            yield Fault("S6 BadName", section.name, section.name, key)
 
 
 def same_names(document: Document) -> Iterator[Fault]:
     """S7."""
+    yield from together(each_same_name(document))
+
+
+def each_same_name(document: Document) -> Iterator[Fault]:
+    """S7 of each node that repeats a name."""
     for i, node in enumerate(document.nodes):
-        first = document.numbers.get(node.usable("name"), i)
+        first = i if node.name is None else document.numbers[node.name]
         if first != i:
-            other = document.nodes[first].name
-            yield Fault("S7 SameName", f"{other} {node.name}", node.name, "name", other)
+            other = document.nodes[first]
+            answer = f"{other.told} {node.told}"
+            yield Fault("S7 SameName", answer, node.place.name, node.naming, other.place.name, nodes=(other, node))
 
 
 def same_ids(document: Document) -> Iterator[Fault]:
     """S8. Two nodes of one name that have no `id` have one fault alone, S7."""
-    first_of: dict[int, Place] = {}
-    for node in document.nodes:
-        ident = document.ident(node)
-        if ident is None or node.usable("name") is None:
+    yield from together(each_same_id(document))
+
+
+def each_same_id(document: Document) -> Iterator[Fault]:
+    """S8 of each node that repeats an identifier."""
+    first_of: dict[int, Node] = {}
+    for node, ident in zip(document.nodes, document.idents, strict=True):
+        if ident is None or node.name is None:
             continue
         first = first_of.setdefault(ident, node)
-        same_name = first.table["name"] == node.table["name"] and "id" not in first.table and "id" not in node.table
+        same_name = first.name == node.name and "id" not in first.place.table and "id" not in node.place.table
         if first is not node and not same_name:
-            answer = f"{first.table['name']} {node.table['name']}"
-            yield Fault("S8 SameId", answer, node.name, "id", first.name)
+            answer, key = f"{first.name} {node.name}", "prefix" if node.is_of_class else "id"
+            yield Fault("S8 SameId", answer, node.place.name, key, first.place.name, nodes=(first, node))
+
+
+def together(faults: Iterable[Fault]) -> list[Fault]:
+    """These faults, but of each class only that of its first node, with the number of its nodes that have one."""
+    kept: list[Fault] = []
+    first_of: dict[str, Fault] = {}
+    for fault in faults:
+        is_of_class = fault.place.startswith("nodes ")
+        first = first_of.setdefault(fault.place, fault) if is_of_class else fault
+        if first is fault:
+            kept.append(fault)
+        else:
+            first.count += 1
+    return kept
 
 
 def unknown_nodes(document: Document) -> Iterator[Fault]:
@@ -207,9 +289,9 @@ def too_few_initial(document: Document) -> Iterator[Fault]:
     if document.profile is EXTENDED:
         return
     entries = document.top.usable("list")
-    certain = all(has_type(node.table.get("initial", False), "boolean") for node in document.nodes)
+    certain = all(has_type(node.table.get("initial", False), "boolean") for node in document.sections)
     if document.has_nodes and entries is not None and certain:
-        if len([node for node in document.nodes if node.table.get("initial")]) < entries + 1:
+        if len([node for node in document.sections if node.table.get("initial")]) < entries + 1:
             yield Fault("S10 TooFewInitial", "", "top", "list")
 
 
@@ -299,19 +381,21 @@ def window_fault(pair: tuple[int, int], names: list[str], place: str, key: str) 
 def low_heights(document: Document) -> Iterator[Fault]:
     """S15 of coordinates: the first node of the least height, and the first other one of the least of the others."""
     window = document.top.usable("window_us")
-    heights = [(height_of(node), node) for node in document.nodes if node.usable("name") is not None]
-    # Of equal heights a sort leaves the earlier node first.
-    least = sorted(((height, node) for height, node in heights if height is not None), key=lambda one: one[0])[:2]
+    heights = {id(section): height_of(section) for section in document.sections}
+    named = ((heights[id(node.place)], node) for node in document.nodes if node.name is not None)
+    # Of equal heights the earlier node is taken first.
+    least = heapq.nsmallest(2, ((height, node) for height, node in named if height is not None), lambda one: one[0])
     if window is None or len(least) < 2 or least[0][0] + least[1][0] >= window:
         return
     first, second = (node for _, node in least)
-    answer = f"{first.table['name']} {second.table['name']}"
-    yield Fault("S15 LatencyBelowWindow", answer, first.name, "height_us", second.name)
+    answer = f"{first.name} {second.name}"
+    places = first.place.name, second.place.name
+    yield Fault("S15 LatencyBelowWindow", answer, places[0], "height_us", places[1], nodes=(first, second))
 
 
-def height_of(node: Place) -> int | None:
-    """The height of a node, if it is usable."""
-    height: int | None = node.usable("height_us") if "height_us" in node.table else 0
+def height_of(section: Place) -> int | None:
+    """The height of a node, or of the nodes of a class, if it is usable."""
+    height: int | None = section.usable("height_us") if "height_us" in section.table else 0
     return height
 
 

@@ -11,9 +11,9 @@ from chordsim_tools.scenario.faults import Document, faults_of
 from chordsim_tools.scenario.tables import parse_toml, rows_of, value_of_id
 
 
-@dataclass
+@dataclass(slots=True)
 class NodeSpec:
-    """A node of the scenario. All nodes have coordinates, or none has."""
+    """A node of the scenario. All nodes have coordinates, or none has. Those of a class share theirs."""
 
     name: str
     ident: int
@@ -142,7 +142,11 @@ def read_scenario(scenario_file: bytes, latency_file: bytes) -> Scenario:
 def whole_scenario(document: Document) -> Scenario:
     """The scenario, from tables that have no fault."""
     top = document.top.table
-    nodes = [node_of(place.table, known(document.ident(place))) for place in document.nodes]
+    alike = {id(section): alike_of(section.table) for section in document.sections}
+    nodes = [
+        NodeSpec(known(node.name), known(ident), *alike[id(node.place)])
+        for node, ident in zip(document.nodes, document.idents, strict=True)
+    ]
     commands = [command_of(place.table, document.numbers) for place in document.commands]
     plain = {key.name: top[key.name] for key in document.top.keys if key.kind == "integer" and key.required}
     return Scenario(
@@ -178,12 +182,10 @@ def ways_of(top: dict[str, Any]) -> Ways:
     return replace(PUBLISHED, **{key.name: top[key.name] for key in fields(Ways) if key.name in top})
 
 
-def node_of(table: dict[str, Any], ident: int) -> NodeSpec:
-    """A node with this identifier."""
-    is_initial, is_churning = table.get("initial", False), table.get("churn", False)
-    return NodeSpec(
-        table["name"], ident, is_initial, is_churning, table.get("bootstrap", False), coordinates_of(table)
-    )
+def alike_of(table: dict[str, Any]) -> tuple[bool, bool, bool, Coordinates | None]:
+    """What the nodes of a table are alike in: all but their names and identifiers."""
+    initial, churn, bootstrap = (table.get(word, False) for word in ("initial", "churn", "bootstrap"))
+    return initial, churn, bootstrap, coordinates_of(table)
 
 
 def command_of(table: dict[str, Any], numbers: dict[str, int]) -> Command:

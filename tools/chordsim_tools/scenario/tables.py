@@ -5,7 +5,7 @@ import io
 import math
 import re
 import tomllib
-from dataclasses import dataclass
+from dataclasses import dataclass, replace
 from typing import Any
 
 from chordsim_tools.cli import Refused
@@ -33,7 +33,8 @@ class NotToml(Refused):
 class Key:
     """A key of a table: its type, its range (of an ID: how many digits its text has) and whether it is required.
 
-    `missing` are the numbers of the range that are not allowed. `among` are the texts that are, if not all are.
+    `missing` are the numbers of the range that are not allowed. `among` are the texts that are, if not all are. A key
+    that is required may be missing if the key `unless` is there.
     """
 
     name: str
@@ -43,9 +44,10 @@ class Key:
     required: bool = True
     missing: tuple[int, ...] = ()
     among: tuple[str, ...] = ()
+    unless: str = ""
 
 
-@dataclass
+@dataclass(slots=True)
 class Place:
     """A table of the scenario file, with the keys that are listed for it."""
 
@@ -127,6 +129,19 @@ COORDINATES = [
 """The keys of a node's coordinates."""
 OF_NODES = [Key("bootstrap", "boolean", required=False), *COORDINATES]
 """The keys of a node that the extended profile alone has."""
+MOST_CLASSES = 16
+MOST_OF_CLASS = 1_048_576
+"""So many nodes a class has at most."""
+MOST_OF_PREFIX = 25
+"""So many bytes the prefix of their names has at most, which leaves room for the digits of a number."""
+CLASSES = [
+    Key("count", "integer", 2, MOST_OF_CLASS),
+    Key("prefix", "text"),
+    Key("initial", "boolean", required=False),
+    Key("churn", "boolean", required=False),
+    *OF_NODES,
+]
+"""The keys of a class of nodes, which the extended profile alone has."""
 CHURN = [Key(f"{word}_us", "integer", 1, BILLION) for word in ("life_min", "life_max", "down_min", "down_max")]
 LEAVES = [Key("leave_ppm", "integer", 0, 1_000_000, required=False)]
 """The key of [churn] that the extended profile alone has."""
@@ -147,6 +162,12 @@ def top_keys(bits: int, entries: int, nodes: int, events: int, network: list[Key
         Key("node", "tables", 2, nodes),
         Key("command", "tables", 0, 100_000, required=False),
     ]
+
+
+def with_classes(keys: list[Key]) -> list[Key]:
+    """The keys of a top that may have classes of nodes, between its nodes and its commands or in place of its nodes."""
+    *others, commands = (replace(key, unless="nodes") if key.name == "node" else key for key in keys)
+    return [*others, Key("nodes", "tables", 1, MOST_CLASSES, required=False), commands]
 
 
 def node_keys(digits: int, further: list[Key]) -> list[Key]:
@@ -174,27 +195,29 @@ def command_keys(digits: int, actions: tuple[str, ...]) -> list[Key]:
 class Profile:
     """The keys of all tables in a profile: `tables` has them by the kind of the table."""
 
-    def __init__(self, top: list[Key], digits: int, of_nodes: list[Key], has_leaves: bool = False) -> None:
+    def __init__(self, top: list[Key], digits: int, of_nodes: list[Key], is_extended: bool = False) -> None:
         """The profile with these keys at the top, these digits of an identifier, and these further keys of a node.
 
-        Nodes may leave, or only crash."""
+        In the extended one nodes may leave, and not only crash, and there may be classes of them."""
         self.tables = {
             "top": top,
-            "churn": [*CHURN, *LEAVES] if has_leaves else CHURN,
+            "churn": [*CHURN, *LEAVES] if is_extended else CHURN,
             "lookups": LOOKUPS,
             "node": node_keys(digits, of_nodes),
-            "command": command_keys(digits, EXTENDED_ACTIONS if has_leaves else ACTIONS),
+            **({"nodes": CLASSES} if is_extended else {}),
+            "command": command_keys(digits, EXTENDED_ACTIONS if is_extended else ACTIONS),
         }
 
     def greatest(self, name: str) -> int:
-        """The greatest value of a key of the top; of `node`, how many nodes there may be."""
+        """The greatest value of a key of the top; of `node`, how many such tables there may be."""
         return next(key.greatest for key in self.tables["top"] if key.name == name)
 
 
 FIRST = Profile(top_keys(64, 16, 512, 50_000_000, []), 16, [])
 SECOND = Profile(top_keys(128, 16, 4096, 50_000_000, NETWORK), 32, [])
 EXTENDED = Profile(
-    top_keys(128, 32, 65_536, 100_000_000_000, [*NETWORK, *PATIENCE, *WAYS]), 32, OF_NODES, has_leaves=True
+    with_classes(top_keys(128, 32, 65_536, 100_000_000_000, [*NETWORK, *PATIENCE, *WAYS])), 32, OF_NODES,
+    is_extended=True,
 )
 PROFILES = {1: FIRST, 2: SECOND, 4: EXTENDED}
 
@@ -237,14 +260,14 @@ def great_integer(value: Any) -> int | None:
 
 
 def places_of(top: dict[str, Any]) -> list[Place]:
-    """All tables of the document, in the order top, churn, lookups, nodes, commands."""
+    """All tables of the document, in the order top, churn, lookups, nodes, classes of nodes, commands."""
     tables = profile_of(top).tables
     places = [Place("top", top, tables["top"])]
     for name in ("churn", "lookups"):
         if isinstance(top.get(name), dict):
             places.append(Place(name, top[name], tables[name]))
-    for name in ("node", "command"):
-        items = top.get(name)
+    for name in ("node", "nodes", "command"):
+        items = top.get(name) if name in tables else None
         for number, item in enumerate(items if isinstance(items, list) else [], start=1):
             if isinstance(item, dict):
                 places.append(Place(f"{name} {number}", item, tables[name]))

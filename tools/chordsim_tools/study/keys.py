@@ -18,6 +18,8 @@ BOOLEANS = {key.name for key in EXTENDED.tables["top"] if key.kind == "boolean"}
 """The keys of a scenario that can be varied and are booleans."""
 MOST_SEEDS = 10_000
 OF_GENERATE = "generate."
+COUNT = "nodes.count"
+"""The key of [vary] that is how many nodes the only class of a base has."""
 
 
 def varied_keys() -> set[str]:
@@ -28,7 +30,7 @@ def varied_keys() -> set[str]:
         return [key.name for key in keys if key.kind == "integer"]
 
     tables = {f"{table}.{name}" for table in ("churn", "lookups") for name in names(EXTENDED.tables[table])}
-    return (set(names(EXTENDED.tables["top"])) | tables | BOOLEANS) - {"seed"}
+    return (set(names(EXTENDED.tables["top"])) | tables | BOOLEANS | {COUNT}) - {"seed"}
 
 
 def parsed(path: Path, content: bytes) -> dict[str, Any]:

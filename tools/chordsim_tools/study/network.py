@@ -4,6 +4,7 @@ from collections.abc import Mapping
 from typing import Any
 
 from chordsim_tools.files import read_input, sum_of
+from chordsim_tools.scenario.classes import node_sections
 from chordsim_tools.study.keys import OF_GENERATE
 from chordsim_tools.study.plan import Study
 
@@ -64,7 +65,7 @@ def made_told(generate: list[str], vary: Mapping[str, list[Any]], has_commands: 
 
 def are_placed(study: Study) -> bool:
     """Whether the nodes of a base have coordinates."""
-    return study.base is not None and any("x_us" in node for node in study.scenario["node"])
+    return study.base is not None and any("x_us" in section for section in node_sections(study.scenario))
 
 
 def latencies_told(manifest: dict[str, Any]) -> tuple[list[str], list[str]]:

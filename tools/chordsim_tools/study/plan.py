@@ -9,10 +9,10 @@ from chordsim_tools.cli import Refused
 from chordsim_tools.explain.hints import close_to
 from chordsim_tools.files import read_input, sum_of
 from chordsim_tools.quantities import time_of, time_text
-from chordsim_tools.scenario.tables import PROFILES
+from chordsim_tools.scenario.tables import PROFILES, has_type
 from chordsim_tools.study.goal import Goal, Precision, goal_of, precision_of
 from chordsim_tools.study.keys import (
-    OF_GENERATE, Value, arguments_of, boolean_of, is_integer, number_of, parsed, seeds_of, text_of, world_of,
+    COUNT, OF_GENERATE, Value, arguments_of, boolean_of, is_integer, number_of, parsed, seeds_of, text_of, world_of,
 )
 from chordsim_tools.study.search import Search, search_of
 from chordsim_tools.study.sizes import Sizes, sizes_of
@@ -172,6 +172,7 @@ def read_files(study: Study, top: dict[str, Any]) -> None:
     for setting in study.settings():
         check_times(study, duration_of(study, setting))
         check_profile(study, setting)
+        check_class(study, setting)
 
 
 def first_world(study: Study) -> str:
@@ -209,6 +210,18 @@ def check_profile(study: Study, setting: Setting) -> None:
         wanted = [str(number) for number, one in PROFILES.items() if key in (top.name for top in one.tables["top"])]
         if wanted and str(has) not in wanted:
             raise Refused(f"{study.path}: [vary] {key} needs profile = {' or '.join(wanted)}; {owner} has {has}")
+
+
+def check_class(study: Study, setting: Setting) -> None:
+    """Fails if the nodes of a class are varied, and there is no base with one class."""
+    if COUNT not in dict(setting):
+        return
+    if study.base is None:
+        raise Refused(f"{study.path}: [vary] {COUNT} is of a study with a base; a study with `generate` has --nodes")
+    classes = study.scenario.get("nodes", [])
+    if not has_type(classes, "tables") or len(classes) != 1:
+        count = len(classes) if isinstance(classes, list) else "no"
+        raise Refused(f"{study.path}: [vary] {COUNT} needs a base with one table [[nodes]]; the base has {count}")
 
 
 def check_times(study: Study, duration: Any) -> None:

@@ -5,9 +5,10 @@ from typing import Any
 
 from chordsim_tools.explain.world_traps import finger_round
 from chordsim_tools.quantities import time_of, time_text
+from chordsim_tools.scenario.classes import node_count
 from chordsim_tools.study.bounded import seeds_to_show
 from chordsim_tools.study.interval import LEAST_SEEDS
-from chordsim_tools.study.keys import OF_GENERATE
+from chordsim_tools.study.keys import COUNT, OF_GENERATE
 from chordsim_tools.study.names import is_wild
 from chordsim_tools.study.plan import Setting, Study
 
@@ -48,17 +49,24 @@ def value_in(study: Study, setting: Setting, key: str) -> int:
     return int(varied.get(key, study.scenario.get(key, 0)))
 
 
+def nodes_in(study: Study, setting: Setting) -> int:
+    """How many nodes there are in a setting."""
+    varied = dict(setting)
+    if COUNT in varied:
+        return len(study.scenario.get("node", [])) + int(varied[COUNT])
+    return int(varied.get(option_of("nodes"), node_count(study.scenario)))
+
+
 def round_of(study: Study, setting: Setting) -> int:
     """How long a member takes to refresh each of the fingers in its rotation once, one after another."""
     has_jitter = any(key in study.scenario or key in dict(setting) for key in (FINGER_JITTER, option_of(FINGER_JITTER)))
-    nodes = dict(setting).get(option_of("nodes"), len(study.scenario.get("node", [])))
     return finger_round({
         "profile": value_in(study, setting, "profile"),
         "bits": value_in(study, setting, "bits"),
         "finger_us": value_in(study, setting, "finger_us"),
         FINGER_JITTER: value_in(study, setting, FINGER_JITTER if has_jitter else "jitter_us"),
         "skip_near": dict(setting).get("skip_near", study.scenario.get("skip_near")) not in (False, "false"),
-        "node": range(int(nodes)),
+        "node": range(nodes_in(study, setting)),
     })
 
 

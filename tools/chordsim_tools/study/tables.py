@@ -13,6 +13,7 @@ from chordsim_tools.cli import Failure, Refused
 from chordsim_tools.files import read_input, sum_of, write_whole
 from chordsim_tools.place import tool
 from chordsim_tools.program import TOP
+from chordsim_tools.scenario.classes import node_count, node_sections
 from chordsim_tools.study.network import are_placed, input_sums
 from chordsim_tools.study.plan import Setting, Study
 from chordsim_tools.study.starts import longest_round
@@ -126,8 +127,8 @@ def manifest_of(study: Study, program: Path, program_sum: str) -> dict[str, Any]
         "note": study.note,
         "confirm": study.confirm,
         "commands": dict(Counter(one["do"] for one in study.scenario.get("command", []))),
-        "own_churn": any(node.get("churn") is True for node in study.scenario["node"]),
-        "nodes": len(study.scenario["node"]),
+        "own_churn": any(section.get("churn") is True for section in node_sections(study.scenario)),
+        "nodes": node_count(study.scenario),
         **plain,
         "finger_round_us": longest_round(study),
         "tool": {"version": VERSION, "commit": commit_of(TOP, *OWN_FILES)},

@@ -8,6 +8,7 @@ from typing import Any
 
 from chordsim_tools.cli import Failure
 from chordsim_tools.members import Members
+from chordsim_tools.scenario.classes import expanded
 from chordsim_tools.study.answers import Answers
 from chordsim_tools.study.curves import Curves
 from chordsim_tools.study.document import toml_text
@@ -71,7 +72,8 @@ def span_of(top: dict[str, Any], events: int, reader: TraceReader, latency: Late
 def result_of(task: Task, program: Path, scenario: Path, latency: Path | None) -> dict[str, Any]:
     """Runs the program with the task's two files, and gives the result as `done/` keeps it."""
     caller = Program(program, scenario, latency)
-    top = tomllib.loads(task.scenario)
+    written = tomllib.loads(task.scenario)
+    top = expanded(written)
     idents = caller.idents([node["name"] for node in top["node"]])
     reader, curves, trouble = readers_of(task, top, idents)
     latency_us = latencies_of(top, task.latency or b"")
@@ -88,7 +90,7 @@ def result_of(task: Task, program: Path, scenario: Path, latency: Path | None) -
     if (reader.all_lookups, reader.all_found) != (report.get("lookups"), report.get("found")):
         raise Failure(3, "the report does not count the lines of the trace")
     numbers = reader.numbers()
-    events = report["events"] - events_before(top, task.warmup_us, program, latency)
+    events = report["events"] - events_before(written, task.warmup_us, program, latency)
     span = span_of(top, events, reader, latency_us)
     return {
         "made_of": task.made_of,

@@ -13,8 +13,9 @@ from chordsim_tools.generate import command as generate
 from chordsim_tools.generate.bare import LIMITS, bare_traps
 from chordsim_tools.latency import command as latency
 from chordsim_tools.place import tool
+from chordsim_tools.scenario.classes import expanded
 from chordsim_tools.study.document import toml_text
-from chordsim_tools.study.keys import BOOLEANS, OF_GENERATE, parsed
+from chordsim_tools.study.keys import BOOLEANS, COUNT, OF_GENERATE, parsed
 from chordsim_tools.study.plan import Setting, Study
 
 T = TypeVar("T")
@@ -27,7 +28,9 @@ def scenario_of(study: Study, setting: Setting, seed: int) -> str:
     top = top_of(study, setting, seed)
     for key, value in setting:
         table, dot, name = key.partition(".")
-        if not dot:
+        if key == COUNT:
+            top["nodes"] = [{**top["nodes"][0], name: value}]
+        elif not dot:
             top[key] = value == "true" if key in BOOLEANS else value
         elif table != "generate" and isinstance(top.get(table, {}), dict):
             top[table] = {**top.get(table, {}), name: value}
@@ -71,7 +74,7 @@ def generated(study: Study, setting: Setting, seed: int) -> str:
 def made(path: Any, arguments: tuple[str, ...]) -> dict[str, Any]:
     """The document that tools/generate makes."""
     top = parsed(path, text_of(str(path), arguments).encode())
-    for node in top["node"]:
+    for node in top.get("node", []):
         # Identifiers stay behind the other keys, so that the results of earlier studies are still those of their runs.
         if "id" in node:
             node["id"] = node.pop("id")
@@ -121,7 +124,7 @@ def latency_of(study: Study, setting: Setting, seed: int) -> bytes | None:
     """The latency file of a setting and a seed, if the study has one: the same for all, or made for the seed."""
     if study.latency_arguments is None:
         return study.latency_content
-    names = tuple(node["name"] for node in top_of(study, setting, seed)["node"])
+    names = tuple(node["name"] for node in expanded(top_of(study, setting, seed))["node"])
     return rows_of(study, tuple(study.latency_arguments), names, seed)
 
 
