@@ -5,6 +5,7 @@ else is whole numbers and decimals with 20 digits, rounded as decimals are, so t
 """
 
 import math
+from array import array
 from bisect import bisect_right
 from dataclasses import dataclass
 from decimal import ROUND_HALF_EVEN, Context, Decimal
@@ -57,6 +58,18 @@ class Draws:
     def split(self, count: int) -> list["Draws"]:
         """`count` streams of their own. A greater count gives the same ones first."""
         return [Draws(self.word()) for _ in range(count)]
+
+
+class Split:
+    """Streams of their own, as `Draws.split` gives them. Each is made when it is asked for, and is at its beginning."""
+
+    def __init__(self, draws: Draws, count: int) -> None:
+        """The streams that this one is split into."""
+        self.seeds = array("Q", (draws.word() for _ in range(count)))
+
+    def __getitem__(self, place: int) -> Draws:
+        """A stream. It takes much more room than its seed, so nobody keeps those of many nodes."""
+        return Draws(self.seeds[place])
 
 
 @dataclass(frozen=True)

@@ -11,6 +11,7 @@ from chordsim_tools.explain.world_traps import world_traps
 from chordsim_tools.files import check_output, check_apart, put
 from chordsim_tools.generate.arguments import OPTIONS, PROG, arguments_again, parser_of
 from chordsim_tools.generate.bare import LIMITS, bare_traps
+from chordsim_tools.generate.classes import classes_of, names_of
 from chordsim_tools.generate.commands import Streams, commands_of, initial_nodes, lives_of
 from chordsim_tools.generate.outages import struck
 from chordsim_tools.generate.plan import Plan, check
@@ -34,7 +35,8 @@ def made_of(plan: Plan) -> Made:
     lives = lives_of(plan, streams)
     initial = initial_nodes(plan, lives)
     told = struck(plan.hosts, lives, plan.outages, plan.back, seed)
-    return Made(commands_of(plan, lives, streams), initial, told, idents_of(plan, streams.idents))
+    commands, classes = commands_of(plan, lives, streams), classes_of(plan, initial)
+    return Made(commands, initial, told, idents_of(plan, streams.idents), names_of(plan, classes), classes)
 
 
 def text_of_arguments(arguments: Sequence[str], parser: Parser, folder: Path) -> str:

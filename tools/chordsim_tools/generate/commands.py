@@ -7,7 +7,7 @@ from itertools import takewhile
 from typing import NamedTuple
 
 from chordsim_tools.cli import Failure, Progress
-from chordsim_tools.draws import TWENTY_DIGITS, Draws, Keys
+from chordsim_tools.draws import TWENTY_DIGITS, Draws, Keys, Split
 from chordsim_tools.generate.equilibrium import is_up, rest_of
 from chordsim_tools.generate.hosts import Host
 from chordsim_tools.generate.outages import Life
@@ -35,10 +35,10 @@ class Streams:
     def __init__(self, seed: int, nodes: int) -> None:
         """The streams of this seed. Those of a node are the same whatever other nodes there are."""
         self.idents, arrive, churn, self.via, self.keys, lookups = Draws(seed).split(6)
-        self.arrive = arrive.split(nodes)
-        self.churn = churn.split(nodes)
-        self.lookups = lookups.split(nodes)
-        self.leaves = Draws(seed).split(STREAM)[-1].split(nodes)
+        self.arrive = Split(arrive, nodes)
+        self.churn = Split(churn, nodes)
+        self.lookups = Split(lookups, nodes)
+        self.leaves = Split(Draws(seed).split(STREAM)[-1], nodes)
 
 
 def commands_of(plan: Plan, lives: list[list[Life]], streams: Streams) -> list[Command]:
@@ -56,7 +56,8 @@ def lives_of(plan: Plan, streams: Streams) -> list[list[Life]]:
     room = GREATEST_COUNT
     with Progress("nodes whose lives are drawn", plan.nodes) as progress:
         for node in range(plan.nodes):
-            lives.append(with_leaves(lives_of_node(plan, node, streams, room), plan.leaves, streams.leaves[node]))
+            spans = lives_of_node(plan, node, streams, room)
+            lives.append(spans if plan.leaves == 0 else with_leaves(spans, plan.leaves, streams.leaves[node]))
             room -= len(lives[-1])
             progress.one_more()
     return lives
@@ -64,17 +65,17 @@ def lives_of(plan: Plan, streams: Streams) -> list[list[Life]]:
 
 def lives_of_node(plan: Plan, node: int, streams: Streams, most: int) -> list[Life]:
     """The lives of one node, which are at most so many."""
-    host, duration, draws = plan.hosts[node], plan.top["duration_us"], streams.churn[node]
+    host, duration = plan.hosts[node], plan.top["duration_us"]
     if host.sessions is not None:
         return [Life(begin, min(end, duration)) for begin, end in host.sessions if begin < duration]
     if host.arrives is not None:
-        life = duration if host.lifetime is None else host.lifetime.draw(draws)
+        life = duration if host.lifetime is None else host.lifetime.draw(streams.churn[node])
         return [Life(host.arrives, min(host.arrives + life, duration))]
     if plan.stationary and host.lifetime is not None and node >= plan.stay:
-        return lives_in_equilibrium(host, duration, draws, most)
+        return lives_in_equilibrium(host, duration, streams.churn[node], most)
     begin = 0 if node < plan.initial else streams.arrive[node].between(*plan.arrive)
     if host.lifetime is not None and node >= plan.stay:
-        return drawn_lives(host, duration, begin, draws, most)
+        return drawn_lives(host, duration, begin, streams.churn[node], most)
     return [Life(begin, duration)]
 
 
@@ -103,8 +104,6 @@ def lives_in_equilibrium(host: Host, duration: int, draws: Draws, most: int) -> 
 
 def with_leaves(lives: list[Life], leaves: int, draws: Draws) -> list[Life]:
     """The lives of a node, of a million of which so many end with a leave. A number is drawn for each life."""
-    if leaves == 0:
-        return lives
     return [life._replace(leaves=draws.below(1_000_000) < leaves) for life in lives]
 
 

@@ -9,7 +9,8 @@ A TIME is written 250us, 20ms, 1.5s, 10m, 2h, 1d, or as plain microseconds; a SP
 named n0, n1 and so on, as those of tools/latency are, and those of a group eu-0, eu-1. Their identifiers are new with
 each --seed: the leading bits of the SHA-256 digest of the name, the seed and the least number that is free. With --ids
 names they are those of the names alone, the same for all seeds; if a name gives one that an earlier node has, another
-is drawn. What is in round brackets at the end of an option's line is its default."""
+is drawn. Above 65536 nodes, and with --classes, nodes that are alike are a class, and have names and identifiers of
+their own (see below). What is in round brackets at the end of an option's line is its default."""
 EPILOG = """\
 Churn in one of two forms, of all nodes but the first --stay:
   by itself    --churn-uniform: the nodes have `churn = true`, and the program draws lives and down times.
@@ -24,6 +25,10 @@ Churn in one of two forms, of all nodes but the first --stay:
 Groups: --group eu:250 makes 250 nodes eu-0 to eu-249, --group eu:250:lifetime=exp:2h,down=exp:10m gives them churn of
 their own (lifetime=none: none). --nodes counts all nodes; those that are in no group come first. Without --nodes all
 are in groups.
+Classes: a table [[nodes]] for all nodes of a group that are alike: those that stay, those that churn by themselves, and
+so on. A scenario has at most 16 of them. Identifiers are those of the names, and so that these are new with each --seed
+the names have it in them: n1.0, n1.1 and so on for seed 1, nb1.0 for the second class of no group, eu-1.0 of a group.
+With --ids names they are n0, nb0 and eu-0. If two names have the same identifier it is refused, and more --bits help.
 Arrivals: --arrivals 0.2/s, or arrivals=0.2/s of a group. New nodes come at the times of a Poisson process, live one
 life of their law, and never return. Without a law they stay.
 Leaves: --leaves 900000: of a million ends of lives so many are leaves and not crashes, of both forms of churn and of a
@@ -79,6 +84,7 @@ examples:
   tools/generate --profile 4 --lifetime exp:10m --leaves 1000000 every node that goes tells its neighbours
   tools/generate --profile 4 --no-goes-on --lookup-timeouts 8   lookups begin again at their node after each silent one
   tools/generate --profile 4 --nodes 4096 --coordinates king --timeout 1s
+  tools/generate --profile 4 --nodes 1048576 --duration 1s      a million nodes, in one table
   tools/generate --lookups 0.5 --keys zipf:0.9:1000 --seed 3
   tools/generate --random 7 --links links.csv -o any.toml
 A scenario that is run with a latency file wants a --window of at most the file's least latency and a --timeout above

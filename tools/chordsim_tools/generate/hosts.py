@@ -65,7 +65,7 @@ def gap_of_rate(text: str) -> Decimal | None:
 
 def group_of(text: str) -> Group | None:
     """NAME:NODES or NAME:NODES:KEY=VALUE,.. or nothing."""
-    match = re.fullmatch(r"([A-Za-z0-9._]{1,24}):([0-9]{1,6})(?::(.+))?", text)
+    match = re.fullmatch(r"([A-Za-z0-9._]{1,24}):([0-9]{1,7})(?::(.+))?", text)
     if match is None:
         return None
     pairs = [item.partition("=") for item in (match[3] or "").split(",") if match[3]]

@@ -6,12 +6,14 @@ from chordsim_tools.generate.hosts import Group, Host, arriving, hosts_of
 from chordsim_tools.generate.sessions import last_time, read_sessions
 from chordsim_tools.options import Given, Options
 from chordsim_tools.quantities import time_text
-from chordsim_tools.scenario.tables import PROFILES
+from chordsim_tools.scenario.tables import EXTENDED, MOST_OF_CLASS, PROFILES
 
 OF_TRACE = (
     "nodes", "initial", "arrive", "group", "arrivals", "churn-uniform", "lifetime", "down", "stationary", "stay",
 )
 """The options that say who is up when, which a churn trace says by itself."""
+MOST_TABLES = EXTENDED.greatest("node")
+"""Above so many nodes a scenario has classes."""
 
 
 def groups_of(options: Options) -> list[Group]:
@@ -30,22 +32,33 @@ def common_of(options: Options, nodes: int = 0) -> Group:
     return Group("", nodes, lifetime, down=down, arrivals=arrivals)
 
 
+def most_nodes(profile: int) -> int:
+    """How many nodes a scenario of a profile is made with at most."""
+    return MOST_OF_CLASS if profile == 4 else PROFILES[profile].greatest("node")
+
+
 def room_of(profile: int, bits: int) -> int:
     """How many nodes a scenario may have."""
-    return min(PROFILES[profile].greatest("node"), 1 << bits)
+    return min(most_nodes(profile), 1 << bits)
+
+
+def default_bits(options: Options, profile: int) -> int:
+    """The bits of an identifier: more if there are so many nodes that two names would have the same one."""
+    asked = max(options.get("nodes", 0), sum(group.nodes for group in groups_of(options)))
+    return 64 if profile == 4 and asked > MOST_TABLES else 32
 
 
 def first_hosts(options: Options, profile: int, bits: int) -> list[Host]:
     """The nodes that the scenario begins with: the hosts of a churn trace, or those of no group and of each group."""
     room = room_of(profile, bits)
     if options.has("churn-trace"):
-        return traced_hosts(options, room, least_initial(profile))
+        return traced_hosts(options, min(room, MOST_TABLES), least_initial(profile))
     groups = groups_of(options)
     grouped = sum(group.nodes for group in groups)
     if grouped > room:
         options.refuse("group", f"the groups have {grouped} nodes{beyond(profile, bits)}")
     least = max(2, grouped)
-    most = PROFILES[profile].greatest("node")
+    most = most_nodes(profile)
     why = f" (at most {most} in profile {profile}, and 2^{bits}, by --bits){later(profile)}"
     nodes = options.whole("nodes", least if groups else min(64, room), least, room, why)
     return hosts_of(common_of(options, nodes - grouped), groups)
@@ -53,13 +66,13 @@ def first_hosts(options: Options, profile: int, bits: int) -> list[Host]:
 
 def later(profile: int) -> str:
     """That later profiles take more nodes."""
-    more = [f"{PROFILES[number].greatest('node')} in profile {number}" for number in (2, 4) if number > profile]
+    more = [f"{most_nodes(number)} in profile {number}" for number in (2, 4) if number > profile]
     return f"; {' and '.join(more)}" if more else ""
 
 
 def beyond(profile: int, bits: int) -> str:
     """What a profile takes, if nodes are too many."""
-    most = PROFILES[profile].greatest("node")
+    most = most_nodes(profile)
     return f", and a scenario has at most {most} in profile {profile}{later(profile)}, and 2^{bits} (by --bits)"
 
 

@@ -10,7 +10,8 @@ from chordsim_tools.generate.equilibrium import mean_of
 from chordsim_tools.generate.hosts import Host, Span
 from chordsim_tools.generate.lookups import keys_of, lookups_of
 from chordsim_tools.generate.nodes import (
-    check_trace, default_duration, first_hosts, groups_of, has_lives, least_initial, newcomers, room_of,
+    MOST_TABLES, check_trace, default_bits, default_duration, first_hosts, groups_of, has_lives, least_initial,
+    newcomers, room_of,
 )
 from chordsim_tools.generate.outages import Outage
 from chordsim_tools.generate.top import network_of, top_of
@@ -31,7 +32,7 @@ class Plan:
 
     The nodes below `initial` begin as members, unless the start is drawn or a churn trace says it. Those below
     `bootstraps` are bootstrap nodes. Of a million lives that commands end, `leaves` end with a leave. The nodes have
-    coordinates, or the list is empty.
+    coordinates, or the list is empty. If the scenario has classes, nodes that are alike have one table.
     """
 
     top: dict[str, int]
@@ -51,6 +52,7 @@ class Plan:
     are_names: bool = False
     bootstraps: int = 0
     leaves: int = 0
+    is_classed: bool = False
     notes: tuple[str, ...] = ()
 
     @property
@@ -68,13 +70,15 @@ def check(args: Namespace, parser: Parser) -> Plan:
     """The plan of the arguments. If two of them do not fit together the parser ends with the first such option."""
     options = Options(args, parser)
     profile = options.get("profile", 1)
-    bits = options.whole("bits", 32, 3, PROFILES[profile].greatest("bits"), f" (in profile {profile})")
+    most_bits = PROFILES[profile].greatest("bits")
+    bits = options.whole("bits", default_bits(options, profile), 3, most_bits, f" (in profile {profile})")
     check_trace(options)
     first = first_hosts(options, profile, bits)
     up_first = sum(host.sessions is None or host.sessions[0][0] == 0 for host in first)
     initial = options.whole("initial", up_first, least_initial(profile), len(first), " (at most --nodes)")
     duration = options.get("duration", default_duration(first))
     hosts = (*first, *newcomers(options, len(first), room_of(profile, bits), duration))
+    is_classed = are_classed(options, profile, len(hosts))
     places = coordinates_of(options, profile, hosts)
     top = top_of(options, profile, (bits, duration, initial, len(first)), places) | network_of(options, profile)
     check_companions(options, initial < len(first))
@@ -96,6 +100,7 @@ def check(args: Namespace, parser: Parser) -> Plan:
         are_names=options.get("ids", "random") == "names",
         bootstraps=bootstraps_of(options, profile, len(first)),
         leaves=0 if options.has("churn-uniform") else leaves_of(options, profile),
+        is_classed=is_classed,
         notes=notes_of(options),
     )
 
@@ -123,6 +128,20 @@ def bootstraps_of(options: Options, profile: int, nodes: int) -> int:
     count = options.whole("bootstrap", 0, 0, nodes, " (at most --nodes)")
     options.only_with("create-alone", count > 0, "--bootstrap, whose nodes alone make rings")
     return count
+
+
+def are_classed(options: Options, profile: int, nodes: int) -> bool:
+    """Whether nodes that are alike have one table. Then they are not at places of their own, nor named by a file."""
+    options.only_with("classes", profile == 4, "--profile 4")
+    if not options.has("classes") and nodes <= MOST_TABLES:
+        return False
+    if options.has("churn-trace"):
+        options.refuse("churn-trace", "not with --classes, whose nodes have names of their classes")
+    law: Law | None = options.get("coordinates", None)
+    if law is not None and not isinstance(law, RegionsFile):
+        when = f"with --classes, and above {MOST_TABLES} nodes,"
+        options.refuse("coordinates", f"{when} regions:NAME alone, since the nodes of a class are at one place")
+    return True
 
 
 def notes_of(options: Options) -> tuple[str, ...]:

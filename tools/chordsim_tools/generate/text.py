@@ -8,6 +8,7 @@ from typing import Any
 
 from chordsim_tools.draws import Draws
 from chordsim_tools.explain.world_traps import round_told
+from chordsim_tools.generate.classes import NodeClass, alone_of, churns
 from chordsim_tools.generate.commands import CRASH, JOIN, LEAVE, LOOKUP, Command
 from chordsim_tools.generate.idents import of_names, seeded
 from chordsim_tools.generate.plan import Plan
@@ -18,12 +19,16 @@ DOES = {CRASH: "crash", LEAVE: "leave", JOIN: "join", LOOKUP: "lookup"}
 
 @dataclass(frozen=True)
 class Made:
-    """What was drawn for a plan: commands, nodes that begin as members, lines that say more of it, and identifiers."""
+    """What was drawn for a plan: commands, nodes that begin as members, lines that say more of it, and identifiers.
+
+    The nodes have these names. They are of these classes, or there are none."""
 
     commands: list[Command]
     initial: set[int]
     told: list[str]
     idents: dict[int, int]
+    names: list[str]
+    classes: list[NodeClass]
 
 
 def text_of(plan: Plan, made: Made, arguments: list[str]) -> str:
@@ -33,8 +38,10 @@ def text_of(plan: Plan, made: Made, arguments: list[str]) -> str:
         tables.append(table("[churn]\n", churn_of(plan.churn)))
     if plan.lookups is not None:
         tables.append(table("[lookups]\n", asdict(plan.lookups)))
-    tables += [node_table(plan, node, made.idents, node in made.initial) for node in range(plan.nodes)]
-    tables += [command_table(plan, command) for command in made.commands]
+    alone = alone_of(made.classes) if plan.is_classed else range(plan.nodes)
+    tables += [node_table(plan, node, made) for node in alone]
+    tables += [class_table(plan, one, made) for one in made.classes if one.counted > 0]
+    tables += [command_table(command, made.names) for command in made.commands]
     return "\n".join(tables)
 
 
@@ -47,7 +54,7 @@ def document_of(plan: Plan, made: Made) -> dict[str, Any]:
     """As much of the scenario as its traps depend on, as the file has it."""
     nodes = [
         {
-            "name": node, "initial": node in made.initial, "churn": plan.churn is not None and node >= plan.stay,
+            "name": node, "initial": node in made.initial, "churn": churns(plan, node),
             "bootstrap": node < plan.bootstraps,
         }
         for node in range(plan.nodes)
@@ -73,6 +80,7 @@ def head(plan: Plan, made: Made, arguments: list[str]) -> str:
         "",
         f"Nodes: {plan.nodes}, of which {len(made.initial)} are members at the start. Commands: {', '.join(counts)}.",
         *nodes_told(plan),
+        *classes_told(made.classes),
         *made.told,
         *plan.notes,
         round_told({**plan.top, "node": range(plan.nodes)}),
@@ -89,38 +97,57 @@ def nodes_told(plan: Plan) -> list[str]:
     return lines + ([f"{come} of the nodes arrive during the run, and do not return."] if come else [])
 
 
+def classes_told(classes: list[NodeClass]) -> list[str]:
+    """The classes, with the prefixes of their names."""
+    told = ", ".join(f"{one.prefix} {one.counted}" for one in classes if one.counted > 0)
+    return [f"Classes: {told}."] if told else []
+
+
 def table(heading: str, keys: dict[str, int]) -> str:
     """A table of numbers and booleans."""
     return heading + "".join(f"{key} = {str(value).lower()}\n" for key, value in keys.items())
 
 
 def idents_of(plan: Plan, draws: Draws) -> dict[int, int]:
-    """The identifiers that nodes have by an `id`."""
+    """The identifiers that nodes have by an `id`. In classes there are none."""
+    if plan.is_classed:
+        return {}
     names, bits = [host.name for host in plan.hosts], plan.top["bits"]
     return of_names(names, bits, draws) if plan.are_names else seeded(names, plan.top["seed"], bits)
 
 
-def node_table(plan: Plan, node: int, idents: dict[int, int], is_initial: bool) -> str:
+def node_table(plan: Plan, node: int, made: Made) -> str:
     """The table of a node."""
-    lines = [f'name = "{plan.hosts[node].name}"']
-    if node in idents:
-        lines.append(f"id = {key_text(idents[node])}")
-    if is_initial:
-        lines.append("initial = true")
-    if plan.churn is not None and node >= plan.stay:
+    lines = [f'name = "{made.names[node]}"']
+    if node in made.idents:
+        lines.append(f"id = {key_text(made.idents[node])}")
+    return "[[node]]\n" + "\n".join([*lines, *lines_of(plan, node, node in made.initial)]) + "\n"
+
+
+def class_table(plan: Plan, one: NodeClass, made: Made) -> str:
+    """The table of a class."""
+    first = one.nodes[0]
+    lines = [f"count = {one.counted}", f'prefix = "{one.prefix}"']
+    return "[[nodes]]\n" + "\n".join([*lines, *lines_of(plan, first, first in made.initial)]) + "\n"
+
+
+def lines_of(plan: Plan, node: int, is_initial: bool) -> list[str]:
+    """The lines of a node that others may have too."""
+    lines = ["initial = true"] if is_initial else []
+    if churns(plan, node):
         lines.append("churn = true")
     if node < plan.bootstraps:
         lines.append("bootstrap = true")
     if plan.places:
         lines += [f"{key} = {value}" for key, value in asdict(plan.places[node]).items()]
-    return "[[node]]\n" + "\n".join(lines) + "\n"
+    return lines
 
 
-def command_table(plan: Plan, command: Command) -> str:
+def command_table(command: Command, names: list[str]) -> str:
     """The table of a command."""
-    lines = [f"at_us = {command.at_us}", f'do = "{DOES[command.do]}"', f'node = "{plan.hosts[command.node].name}"']
+    lines = [f"at_us = {command.at_us}", f'do = "{DOES[command.do]}"', f'node = "{names[command.node]}"']
     if command.do == JOIN:
-        lines.append(f'via = "{plan.hosts[command.rest].name}"')
+        lines.append(f'via = "{names[command.rest]}"')
     if command.do == LOOKUP:
         lines.append(f"key = {key_text(command.rest)}")
     return "[[command]]\n" + "\n".join(lines) + "\n"
