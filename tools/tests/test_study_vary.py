@@ -4,12 +4,14 @@ import tomllib
 from pathlib import Path
 from unittest import TestCase
 
+from chordsim_tools.scenario.classes import node_count
 from chordsim_tools.study.comparison import named
 from chordsim_tools.study.numbers import summaries
 from chordsim_tools.study.plan import label
+from chordsim_tools.study.starts import longest_round, nodes_in
 from chordsim_tools.study.worlds import scenario_of
 from tests.support.studies import row, tables_of
-from tests.test_study_plan import HEAD, MADE, SEEDS, in_folder
+from tests.test_study_plan import BASE, HEAD, MADE, SEEDS, in_folder
 
 VARY = HEAD + SEEDS + "[vary]\n"
 MADE_VARY = MADE + SEEDS + "[vary]\n"
@@ -40,6 +42,22 @@ class StudyVaryTest(TestCase):
         assert [(len(world["node"]), world["bits"]) for world in worlds] == [(5, 9), (7, 12)]
         churn = in_folder(MADE_VARY + '"--lifetime, --down" = [["exp:9s", "exp:1s"], ["exp:5s", "exp:2s"]]\n')
         assert label(churn.settings()[1]) == "--lifetime=exp:5s, --down=exp:2s"
+
+    def test_nodes_of_a_class(self) -> None:
+        """`nodes.count` is that of the only class. A base with none or with two is refused, and a made world."""
+        nodes = '[[nodes]]\ncount = 9\nprefix = "m"\n'
+        base = BASE.replace("profile = 1", "profile = 4").replace("[[command]]", nodes + "[[command]]", 1)
+        study = in_folder(VARY + '"nodes.count" = [2, 30]\n', base)
+        assert [label(setting) for setting in study.settings()] == ["nodes.count=2", "nodes.count=30"]
+        worlds = [tomllib.loads(scenario_of(study, setting, 4)) for setting in study.settings()]
+        assert [world["nodes"] for world in worlds] == [[{"count": count, "prefix": "m"}] for count in (2, 30)]
+        assert [nodes_in(study, setting) for setting in study.settings()] == [5, 33]
+        assert (node_count(study.scenario), longest_round(study)) == (12, 2 * 1000)
+        needs = "[vary] nodes.count needs a base with one table [[nodes]]; the base has"
+        assert in_folder(VARY + "nodes.count = [2]\n") == f"study.toml: {needs} 0"
+        twice = base.replace(nodes, nodes + nodes.replace('"m"', '"k"'))
+        assert in_folder(VARY + "nodes.count = [2]\n", twice) == f"study.toml: {needs} 2"
+        assert "a study with `generate` has --nodes" in in_folder(MADE_VARY + '"nodes.count" = [2]\n')
 
     def test_ranges(self) -> None:
         """The end is a value if a step reaches it; counts go up by 1; options take times as texts."""
