@@ -1,6 +1,7 @@
 #!/usr/bin/env bash
-# Times rings of the extended profile with 512, 4,096 and 65,536 nodes: the examples churn512 and churn4096 with
-# `profile = 4` and churn65536, by the serial engine and by teams of 2, 3 and 4 workers with as many parts, alternately.
+# Times rings of the extended profile with 512, 4,096, 65,536 and 1,048,576 nodes: the examples churn512 and churn4096
+# with `profile = 4`, churn65536 and million, by the serial engine and by teams of 2, 3 and 4 workers with as many parts,
+# alternately.
 # Prints a row for each way to run a scenario: the seconds and the processor seconds of each turn, the most memory, the
 # events a second of the fastest turn, and its seconds as a ratio to the least of the serial engine. A last row times
 # the start: the same scenario cut to a millisecond.
@@ -62,5 +63,7 @@ for name in churn512 churn4096; do
     sed 's/^profile = .*/profile = 4/' "$top/examples/$name.toml" > "$work/scenario.toml"
     measure "$name in profile 4"
 done
-cp "$top/examples/churn65536.toml" "$work/scenario.toml"
-measure churn65536
+for name in churn65536 million; do
+    cp "$top/examples/$name.toml" "$work/scenario.toml"
+    measure $name
+done

@@ -195,6 +195,20 @@ class ExplainTest(TestCase):
         hints = ["a class of nodes, [[nodes]], is enough too"]
         self.assertEqual(first_hint(TOP), ("S3 MissingKey top node", hints))
 
+    def test_number_of_tables(self) -> None:
+        """Many single nodes can be a class, and one alone beside classes can be left out."""
+        many = TOP + "".join(f'[[node]]\nname = "x{i}"\n' for i in range(65_537))
+        told = ["nodes that are alike can be one class, [[nodes]]"]
+        self.assertEqual(self.hints_of(many, "S5 OutOfRange top node"), told)
+        one = TOP + '[[node]]\nname = "x"\n' + PAIR
+        told = ["there are classes, so that there need not be any [[node]]"]
+        self.assertEqual(self.hints_of(one, "S5 OutOfRange top node"), told)
+
+    def hints_of(self, text: str, fault_text: str) -> list[str]:
+        """What was likely meant by a fault of a scenario."""
+        found = explanations(text.encode(), b"", ("world.toml", "links.csv"))[1]
+        return next(one.hints for one in found if one.fault == fault_text)
+
     def test_prefix(self) -> None:
         """Characters and lengths of a prefix."""
         hints = ["not allowed in a name: ' '", '"a-b" is allowed']

@@ -199,6 +199,15 @@ def of_profile(value: Any, key: Key, place: str) -> list[str]:
     return []
 
 
+def of_classes(value: list[Any], key: Key, table: dict[str, Any]) -> list[str]:
+    """That many nodes can be a class, and that a class needs no single node."""
+    if key.name != "node":
+        return []
+    if len(value) > key.greatest:
+        return ["nodes that are alike can be one class, [[nodes]]"]
+    return ["there are classes, so that there need not be any [[node]]"] if "nodes" in table else []
+
+
 def of_word(value: str, key: Key, place: str) -> list[str]:
     """The word that is most like one that is not allowed, or the profile that allows this one."""
     for number, other in PROFILES.items():

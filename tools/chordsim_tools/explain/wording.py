@@ -88,7 +88,9 @@ def out_of_range(fault: Fault, files: Files) -> Parts:
     table = files.place(fault.place).table
     wider = hints.of_profile(value, key, fault.place)
     if key.kind == "tables":
-        return f"there are too {'few' if len(value) < key.least else 'many'}", f"{len(value)} tables", allowed, wider
+        what = f"there are too {'few' if len(value) < key.least else 'many'}"
+        likely = wider + (hints.of_classes(value, key, table) if "nodes" in files.document.profile.tables else [])
+        return what, f"{len(value)} table{'' if len(value) == 1 else 's'}", allowed, likely
     if key.among:
         return f"`{key.name}` is no such word", written, allowed, hints.of_word(value, key, fault.place)
     if key.kind == "id":

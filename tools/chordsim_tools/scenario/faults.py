@@ -22,16 +22,16 @@ AUDIT = ("name", "audit")
 
 @dataclass(slots=True)
 class Node:
-    """A node: its number, its name if that is a text, and the table that it is of, its own or that of its class."""
+    """A node: its name if that is a text, and its own table, or that of its class and its number among all nodes."""
 
-    number: int
     name: str | None
     place: Place
+    number: int = 0
 
     @property
     def told(self) -> str:
         """The node as the program prints it."""
-        return f"node {self.number}"
+        return f"node {self.number}" if self.is_of_class else self.place.name
 
     @property
     def is_of_class(self) -> bool:
@@ -84,11 +84,11 @@ class Document:
         number = len(tables) if isinstance(tables, list) else 0
         for place in self.sections:
             if place.kind == "node":
-                yield Node(int(place.name.partition(" ")[2]), place.usable("name"), place)
+                yield Node(place.usable("name"), place)
                 continue
             for name in class_names(place.table) if self.is_counted(place) else ():
                 number += 1
-                yield Node(number, name, place)
+                yield Node(name, place, number)
 
     def is_counted(self, section: Place) -> bool:
         """Whether one can say which nodes a class has."""
