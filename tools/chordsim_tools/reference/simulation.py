@@ -89,9 +89,10 @@ def initial_states(world: World) -> list[Node]:
     initial = [i for i, node in enumerate(world.scenario.nodes) if node.initial]
     node_at = {world.idents[i]: i for i in initial}
     places = sorted(node_at)
+    doors = [*world.bootstraps, *initial]
     for i in initial:
         make_initial(world, nodes[i], node_at, places)
-        nodes[i].via = next((x for x in [*world.bootstraps, *initial] if x != i), i)
+        nodes[i].via = next((x for x in doors if x != i), i)
     return nodes
 
 
