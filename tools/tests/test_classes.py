@@ -16,6 +16,7 @@ from chordsim_tools.scenario.classes import expanded, node_count
 from chordsim_tools.scenario.coordinates import Coordinates
 from chordsim_tools.scenario.reading import read_scenario
 from chordsim_tools.study.document import toml_text
+from chordsim_tools.trace.command import main as trace
 from tests.support.programs import ended
 from tests.support.worlds import RING, fault
 
@@ -255,6 +256,20 @@ class ToolsTest(TestCase):
         self.assertIn("churn = true of all 2 bootstrap nodes", told)
         told = [trap.partition(",")[0] for trap in traps_of(tomllib.loads(TOP + PAIR), 10)]
         self.assertIn("no node is initial", told)
+
+    def test_trace(self) -> None:
+        """tools/trace tells the same of a run by both scenarios, and the story of a node of a class."""
+        text = WORLDS[0]
+        with tempfile.TemporaryDirectory() as folder:
+            lines, scenario = Path(folder) / "trace", Path(folder) / "scenario.toml"
+            lines.write_text("".join(f"{line}\n" for line in run_of(text)), encoding="utf-8")
+            told = []
+            for written in (text, toml_text(expanded(tomllib.loads(text)))):
+                scenario.write_text(written, encoding="utf-8")
+                for options in (["--per-node"], ["--node", "a3"], ["--worst", "9"]):
+                    told.append(ended(trace, str(lines), str(scenario), *options))
+            self.assertEqual(told[:3], told[3:])
+            self.assertEqual([(status, error) for status, _, error in told], [(0, "")] * 6)
 
     def test_latency(self) -> None:
         """tools/latency writes a row for each pair of nodes, also of classes."""

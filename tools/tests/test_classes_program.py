@@ -1,12 +1,20 @@
 """Classes of nodes, by the program: what it refuses and accepts, and runs that are those of single nodes."""
 
+import csv
+import os
+import tempfile
 import tomllib
+from pathlib import Path
+from unittest.mock import patch
 
 from chordsim_tools.reference.report import Report
 from chordsim_tools.reference.simulation import Simulation
 from chordsim_tools.scenario.classes import expanded
 from chordsim_tools.scenario.reading import read_scenario
+from chordsim_tools.study.command import main as study
 from chordsim_tools.study.document import toml_text
+from chordsim_tools.trace.command import main as trace
+from tests.support.programs import ended
 from tests.support.rings import Left, ProgramTest
 from tests.test_classes import ACCEPTED, FAULTS, HERE, PAIR, TOP, WORLDS, a_class, beside
 
@@ -50,4 +58,42 @@ class ClassesProgram(ProgramTest):
                 report.read(line)
             wanted = Left("".join(f"{line}\n" for line in lines), report.text(simulation.events))
             self.all_leave(text, *wanted)
-            self.all_leave(toml_text(expanded(tomllib.loads(text))), *wanted)
+            self.all_leave(written_out(text), *wanted)
+
+    def test_judge(self) -> None:
+        """The table of lookups is that of tools/trace."""
+        for text in WORLDS:
+            self.left(text)
+            lines, table = self.folder / "trace", self.folder / "table.csv"
+            scenario = self.folder / "scenario.toml"
+            self.assertEqual(ended(trace, str(lines), str(scenario), "--lookups", str(table))[0], 0)
+            status, rows, _ = self.ended("judge", text.encode(), b"", "--trace", str(lines))
+            self.assertEqual((status, sorted(rows.splitlines())), (0, sorted(table.read_text().splitlines())))
+
+    def test_study(self) -> None:
+        """A study has the same numbers of both, and more nodes of a class are those of another base."""
+        for text in WORLDS:
+            self.assertEqual(self.runs_of(text, "list = [1, 3]"), self.runs_of(written_out(text), "list = [1, 3]"))
+        first, *_ = WORLDS
+        varied = self.runs_of(first, '"nodes.count" = [5, 12]')
+        for count, rows in ((5, varied[:2]), (12, varied[2:])):
+            alone = self.runs_of(written_out(first.replace("count = 9", f"count = {count}")), "list = [2]")
+            self.assertEqual([row[1:] for row in rows], [row[1:] for row in alone])
+
+    def runs_of(self, base: str, vary: str) -> list[list[str]]:
+        """The rows of `runs.csv` of a study of two seeds."""
+        with tempfile.TemporaryDirectory() as name:
+            folder = Path(name)
+            (folder / "base.toml").write_text(base, encoding="utf-8")
+            head = 'question = "How?"\nbase = "base.toml"\nseeds = [1, 2]\n'
+            (folder / "study.toml").write_text(f"{head}[vary]\n{vary}\n", encoding="utf-8")
+            with patch.dict(os.environ, CHORDSIM=self.program):
+                files = str(folder / "study.toml"), "-o", str(folder / "out")
+                status, _, told = ended(study, "run", *files, "--jobs", "1")
+            self.assertEqual(status, 0, told)
+            return list(csv.reader((folder / "out" / "runs.csv").read_text().splitlines()))[1:]
+
+
+def written_out(text: str) -> str:
+    """The scenario whose nodes all have tables of their own."""
+    return toml_text(expanded(tomllib.loads(text)))
