@@ -169,9 +169,9 @@ class ClassesTest(TestCase):
                 alone = expanded(top)
                 self.assertNotIn("nodes", alone)
                 self.assertEqual((node_count(top), node_count(alone)), (len(alone["node"]), len(alone["node"])))
-                trace = run_of(text)
-                self.assertEqual(trace, run_of(toml_text(alone)))
-                self.assertGreater(len(trace), 100)
+                lines = run_of(text)
+                self.assertEqual(lines, run_of(toml_text(alone)))
+                self.assertGreater(len(lines), 100)
 
     def test_no_classes(self) -> None:
         """A scenario without classes is expanded to itself."""
