@@ -7,7 +7,7 @@ from dataclasses import dataclass
 from decimal import Decimal
 
 from chordsim_tools.cli import Refused
-from chordsim_tools.draws import TWENTY_DIGITS, WORD, Draws
+from chordsim_tools.draws import TWENTY_DIGITS, WORD, Draws, Split
 from chordsim_tools.files import read_input
 from chordsim_tools.quantities import span_of, time_of, whole_of
 from chordsim_tools.regions import placed, read_regions
@@ -130,7 +130,8 @@ def places_of(law: Law, seed: int, names: list[str]) -> tuple[Coordinates, ...]:
         regions = read_regions(law.name)
         places = placed(regions).places
         return tuple(places[region] for region in regions.of_nodes(names))
-    return tuple(law.draw(draws) for draws in Draws(seed).split(STREAM)[-1].split(len(names)))
+    streams = Split(Draws(seed).split(STREAM)[-1], len(names))
+    return tuple(law.draw(streams[place]) for place in range(len(names)))
 
 
 def places_in(file: str, names: list[str]) -> tuple[Coordinates, ...]:
