@@ -1,7 +1,12 @@
 pub mod Counting
 pub mod Lookups
+pub mod NamedNodes
+pub mod NumberLemmas
 pub mod Owned
+pub mod ReadBack
+pub mod Readings
 pub mod Scanned
 pub mod Scans
 pub mod Undone
 pub mod Walked
+pub mod WordLemmas

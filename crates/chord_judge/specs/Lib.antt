@@ -4,6 +4,11 @@ pub mod Lines
 pub mod Members
 pub mod Owners
 pub mod Places
+pub mod Reading
 pub mod Rows
 pub mod Table
 pub mod Tellings
+pub mod Taken
+pub mod Traces
+pub mod Words
+pub mod Written

@@ -7,6 +7,10 @@ use Rattle.chord_judge.specs.declared.row.Row.{Row}
 use Rattle.chord_scenario.specs.Setup.{Setup}
 use Rattle.chord_scenario.specs.World.{name_of}
 
+-- the heading of the table
+abbrev pub heading : List ℕ
+heading = codes "asker,key,begun_us,ended_us,us,hops,timeouts,named,right_owner,strict,defensible\n"
+
 -- whether an answer is right, as a word
 abbrev pub verdict_text : Bool → List ℕ
 verdict_text true = codes "right"

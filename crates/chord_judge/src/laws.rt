@@ -1,10 +1,14 @@
 //! Laws of the judgement.
-ghost use Rattle.std.specs.Prelude.{◌≡◌, ℕ, ◌^◌, ◌<◌, Bool, List, count_by, length};
+ghost use Rattle.std.specs.Prelude.{◌≡◌, ℕ, ◌^◌, ◌<◌, ◌++◌, Bool, List, codes, count_by, length};
 ghost use Rattle.chord_judge.specs.Judged.{is_begin, judged};
+ghost use Rattle.chord_event.specs.declared.line.Line.{Line};
 ghost use Rattle.chord_judge.specs.Owners.{IsRightOwner};
+ghost use Rattle.chord_judge.specs.Reading.{said};
+ghost use Rattle.chord_judge.specs.Written.{HasPlainNames, IsWritable, saying};
 ghost use Rattle.chord_judge.specs.declared.told.Told.{Told};
 ghost use Rattle.chord_scenario.specs.Range.{IsInRange};
 ghost use Rattle.chord_scenario.specs.Setup.{Setup};
+ghost use Rattle.chord_trace.specs.Texts.{line_text};
 
 /// A key has at most one right owner.
 pub fn right_owners_are_unique()
@@ -14,4 +18,10 @@ pub fn right_owners_are_unique()
 /// There are as many rows as lookups.
 pub fn each_lookup_has_a_row()
     ensures { (sc : Setup) (lines : List Told) → length (judged sc lines) ≡ count_by is_begin lines }
+{}
+
+/// The text of a line that a run writes is read as that line if a judge is to be told it, and
+/// otherwise as a line of another kind.
+pub fn lines_are_read_as_written()
+    ensures { (sc : Setup) → IsInRange sc → HasPlainNames sc → (time node : ℕ) (line : Line) (text : List ℕ) → IsWritable sc time node line → line_text sc time node line ≡ text ++ codes "\n" → said sc text ≡ saying time node line }
 {}

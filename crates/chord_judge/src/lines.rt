@@ -1,167 +1,191 @@
 //! Lines of a trace, read from their texts.
-ghost use Rattle.std.specs.Prelude.{◌≡◌, ◌<◌, ◌^◌, IfSome};
-ghost use Rattle.chord_judge.specs.Lines.{IfTold};
-ghost use Rattle.chord_judge.specs.Tellings.{IsOnCircle};
-ghost use Rattle.chord_scenario.specs.Blocks.{IsLineOf};
-ghost use Rattle.chord_scenario.specs.World.{node_count};
+ghost use Rattle.std.specs.Prelude.{◌≡◌};
+ghost use Rattle.chord_judge.specs.Reading.{kind_named, line_alone};
+ghost use Rattle.chord_scenario.specs.Index.{Indexes};
 
+use crate::names::names_of;
 use crate::told::Told;
 use crate::words::{count_after, first_word, number_after, number_in, time_in};
 use chord_circle::Ident;
-use chord_event::Line;
+use chord_event::{Line, Memory};
 use chord_scenario::Scenario;
+use std::alloc::Global;
 use std::collections::BTreeMap;
 
 /// What a text says: a line that a judge is to be told, a line of another kind, or no line of a
 /// trace.
 #[derive(Clone, Copy, Drop)]
-pub(crate) enum Said {
+pub enum Said {
     Told(Told),
     Other,
     Nothing,
 }
 
-/// The scenario of a trace, and its nodes by their names.
+/// The kinds of line that a judge is to be told.
 #[derive(Clone, Copy, Drop)]
-pub(crate) struct LineReader<'a, 'b> {
-    pub scenario: &'a Scenario,
-    pub names: &'b BTreeMap<Vec<u8>, u32>,
+pub enum Kind {
+    Member,
+    Create,
+    Crash,
+    Leave,
+    Stranded,
+    Lookup,
+    Found,
+    Lost,
 }
 
-impl<'a, 'b> LineReader<'a, 'b> {
+/// The scenario of a trace, and its nodes by their names.
+#[derive(Drop)]
+pub(crate) struct LineReader<'a> {
+    pub scenario: &'a Scenario,
+    names: BTreeMap<Vec<u8>, u32>,
+    ghost indexed: { Indexes scenario.now.nodes names },
+}
+
+impl<'a> LineReader<'a> {
+    ghost use Rattle.std.specs.Prelude.{◌≡◌, IfOk};
+    ghost use Rattle.chord_judge.specs.Lines.{IfTold};
+    ghost use Rattle.chord_judge.specs.Reading.{found_in, key_in, line_of, lost_in, node_named, said};
+
+    /// A reader of the lines of a trace of this scenario.
+    pub fn new(alloc: Global, scenario: &'a Scenario) -> Result<LineReader<'a>, Memory>
+        ensures { IfOk result (λ reader. reader.scenario.now ≡ scenario.entry.now) }
+    {
+        let names = names_of(alloc, scenario)?;
+        Ok(LineReader { scenario, names })
+    }
+
     /// Reads a line, without its line feed.
     pub fn read(&self, text: &[u8]) -> Said
-        ensures { IfTold self.now.scenario.now result }
+        ensures said { result ≡ said self.now.scenario.now text.now }
+        ensures told { IfTold self.now.scenario.now result }
     {
         let (time, rest) = first_word(text);
         let (name, rest) = first_word(rest);
         let (kind, rest) = first_word(rest);
-        let Ok(kind) = str::from_utf8(kind) else {
-            return Said::Nothing;
-        };
-        if !is_judged(kind) {
-            return Said::Other;
-        }
-        let Some(time) = time_in(time) else {
-            return Said::Nothing;
-        };
-        let Some(node) = self.node(name) else {
-            return Said::Nothing;
-        };
-        match self.line(kind, rest) {
-            Some(line) => Said::Told(Told { time, node, line }),
-            None => Said::Nothing,
+        match kind_named(kind) {
+            Some(kind) => match (time_in(time), self.node(name), self.line(kind, rest)) {
+                (Some(time), Some(node), Some(line)) => Said::Told(Told { time, node, line }),
+                _ => Said::Nothing,
+            },
+            None => Said::Other,
         }
     }
 
     /// The node of a name.
     fn node(&self, name: &[u8]) -> Option<u32>
-        ensures { IfSome result (λ node. node < node_count self.now.scenario.now) }
+        ensures { result ≡ node_named self.now.scenario.now name.now }
     {
-        match self.names.get(name) {
-            Some(node) if *node < self.scenario.nodes() => Some(*node),
-            _ => None,
-        }
-    }
-
-    /// What a line of one of these kinds says.
-    fn line(&self, kind: &str, rest: &[u8]) -> Option<Line>
-        ensures names { IfSome result (IsLineOf self.now.scenario.now) }
-        ensures key { IfSome result (IsOnCircle self.now.scenario.now) }
-    {
-        match kind {
-            "crash" => alone(rest, Line::Crash),
-            "leave" => alone(rest, Line::Leave),
-            "create" => alone(rest, Line::Create),
-            "member" => match self.node(rest) {
-                Some(predecessor) => Some(Line::Member { predecessor }),
-                None => None,
-            },
-            "stranded" => match self.node(rest) {
-                Some(via) => Some(Line::Stranded { via }),
-                None => None,
-            },
-            "lookup" => match self.key(rest) {
-                Some(key) => Some(Line::Lookup { key }),
-                None => None,
-            },
-            "found" => self.found(rest),
-            "lost" => self.lost(rest),
-            _ => None,
-        }
+        self.names.get(name).copied()
     }
 
     /// A key on the circle.
     fn key(&self, text: &[u8]) -> Option<Ident>
-        ensures { IfSome result (λ key. key < 2 ^ self.now.scenario.now.bits) }
+        ensures { result ≡ key_in self.now.scenario.now text.now }
     {
+        self.scenario.recall_range();
         match number_in(text) {
             Some(raw) => self.scenario.circle().ident(raw),
             None => None,
         }
     }
 
+    /// What a line of this kind says.
+    fn line(&self, kind: Kind, text: &[u8]) -> Option<Line>
+        ensures { result ≡ line_of self.now.scenario.now kind text.now }
+    {
+        match kind {
+            Kind::Member => {
+                let predecessor = self.node(text)?;
+                Some(Line::Member { predecessor })
+            }
+            Kind::Create => line_alone(Line::Create, text),
+            Kind::Crash => line_alone(Line::Crash, text),
+            Kind::Leave => line_alone(Line::Leave, text),
+            Kind::Stranded => {
+                let via = self.node(text)?;
+                Some(Line::Stranded { via })
+            }
+            Kind::Lookup => {
+                let key = self.key(text)?;
+                Some(Line::Lookup { key })
+            }
+            Kind::Found => self.found(text),
+            Kind::Lost => self.lost(text),
+        }
+    }
+
+    /// The end of a lookup with an answer.
     fn found(&self, text: &[u8]) -> Option<Line>
-        ensures names { IfSome result (IsLineOf self.now.scenario.now) }
-        ensures key { IfSome result (IsOnCircle self.now.scenario.now) }
+        ensures { result ≡ found_in self.now.scenario.now text.now }
     {
         let (key, rest) = first_word(text);
         let (owner, rest) = first_word(rest);
         let (hops, rest) = first_word(rest);
         let (timeouts, us) = first_word(rest);
-        match (
-            self.key(key),
-            self.node(owner),
-            count_after(b"hops=", hops),
-            count_after(b"timeouts=", timeouts),
-            number_after(b"us=", us),
-        ) {
-            (Some(key), Some(owner), Some(hops), Some(timeouts), Some(us)) => Some(Line::Found {
-                key,
-                owner,
-                hops,
-                timeouts,
-                us,
-            }),
-            _ => None,
-        }
+        let key = self.key(key)?;
+        let owner = self.node(owner)?;
+        let hops = count_after(b"hops=", hops)?;
+        let timeouts = count_after(b"timeouts=", timeouts)?;
+        let us = number_after(b"us=", us)?;
+        Some(Line::Found {
+            key,
+            owner,
+            hops,
+            timeouts,
+            us,
+        })
     }
 
+    /// The end of a lookup without an answer.
     fn lost(&self, text: &[u8]) -> Option<Line>
-        ensures names { IfSome result (IsLineOf self.now.scenario.now) }
-        ensures key { IfSome result (IsOnCircle self.now.scenario.now) }
+        ensures { result ≡ lost_in self.now.scenario.now text.now }
     {
         let (key, rest) = first_word(text);
         let (hops, rest) = first_word(rest);
         let (timeouts, us) = first_word(rest);
-        match (
-            self.key(key),
-            count_after(b"hops=", hops),
-            count_after(b"timeouts=", timeouts),
-            number_after(b"us=", us),
-        ) {
-            (Some(key), Some(hops), Some(timeouts), Some(us)) => Some(Line::Lost {
-                key,
-                hops,
-                timeouts,
-                us,
-            }),
-            _ => None,
-        }
+        let key = self.key(key)?;
+        let hops = count_after(b"hops=", hops)?;
+        let timeouts = count_after(b"timeouts=", timeouts)?;
+        let us = number_after(b"us=", us)?;
+        Some(Line::Lost {
+            key,
+            hops,
+            timeouts,
+            us,
+        })
     }
 }
 
-/// The line, if nothing follows its kind.
-fn alone(rest: &[u8], line: Line) -> Option<Line>
-    ensures { IfSome result (λ found. found ≡ line) }
+/// The line, if no text follows its kind.
+fn line_alone(line: Line, text: &[u8]) -> Option<Line>
+    ensures { result ≡ line_alone line text.now }
 {
-    if rest.is_empty() { Some(line) } else { None }
+    if text.is_empty() { Some(line) } else { None }
 }
 
-/// Whether lines of this kind are told to a judge.
-fn is_judged(kind: &str) -> bool {
-    match kind {
-        "member" | "create" | "crash" | "leave" | "stranded" | "lookup" | "found" | "lost" => true,
-        _ => false,
-    }
+/// The kind that a word names, if lines of this kind are told to a judge.
+fn kind_named(word: &[u8]) -> Option<Kind>
+    ensures { result ≡ kind_named word.now }
+{
+    let kind = if word == b"member".as_slice() {
+        Kind::Member
+    } else if word == b"create".as_slice() {
+        Kind::Create
+    } else if word == b"crash".as_slice() {
+        Kind::Crash
+    } else if word == b"leave".as_slice() {
+        Kind::Leave
+    } else if word == b"stranded".as_slice() {
+        Kind::Stranded
+    } else if word == b"lookup".as_slice() {
+        Kind::Lookup
+    } else if word == b"found".as_slice() {
+        Kind::Found
+    } else if word == b"lost".as_slice() {
+        Kind::Lost
+    } else {
+        return None;
+    };
+    Some(kind)
 }

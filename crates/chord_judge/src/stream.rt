@@ -1,17 +1,18 @@
 //! From the text of a trace to the table of its lookups.
-ghost use Rattle.std.specs.Prelude.{◌≡◌, ◌≤◌, OnOk, false, length};
-ghost use Rattle.des_output.specs.Watched.{has_failed};
+ghost use Rattle.std.specs.Prelude.{◌≡◌, OnOk, false};
+ghost use Rattle.chord_judge.specs.Inside.{setup_of};
+ghost use Rattle.chord_judge.specs.Traces.{WasJudged};
+ghost use Rattle.des_output.specs.Watched.{has_failed, wrapped};
 
 use crate::judge::{Judge, JudgeFault};
 use crate::lines::{LineReader, Said};
-use crate::names::names_of;
 use crate::row::Row;
-use crate::table::{HEADING, push_row_text};
+use crate::table::{HEADING, push_rows_text};
+use crate::words::place_in;
 use chord_event::{Memory, RunError};
 use chord_scenario::Scenario;
 use des_output::{Watched, write_text};
 use std::alloc::{AllocError, Global};
-use std::collections::BTreeMap;
 use std::io::{Read, Write};
 
 /// Why a table was not written to its end.
@@ -42,7 +43,7 @@ impl From<AllocError> for TableFault {
 /// The size of the pieces in which a trace is read.
 const CHUNK: usize = 65_536;
 
-/// Reads a trace of the scenario, and writes the table of its lookups.
+/// Reads a trace of the scenario to its end, and writes the table of its lookups.
 pub fn judge_trace<R: Read, W: Write>(
     alloc: Global,
     scenario: &Scenario,
@@ -50,52 +51,89 @@ pub fn judge_trace<R: Read, W: Write>(
     output: &mut Watched<W>,
 ) -> Result<(), TableFault>
     requires { has_failed output.old ≡ false }
+    ensures { OnOk result (WasJudged scenario.now (R.remaining (wrapped trace.old)) (R.remaining (wrapped trace.new)) (W.contents (wrapped output.old)) (W.contents (wrapped output.new))) }
 {
-    let mut stream = Stream {
-        judge: Judge::new(alloc, scenario)?,
-        names: names_of(alloc, scenario)?,
-        rows: Vec::new(alloc),
-        text: String::from_str(alloc, HEADING)?,
-        line: Vec::new(alloc),
-        lines: 0,
-    };
+    let mut stream = Stream::new(alloc, scenario)?;
     let mut chunk = Vec::new(alloc);
     chunk.resize(CHUNK, 0u8)?;
-    for _ in 0..u64::MAX {
-        let Ok(count) = trace.read(chunk.as_mut_slice()) else {
-            return Err(TableFault::Read);
-        };
-        if count == 0 {
-            break;
-        }
-        stream.take(&chunk[..count])?;
-        stream.write(output)?;
-    }
-    stream.finish()?;
-    stream.write(output)
+    stream.run(chunk.as_mut_slice(), trace, output)
 }
 
 /// A trace that is read, and the text of the table that is still to be written.
 #[derive(Drop)]
-struct Stream<'a> {
-    judge: Judge<'a>,
-    names: BTreeMap<Vec<u8>, u32>,
-    rows: Vec<Row>,
-    text: String,
+pub(crate) struct Stream<'a> {
+    pub judge: Judge<'a>,
+    pub reader: LineReader<'a>,
+    /// The rows that are still to be turned into text.
+    pub rows: Vec<Row>,
+    pub text: String,
     /// The beginning of a line that has not ended yet.
-    line: Vec<u8>,
+    pub line: Vec<u8>,
     /// How many lines have ended.
-    lines: u64,
+    pub lines: u64,
+    ghost one: { reader.scenario.now ≡ setup_of judge },
 }
 
-impl Stream<'_> {
+impl<'a> Stream<'a> {
+    ghost use Rattle.std.specs.Prelude.{◌≡◌, ◌<◌, ◌++◌, [], ◌∷◌, ℕ, List, OnOk, IfOk, length, string_bytes};
+    ghost use Rattle.std.specs.Io.KnownBytes.{Appends};
+    ghost use Rattle.chord_judge.specs.Inside.{setup_of};
+    ghost use Rattle.chord_judge.specs.Taken.{HasTaken};
+    ghost use Rattle.chord_judge.specs.Traces.{WasJudged, table_text};
+    ghost use Rattle.chord_scenario.specs.Setup.{Setup};
+    ghost use Rattle.des_output.specs.Watched.{has_failed, wrapped};
+
+    /// A stream that has taken nothing yet, with the heading to be written.
+    fn new(alloc: Global, scenario: &'a Scenario) -> Result<Stream<'a>, TableFault>
+        ensures { IfOk result (HasTaken scenario.entry.now [] []) }
+    {
+        Ok(Stream {
+            judge: Judge::new(alloc, scenario)?,
+            reader: LineReader::new(alloc, scenario)?,
+            rows: Vec::new(alloc),
+            text: String::from_str(alloc, HEADING)?,
+            line: Vec::new(alloc),
+            lines: 0,
+        })
+    }
+
+    /// Reads the trace to its end, and writes the table.
+    fn run<R: Read, W: Write>(
+        &mut self,
+        chunk: &mut [u8],
+        trace: &mut Watched<R>,
+        output: &mut Watched<W>,
+    ) -> Result<(), TableFault>
+        requires room { 0 < length chunk.old }
+        requires begun { HasTaken (setup_of self.old.judge) [] [] self.old }
+        requires sound { has_failed output.old ≡ false }
+        ensures { OnOk result (WasJudged (setup_of self.old.judge) (R.remaining (wrapped trace.old)) (R.remaining (wrapped trace.new)) (W.contents (wrapped output.old)) (W.contents (wrapped output.new))) }
+    {
+        for _ in 0..u64::MAX {
+            let Ok(count) = trace.read(chunk) else {
+                return Err(TableFault::Read);
+            };
+            if count == 0 {
+                self.finish()?;
+                return self.write(output);
+            }
+            self.take(&chunk[..count])?;
+            self.write(output)?;
+        }
+        // No reader gives this many pieces.
+        Err(TableFault::Read)
+    }
+
     /// Takes a piece of the trace.
-    fn take(&mut self, piece: &[u8]) -> Result<(), TableFault> {
+    fn take(&mut self, piece: &[u8]) -> Result<(), TableFault>
+        ensures { OnOk result ((sc : Setup) (text written : List ℕ) → HasTaken sc text written self.old → HasTaken sc (text ++ piece.now) written self.new) }
+    {
         let mut start = 0;
         while start < piece.len() {
-            let length = line_in(&piece[start..]);
-            self.line.extend_from_slice(&piece[start..start + length])?;
-            if start + length < piece.len() {
+            let rest = &piece[start..];
+            let length = place_in(rest, b'\n');
+            self.line.extend_from_slice(&rest[..length])?;
+            if length < rest.len() {
                 self.end_line()?;
             }
             start += length + 1;
@@ -103,14 +141,12 @@ impl Stream<'_> {
         Ok(())
     }
 
-    /// Takes the line that has ended.
-    fn end_line(&mut self) -> Result<(), TableFault> {
+    /// Takes the line feed that ends a line.
+    fn end_line(&mut self) -> Result<(), TableFault>
+        ensures { OnOk result ((sc : Setup) (text written : List ℕ) → HasTaken sc text written self.old → HasTaken sc (text ++ 10 ∷ []) written self.new) }
+    {
         self.lines = self.lines.saturating_add(1);
-        let reader = LineReader {
-            scenario: self.judge.scenario(),
-            names: &self.names,
-        };
-        match reader.read(self.line.as_slice()) {
+        match self.reader.read(self.line.as_slice()) {
             Said::Told(told) => match self.judge.read(told, &mut self.rows) {
                 Ok(()) => {}
                 Err(JudgeFault::Memory) => return Err(TableFault::Memory),
@@ -120,28 +156,26 @@ impl Stream<'_> {
             Said::Nothing => return Err(TableFault::Line(self.lines)),
         }
         self.line.clear();
-        self.push_rows()
+        push_rows_text(&mut self.text, self.reader.scenario, self.rows.as_slice())?;
+        self.rows.clear();
+        Ok(())
     }
 
     /// Takes the end of the trace. A line that has no line feed is not taken.
-    fn finish(&mut self) -> Result<(), TableFault> {
+    fn finish(&mut self) -> Result<(), TableFault>
+        ensures { OnOk result ((sc : Setup) (text written : List ℕ) → HasTaken sc text written self.old → table_text sc text ≡ written ++ string_bytes self.new.text) }
+    {
         self.judge.finish(&mut self.rows)?;
-        self.push_rows()
-    }
-
-    /// Turns the rows into text.
-    fn push_rows(&mut self) -> Result<(), TableFault> {
-        for row in &self.rows {
-            push_row_text(&mut self.text, self.judge.scenario(), row)?;
-        }
-        self.rows.clear();
+        push_rows_text(&mut self.text, self.reader.scenario, self.rows.as_slice())?;
         Ok(())
     }
 
     /// Writes the text so far.
     fn write<W: Write>(&mut self, output: &mut Watched<W>) -> Result<(), TableFault>
         requires { has_failed output.old ≡ false }
-        ensures { OnOk result (has_failed output.new ≡ false) }
+        ensures sound { OnOk result (has_failed output.new ≡ false) }
+        ensures written { OnOk result (Appends (W.contents (wrapped output.old)) (W.contents (wrapped output.new)) (string_bytes self.old.text)) }
+        ensures taken { OnOk result ((sc : Setup) (text written : List ℕ) → HasTaken sc text written self.old → HasTaken sc text (written ++ string_bytes self.old.text) self.new) }
     {
         match write_text(self.text.as_bytes(), output) {
             Ok(()) => {
@@ -152,16 +186,4 @@ impl Stream<'_> {
             Err(_) => Err(TableFault::Write),
         }
     }
-}
-
-/// The place of the first line feed, and the length of a text without one.
-fn line_in(text: &[u8]) -> usize
-    ensures { result ≤ length text.now }
-{
-    for (place, byte) in text.iter().enumerate() {
-        if *byte == b'\n' {
-            return place;
-        }
-    }
-    text.len()
 }

@@ -1,6 +1,6 @@
 //! The table of lookups: its heading and its rows, as CSV.
 ghost use Rattle.std.specs.Prelude.{◌≡◌, ◌++◌, OnOk, string_bytes};
-ghost use Rattle.chord_judge.specs.Table.{cut_text, end_text, owner_text, row_text, verdict_text};
+ghost use Rattle.chord_judge.specs.Table.{cut_text, end_text, owner_text, row_text, rows_text, verdict_text};
 ghost use Rattle.chord_judge.specs.declared.row.End.TheVariants as ended;
 ghost use Rattle.chord_scenario.specs.World.{name_of};
 
@@ -13,8 +13,22 @@ use std::fmt::Write as _;
 pub(crate) const HEADING: &str =
     "asker,key,begun_us,ended_us,us,hops,timeouts,named,right_owner,strict,defensible\n";
 
+/// Adds the text of rows.
+pub(crate) fn push_rows_text(
+    text: &mut String,
+    scenario: &Scenario,
+    rows: &[Row],
+) -> Result<(), AllocError>
+    ensures { OnOk result (string_bytes text.new ≡ string_bytes text.old ++ rows_text scenario.now rows.now) }
+{
+    for row in rows {
+        push_row_text(text, scenario, row)?;
+    }
+    Ok(())
+}
+
 /// Adds the text of a row.
-pub(crate) fn push_row_text(
+fn push_row_text(
     text: &mut String,
     scenario: &Scenario,
     row: &Row,

@@ -1,12 +1,16 @@
 //! Words and numbers of a line.
-ghost use Rattle.std.specs.Prelude.{◌≤◌, length};
+ghost use Rattle.std.specs.Prelude.{◌≡◌, ◌==◌, ◌+◌, ◌*◌, ◌^◌, ◌≤◌, ◌&&◌, length, nat_lt, Some, None, if◌then◌else◌};
+ghost use Rattle.std.specs.Char.{digit_value, is_ascii_digit};
+ghost use Rattle.std.specs.List.{position_or_len};
+ghost use Rattle.chord_judge.specs.Words.{after_word, first_word, number_after, number_below};
 
-/// The place of the first space, and the length of a text without one.
-fn space_in(text: &[u8]) -> usize
-    ensures { result ≤ length text.now }
+/// The first place of a byte in a text, and the length of a text that does not have it.
+pub(crate) fn place_in(text: &[u8], wanted: u8) -> usize
+    ensures place { result ≡ position_or_len (λ byte. byte == wanted) text.now }
+    ensures within { result ≤ length text.now }
 {
     for (place, byte) in text.iter().enumerate() {
-        if *byte == b' ' {
+        if *byte == wanted {
             return place;
         }
     }
@@ -14,8 +18,11 @@ fn space_in(text: &[u8]) -> usize
 }
 
 /// The first word of a text, and what follows the space after it.
-pub(crate) fn first_word(text: &[u8]) -> (&[u8], &[u8]) {
-    let end = space_in(text);
+pub(crate) fn first_word(text: &[u8]) -> (&[u8], &[u8])
+    ensures word { result.0.now ≡ first_word text.now }
+    ensures rest { result.1.now ≡ after_word text.now }
+{
+    let end = place_in(text, b' ');
     if end < text.len() {
         (&text[..end], &text[end + 1..])
     } else {
@@ -23,30 +30,40 @@ pub(crate) fn first_word(text: &[u8]) -> (&[u8], &[u8]) {
     }
 }
 
-/// The number that a text of decimal digits gives.
-pub(crate) fn number_in(text: &[u8]) -> Option<u128> {
+/// The number of at most 128 bits that a text of decimal digits gives.
+pub(crate) fn number_in(text: &[u8]) -> Option<u128>
+    ensures { result ≡ number_below (2 ^ 128) text.now }
+{
     if text.is_empty() {
         return None;
     }
     let mut number: u128 = 0;
     for byte in text {
-        let digit = byte.wrapping_sub(b'0');
-        if digit > 9 {
-            return None;
-        }
-        let Some(tens) = number.checked_mul(10) else {
+        let Some(next) = with_digit(number, *byte) else {
             return None;
         };
-        let Some(sum) = tens.checked_add(u128::from(digit)) else {
-            return None;
-        };
-        number = sum;
+        number = next;
     }
     Some(number)
 }
 
+/// The number that a digit makes of the number before it.
+fn with_digit(number: u128, byte: u8) -> Option<u128>
+    ensures { result ≡ (if is_ascii_digit byte && nat_lt (number * 10 + digit_value byte) (2 ^ 128) then Some (number * 10 + digit_value byte) else None) }
+{
+    if !byte.is_ascii_digit() {
+        return None;
+    }
+    let Some(tens) = number.checked_mul(10) else {
+        return None;
+    };
+    tens.checked_add(u128::from(byte - b'0'))
+}
+
 /// The number of at most 64 bits that a text gives.
-pub(crate) fn time_in(text: &[u8]) -> Option<u64> {
+pub(crate) fn time_in(text: &[u8]) -> Option<u64>
+    ensures { result ≡ number_below (2 ^ 64) text.now }
+{
     let Some(number) = number_in(text) else {
         return None;
     };
@@ -58,7 +75,9 @@ pub(crate) fn time_in(text: &[u8]) -> Option<u64> {
 }
 
 /// The number of at most 32 bits that follows a name in a text.
-pub(crate) fn count_after(name: &[u8], text: &[u8]) -> Option<u32> {
+pub(crate) fn count_after(name: &[u8], text: &[u8]) -> Option<u32>
+    ensures { result ≡ number_after name.now (2 ^ 32) text.now }
+{
     let Some(number) = number_after(name, text) else {
         return None;
     };
@@ -70,7 +89,9 @@ pub(crate) fn count_after(name: &[u8], text: &[u8]) -> Option<u32> {
 }
 
 /// The number of at most 64 bits that follows a name in a text.
-pub(crate) fn number_after(name: &[u8], text: &[u8]) -> Option<u64> {
+pub(crate) fn number_after(name: &[u8], text: &[u8]) -> Option<u64>
+    ensures { result ≡ number_after name.now (2 ^ 64) text.now }
+{
     let length = name.len();
     if text.len() < length || &text[..length] != name {
         return None;

@@ -1,0 +1,43 @@
+-- What the text of a trace says, and the table of its lookups.
+use Rattle.std.specs.Prelude.{ℕ, ◌==◌, cond, List, [], ◌∷◌, ◌++◌, Option, Some, None}
+use Rattle.std.specs.Io.KnownBytes.{Appends, Consumes, IsAtEnd}
+use Rattle.std.specs.List.{filter_map}
+use Rattle.chord_judge.specs.Judged.{judged}
+use Rattle.chord_judge.specs.Reading.{said}
+use Rattle.chord_judge.specs.Table.{heading, rows_text}
+use Rattle.chord_judge.specs.declared.lines.Said.{Said}
+use Rattle.chord_judge.specs.declared.lines.Said.TheVariants as outcome
+use Rattle.chord_judge.specs.declared.told.Told.{Told}
+use Rattle.chord_scenario.specs.Setup.{Setup}
+
+-- the lines of a text that a line feed ends, without it; the first line begins with these bytes
+abbrev pub lines_from : (begun : List ℕ) → List ℕ → List (List ℕ)
+lines_from begun [] = []
+lines_from begun (byte ∷ text) =
+    let ended = lines_from [] text in let longer = lines_from (begun ++ byte ∷ []) text in cond (byte == 10) (begun ∷ ended) longer
+
+-- the bytes of a text that no line feed ends, after these bytes of a line
+abbrev pub rest_from : (begun : List ℕ) → List ℕ → List ℕ
+rest_from begun [] = begun
+rest_from begun (byte ∷ text) =
+    let ended = rest_from [] text in let longer = rest_from (begun ++ byte ∷ []) text in cond (byte == 10) ended longer
+
+-- the line that a judge is to be told, if a text says one
+abbrev pub told_in : Said → Option Told
+told_in (outcome.Told told) = Some told
+told_in _ = None
+
+-- the lines of a trace that a judge is told, the oldest line first; a line that no line feed ends is not told
+abbrev pub told_lines : Setup → List ℕ → List Told
+told_lines sc text = filter_map (λ line. told_in (said sc line)) (lines_from [] text)
+
+-- the table of the lookups of a trace: its heading, and a row for each lookup
+abbrev pub table_text : Setup → List ℕ → List ℕ
+table_text sc text = heading ++ rows_text sc (judged sc (told_lines sc text))
+
+-- a text was read to its end, and the table of its lookups was written
+pub record WasJudged (sc : Setup) (unread left : Option (List ℕ)) (old new : Option (List ℕ)) : Type 0 where
+  pub text : List ℕ
+  pub read : Consumes unread left text
+  pub end : IsAtEnd left
+  pub table : Appends old new (table_text sc text)
