@@ -7,6 +7,7 @@ pub mod ReadBack
 pub mod Readings
 pub mod Scanned
 pub mod Scans
+pub mod Streams
 pub mod Undone
 pub mod Walked
 pub mod WordLemmas

@@ -2,6 +2,7 @@
 use Rattle.std.specs.Prelude.{ℕ, ◌==◌, cond, List, [], ◌∷◌, ◌++◌, Option, Some, None}
 use Rattle.std.specs.Io.KnownBytes.{Appends, Consumes, IsAtEnd}
 use Rattle.std.specs.List.{filter_map}
+use Rattle.des_output.specs.Writing.{AppendsFront}
 use Rattle.chord_judge.specs.Judged.{judged}
 use Rattle.chord_judge.specs.Reading.{said}
 use Rattle.chord_judge.specs.Table.{heading, rows_text}
@@ -34,6 +35,12 @@ told_lines sc text = filter_map (λ line. told_in (said sc line)) (lines_from []
 -- the table of the lookups of a trace: its heading, and a row for each lookup
 abbrev pub table_text : Setup → List ℕ → List ℕ
 table_text sc text = heading ++ rows_text sc (judged sc (told_lines sc text))
+
+-- a text was read, and a beginning of the table of its lookups was written: all of it, some or none
+pub record WasBegun (sc : Setup) (unread left : Option (List ℕ)) (old new : Option (List ℕ)) : Type 0 where
+  pub text : List ℕ
+  pub read : Consumes unread left text
+  pub front : AppendsFront old new (table_text sc text)
 
 -- a text was read to its end, and the table of its lookups was written
 pub record WasJudged (sc : Setup) (unread left : Option (List ℕ)) (old new : Option (List ℕ)) : Type 0 where

@@ -1,7 +1,7 @@
 //! From the text of a trace to the table of its lookups.
 ghost use Rattle.std.specs.Prelude.{◌≡◌, OnOk, false};
 ghost use Rattle.chord_judge.specs.Inside.{setup_of};
-ghost use Rattle.chord_judge.specs.Traces.{WasJudged};
+ghost use Rattle.chord_judge.specs.Traces.{WasBegun, WasJudged};
 ghost use Rattle.des_output.specs.Watched.{has_failed, wrapped};
 
 use crate::judge::{Judge, JudgeFault};
@@ -51,7 +51,8 @@ pub fn judge_trace<R: Read, W: Write>(
     output: &mut Watched<W>,
 ) -> Result<(), TableFault>
     requires { has_failed output.old ≡ false }
-    ensures { OnOk result (WasJudged scenario.now (R.remaining (wrapped trace.old)) (R.remaining (wrapped trace.new)) (W.contents (wrapped output.old)) (W.contents (wrapped output.new))) }
+    ensures beginning { WasBegun scenario.now (R.remaining (wrapped trace.old)) (R.remaining (wrapped trace.new)) (W.contents (wrapped output.old)) (W.contents (wrapped output.new)) }
+    ensures whole { OnOk result (WasJudged scenario.now (R.remaining (wrapped trace.old)) (R.remaining (wrapped trace.new)) (W.contents (wrapped output.old)) (W.contents (wrapped output.new))) }
 {
     let mut stream = Stream::new(alloc, scenario)?;
     let mut chunk = Vec::new(alloc);
@@ -79,9 +80,10 @@ impl<'a> Stream<'a> {
     ghost use Rattle.std.specs.Io.KnownBytes.{Appends};
     ghost use Rattle.chord_judge.specs.Inside.{setup_of};
     ghost use Rattle.chord_judge.specs.Taken.{HasTaken};
-    ghost use Rattle.chord_judge.specs.Traces.{WasJudged, table_text};
+    ghost use Rattle.chord_judge.specs.Traces.{WasBegun, WasJudged, table_text};
     ghost use Rattle.chord_scenario.specs.Setup.{Setup};
     ghost use Rattle.des_output.specs.Watched.{has_failed, wrapped};
+    ghost use Rattle.des_output.specs.Writing.{AppendsFront};
 
     /// A stream that has taken nothing yet, with the heading to be written.
     fn new(alloc: Global, scenario: &'a Scenario) -> Result<Stream<'a>, TableFault>
@@ -107,7 +109,8 @@ impl<'a> Stream<'a> {
         requires room { 0 < length chunk.old }
         requires begun { HasTaken (setup_of self.old.judge) [] [] self.old }
         requires sound { has_failed output.old ≡ false }
-        ensures { OnOk result (WasJudged (setup_of self.old.judge) (R.remaining (wrapped trace.old)) (R.remaining (wrapped trace.new)) (W.contents (wrapped output.old)) (W.contents (wrapped output.new))) }
+        ensures beginning { WasBegun (setup_of self.old.judge) (R.remaining (wrapped trace.old)) (R.remaining (wrapped trace.new)) (W.contents (wrapped output.old)) (W.contents (wrapped output.new)) }
+        ensures whole { OnOk result (WasJudged (setup_of self.old.judge) (R.remaining (wrapped trace.old)) (R.remaining (wrapped trace.new)) (W.contents (wrapped output.old)) (W.contents (wrapped output.new))) }
     {
         for _ in 0..u64::MAX {
             let Ok(count) = trace.read(chunk) else {
@@ -174,7 +177,8 @@ impl<'a> Stream<'a> {
     fn write<W: Write>(&mut self, output: &mut Watched<W>) -> Result<(), TableFault>
         requires { has_failed output.old ≡ false }
         ensures sound { OnOk result (has_failed output.new ≡ false) }
-        ensures written { OnOk result (Appends (W.contents (wrapped output.old)) (W.contents (wrapped output.new)) (string_bytes self.old.text)) }
+        ensures front { AppendsFront (W.contents (wrapped output.old)) (W.contents (wrapped output.new)) (string_bytes self.old.text) }
+        ensures whole { OnOk result (Appends (W.contents (wrapped output.old)) (W.contents (wrapped output.new)) (string_bytes self.old.text)) }
         ensures taken { OnOk result ((sc : Setup) (text written : List ℕ) → HasTaken sc text written self.old → HasTaken sc text (written ++ string_bytes self.old.text) self.new) }
     {
         match write_text(self.text.as_bytes(), output) {
