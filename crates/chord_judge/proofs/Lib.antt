@@ -4,6 +4,7 @@ pub mod NamedNodes
 pub mod NumberLemmas
 pub mod Owned
 pub mod ReadBack
+pub mod ReadTraces
 pub mod Readings
 pub mod Scanned
 pub mod Scans

@@ -1,12 +1,13 @@
 -- A line that a run writes is read as it was.
 use Rattle.std.proofs.Common.{◌≡◌, ◌∙◌, sym, ap, refl, ℕ, zero, suc, ◌+◌, ◌<◌, ◌≤◌, ◌^◌, ◌&&◌, Bool, true, false, not, List, [], ◌∷◌, ◌++◌, Option, Some, None, arith, length, inl, inr, bytes_eq, codes, append_assoc, option_map, unwrap_or}
 use Rattle.std.specs.Fmt.{decimal}
-use Rattle.std.specs.List.{AllByRecursion, list_all, slice_get}
+use Rattle.std.specs.List.{AllByRecursion, concat, list_all, slice_get}
 use Rattle.std.proofs.Math.Pow.{pow_mono}
 use Rattle.std.proofs.lemmas.Bool.{and_parts, cases_Bool}
 use Rattle.std.proofs.lemmas.List.{append_cancel_right}
 use Rattle.std.proofs.lemmas.List.Elements.{All-head, recursion_from_All}
 use Rattle.std.proofs.lemmas.Slice.Eq.{bytes_eq-Decides}
+use Rattle.chord_audit.specs.declared.audit_line.AuditLine.{AuditLine}
 use Rattle.chord_event.specs.declared.line.Line.{Line}
 use Rattle.chord_event.specs.declared.line.Line.TheVariants as line
 use Rattle.chord_judge.specs.Reading.{found_in, found_with, key_in, kind_named, line_of, lost_in, lost_with, node_named, said, said_of, said_with}
@@ -24,7 +25,7 @@ use Rattle.chord_scenario.specs.Settings.{index_from}
 use Rattle.chord_scenario.specs.Setup.{Setup}
 use Rattle.chord_scenario.specs.World.{name_of, node_count}
 use Rattle.chord_scenario.specs.declared.setting.Node.{Node}
-use Rattle.chord_trace.specs.Texts.{command_text, line_text, line_words, message_text}
+use Rattle.chord_trace.specs.Texts.{command_text, line_text, line_words, message_text, yes_or_no}
 
 -- the name at a place among nodes
 abbrev name_at : List Node → ℕ → List ℕ
@@ -305,6 +306,22 @@ written_text sc time node l = simp append_assoc
 pub text_read : (sc : Setup) → IsInRange sc → HasPlainNames sc → (time node : ℕ) (l : Line) → IsWritable sc time node l
     → said sc (words_text sc time node l) ≡ saying time node l
 text_read sc range plain time node l fits = line_read sc time node l (record { range = range; plain = plain; early = fits.early; there = fits.there }) fits
+
+-- the line of an audit says nothing to a judge
+pub audit_read : (sc : Setup) (audit : AuditLine)
+    → said sc
+    (concat (
+    decimal audit.time ∷ codes " audit members=" ∷ decimal audit.members
+    ∷ codes " dead=" ∷ decimal audit.dead ∷ codes " ring=" ∷ decimal audit.ring
+    ∷ codes " ordered=" ∷ yes_or_no audit.ordered ∷ codes " principals=" ∷ decimal audit.principals
+    ∷ codes " sufficient=" ∷ yes_or_no audit.sufficient ∷ []))
+    ≡ outcome.Other
+audit_read sc audit =
+    let more = decimal audit.dead ++ (codes " ring=" ++ (decimal audit.ring ++ (codes " ordered=" ++ (yes_or_no audit.ordered ++ (codes " principals=" ++ (decimal audit.principals
+    ++ (codes " sufficient=" ++ (yes_or_no audit.sufficient ++ [])))))))) in
+    three_words sc (decimal audit.time) (codes "audit") (codes "members=" ++ decimal audit.members) (codes "dead=" ++ more) (decimal_word audit.time)
+    (literal (codes "audit") refl)
+    (joined (codes "members=") (decimal audit.members) (literal (codes "members=") refl) (decimal_word audit.members))
 
 -- the law
 pub read_back : (sc : Setup) → IsInRange sc → HasPlainNames sc → (time node : ℕ) (l : Line) (text : List ℕ) → IsWritable sc time node l

@@ -1,14 +1,19 @@
 //! Laws of the judgement.
+ghost use Rattle.std.specs.List.{All};
 ghost use Rattle.std.specs.Prelude.{◌≡◌, ℕ, ◌^◌, ◌<◌, ◌++◌, Bool, List, codes, count_by, length};
 ghost use Rattle.chord_judge.specs.Judged.{is_begin, judged};
 ghost use Rattle.chord_event.specs.declared.line.Line.{Line};
 ghost use Rattle.chord_judge.specs.Owners.{IsRightOwner};
 ghost use Rattle.chord_judge.specs.Reading.{said};
-ghost use Rattle.chord_judge.specs.Written.{HasPlainNames, IsWritable, saying};
+ghost use Rattle.chord_judge.specs.Table.{heading, rows_text};
+ghost use Rattle.chord_judge.specs.Traces.{table_text};
+ghost use Rattle.chord_judge.specs.Written.{HasPlainNames, IsWritable, IsWritableBlock, saying, told_of};
 ghost use Rattle.chord_judge.specs.declared.told.Told.{Told};
 ghost use Rattle.chord_scenario.specs.Range.{IsInRange};
 ghost use Rattle.chord_scenario.specs.Setup.{Setup};
-ghost use Rattle.chord_trace.specs.Texts.{line_text};
+ghost use Rattle.chord_trace.specs.Pieces.{blocks_of};
+ghost use Rattle.chord_trace.specs.Texts.{line_text, pieces_text};
+ghost use Rattle.chord_trace.specs.declared.piece.Piece.{Piece};
 
 /// A key has at most one right owner.
 pub fn right_owners_are_unique()
@@ -24,4 +29,9 @@ pub fn each_lookup_has_a_row()
 /// otherwise as a line of another kind.
 pub fn lines_are_read_as_written()
     ensures { (sc : Setup) → IsInRange sc → HasPlainNames sc → (time node : ℕ) (line : Line) (text : List ℕ) → IsWritable sc time node line → line_text sc time node line ≡ text ++ codes "\n" → said sc text ≡ saying time node line }
+{}
+
+/// The table of the trace of a run is that of the lines of the run.
+pub fn traces_are_judged_as_written()
+    ensures { (sc : Setup) → IsInRange sc → HasPlainNames sc → (pieces : List Piece) → All (IsWritableBlock sc) (blocks_of pieces) → table_text sc (pieces_text sc pieces) ≡ heading ++ rows_text sc (judged sc (told_of pieces)) }
 {}
