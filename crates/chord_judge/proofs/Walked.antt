@@ -6,6 +6,7 @@ use Rattle.std.proofs.Common.{
   inr,
   ℕ,
   ◌+◌,
+  ◌^◌,
   ◌==◌,
   ◌<◌,
   ◌≤◌,
@@ -73,7 +74,7 @@ walked_stop sc begun key node lines cs c is_member nearer w e over =
 
 pub walked_on : (sc : Setup) (begun key node : ℕ) (lines : List Told) (cs : List Change) (c : Change) (is_member : Bool) (nearer : ℕ) → IsInRange sc → c.node < node_count sc
     → HasWalked sc begun key node lines (cs ++ c ∷ []) is_member nearer → (is_member && nearer == 0) ≡ false → begun ≤ c.time → (now : ℕ)
-    → ((before : ℕ) → before ≤ 65536 → before + cond (c.is && nat_lt (way sc key c.node) (way sc key node)) 1 0 ≡ nearer + cond (c.was && nat_lt (way sc key c.node) (way sc key node)) 1 0 → now ≡ before)
+    → ((before : ℕ) → before < 2 ^ 31 → before + cond (c.is && nat_lt (way sc key c.node) (way sc key node)) 1 0 ≡ nearer + cond (c.was && nat_lt (way sc key c.node) (way sc key node)) 1 0 → now ≡ before)
     → HasWalked sc begun key node lines cs (cond (c.node == node) c.was is_member) now
 walked_on sc begun key node lines cs c is_member nearer range there w e within now counted =
     let u : IsBefore sc begun key node w.before cs c = unwind sc begun key node w.before cs c w.changes in

@@ -1,5 +1,5 @@
 //! The judge.
-ghost use Rattle.std.specs.Prelude.{◌≡◌, ℕ, ◌+◌, ◌<◌, ◌≤◌, ◌==◌, ◌&&◌, ◌++◌, [], ◌∷◌, IsTrue, OnOk, Some, cond};
+ghost use Rattle.std.specs.Prelude.{◌≡◌, ℕ, ◌+◌, ◌^◌, ◌<◌, ◌≤◌, ◌==◌, ◌&&◌, ◌++◌, [], ◌∷◌, IsTrue, OnOk, Some, cond};
 ghost use Rattle.std.specs.List.{All};
 ghost use Rattle.chord_judge.specs.Rows.{ends_by};
 ghost use Rattle.chord_scenario.specs.World.{node_count};
@@ -247,7 +247,7 @@ fn member_before(is_member: bool, change: Change, node: u32) -> bool
 
 /// How many members are nearer before a change, from how many there are after it.
 fn nearer_before(nearer: u32, change: Change, is_nearer: bool) -> u32
-    ensures { (before : ℕ) → before ≤ 65536 → before + cond (change.is && is_nearer) 1 0 ≡ nearer + cond (change.was && is_nearer) 1 0 → result ≡ before }
+    ensures { (before : ℕ) → before < 2 ^ 31 → before + cond (change.is && is_nearer) 1 0 ≡ nearer + cond (change.was && is_nearer) 1 0 → result ≡ before }
 {
     if !is_nearer {
         return nearer;

@@ -1,9 +1,9 @@
 //! Laws of the judgement.
 ghost use Rattle.std.specs.List.{All};
-ghost use Rattle.std.specs.Prelude.{◌≡◌, ℕ, ◌^◌, ◌<◌, ◌++◌, Bool, List, codes, count_by, length};
+ghost use Rattle.std.specs.Prelude.{◌≡◌, ◌↔◌, ℕ, ◌^◌, ◌<◌, ◌++◌, Bool, List, codes, count_by, length, true};
 ghost use Rattle.chord_judge.specs.Judged.{is_begin, judged};
 ghost use Rattle.chord_event.specs.declared.line.Line.{Line};
-ghost use Rattle.chord_judge.specs.Owners.{IsRightOwner};
+ghost use Rattle.chord_judge.specs.Owners.{IsRightOwner, is_right_owner};
 ghost use Rattle.chord_judge.specs.Reading.{said};
 ghost use Rattle.chord_judge.specs.Table.{heading, rows_text};
 ghost use Rattle.chord_judge.specs.Traces.{table_text};
@@ -11,6 +11,7 @@ ghost use Rattle.chord_judge.specs.Written.{HasPlainNames, IsWritable, IsWritabl
 ghost use Rattle.chord_judge.specs.declared.told.Told.{Told};
 ghost use Rattle.chord_scenario.specs.Range.{IsInRange};
 ghost use Rattle.chord_scenario.specs.Setup.{Setup};
+ghost use Rattle.chord_scenario.specs.World.{node_count};
 ghost use Rattle.chord_trace.specs.Pieces.{blocks_of};
 ghost use Rattle.chord_trace.specs.Texts.{line_text, pieces_text};
 ghost use Rattle.chord_trace.specs.declared.piece.Piece.{Piece};
@@ -18,6 +19,11 @@ ghost use Rattle.chord_trace.specs.declared.piece.Piece.{Piece};
 /// A key has at most one right owner.
 pub fn right_owners_are_unique()
     ensures { (sc : Setup) → IsInRange sc → (member : ℕ → Bool) (key x y : ℕ) → key < 2 ^ sc.bits → IsRightOwner sc member key x → IsRightOwner sc member key y → y ≡ x }
+{}
+
+/// The test of a right owner is true of just the right owner.
+pub fn right_owners_pass_the_test_alone()
+    ensures { (sc : Setup) (member : ℕ → Bool) (key node : ℕ) → node < node_count sc → (is_right_owner sc member key node ≡ true) ↔ IsRightOwner sc member key node }
 {}
 
 /// There are as many rows as lookups.
