@@ -1,4 +1,7 @@
 pub mod Counting
+pub mod InOrder
+pub mod InProgress
+pub mod Judgements
 pub mod Lookups
 pub mod NamedNodes
 pub mod NumberLemmas

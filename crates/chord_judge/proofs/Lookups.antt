@@ -34,39 +34,39 @@ parted test (x ∷ xs) = by_test (parted test xs) (test x) refl
     by_test rest false e = rw e (omega (arith, rest))
 
 -- a line's rows and the lookups in progress after it, of those before
-stepped : (sc : Setup) (lines : List Told) (l : Line) (time node : ℕ) (xs : List Lookup)
-    → length (rows_by sc lines xs l time node) + length (open_by l time node xs) ≡ length xs + cond (is_lookup l) 1 0
-stepped sc lines (line.Join a) time node xs = omega arith
-stepped sc lines (line.Member a) time node xs = omega arith
-stepped sc lines line.JoinFailed time node xs = omega arith
-stepped sc lines (line.Stranded a) time node xs = omega arith
-stepped sc lines (line.Drop a b) time node xs = omega arith
-stepped sc lines (line.Late a b) time node xs = omega arith
-stepped sc lines (line.Timeout a) time node xs = omega arith
-stepped sc lines (line.Lose a b) time node xs = omega arith
-stepped sc lines (line.Again a b) time node xs = omega arith
-stepped sc lines (line.Forget a) time node xs = omega arith
-stepped sc lines (line.Rescue a) time node xs = omega arith
-stepped sc lines line.Create time node xs = omega arith
-stepped sc lines (line.Ask a b c) time node xs = omega arith
-stepped sc lines (line.Seek a b c d e) time node xs = omega arith
-stepped sc lines (line.Send a b) time node xs = omega arith
-stepped sc lines (line.Busy a) time node xs = omega arith
-stepped sc lines (line.Ignored a) time node xs = omega arith
-stepped sc lines (line.Lookup key) time node xs =
-    let more : length (xs ++ record { asker = node; key = key; begun = time } ∷ []) ≡ length xs + 1 = length-append xs (record { asker = node; key = key; begun = time } ∷ []) in omega (arith, more)
-stepped sc lines (line.Found key owner hops timeouts us) time node xs =
+stepped : (sc : Setup) (lines : List Told) (l : Line) (number time node : ℕ) (xs : List Lookup)
+    → length (rows_by sc lines xs l time node) + length (open_by l number time node xs) ≡ length xs + cond (is_lookup l) 1 0
+stepped sc lines (line.Join a) number time node xs = omega arith
+stepped sc lines (line.Member a) number time node xs = omega arith
+stepped sc lines line.JoinFailed number time node xs = omega arith
+stepped sc lines (line.Stranded a) number time node xs = omega arith
+stepped sc lines (line.Drop a b) number time node xs = omega arith
+stepped sc lines (line.Late a b) number time node xs = omega arith
+stepped sc lines (line.Timeout a) number time node xs = omega arith
+stepped sc lines (line.Lose a b) number time node xs = omega arith
+stepped sc lines (line.Again a b) number time node xs = omega arith
+stepped sc lines (line.Forget a) number time node xs = omega arith
+stepped sc lines (line.Rescue a) number time node xs = omega arith
+stepped sc lines line.Create number time node xs = omega arith
+stepped sc lines (line.Ask a b c) number time node xs = omega arith
+stepped sc lines (line.Seek a b c d e) number time node xs = omega arith
+stepped sc lines (line.Send a b) number time node xs = omega arith
+stepped sc lines (line.Busy a) number time node xs = omega arith
+stepped sc lines (line.Ignored a) number time node xs = omega arith
+stepped sc lines (line.Lookup key) number time node xs =
+    let more : length (xs ++ record { number = number; asker = node; key = key; begun = time } ∷ []) ≡ length xs + 1 = length-append xs (record { number = number; asker = node; key = key; begun = time } ∷ []) in omega (arith, more)
+stepped sc lines (line.Found key owner hops timeouts us) number time node xs =
     let test = is_ended_by node key time us in
     let row : Lookup → Row = λ lookup. ends_by (ended.Found time (answer_of sc lines key lookup.begun owner hops timeouts)) lookup in
     let many : length (map row (first_alone test xs)) ≡ length (first_alone test xs) = length-map (first_alone test xs) row in omega (arith, many, taken test xs)
-stepped sc lines (line.Lost key hops timeouts us) time node xs =
+stepped sc lines (line.Lost key hops timeouts us) number time node xs =
     let test = is_ended_by node key time us in
     let many : length (map (ends_by (ended.Lost time hops timeouts)) (first_alone test xs)) ≡ length (first_alone test xs) =
     length-map (first_alone test xs) (ends_by (ended.Lost time hops timeouts)) in omega (arith, many, taken test xs)
-stepped sc lines line.Crash time node xs =
+stepped sc lines line.Crash number time node xs =
     let many : length (map (ends_by (ended.Crash time)) (filter (is_of node) xs)) ≡ length (filter (is_of node) xs) =
     length-map (filter (is_of node) xs) (ends_by (ended.Crash time)) in omega (arith, many, parted (is_of node) xs)
-stepped sc lines line.Leave time node xs =
+stepped sc lines line.Leave number time node xs =
     let many : length (map (ends_by (ended.Leave time)) (filter (is_of node) xs)) ≡ length (filter (is_of node) xs) =
     length-map (filter (is_of node) xs) (ends_by (ended.Leave time)) in omega (arith, many, parted (is_of node) xs)
 
@@ -75,8 +75,8 @@ all_begun : (sc : Setup) (lines : List Told) → length (rows_after sc lines) + 
 all_begun sc [] = refl
 all_begun sc (told ∷ lines) =
     let rest : length (rows_after sc lines) + length (open_after lines) ≡ count_by is_begin lines = all_begun sc lines in
-    let step : length (rows_by sc lines (open_after lines) told.line told.time told.node) + length (open_by told.line told.time told.node (open_after lines))
-    ≡ length (open_after lines) + cond (is_lookup told.line) 1 0 = stepped sc lines told.line told.time told.node (open_after lines) in
+    let step : length (rows_by sc lines (open_after lines) told.line told.time told.node) + length (open_by told.line (count_by is_begin lines) told.time told.node (open_after lines))
+    ≡ length (open_after lines) + cond (is_lookup told.line) 1 0 = stepped sc lines told.line (count_by is_begin lines) told.time told.node (open_after lines) in
     let more : count_by is_begin (told ∷ lines) ≡ cond (is_lookup told.line) 1 0 + count_by is_begin lines = sum_by-cons (λ (t : Told). cond (is_begin t) 1 0) told lines in
     let all : length (rows_after sc lines ++ rows_by sc lines (open_after lines) told.line told.time told.node)
     ≡ length (rows_after sc lines) + length (rows_by sc lines (open_after lines) told.line told.time told.node) = length-append (rows_after sc lines) (rows_by sc lines (open_after lines) told.line told.time told.node) in

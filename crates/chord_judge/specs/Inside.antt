@@ -1,7 +1,9 @@
 -- What a judge holds of the lines that it was told. Lists of lines have the newest line first.
-use Rattle.std.specs.Prelude.{◌≡◌, ℕ, ◌<◌, Bool, cond, List, [], ◌∷◌, ◌++◌}
-use Rattle.chord_judge.specs.Judged.{open_after}
+use Rattle.std.specs.Prelude.{◌≡◌, ℕ, ◌<◌, Bool, cond, List, [], ◌∷◌, ◌++◌, count_by}
+use Rattle.std.specs.List.{All}
+use Rattle.chord_judge.specs.Judged.{is_begin, open_after}
 use Rattle.chord_judge.specs.Members.{is_change, is_member_after, makes_member}
+use Rattle.chord_judge.specs.Open.{Holds}
 use Rattle.chord_judge.specs.Places.{is_marked}
 use Rattle.chord_judge.specs.declared.judge.Judge.{Judge}
 use Rattle.chord_judge.specs.declared.members.Change.{Change}
@@ -36,4 +38,6 @@ setup_of judge = judge.members.scenario.now
 pub record HasRead (sc : Setup) (lines : List Told) (judge : Judge) : Type 0 where
   pub members : HoldMembers sc (is_member_after sc lines) judge.members
   pub changes : judge.changes.items ≡ changes_after sc lines
-  pub lookups : judge.lookups.items ≡ open_after lines
+  pub lookups : Holds (open_after lines) judge.lookups
+  pub askers : All (λ lookup. lookup.asker < node_count sc) (open_after lines)
+  pub begun : judge.begun ≡ count_by is_begin lines

@@ -1,5 +1,5 @@
 -- What became of each lookup. Lists of lines have the newest line first.
-use Rattle.std.specs.Prelude.{ℕ, ◌+◌, ◌==◌, ◌&&◌, Bool, not, cond, List, [], ◌∷◌, ◌++◌, filter, map, reverse}
+use Rattle.std.specs.Prelude.{ℕ, ◌+◌, ◌==◌, ◌&&◌, Bool, not, cond, List, [], ◌∷◌, ◌++◌, count_by, filter, map, reverse}
 use Rattle.chord_event.specs.declared.line.Line.{Line}
 use Rattle.chord_event.specs.declared.line.Line.TheVariants as line
 use Rattle.chord_judge.specs.Members.{is_member_after}
@@ -31,20 +31,25 @@ abbrev pub first_alone : (Lookup → Bool) → List Lookup → List Lookup
 first_alone test [] = []
 first_alone test (lookup ∷ lookups) = let rest = first_alone test lookups in cond (test lookup) (lookup ∷ []) rest
 
--- the lookups in progress after a line, of those before it: an end of a lookup ends the first one of its node, key and
--- begin, and a crash or a leave cuts off all of the node
-abbrev pub open_by : Line → (time node : ℕ) → List Lookup → List Lookup
-open_by (line.Lookup key) time node lookups = lookups ++ record { asker = node; key = key; begun = time } ∷ []
-open_by (line.Found key owner hops timeouts us) time node lookups = without_first (is_ended_by node key time us) lookups
-open_by (line.Lost key hops timeouts us) time node lookups = without_first (is_ended_by node key time us) lookups
-open_by line.Crash time node lookups = filter (λ lookup. not (is_of node lookup)) lookups
-open_by line.Leave time node lookups = filter (λ lookup. not (is_of node lookup)) lookups
-open_by _ time node lookups = lookups
+-- the line says that a lookup begins
+abbrev pub is_begin : Told → Bool
+is_begin told = is_lookup told.line
 
--- the lookups in progress after these lines, in the order of their begins
+-- the lookups in progress after a line, of those before it; a lookup that begins has this number. An end of a lookup ends
+-- the first one of its node, key and begin, and a crash or a leave cuts off all of the node
+abbrev pub open_by : Line → (number time node : ℕ) → List Lookup → List Lookup
+open_by (line.Lookup key) number time node lookups = lookups ++ record { number = number; asker = node; key = key; begun = time } ∷ []
+open_by (line.Found key owner hops timeouts us) number time node lookups = without_first (is_ended_by node key time us) lookups
+open_by (line.Lost key hops timeouts us) number time node lookups = without_first (is_ended_by node key time us) lookups
+open_by line.Crash number time node lookups = filter (λ lookup. not (is_of node lookup)) lookups
+open_by line.Leave number time node lookups = filter (λ lookup. not (is_of node lookup)) lookups
+open_by _ number time node lookups = lookups
+
+-- the lookups in progress after these lines, in the order of their begins; the number of a lookup is how many have begun
+-- before it
 abbrev pub open_after : List Told → List Lookup
 open_after [] = []
-open_after (told ∷ before) = open_by told.line told.time told.node (open_after before)
+open_after (told ∷ before) = open_by told.line (count_by is_begin before) told.time told.node (open_after before)
 
 -- an answer, and whether it is right after these lines and was at an instant since the lookup began
 abbrev pub answer_of : Setup → List Told → (key begun named hops timeouts : ℕ) → Answer
@@ -77,7 +82,3 @@ rows_after sc (told ∷ before) = rows_after sc before ++ rows_by sc before (ope
 -- of the trace cuts off
 abbrev pub judged : Setup → List Told → List Row
 judged sc lines = rows_after sc (reverse lines) ++ map (ends_by ended.Trace) (open_after (reverse lines))
-
--- the line says that a lookup begins
-abbrev pub is_begin : Told → Bool
-is_begin told = is_lookup told.line

@@ -2,6 +2,7 @@ pub mod Inside
 pub mod Judged
 pub mod Lines
 pub mod Members
+pub mod Open
 pub mod Owners
 pub mod Places
 pub mod Reading

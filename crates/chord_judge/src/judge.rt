@@ -1,11 +1,12 @@
 //! The judge.
 ghost use Rattle.std.specs.Prelude.{◌≡◌, ℕ, ◌+◌, ◌^◌, ◌<◌, ◌≤◌, ◌==◌, ◌&&◌, ◌++◌, [], ◌∷◌, IsTrue, OnOk, Some, cond};
 ghost use Rattle.std.specs.List.{All};
+ghost use Rattle.chord_judge.specs.Open.{nodes_of};
 ghost use Rattle.chord_judge.specs.Rows.{ends_by};
 ghost use Rattle.chord_scenario.specs.World.{node_count};
 
 use crate::members::{Change, Members};
-use crate::open::{Ended, cut_off, push_all, take_first};
+use crate::open::{Ended, OpenLookups};
 use crate::row::{Answer, End, Lookup, Row};
 use crate::told::Told;
 use chord_circle::Ident;
@@ -34,20 +35,25 @@ pub struct Judge<'a> {
     pub(crate) members: Members<'a>,
     /// The changes of members, the oldest first.
     pub(crate) changes: Vec<Change>,
-    /// The lookups in progress, in the order of their begins.
-    pub(crate) lookups: Vec<Lookup>,
+    /// The lookups in progress.
+    pub(crate) lookups: OpenLookups,
+    /// How many lookups have begun.
+    pub(crate) begun: u64,
     ghost changed: { All (λ change. change.node < node_count members.scenario.now) changes.items },
+    ghost room: { nodes_of lookups ≡ node_count members.scenario.now },
 }
 
 impl<'a> Judge<'a> {
     ghost use Rattle.std.specs.Prelude.{◌≡◌, ◌<◌, ◌^◌, ◌++◌, [], ◌∷◌, List, OnOk, IfOk, map, set};
     ghost use Rattle.chord_judge.specs.Inside.{HasRead, HoldMembers, changes_after, holds, setup_of};
-    ghost use Rattle.chord_judge.specs.Judged.{answer_of, open_after, rows_by};
+    ghost use Rattle.chord_judge.specs.Judged.{answer_of, first_alone, is_ended_by, open_after, rows_by, without_first};
+    ghost use Rattle.chord_judge.specs.Open.{Holds};
     ghost use Rattle.chord_judge.specs.Rows.{ends_by};
     ghost use Rattle.chord_judge.specs.Members.{is_member_after};
     ghost use Rattle.chord_judge.specs.Owners.{was_right_owner};
     ghost use Rattle.chord_judge.specs.Tellings.{IsToldOf};
     ghost use Rattle.chord_judge.specs.declared.row.End.TheVariants as ended;
+    ghost use Rattle.chord_judge.specs.declared.row.Lookup.{Lookup};
     ghost use Rattle.chord_judge.specs.declared.told.Told.{Told};
     ghost use Rattle.chord_scenario.specs.World.{node_count};
 
@@ -59,7 +65,8 @@ impl<'a> Judge<'a> {
         Ok(Judge {
             members: Members::new(alloc, scenario)?,
             changes: Vec::new(alloc),
-            lookups: Vec::new(alloc),
+            lookups: OpenLookups::new(alloc, scenario.nodes())?,
+            begun: 0,
         })
     }
 
@@ -71,6 +78,7 @@ impl<'a> Judge<'a> {
     }
 
     /// Takes the next line, and adds the rows of the lookups that it ends.
+    #[tactic(auto, using(crate::proofs::InProgress::askers_filter, crate::proofs::InProgress::askers_without))]
     pub fn read(&mut self, told: Told, rows: &mut Vec<Row>) -> Result<(), JudgeFault>
         requires { IsToldOf (setup_of self.old) told }
         ensures setup { setup_of self.new ≡ setup_of self.old }
@@ -82,11 +90,11 @@ impl<'a> Judge<'a> {
             Line::Member { .. } | Line::Create => self.change(time, node, true)?,
             Line::Stranded { .. } => self.change(time, node, false)?,
             Line::Crash => {
-                cut_off(&mut self.lookups, node, End::Crash { at: time }, rows)?;
+                self.lookups.cut_off(node, End::Crash { at: time }, rows)?;
                 self.change(time, node, false)?;
             }
             Line::Leave => {
-                cut_off(&mut self.lookups, node, End::Leave { at: time }, rows)?;
+                self.lookups.cut_off(node, End::Leave { at: time }, rows)?;
                 self.change(time, node, false)?;
             }
             Line::Lookup { key } => self.begin(time, node, key)?,
@@ -97,17 +105,12 @@ impl<'a> Judge<'a> {
                 timeouts,
                 us,
             } => {
-                let Some(lookup) = take_first(
-                    &mut self.lookups,
-                    Ended {
-                        node,
-                        key,
-                        time,
-                        us,
-                    },
-                ) else {
-                    return Err(JudgeFault::NoLookup);
-                };
+                let lookup = self.end(Ended {
+                    node,
+                    key,
+                    time,
+                    us,
+                })?;
                 let answer = self.answer(key, lookup.begun, owner, hops, timeouts);
                 push_row(rows, lookup, End::Found { at: time, answer })?;
             }
@@ -117,17 +120,12 @@ impl<'a> Judge<'a> {
                 timeouts,
                 us,
             } => {
-                let Some(lookup) = take_first(
-                    &mut self.lookups,
-                    Ended {
-                        node,
-                        key,
-                        time,
-                        us,
-                    },
-                ) else {
-                    return Err(JudgeFault::NoLookup);
-                };
+                let lookup = self.end(Ended {
+                    node,
+                    key,
+                    time,
+                    us,
+                })?;
                 push_row(
                     rows,
                     lookup,
@@ -144,20 +142,47 @@ impl<'a> Judge<'a> {
     }
 
     /// Adds the rows of the lookups that the end of the trace cuts off.
-    pub fn finish(&self, rows: &mut Vec<Row>) -> Result<(), Memory>
+    pub fn finish(&self, alloc: Global, rows: &mut Vec<Row>) -> Result<(), Memory>
         ensures { OnOk result ((lines : List Told) → HasRead (setup_of self.now) lines self.now → rows.new.items ≡ rows.old.items ++ map (ends_by ended.Trace) (open_after lines)) }
     {
-        push_all(self.lookups.as_slice(), End::Trace, rows)
+        self.lookups.finish(alloc, rows)
     }
 
     /// Begins a lookup.
     fn begin(&mut self, begun: u64, asker: u32, key: Ident) -> Result<(), Memory>
+        requires { asker < node_count (setup_of self.old) }
         ensures members { self.new.members ≡ self.old.members }
         ensures changes { self.new.changes ≡ self.old.changes }
-        ensures lookups { OnOk result (self.new.lookups.items ≡ self.old.lookups.items ++ record { asker = asker; key = key; begun = begun } ∷ []) }
+        ensures lookups { OnOk result ((lookups : List Lookup) → Holds lookups self.old.lookups → Holds (lookups ++ record { number = self.old.begun; asker = asker; key = key; begun = begun } ∷ []) self.new.lookups) }
+        ensures begun { OnOk result (self.new.begun ≡ self.old.begun + 1) }
     {
-        self.lookups.push(Lookup { asker, key, begun })?;
+        // No trace has so many lookups.
+        let Some(next) = self.begun.checked_add(1) else {
+            return Err(Memory);
+        };
+        self.lookups.begin(Lookup {
+            number: self.begun,
+            asker,
+            key,
+            begun,
+        })?;
+        self.begun = next;
         Ok(())
+    }
+
+    /// Ends a lookup.
+    fn end(&mut self, ended: Ended) -> Result<Lookup, JudgeFault>
+        requires { ended.node < node_count (setup_of self.old) }
+        ensures members { self.new.members ≡ self.old.members }
+        ensures changes { self.new.changes ≡ self.old.changes }
+        ensures begun { self.new.begun ≡ self.old.begun }
+        ensures taken { IfOk result (λ lookup. (lookups : List Lookup) → Holds lookups self.old.lookups → first_alone (is_ended_by ended.node ended.key ended.time ended.us) lookups ≡ lookup ∷ []) }
+        ensures left { OnOk result ((lookups : List Lookup) → Holds lookups self.old.lookups → Holds (without_first (is_ended_by ended.node ended.key ended.time ended.us) lookups) self.new.lookups) }
+    {
+        match self.lookups.end(ended) {
+            Some(lookup) => Ok(lookup),
+            None => Err(JudgeFault::NoLookup),
+        }
     }
 
     /// Makes a node a member, or none.
@@ -167,6 +192,7 @@ impl<'a> Judge<'a> {
         ensures marks { OnOk result (self.new.members.marks.items ≡ set self.old.members.marks.items node is) }
         ensures changes { OnOk result (self.new.changes.items ≡ self.old.changes.items ++ record { time = time; node = node; was = holds self.old.members node; is = is } ∷ []) }
         ensures lookups { self.new.lookups ≡ self.old.lookups }
+        ensures begun { self.new.begun ≡ self.old.begun }
     {
         let was = self.members.contains(node);
         self.changes.push(Change {

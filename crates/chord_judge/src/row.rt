@@ -1,9 +1,11 @@
 //! The rows of the table of lookups.
 use chord_circle::Ident;
 
-/// A lookup of a user: who looks up which key, and from when on.
+/// A lookup of a user: who looks up which key, and from when on. Lookups are numbered from 0, in the
+/// order of their begins.
 #[derive(Clone, Copy, Drop)]
 pub struct Lookup {
+    pub number: u64,
     pub asker: u32,
     pub key: Ident,
     pub begun: u64,

@@ -57,7 +57,7 @@ pub fn judge_trace<R: Read, W: Write>(
     let mut stream = Stream::new(alloc, scenario)?;
     let mut chunk = Vec::new(alloc);
     chunk.resize(CHUNK, 0u8)?;
-    stream.run(chunk.as_mut_slice(), trace, output)
+    stream.run(alloc, chunk.as_mut_slice(), trace, output)
 }
 
 /// A trace that is read, and the text of the table that is still to be written.
@@ -102,6 +102,7 @@ impl<'a> Stream<'a> {
     /// Reads the trace to its end, and writes the table.
     fn run<R: Read, W: Write>(
         &mut self,
+        alloc: Global,
         chunk: &mut [u8],
         trace: &mut Watched<R>,
         output: &mut Watched<W>,
@@ -117,7 +118,7 @@ impl<'a> Stream<'a> {
                 return Err(TableFault::Read);
             };
             if count == 0 {
-                self.finish()?;
+                self.finish(alloc)?;
                 return self.write(output);
             }
             self.take(&chunk[..count])?;
@@ -165,10 +166,10 @@ impl<'a> Stream<'a> {
     }
 
     /// Takes the end of the trace. A line that has no line feed is not taken.
-    fn finish(&mut self) -> Result<(), TableFault>
+    fn finish(&mut self, alloc: Global) -> Result<(), TableFault>
         ensures { OnOk result ((sc : Setup) (text written : List ℕ) → HasTaken sc text written self.old → table_text sc text ≡ written ++ string_bytes self.new.text) }
     {
-        self.judge.finish(&mut self.rows)?;
+        self.judge.finish(alloc, &mut self.rows)?;
         push_rows_text(&mut self.text, self.reader.scenario, self.rows.as_slice())?;
         Ok(())
     }
