@@ -18,9 +18,10 @@ use Rattle.chord_trace.specs.Kinds.{is_lookup}
 -- numbers ascend
 ascend_push : (xs : List Lookup) (x : Lookup) → Ascend xs → All (λ y. y.number < x.number) xs → Ascend (xs ++ x ∷ [])
 ascend_push [] x h low = (All-nil (λ later. x.number < later.number), tt)
-ascend_push (y ∷ ys) x h low =
-    (All-push (λ later. y.number < later.number) ys x h.0 (All-head (λ z. z.number < x.number) y ys low),
-    ascend_push ys x h.1 (All-tail (λ z. z.number < x.number) y ys low))
+ascend_push (y ∷ ys) x h low = (
+  All-push (λ later. y.number < later.number) ys x h.0 (All-head (λ z. z.number < x.number) y ys low),
+  ascend_push ys x h.1 (All-tail (λ z. z.number < x.number) y ys low),
+)
 
 ascend_without : (test : Lookup → Bool) (xs : List Lookup) → Ascend xs → Ascend (without_first test xs)
 ascend_without test [] h = tt
@@ -47,12 +48,13 @@ numbered (told ∷ lines) =
     let n = count_by is_begin lines in
     let more : count_by is_begin (told ∷ lines) ≡ cond (is_lookup told.line) 1 0 + n = begun_more told lines in
     let P : Lookup → Type 0 = λ x. x.number < count_by is_begin (told ∷ lines) in
-    let low : All P xs = All-weaker (λ x. x.number < n) P (λ x h. omega (arith, h, more)) xs before.1 in
-    (open_cases Ascend told.line n told.time told.node xs before.0 (λ test. ascend_without test xs before.0) (λ test. ascend_filter test xs before.0)
-    (λ key _. ascend_push xs (record { number = n; asker = told.node; key = key; begun = told.time }) before.0 before.1),
-    open_cases (All P) told.line n told.time told.node xs low (λ test. without_all P test xs low) (λ test. All-filter test P xs low)
-    (λ key is. let one : ◌≡◌ {A = ℕ} (cond (is_lookup told.line) 1 0) 1 = ap (λ b. cond {A = ℕ} b 1 0) is in
-    All-push P xs (record { number = n; asker = told.node; key = key; begun = told.time }) low (omega (arith, more, one))))
+    let low : All P xs = All-weaker (λ x. x.number < n) P (λ x h. omega (arith, h, more)) xs before.1 in (
+      open_cases Ascend told.line n told.time told.node xs before.0 (λ test. ascend_without test xs before.0) (λ test. ascend_filter test xs before.0)
+          (λ key _. ascend_push xs (record { number = n; asker = told.node; key = key; begun = told.time }) before.0 before.1),
+      open_cases (All P) told.line n told.time told.node xs low (λ test. without_all P test xs low) (λ test. All-filter test P xs low)
+          (λ key is. let one : ◌≡◌ {A = ℕ} (cond (is_lookup told.line) 1 0) 1 = ap (λ b. cond {A = ℕ} b 1 0) is in
+          All-push P xs (record { number = n; asker = told.node; key = key; begun = told.time }) low (omega (arith, more, one))),
+    )
 
 pub are_numbered : (nodes : ℕ) (lines : List Told) → All (λ x. x.asker < nodes) (open_after lines) → AreNumbered nodes (open_after lines)
 are_numbered nodes lines askers = record { askers = askers; ascend = (numbered lines).0 }

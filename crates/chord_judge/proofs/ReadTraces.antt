@@ -128,9 +128,22 @@ words_feedless sc (line.Lookup key) plain named = joined (codes "lookup ") (deci
 words_feedless sc (line.Found key owner hops timeouts us) plain named =
     all_feedless (codes "found ")
     (decimal key ∷ codes " " ∷ name_of sc owner ∷ codes " hops=" ∷ decimal hops ∷ codes " timeouts=" ∷ decimal timeouts ∷ codes " us=" ∷ decimal us ∷ [])
-    (literal (codes "found ") refl)
-    (number key, (literal (codes " ") refl, (name_feedless sc owner plain named, (literal (codes " hops=") refl, (number hops,
-    (literal (codes " timeouts=") refl, (number timeouts, (literal (codes " us=") refl, (number us, tt)))))))))
+    (literal (codes "found ") refl) (
+      number key,
+      (
+        literal (codes " ") refl,
+        (
+          name_feedless sc owner plain named,
+          (
+            literal (codes " hops=") refl,
+            (
+              number hops,
+              (literal (codes " timeouts=") refl, (number timeouts, (literal (codes " us=") refl, (number us, tt)))),
+            ),
+          ),
+        ),
+      ),
+    )
 words_feedless sc (line.Lost key hops timeouts us) plain named =
     all_feedless (codes "lost ")
     (decimal key ∷ codes " hops=" ∷ decimal hops ∷ codes " timeouts=" ∷ decimal timeouts ∷ codes " us=" ∷ decimal us ∷ [])
@@ -209,10 +222,43 @@ audit_parts audit =
 audit_whole : (sc : Setup) (audit : AuditLine) → IsWhole sc (audit_text audit) []
 audit_whole sc audit =
     let text = concat (audit_parts audit) in
-    let plain : HasNoFeed text = concat_feedless (audit_parts audit) (number audit.time, (literal (codes " audit members=") refl, (number audit.members,
-    (literal (codes " dead=") refl, (number audit.dead, (literal (codes " ring=") refl, (number audit.ring, (literal (codes " ordered=") refl,
-    (truth_feedless audit.ordered, (literal (codes " principals=") refl, (number audit.principals, (literal (codes " sufficient=") refl,
-    (truth_feedless audit.sufficient, tt))))))))))))) in
+    let plain : HasNoFeed text = concat_feedless (audit_parts audit) (
+      number audit.time,
+      (
+        literal (codes " audit members=") refl,
+        (
+          number audit.members,
+          (
+            literal (codes " dead=") refl,
+            (
+              number audit.dead,
+              (
+                literal (codes " ring=") refl,
+                (
+                  number audit.ring,
+                  (
+                    literal (codes " ordered=") refl,
+                    (
+                      truth_feedless audit.ordered,
+                      (
+                        literal (codes " principals=") refl,
+                        (
+                          number audit.principals,
+                          (
+                            literal (codes " sufficient=") refl,
+                            (truth_feedless audit.sufficient, tt),
+                          ),
+                        ),
+                      ),
+                    ),
+                  ),
+                ),
+              ),
+            ),
+          ),
+        ),
+      ),
+    ) in
     subst (λ (t : List ℕ). IsWhole sc t []) (sym (concat-append (audit_parts audit) (codes "\n" ∷ [])))
     (subst (λ (o : Option Told). IsWhole sc (text ++ 10 ∷ []) (cons_option o [])) (ap told_in (audit_read sc audit)) (whole_line sc text plain))
 

@@ -233,11 +233,12 @@ table_grows sc text more =
     let grown = rows_grow sc (reverse later) before in
     let cut = map (ends_by ended.Trace) (open_after lines) in
     let rows : rows_after sc lines ++ cut ≡ rows_after sc before ++ (grown.0 ++ cut) =
-    ap (λ (r : List Row). r ++ cut) (ap (rows_after sc) all ∙ grown.1) ∙ append_assoc (rows_after sc before) grown.0 cut in
-    (rows_text sc (grown.0 ++ cut),
-    ap (λ (r : List Row). heading ++ rows_text sc r) rows
-    ∙ ap (λ (t : List ℕ). heading ++ t) (flat_map-append (row_text sc) (rows_after sc before) (grown.0 ++ cut))
-    ∙ sym (append_assoc heading (rows_text sc (rows_after sc before)) (rows_text sc (grown.0 ++ cut))))
+    ap (λ (r : List Row). r ++ cut) (ap (rows_after sc) all ∙ grown.1) ∙ append_assoc (rows_after sc before) grown.0 cut in (
+      rows_text sc (grown.0 ++ cut),
+      ap (λ (r : List Row). heading ++ rows_text sc r) rows
+          ∙ ap (λ (t : List ℕ). heading ++ t) (flat_map-append (row_text sc) (rows_after sc before) (grown.0 ++ cut))
+          ∙ sym (append_assoc heading (rows_text sc (rows_after sc before)) (rows_text sc (grown.0 ++ cut))),
+    )
 
 -- a stream under way: it has taken what was read, and what was written is the table so far without the text that is still
 -- to be written

@@ -44,9 +44,9 @@ pub struct Judge<'a> {
 }
 
 impl<'a> Judge<'a> {
-    ghost use Rattle.std.specs.Prelude.{◌≡◌, ◌<◌, ◌^◌, ◌++◌, [], ◌∷◌, List, OnOk, IfOk, map, set};
+    ghost use Rattle.std.specs.Prelude.{◌≡◌, ◌<◌, ◌^◌, ◌++◌, [], ◌∷◌, List, OnOk, IfOk, false, filter, map, not, set};
     ghost use Rattle.chord_judge.specs.Inside.{HasRead, HoldMembers, changes_after, holds, setup_of};
-    ghost use Rattle.chord_judge.specs.Judged.{answer_of, first_alone, is_ended_by, open_after, rows_by, without_first};
+    ghost use Rattle.chord_judge.specs.Judged.{answer_of, first_alone, is_ended_by, is_of, open_after, rows_by, without_first};
     ghost use Rattle.chord_judge.specs.Open.{Holds};
     ghost use Rattle.chord_judge.specs.Rows.{ends_by};
     ghost use Rattle.chord_judge.specs.Members.{is_member_after};
@@ -89,14 +89,8 @@ impl<'a> Judge<'a> {
         match line {
             Line::Member { .. } | Line::Create => self.change(time, node, true)?,
             Line::Stranded { .. } => self.change(time, node, false)?,
-            Line::Crash => {
-                self.lookups.cut_off(node, End::Crash { at: time }, rows)?;
-                self.change(time, node, false)?;
-            }
-            Line::Leave => {
-                self.lookups.cut_off(node, End::Leave { at: time }, rows)?;
-                self.change(time, node, false)?;
-            }
+            Line::Crash => self.stop(time, node, End::Crash { at: time }, rows)?,
+            Line::Leave => self.stop(time, node, End::Leave { at: time }, rows)?,
             Line::Lookup { key } => self.begin(time, node, key)?,
             Line::Found {
                 key,
@@ -105,12 +99,7 @@ impl<'a> Judge<'a> {
                 timeouts,
                 us,
             } => {
-                let lookup = self.end(Ended {
-                    node,
-                    key,
-                    time,
-                    us,
-                })?;
+                let lookup = self.end(time, node, key, us)?;
                 let answer = self.answer(key, lookup.begun, owner, hops, timeouts);
                 push_row(rows, lookup, End::Found { at: time, answer })?;
             }
@@ -120,21 +109,13 @@ impl<'a> Judge<'a> {
                 timeouts,
                 us,
             } => {
-                let lookup = self.end(Ended {
-                    node,
-                    key,
-                    time,
-                    us,
-                })?;
-                push_row(
-                    rows,
-                    lookup,
-                    End::Lost {
-                        at: time,
-                        hops,
-                        timeouts,
-                    },
-                )?;
+                let lookup = self.end(time, node, key, us)?;
+                let end = End::Lost {
+                    at: time,
+                    hops,
+                    timeouts,
+                };
+                push_row(rows, lookup, end)?;
             }
             _ => {}
         }
@@ -170,19 +151,39 @@ impl<'a> Judge<'a> {
         Ok(())
     }
 
-    /// Ends a lookup.
-    fn end(&mut self, ended: Ended) -> Result<Lookup, JudgeFault>
-        requires { ended.node < node_count (setup_of self.old) }
+    /// Takes out the lookup that ends at a time after this long.
+    fn end(&mut self, time: u64, node: u32, key: Ident, us: u64) -> Result<Lookup, JudgeFault>
+        requires { node < node_count (setup_of self.old) }
         ensures members { self.new.members ≡ self.old.members }
         ensures changes { self.new.changes ≡ self.old.changes }
         ensures begun { self.new.begun ≡ self.old.begun }
-        ensures taken { IfOk result (λ lookup. (lookups : List Lookup) → Holds lookups self.old.lookups → first_alone (is_ended_by ended.node ended.key ended.time ended.us) lookups ≡ lookup ∷ []) }
-        ensures left { OnOk result ((lookups : List Lookup) → Holds lookups self.old.lookups → Holds (without_first (is_ended_by ended.node ended.key ended.time ended.us) lookups) self.new.lookups) }
+        ensures taken { IfOk result (λ lookup. (lookups : List Lookup) → Holds lookups self.old.lookups → first_alone (is_ended_by node key time us) lookups ≡ lookup ∷ []) }
+        ensures left { OnOk result ((lookups : List Lookup) → Holds lookups self.old.lookups → Holds (without_first (is_ended_by node key time us) lookups) self.new.lookups) }
     {
+        let ended = Ended {
+            node,
+            key,
+            time,
+            us,
+        };
         match self.lookups.end(ended) {
             Some(lookup) => Ok(lookup),
             None => Err(JudgeFault::NoLookup),
         }
+    }
+
+    /// Takes a node out: its lookups end like this, and it is no member any more.
+    fn stop(&mut self, time: u64, node: u32, end: End, rows: &mut Vec<Row>) -> Result<(), Memory>
+        requires { node < node_count (setup_of self.old) }
+        ensures setup { setup_of self.new ≡ setup_of self.old }
+        ensures marks { OnOk result (self.new.members.marks.items ≡ set self.old.members.marks.items node false) }
+        ensures changes { OnOk result (self.new.changes.items ≡ self.old.changes.items ++ record { time = time; node = node; was = holds self.old.members node; is = false } ∷ []) }
+        ensures begun { OnOk result (self.new.begun ≡ self.old.begun) }
+        ensures left { OnOk result ((lookups : List Lookup) → Holds lookups self.old.lookups → Holds (filter (λ lookup. not (is_of node lookup)) lookups) self.new.lookups) }
+        ensures rows { OnOk result ((lookups : List Lookup) → Holds lookups self.old.lookups → rows.new.items ≡ rows.old.items ++ map (ends_by end) (filter (is_of node) lookups)) }
+    {
+        self.lookups.cut_off(node, end, rows)?;
+        self.change(time, node, false)
     }
 
     /// Makes a node a member, or none.

@@ -15,8 +15,10 @@ mod told;
 mod words;
 
 pub use judge::{Judge, JudgeFault};
-pub use laws::{each_lookup_has_a_row, lines_are_read_as_written, right_owners_are_unique,
-    right_owners_pass_the_test_alone, traces_are_judged_as_written};
+pub use laws::{
+    each_lookup_has_a_row, lines_are_read_as_written, right_owners_are_unique,
+    right_owners_pass_the_test_alone, traces_are_judged_as_written,
+};
 pub use lines::{Kind, Said};
 pub use row::{Answer, End, Lookup, Row};
 pub use stream::{TableFault, judge_trace};

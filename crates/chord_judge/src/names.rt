@@ -8,10 +8,7 @@ use std::alloc::Global;
 use std::collections::BTreeMap;
 
 /// The numbers of the nodes by their names. A name that several nodes have is that of the first.
-pub(crate) fn names_of(
-    alloc: Global,
-    scenario: &Scenario,
-) -> Result<BTreeMap<Vec<u8>, u32>, Memory>
+pub(crate) fn names_of(alloc: Global, scenario: &Scenario) -> Result<BTreeMap<Vec<u8>, u32>, Memory>
     ensures { IfOk result (Indexes scenario.now.nodes) }
 {
     let mut names = BTreeMap::new(alloc);

@@ -28,11 +28,7 @@ pub(crate) fn push_rows_text(
 }
 
 /// Adds the text of a row.
-fn push_row_text(
-    text: &mut String,
-    scenario: &Scenario,
-    row: &Row,
-) -> Result<(), AllocError>
+fn push_row_text(text: &mut String, scenario: &Scenario, row: &Row) -> Result<(), AllocError>
     ensures { OnOk result (string_bytes text.new ≡ string_bytes text.old ++ row_text scenario.now row.now) }
 {
     let begun = row.lookup.begun;

@@ -1,34 +1,29 @@
-use Rattle.std.proofs.Common.{◌∙◌, ap, arith, filter, not, subst, sym}
+use Rattle.std.proofs.Common.{◌∙◌, ap, arith, not}
 use Rattle.std.proofs.lemmas.Grind.{common_steps}
 use Rattle.chord_judge.specs.Inside.{setup_of}
 use Rattle.chord_judge.specs.Judged.{is_of, open_after}
-use Rattle.chord_judge.specs.Open.{Holds}
 use Rattle.chord_judge.proofs.InProgress.{askers_filter}
 use Rattle.chord_judge.proofs.Judgements.{found_row, none_begun, same_answer}
 use Rattle.chord_scenario.specs.World.{node_count}
 use Rattle.chord_trace.specs.Kinds.{is_lookup}
 use Rattle.chord_judge.proofs.judge.Judge.read.Goals as goal
 
-pub returns-in_ok-change-in-Crash-clause-read : goal.returns-in_ok-change-in-Crash-clause-read
-returns-in_ok-change-in-Crash-clause-read c = λ lines has. record {
+pub returns-in_ok-stop-in-Crash-clause-read : goal.returns-in_ok-stop-in-Crash-clause-read
+returns-in_ok-stop-in-Crash-clause-read c = λ lines has. record {
   members = λ n low. grind (arith, common_steps);
   changes = grind (arith, common_steps);
-  lookups = rw c.in-Crash.is (
-      subst (Holds (filter (λ lookup. not (is_of c.args.told.node lookup)) (open_after lines))) (sym c.in_ok-change-in-Crash.ensures.lookups)
-      (c.in_ok-cut_off-in-Crash.ensures.left (open_after lines) has.lookups));
+  lookups = rw c.in-Crash.is (c.in_ok-stop-in-Crash.ensures.left (open_after lines) has.lookups);
   askers = rw c.in-Crash.is (askers_filter (node_count (setup_of c.args.self.now)) (λ lookup. not (is_of c.args.told.node lookup)) (open_after lines) has.askers);
-  begun = c.in_ok-change-in-Crash.ensures.begun ∙ has.begun ∙ none_begun c.args.told lines (ap is_lookup c.in-Crash.is);
+  begun = c.in_ok-stop-in-Crash.ensures.begun ∙ has.begun ∙ none_begun c.args.told lines (ap is_lookup c.in-Crash.is);
 }
 
-pub returns-in_ok-change-in-Leave-clause-read : goal.returns-in_ok-change-in-Leave-clause-read
-returns-in_ok-change-in-Leave-clause-read c = λ lines has. record {
+pub returns-in_ok-stop-in-Leave-clause-read : goal.returns-in_ok-stop-in-Leave-clause-read
+returns-in_ok-stop-in-Leave-clause-read c = λ lines has. record {
   members = λ n low. grind (arith, common_steps);
   changes = grind (arith, common_steps);
-  lookups = rw c.in-Leave.is (
-      subst (Holds (filter (λ lookup. not (is_of c.args.told.node lookup)) (open_after lines))) (sym c.in_ok-change-in-Leave.ensures.lookups)
-      (c.in_ok-cut_off-in-Leave.ensures.left (open_after lines) has.lookups));
+  lookups = rw c.in-Leave.is (c.in_ok-stop-in-Leave.ensures.left (open_after lines) has.lookups);
   askers = rw c.in-Leave.is (askers_filter (node_count (setup_of c.args.self.now)) (λ lookup. not (is_of c.args.told.node lookup)) (open_after lines) has.askers);
-  begun = c.in_ok-change-in-Leave.ensures.begun ∙ has.begun ∙ none_begun c.args.told lines (ap is_lookup c.in-Leave.is);
+  begun = c.in_ok-stop-in-Leave.ensures.begun ∙ has.begun ∙ none_begun c.args.told lines (ap is_lookup c.in-Leave.is);
 }
 
 pub returns-in_ok-push_row-in-Found-clause-rows : goal.returns-in_ok-push_row-in-Found-clause-rows
