@@ -4,7 +4,7 @@ use Rattle.std.specs.Fmt.{decimal}
 use Rattle.std.specs.List.{All, AllByRecursion, concat, cons_option, filter_map, flat_map, list_all}
 use Rattle.std.proofs.lemmas.Bool.{and_parts}
 use Rattle.std.proofs.lemmas.List.Folds.{concat-append}
-use Rattle.std.proofs.lemmas.List.Elements.{All-head, All-tail}
+use Rattle.std.proofs.lemmas.List.Elements.{All-append, All-cons, All-head, All-nil, All-tail}
 use Rattle.chord_audit.specs.declared.audit_line.AuditLine.{AuditLine}
 use Rattle.chord_event.specs.declared.block.Block.{Block}
 use Rattle.chord_event.specs.declared.line.CommandKind.{CommandKind}
@@ -16,7 +16,7 @@ use Rattle.chord_event.specs.declared.line.MessageKind.TheVariants as message
 use Rattle.chord_judge.specs.Judged.{judged}
 use Rattle.chord_judge.specs.Reading.{said}
 use Rattle.chord_judge.specs.Table.{heading, rows_text}
-use Rattle.chord_judge.specs.Traces.{lines_from, rest_from, table_text, told_in, told_lines}
+use Rattle.chord_judge.specs.Traces.{IsLine, IsReadable, lines_from, rest_from, table_text, told_in, told_lines}
 use Rattle.chord_judge.specs.Written.{HasPlainNames, IsWritable, IsWritableBlock, is_judged, saying, telling, told_of, told_of_block}
 use Rattle.chord_judge.specs.declared.lines.Said.TheVariants as outcome
 use Rattle.chord_judge.specs.declared.told.Told.{Told}
@@ -161,27 +161,43 @@ line_feedless sc time node l plain fits =
 -- a text of whole lines, of which a judge is told these
 record IsWhole (sc : Setup) (text : List ℕ) (tolds : List Told) : Type 0 where
   told : told_lines sc text ≡ tolds
+  readable : IsReadable sc text
   rest : rest_from [] text ≡ []
 
 whole_none : (sc : Setup) → IsWhole sc [] []
-whole_none sc = record { told = refl; rest = refl }
+whole_none sc = record { told = refl; readable = All-nil (λ (l : List ℕ). IsLine (said sc l)); rest = refl }
 
 whole_then : (sc : Setup) (a b : List ℕ) (xs ys : List Told) → IsWhole sc a xs → IsWhole sc b ys → IsWhole sc (a ++ b) (xs ++ ys)
 whole_then sc a b xs ys p q = record {
   told = told_append sc a b
       ∙ ap (λ (r : List ℕ). told_lines sc a ++ filter_map (λ (l : List ℕ). told_in (said sc l)) (lines_from r b)) p.rest
       ∙ ap (λ (t : List Told). t ++ told_lines sc b) p.told ∙ ap (λ (t : List Told). xs ++ t) q.told;
+  readable = subst (All (λ (l : List ℕ). IsLine (said sc l))) (sym (lines_append [] a b ∙ ap (λ (r : List ℕ). lines_from [] a ++ lines_from r b) p.rest))
+      (All-append (λ (l : List ℕ). IsLine (said sc l)) (lines_from [] a) (lines_from [] b) p.readable q.readable);
   rest = rest_append [] a b ∙ ap (λ (r : List ℕ). rest_from r b) p.rest ∙ q.rest;
 }
 
-whole_line : (sc : Setup) (text : List ℕ) → HasNoFeed text → IsWhole sc (text ++ 10 ∷ []) (cons_option (told_in (said sc text)) [])
-whole_line sc text plain = record {
-  told = ap (filter_map (λ (l : List ℕ). told_in (said sc l)))
-      (lines_append [] text (10 ∷ []) ∙ ap (λ (ls : List (List ℕ)). ls ++ rest_from [] text ∷ []) (lines_none [] text plain) ∙ ap (λ (l : List ℕ). l ∷ []) (rest_grows [] text plain));
+one_line : (text : List ℕ) → HasNoFeed text → lines_from [] (text ++ 10 ∷ []) ≡ text ∷ []
+one_line text plain =
+    lines_append [] text (10 ∷ []) ∙ ap (λ (ls : List (List ℕ)). ls ++ rest_from [] text ∷ []) (lines_none [] text plain)
+    ∙ ap (λ (l : List ℕ). l ∷ []) (rest_grows [] text plain)
+
+whole_line : (sc : Setup) (text : List ℕ) → HasNoFeed text → IsLine (said sc text) → IsWhole sc (text ++ 10 ∷ []) (cons_option (told_in (said sc text)) [])
+whole_line sc text plain is_line = record {
+  told = ap (filter_map (λ (l : List ℕ). told_in (said sc l))) (one_line text plain);
+  readable = subst (All (λ (l : List ℕ). IsLine (said sc l))) (sym (one_line text plain))
+      (All-cons (λ (l : List ℕ). IsLine (said sc l)) text [] is_line (All-nil (λ (l : List ℕ). IsLine (said sc l))));
   rest = rest_append [] text (10 ∷ []);
 }
 
 -- a line
+says_something : (time node : ℕ) (l : Line) → IsLine (saying time node l)
+says_something time node l = by_kind (is_judged l)
+  where
+    by_kind : (b : Bool) → IsLine (if b then outcome.Told (record { time = time; node = node; line = l }) else outcome.Other)
+    by_kind true = tt
+    by_kind false = tt
+
 told_as : (time node : ℕ) (l : Line) → told_in (saying time node l) ≡ telling time node l
 told_as time node l = by_kind (is_judged l)
   where
@@ -196,7 +212,8 @@ line_whole sc range plain time node l fits =
     subst (λ (t : List ℕ). IsWhole sc t (cons_option (telling time node l) [])) (sym (written_text sc time node l))
     (subst (λ (o : Option Told). IsWhole sc (words_text sc time node l ++ 10 ∷ []) (cons_option o []))
     (ap told_in (text_read sc range plain time node l fits) ∙ told_as time node l)
-    (whole_line sc (words_text sc time node l) (line_feedless sc time node l plain fits)))
+    (whole_line sc (words_text sc time node l) (line_feedless sc time node l plain fits)
+    (subst IsLine (sym (text_read sc range plain time node l fits)) (says_something time node l))))
 
 lines_whole : (sc : Setup) → IsInRange sc → HasPlainNames sc → (time node : ℕ) (ls : List Line) → All (IsWritable sc time node) ls
     → IsWhole sc (flat_map (line_text sc time node) ls) (filter_map (telling time node) ls)
@@ -260,7 +277,8 @@ audit_whole sc audit =
       ),
     ) in
     subst (λ (t : List ℕ). IsWhole sc t []) (sym (concat-append (audit_parts audit) (codes "\n" ∷ [])))
-    (subst (λ (o : Option Told). IsWhole sc (text ++ 10 ∷ []) (cons_option o [])) (ap told_in (audit_read sc audit)) (whole_line sc text plain))
+    (subst (λ (o : Option Told). IsWhole sc (text ++ 10 ∷ []) (cons_option o [])) (ap told_in (audit_read sc audit))
+    (whole_line sc text plain (subst IsLine (sym (audit_read sc audit)) tt)))
 
 pieces_whole : (sc : Setup) → IsInRange sc → HasPlainNames sc → (pieces : List Piece) → All (IsWritableBlock sc) (blocks_of pieces)
     → IsWhole sc (pieces_text sc pieces) (told_of pieces)
@@ -280,3 +298,7 @@ trace_read sc range plain pieces fits = (pieces_whole sc range plain pieces fits
 pub trace_judged : (sc : Setup) → IsInRange sc → HasPlainNames sc → (pieces : List Piece) → All (IsWritableBlock sc) (blocks_of pieces)
     → table_text sc (pieces_text sc pieces) ≡ heading ++ rows_text sc (judged sc (told_of pieces))
 trace_judged sc range plain pieces fits = ap (λ (t : List Told). heading ++ rows_text sc (judged sc t)) (trace_read sc range plain pieces fits)
+
+pub trace_readable : (sc : Setup) → IsInRange sc → HasPlainNames sc → (pieces : List Piece) → All (IsWritableBlock sc) (blocks_of pieces)
+    → IsReadable sc (pieces_text sc pieces)
+trace_readable sc range plain pieces fits = (pieces_whole sc range plain pieces fits).readable

@@ -1,20 +1,20 @@
 -- What a stream holds after more of a text.
 use Rattle.std.proofs.Common.{◌≡◌, ◌∙◌, sym, ap, refl, subst, ℕ, suc, ◌+◌, ◌<◌, ◌≤◌, ◌==◌, Bool, true, false, cond, not, List, [], ◌∷◌, ◌++◌, Option, Some, None, arith, reverse, string_bytes, append_assoc, append-nil, length, take, drop, get_or, map, Result, Ok, Err, OnOk}
-use Rattle.std.specs.List.{AllByRecursion, cons_option, filter_map, position_or_len}
+use Rattle.std.specs.List.{All, AllByRecursion, cons_option, filter_map, position_or_len}
 use Rattle.std.proofs.KnownBytes.{Appends-nil, Appends-trans, Consumes-kept, Consumes-nil, Consumes-trans}
 use Rattle.std.proofs.Math.Seq.{take-add}
 use Rattle.std.specs.Io.KnownBytes.{Appends, Consumes, IsAtEnd, Keeps}
 use Rattle.std.proofs.lemmas.Bool.Decides.{nat_tests}
 use Rattle.std.proofs.lemmas.List.{reverse-append, take_all, take_more}
 use Rattle.std.proofs.lemmas.List.Concat.{flat_map-append}
-use Rattle.std.proofs.lemmas.List.Elements.{filter_map-append}
+use Rattle.std.proofs.lemmas.List.Elements.{All-push, filter_map-append}
 use Rattle.std.proofs.lemmas.List.Sums.{passes_at_first}
 use Rattle.chord_judge.specs.Inside.{HasRead, setup_of}
 use Rattle.chord_judge.specs.Judged.{open_after, rows_after, rows_by}
 use Rattle.chord_judge.specs.Reading.{said}
 use Rattle.chord_judge.specs.Table.{heading, row_text, rows_text}
 use Rattle.chord_judge.specs.Taken.{HasTaken}
-use Rattle.chord_judge.specs.Traces.{WasBegun, WasJudged, lines_from, rest_from, table_text, told_in, told_lines}
+use Rattle.chord_judge.specs.Traces.{IsLine, WasBegun, WasJudged, lines_from, rest_from, table_text, told_in, told_lines}
 use Rattle.chord_judge.specs.declared.judge.Judge.{Judge}
 use Rattle.chord_judge.specs.declared.lines.Said.{Said}
 use Rattle.chord_judge.specs.declared.lines.Said.TheVariants as outcome
@@ -80,6 +80,10 @@ told_feed : (sc : Setup) (text : List ℕ) (o : Option Told) → telling sc (res
 told_feed sc text o h =
     told_append sc text (10 ∷ []) ∙ ap (λ (p : Option Told). told_lines sc text ++ cons_option p []) h
 
+lines_part : (text part : List ℕ) → HasNoFeed part → lines_from [] (text ++ part) ≡ lines_from [] text
+lines_part text part h =
+    lines_append [] text part ∙ ap (λ (ls : List (List ℕ)). lines_from [] text ++ ls) (lines_none (rest_from [] text) part h) ∙ append-nil (lines_from [] text)
+
 -- more bytes of a line
 pub part_taken : (sc : Setup) (text written part : List ℕ) (s s2 : Stream) → HasNoFeed part → HasTaken sc text written s → s2.judge ≡ s.judge
     → s2.line.items ≡ s.line.items ++ part → s2.rows ≡ s.rows → s2.text ≡ s.text → HasTaken sc (text ++ part) written s2
@@ -88,22 +92,26 @@ part_taken sc text written part s s2 plain has judge line rows table =
     record {
       setup = ap setup_of judge ∙ has.setup;
       judge = rw (same, judge) has.judge;
+      readable = subst (All (λ (l : List ℕ). IsLine (said sc l))) (sym (lines_part text part plain)) has.readable;
       line = line ∙ ap (λ (l : List ℕ). l ++ part) has.line ∙ sym (rest_grows (rest_from [] text) part plain) ∙ sym (rest_append [] text part);
       rows = ap (λ r. r.items) rows ∙ has.rows;
       table = rw (same, table) has.table;
     }
 
 -- the end of a line
-feed_taken : (sc : Setup) (text written : List ℕ) (s s2 : Stream) (rows : List Row) (lines : List Told) → HasTaken sc text written s
+feed_taken : (sc : Setup) (text written : List ℕ) (o : Said) (s s2 : Stream) (rows : List Row) (lines : List Told) → HasTaken sc text written s
+    → said sc (rest_from [] text) ≡ o → IsLine o
     → reverse (told_lines sc (text ++ 10 ∷ [])) ≡ lines → setup_of s2.judge ≡ sc → HasRead sc lines s2.judge → s2.line.items ≡ [] → s2.rows.items ≡ []
     → string_bytes s2.text ≡ string_bytes s.text ++ rows_text sc rows
     → rows_after sc lines ≡ rows_after sc (reverse (told_lines sc text)) ++ rows
     → HasTaken sc (text ++ 10 ∷ []) written s2
-feed_taken sc text written s s2 rows lines has told setup read line empty table more =
+feed_taken sc text written o s s2 rows lines has says is_line told setup read line empty table more =
     let before = rows_after sc (reverse (told_lines sc text)) in
     record {
       setup = setup;
       judge = rw told read;
+      readable = subst (All (λ (l : List ℕ). IsLine (said sc l))) (sym (lines_append [] text (10 ∷ [])))
+          (All-push (λ (l : List ℕ). IsLine (said sc l)) (lines_from [] text) (rest_from [] text) has.readable (subst IsLine (sym says) is_line));
       line = line ∙ sym (rest_append [] text (10 ∷ []));
       rows = empty;
       table = rw told (
@@ -124,7 +132,7 @@ other_taken sc own text written line o s s2 rows has owner read of other judge e
     let lines = reverse (told_lines sc text) in
     let is : said sc (rest_from [] text) ≡ outcome.Other =
     ap (λ (l : List ℕ). said sc l) (sym (of ∙ has.line)) ∙ ap (λ (u : Setup). said u line) (sym (owner ∙ has.setup)) ∙ sym read ∙ other in
-    feed_taken sc text written s s2 [] lines has (ap reverse (told_feed sc text None (ap told_in is) ∙ append-nil (told_lines sc text)))
+    feed_taken sc text written outcome.Other s s2 [] lines has is tt (ap reverse (told_feed sc text None (ap told_in is) ∙ append-nil (told_lines sc text)))
     (ap setup_of judge ∙ has.setup) (rw judge has.judge) ended empty
     (table ∙ ap (λ (r : List Row). string_bytes s.text ++ rows_text own r) (none ∙ has.rows))
     (sym (append-nil (rows_after sc lines)))
@@ -150,7 +158,7 @@ line_taken sc own text written line o told s s2 judge rows made has owner read o
     same
     ∙ more lines before ∙ ap (λ (r : List Row). r ++ rows_by (setup_of s.judge) lines (open_after lines) told.line told.time told.node) has.rows
     ∙ ap (λ (u : Setup). rows_by u lines (open_after lines) told.line told.time told.node) has.setup in
-    feed_taken sc text written s s2 rows (told ∷ lines) has
+    feed_taken sc text written (outcome.Told told) s s2 rows (told ∷ lines) has says tt
     (ap reverse (told_feed sc text (Some told) (ap told_in says)) ∙ reverse-append (told_lines sc text) (told ∷ []))
     (ap setup_of now ∙ setup ∙ has.setup) (subst (HasRead sc (told ∷ lines)) (sym now) after) ended empty
     (table ∙ ap (λ (u : Setup). string_bytes s.text ++ rows_text u rows) (owner ∙ has.setup))
@@ -306,6 +314,7 @@ judged_at_end sc unread left next old new newer s more waiting way consumed none
   read = subst (Consumes unread next) (append-nil way.text)
       (Consumes-trans unread left next way.text [] way.read (subst (Consumes left next) none consumed));
   end = end;
+  readable = way.taken.readable;
   table = subst (Appends old newer) (sym table) (Appends-trans old new newer way.written waiting way.out out);
 }
 

@@ -1,7 +1,7 @@
 -- What the text of a trace says, and the table of its lookups.
 use Rattle.std.specs.Prelude.{ℕ, ◌==◌, cond, List, [], ◌∷◌, ◌++◌, Option, Some, None}
 use Rattle.std.specs.Io.KnownBytes.{Appends, Consumes, IsAtEnd}
-use Rattle.std.specs.List.{filter_map}
+use Rattle.std.specs.List.{All, filter_map}
 use Rattle.des_output.specs.Writing.{AppendsFront}
 use Rattle.chord_judge.specs.Judged.{judged}
 use Rattle.chord_judge.specs.Reading.{said}
@@ -23,6 +23,15 @@ rest_from begun [] = begun
 rest_from begun (byte ∷ text) =
     let ended = rest_from [] text in let longer = rest_from (begun ++ byte ∷ []) text in cond (byte == 10) ended longer
 
+-- a text says a line of some kind
+abbrev pub IsLine : Said → Type 0
+IsLine outcome.Nothing = ⊥
+IsLine _ = Unit {0}
+
+-- each line of a trace that has ended says something
+abbrev pub IsReadable : Setup → List ℕ → Type 0
+IsReadable sc text = All (λ line. IsLine (said sc line)) (lines_from [] text)
+
 -- the line that a judge is to be told, if a text says one
 abbrev pub told_in : Said → Option Told
 told_in (outcome.Told told) = Some told
@@ -42,9 +51,10 @@ pub record WasBegun (sc : Setup) (unread left : Option (List ℕ)) (old new : Op
   pub read : Consumes unread left text
   pub front : AppendsFront old new (table_text sc text)
 
--- a text was read to its end, and the table of its lookups was written
+-- a text of readable lines was read to its end, and the table of its lookups was written
 pub record WasJudged (sc : Setup) (unread left : Option (List ℕ)) (old new : Option (List ℕ)) : Type 0 where
   pub text : List ℕ
   pub read : Consumes unread left text
   pub end : IsAtEnd left
+  pub readable : IsReadable sc text
   pub table : Appends old new (table_text sc text)

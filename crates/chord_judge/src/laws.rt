@@ -6,7 +6,7 @@ ghost use Rattle.chord_event.specs.declared.line.Line.{Line};
 ghost use Rattle.chord_judge.specs.Owners.{IsRightOwner, is_right_owner};
 ghost use Rattle.chord_judge.specs.Reading.{said};
 ghost use Rattle.chord_judge.specs.Table.{heading, rows_text};
-ghost use Rattle.chord_judge.specs.Traces.{table_text};
+ghost use Rattle.chord_judge.specs.Traces.{IsReadable, table_text};
 ghost use Rattle.chord_judge.specs.Written.{HasPlainNames, IsWritable, IsWritableBlock, saying, told_of};
 ghost use Rattle.chord_judge.specs.declared.told.Told.{Told};
 ghost use Rattle.chord_scenario.specs.Range.{IsInRange};
@@ -35,6 +35,11 @@ pub fn each_lookup_has_a_row()
 /// otherwise as a line of another kind.
 pub fn lines_are_read_as_written()
     ensures { (sc : Setup) → IsInRange sc → HasPlainNames sc → (time node : ℕ) (line : Line) (text : List ℕ) → IsWritable sc time node line → line_text sc time node line ≡ text ++ codes "\n" → said sc text ≡ saying time node line }
+{}
+
+/// Each line of the trace of a run is readable.
+pub fn traces_are_readable()
+    ensures { (sc : Setup) → IsInRange sc → HasPlainNames sc → (pieces : List Piece) → All (IsWritableBlock sc) (blocks_of pieces) → IsReadable sc (pieces_text sc pieces) }
 {}
 
 /// The table of the trace of a run is that of the lines of the run.

@@ -1,0 +1,5 @@
+use Rattle.chord_judge.proofs.ReadTraces.{trace_readable}
+use Rattle.chord_judge.proofs.laws.traces_are_readable.Goals as goal
+
+pub returns : goal.returns
+returns c = trace_readable
