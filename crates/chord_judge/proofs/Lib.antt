@@ -6,6 +6,7 @@ pub mod Lookups
 pub mod NamedNodes
 pub mod NumberLemmas
 pub mod Owned
+pub mod PlainNames
 pub mod ReadBack
 pub mod ReadTraces
 pub mod Readings

@@ -9,6 +9,7 @@ ghost use Rattle.chord_judge.specs.Table.{heading, rows_text};
 ghost use Rattle.chord_judge.specs.Traces.{IsReadable, table_text};
 ghost use Rattle.chord_judge.specs.Written.{HasPlainNames, IsWritable, IsWritableBlock, saying, told_of};
 ghost use Rattle.chord_judge.specs.declared.told.Told.{Told};
+ghost use Rattle.chord_scenario.specs.Accepted.{Accepts};
 ghost use Rattle.chord_scenario.specs.Range.{IsInRange};
 ghost use Rattle.chord_scenario.specs.Setup.{Setup};
 ghost use Rattle.chord_scenario.specs.World.{node_count};
@@ -40,6 +41,11 @@ pub fn lines_are_read_as_written()
 /// Each line of the trace of a run is readable.
 pub fn traces_are_readable()
     ensures { (sc : Setup) → IsInRange sc → HasPlainNames sc → (pieces : List Piece) → All (IsWritableBlock sc) (blocks_of pieces) → IsReadable sc (pieces_text sc pieces) }
+{}
+
+/// The names of the nodes of an accepted scenario are plain.
+pub fn accepted_scenarios_have_plain_names()
+    ensures { (toml csv : List ℕ) (sc : Setup) → Accepts toml csv sc → HasPlainNames sc }
 {}
 
 /// The table of the trace of a run is that of the lines of the run.
