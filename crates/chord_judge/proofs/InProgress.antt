@@ -1,6 +1,6 @@
 -- The lookups in progress, node by node.
-use Rattle.std.proofs.Common.{◌≡◌, ◌⊎◌, inl, inr, ℕ, zero, suc, ◌+◌, ◌==◌, ◌<◌, ◌≤◌, ◌&&◌, Bool, true, false, cond, not, nat_lt, List, [], ◌∷◌, ◌++◌, Vec, Global, filter, length, set, get_or, refl, sym, ap, ◌∙◌, subst, arith, append-nil, count_by}
-use Rattle.std.specs.List.{All, AllByRecursion, flat_map}
+use Rattle.std.proofs.Common.{◌≡◌, ◌⊎◌, inl, inr, ℕ, zero, suc, ◌+◌, ◌==◌, ◌<◌, ◌≤◌, ◌&&◌, Bool, true, false, cond, not, nat_lt, List, [], ◌∷◌, ◌++◌, Vec, Global, filter, length, set, get_or, refl, sym, ap, ◌∙◌, subst, arith, append-nil, count_by, Option, Some, None, IfNone}
+use Rattle.std.specs.List.{All, AllByRecursion, flat_map, list_any}
 use Rattle.std.specs.List.Sorted.{IsNonDecreasingBy, IsPermutation}
 use Rattle.std.proofs.lemmas.Bool.{and_parts, cases_Bool, cases_eq, eq-eqb, eqb-true, false≢true, ne_eqb}
 use Rattle.std.proofs.lemmas.Bool.Decides.{nat_tests}
@@ -189,3 +189,29 @@ askers_filter nodes test xs h = All-filter test (λ x. x.asker < nodes) xs h
 
 pub askers_without : (nodes : ℕ) (test : Lookup → Bool) (xs : List Lookup) → All (λ x. x.asker < nodes) xs → All (λ x. x.asker < nodes) (without_first test xs)
 askers_without nodes test xs h = without_all (λ x. x.asker < nodes) test xs h
+
+-- whether one of the lookups ends like this
+pub any_first : (test : Lookup → Bool) (x : Lookup) (xs : List Lookup) → first_alone test xs ≡ x ∷ [] → list_any test xs ≡ true
+any_first test x [] h = absurd (cc)
+any_first test x (y ∷ ys) h = by_test (any_first test x ys) (test y) refl
+  where
+    by_test : (first_alone test ys ≡ x ∷ [] → list_any test ys ≡ true) → (t : Bool) → test y ≡ t → list_any test (y ∷ ys) ≡ true
+    by_test rest true f = rw f refl
+    by_test rest false f = rw f (rest (rw f at h))
+
+pub any_none : (test : Lookup → Bool) (xs : List Lookup) → first_alone test xs ≡ [] → list_any test xs ≡ false
+any_none test [] h = refl
+any_none test (y ∷ ys) h = by_test (any_none test ys) (test y) refl
+  where
+    by_test : (first_alone test ys ≡ [] → list_any test ys ≡ false) → (t : Bool) → test y ≡ t → list_any test (y ∷ ys) ≡ false
+    by_test rest true f = absurd (cc (rw f at h))
+    by_test rest false f = rw f (rest (rw f at h))
+
+pub ended_none : (node key time us : ℕ) (xs ys : List Lookup) → ys ≡ filter (is_of node) xs → first_alone (is_ended_by node key time us) ys ≡ []
+    → first_alone (is_ended_by node key time us) xs ≡ []
+ended_none node key time us xs ys is first =
+    first_same (is_ended_by node key time us) node xs (ended_own node key time us) ∙ ap (first_alone (is_ended_by node key time us)) (sym is) ∙ first
+
+pub on_none : {A : Type 0} (P Q : Type 0) (o : Option A) → (P → Q) → IfNone o P → IfNone o Q
+on_none P Q None f h = f h
+on_none P Q (Some x) f h = tt

@@ -10,11 +10,11 @@ use Rattle.std.proofs.lemmas.List.Concat.{flat_map-append}
 use Rattle.std.proofs.lemmas.List.Elements.{All-push, filter_map-append}
 use Rattle.std.proofs.lemmas.List.Sums.{passes_at_first}
 use Rattle.chord_judge.specs.Inside.{HasRead, setup_of}
-use Rattle.chord_judge.specs.Judged.{open_after, rows_after, rows_by}
+use Rattle.chord_judge.specs.Judged.{is_known, open_after, rows_after, rows_by}
 use Rattle.chord_judge.specs.Reading.{said}
 use Rattle.chord_judge.specs.Table.{heading, row_text, rows_text}
 use Rattle.chord_judge.specs.Taken.{HasTaken}
-use Rattle.chord_judge.specs.Traces.{IsLine, WasBegun, WasJudged, lines_from, rest_from, table_text, told_in, told_lines}
+use Rattle.chord_judge.specs.Traces.{AreKnown, IsLine, WasBegun, WasJudged, lines_from, rest_from, table_text, told_in, told_lines}
 use Rattle.chord_judge.specs.declared.judge.Judge.{Judge}
 use Rattle.chord_judge.specs.declared.lines.Said.{Said}
 use Rattle.chord_judge.specs.declared.lines.Said.TheVariants as outcome
@@ -93,6 +93,7 @@ part_taken sc text written part s s2 plain has judge line rows table =
       setup = ap setup_of judge ∙ has.setup;
       judge = rw (same, judge) has.judge;
       readable = subst (All (λ (l : List ℕ). IsLine (said sc l))) (sym (lines_part text part plain)) has.readable;
+      known = subst (λ (t : List Told). AreKnown (reverse t)) (sym same) has.known;
       line = line ∙ ap (λ (l : List ℕ). l ++ part) has.line ∙ sym (rest_grows (rest_from [] text) part plain) ∙ sym (rest_append [] text part);
       rows = ap (λ r. r.items) rows ∙ has.rows;
       table = rw (same, table) has.table;
@@ -100,18 +101,19 @@ part_taken sc text written part s s2 plain has judge line rows table =
 
 -- the end of a line
 feed_taken : (sc : Setup) (text written : List ℕ) (o : Said) (s s2 : Stream) (rows : List Row) (lines : List Told) → HasTaken sc text written s
-    → said sc (rest_from [] text) ≡ o → IsLine o
+    → said sc (rest_from [] text) ≡ o → IsLine o → AreKnown lines
     → reverse (told_lines sc (text ++ 10 ∷ [])) ≡ lines → setup_of s2.judge ≡ sc → HasRead sc lines s2.judge → s2.line.items ≡ [] → s2.rows.items ≡ []
     → string_bytes s2.text ≡ string_bytes s.text ++ rows_text sc rows
     → rows_after sc lines ≡ rows_after sc (reverse (told_lines sc text)) ++ rows
     → HasTaken sc (text ++ 10 ∷ []) written s2
-feed_taken sc text written o s s2 rows lines has says is_line told setup read line empty table more =
+feed_taken sc text written o s s2 rows lines has says is_line known told setup read line empty table more =
     let before = rows_after sc (reverse (told_lines sc text)) in
     record {
       setup = setup;
       judge = rw told read;
       readable = subst (All (λ (l : List ℕ). IsLine (said sc l))) (sym (lines_append [] text (10 ∷ [])))
           (All-push (λ (l : List ℕ). IsLine (said sc l)) (lines_from [] text) (rest_from [] text) has.readable (subst IsLine (sym says) is_line));
+      known = subst AreKnown (sym told) known;
       line = line ∙ sym (rest_append [] text (10 ∷ []));
       rows = empty;
       table = rw told (
@@ -132,7 +134,7 @@ other_taken sc own text written line o s s2 rows has owner read of other judge e
     let lines = reverse (told_lines sc text) in
     let is : said sc (rest_from [] text) ≡ outcome.Other =
     ap (λ (l : List ℕ). said sc l) (sym (of ∙ has.line)) ∙ ap (λ (u : Setup). said u line) (sym (owner ∙ has.setup)) ∙ sym read ∙ other in
-    feed_taken sc text written outcome.Other s s2 [] lines has is tt (ap reverse (told_feed sc text None (ap told_in is) ∙ append-nil (told_lines sc text)))
+    feed_taken sc text written outcome.Other s s2 [] lines has is tt has.known (ap reverse (told_feed sc text None (ap told_in is) ∙ append-nil (told_lines sc text)))
     (ap setup_of judge ∙ has.setup) (rw judge has.judge) ended empty
     (table ∙ ap (λ (r : List Row). string_bytes s.text ++ rows_text own r) (none ∙ has.rows))
     (sym (append-nil (rows_after sc lines)))
@@ -144,11 +146,12 @@ pub line_taken : (sc own : Setup) (text written line : List ℕ) (o : Said) (tol
     → ((lines : List Told) → HasRead (setup_of s.judge) lines s.judge → HasRead (setup_of s.judge) (told ∷ lines) judge)
     → ((lines : List Told) → HasRead (setup_of s.judge) lines s.judge
     → made ≡ s.rows.items ++ rows_by (setup_of s.judge) lines (open_after lines) told.line told.time told.node)
+    → ((lines : List Told) → HasRead (setup_of s.judge) lines s.judge → is_known told.line told.time told.node (open_after lines) ≡ true)
     → s2.judge ≡ judge → rows ≡ made
     → s2.line.items ≡ [] → s2.rows.items ≡ []
     → string_bytes s2.text ≡ string_bytes s.text ++ rows_text own rows
     → HasTaken sc (text ++ 10 ∷ []) written s2
-line_taken sc own text written line o told s s2 judge rows made has owner read of is setup reads more now same ended empty table =
+line_taken sc own text written line o told s s2 judge rows made has owner read of is setup reads more knows now same ended empty table =
     let lines = reverse (told_lines sc text) in
     let before : HasRead (setup_of s.judge) lines s.judge = subst (λ (u : Setup). HasRead u lines s.judge) (sym has.setup) has.judge in
     let after : HasRead sc (told ∷ lines) judge = subst (λ (u : Setup). HasRead u (told ∷ lines) judge) has.setup (reads lines before) in
@@ -158,7 +161,7 @@ line_taken sc own text written line o told s s2 judge rows made has owner read o
     same
     ∙ more lines before ∙ ap (λ (r : List Row). r ++ rows_by (setup_of s.judge) lines (open_after lines) told.line told.time told.node) has.rows
     ∙ ap (λ (u : Setup). rows_by u lines (open_after lines) told.line told.time told.node) has.setup in
-    feed_taken sc text written (outcome.Told told) s s2 rows (told ∷ lines) has says tt
+    feed_taken sc text written (outcome.Told told) s s2 rows (told ∷ lines) has says tt (knows lines before, has.known)
     (ap reverse (told_feed sc text (Some told) (ap told_in says)) ∙ reverse-append (told_lines sc text) (told ∷ []))
     (ap setup_of now ∙ setup ∙ has.setup) (subst (HasRead sc (told ∷ lines)) (sym now) after) ended empty
     (table ∙ ap (λ (u : Setup). string_bytes s.text ++ rows_text u rows) (owner ∙ has.setup))
@@ -315,6 +318,7 @@ judged_at_end sc unread left next old new newer s more waiting way consumed none
       (Consumes-trans unread left next way.text [] way.read (subst (Consumes left next) none consumed));
   end = end;
   readable = way.taken.readable;
+  known = way.taken.known;
   table = subst (Appends old newer) (sym table) (Appends-trans old new newer way.written waiting way.out out);
 }
 

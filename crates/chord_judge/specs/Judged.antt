@@ -1,5 +1,6 @@
 -- What became of each lookup. Lists of lines have the newest line first.
-use Rattle.std.specs.Prelude.{ℕ, ◌+◌, ◌==◌, ◌&&◌, Bool, not, cond, List, [], ◌∷◌, ◌++◌, count_by, filter, map, reverse}
+use Rattle.std.specs.Prelude.{ℕ, ◌+◌, ◌==◌, ◌&&◌, Bool, true, not, cond, List, [], ◌∷◌, ◌++◌, count_by, filter, map, reverse}
+use Rattle.std.specs.List.{list_any}
 use Rattle.chord_event.specs.declared.line.Line.{Line}
 use Rattle.chord_event.specs.declared.line.Line.TheVariants as line
 use Rattle.chord_judge.specs.Members.{is_member_after}
@@ -44,6 +45,12 @@ open_by (line.Lost key hops timeouts us) number time node lookups = without_firs
 open_by line.Crash number time node lookups = filter (λ lookup. not (is_of node lookup)) lookups
 open_by line.Leave number time node lookups = filter (λ lookup. not (is_of node lookup)) lookups
 open_by _ number time node lookups = lookups
+
+-- the line ends no lookup, or one of these
+abbrev pub is_known : Line → (time node : ℕ) → List Lookup → Bool
+is_known (line.Found key owner hops timeouts us) time node lookups = list_any (is_ended_by node key time us) lookups
+is_known (line.Lost key hops timeouts us) time node lookups = list_any (is_ended_by node key time us) lookups
+is_known _ time node lookups = true
 
 -- the lookups in progress after these lines, in the order of their begins; the number of a lookup is how many have begun
 -- before it

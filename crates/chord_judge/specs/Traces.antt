@@ -1,9 +1,9 @@
 -- What the text of a trace says, and the table of its lookups.
-use Rattle.std.specs.Prelude.{ℕ, ◌==◌, cond, List, [], ◌∷◌, ◌++◌, Option, Some, None}
+use Rattle.std.specs.Prelude.{◌≡◌, ℕ, ◌==◌, true, cond, reverse, List, [], ◌∷◌, ◌++◌, Option, Some, None}
 use Rattle.std.specs.Io.KnownBytes.{Appends, Consumes, IsAtEnd}
 use Rattle.std.specs.List.{All, filter_map}
 use Rattle.des_output.specs.Writing.{AppendsFront}
-use Rattle.chord_judge.specs.Judged.{judged}
+use Rattle.chord_judge.specs.Judged.{is_known, judged, open_after}
 use Rattle.chord_judge.specs.Reading.{said}
 use Rattle.chord_judge.specs.Table.{heading, rows_text}
 use Rattle.chord_judge.specs.declared.lines.Said.{Said}
@@ -32,6 +32,11 @@ IsLine _ = Unit {0}
 abbrev pub IsReadable : Setup → List ℕ → Type 0
 IsReadable sc text = All (λ line. IsLine (said sc line)) (lines_from [] text)
 
+-- each of these lines ends no lookup, or one in progress; the newest line is first
+abbrev pub AreKnown : List Told → Type 0
+AreKnown [] = Unit {0}
+AreKnown (told ∷ before) = (is_known told.line told.time told.node (open_after before) ≡ true) × AreKnown before
+
 -- the line that a judge is to be told, if a text says one
 abbrev pub told_in : Said → Option Told
 told_in (outcome.Told told) = Some told
@@ -51,10 +56,12 @@ pub record WasBegun (sc : Setup) (unread left : Option (List ℕ)) (old new : Op
   pub read : Consumes unread left text
   pub front : AppendsFront old new (table_text sc text)
 
--- a text of readable lines was read to its end, and the table of its lookups was written
+-- a text of readable lines that end no other lookups than those in progress was read to its end, and the table of its
+-- lookups was written
 pub record WasJudged (sc : Setup) (unread left : Option (List ℕ)) (old new : Option (List ℕ)) : Type 0 where
   pub text : List ℕ
   pub read : Consumes unread left text
   pub end : IsAtEnd left
   pub readable : IsReadable sc text
+  pub known : AreKnown (reverse (told_lines sc text))
   pub table : Appends old new (table_text sc text)

@@ -19,11 +19,15 @@ use std::alloc::Global;
 pub enum JudgeFault {
     /// An allocation failed.
     Memory,
-    /// The line ends a lookup that no line has begun.
+    /// The line ends a lookup that is not in progress.
     NoLookup,
 }
 
 impl From<Memory> for JudgeFault {
+    ghost use Rattle.chord_judge.specs.declared.judge.JudgeFault.TheVariants.{Memory};
+
+    ghost from_gives = { λ _ fault. fault ≡ Memory };
+
     fn from(_error: Memory) -> JudgeFault {
         JudgeFault::Memory
     }
@@ -44,9 +48,9 @@ pub struct Judge<'a> {
 }
 
 impl<'a> Judge<'a> {
-    ghost use Rattle.std.specs.Prelude.{◌≡◌, ◌<◌, ◌^◌, ◌++◌, [], ◌∷◌, List, OnOk, IfOk, false, filter, map, not, set};
+    ghost use Rattle.std.specs.Prelude.{◌≡◌, ◌<◌, ◌^◌, ◌++◌, [], ◌∷◌, List, Err, OnErr, OnOk, IfOk, false, filter, map, not, set, true};
     ghost use Rattle.chord_judge.specs.Inside.{HasRead, HoldMembers, changes_after, holds, setup_of};
-    ghost use Rattle.chord_judge.specs.Judged.{answer_of, first_alone, is_ended_by, is_of, open_after, rows_by, without_first};
+    ghost use Rattle.chord_judge.specs.Judged.{answer_of, first_alone, is_ended_by, is_known, is_of, open_after, rows_by, without_first};
     ghost use Rattle.chord_judge.specs.Open.{Holds};
     ghost use Rattle.chord_judge.specs.Rows.{ends_by};
     ghost use Rattle.chord_judge.specs.Members.{is_member_after};
@@ -84,6 +88,8 @@ impl<'a> Judge<'a> {
         ensures setup { setup_of self.new ≡ setup_of self.old }
         ensures read { OnOk result ((lines : List Told) → HasRead (setup_of self.old) lines self.old → HasRead (setup_of self.old) (told ∷ lines) self.new) }
         ensures rows { OnOk result ((lines : List Told) → HasRead (setup_of self.old) lines self.old → rows.new.items ≡ rows.old.items ++ rows_by (setup_of self.old) lines (open_after lines) told.line told.time told.node) }
+        ensures known { OnOk result ((lines : List Told) → HasRead (setup_of self.old) lines self.old → is_known told.line told.time told.node (open_after lines) ≡ true) }
+        ensures unknown { result ≡ Err JudgeFault.NoLookup → (lines : List Told) → HasRead (setup_of self.old) lines self.old → is_known told.line told.time told.node (open_after lines) ≡ false }
     {
         let Told { time, node, line } = told;
         match line {
@@ -159,6 +165,7 @@ impl<'a> Judge<'a> {
         ensures begun { self.new.begun ≡ self.old.begun }
         ensures taken { IfOk result (λ lookup. (lookups : List Lookup) → Holds lookups self.old.lookups → first_alone (is_ended_by node key time us) lookups ≡ lookup ∷ []) }
         ensures left { OnOk result ((lookups : List Lookup) → Holds lookups self.old.lookups → Holds (without_first (is_ended_by node key time us) lookups) self.new.lookups) }
+        ensures none { OnErr result ((lookups : List Lookup) → Holds lookups self.old.lookups → first_alone (is_ended_by node key time us) lookups ≡ []) }
     {
         let ended = Ended {
             node,

@@ -1,5 +1,5 @@
 //! The lookups in progress.
-ghost use Rattle.std.specs.Prelude.{◌≡◌, ◌<◌, ◌++◌, [], ◌∷◌, IfOk, IfSome, OnOk, filter, flat_map, length, map, remove, slice_index_or};
+ghost use Rattle.std.specs.Prelude.{◌≡◌, ◌<◌, ◌++◌, [], ◌∷◌, IfNone, IfOk, IfSome, OnOk, filter, flat_map, length, map, remove, slice_index_or};
 ghost use Rattle.chord_judge.specs.declared.row.Lookup.{Lookup};
 ghost use Rattle.chord_judge.specs.Rows.{ends_by};
 ghost use Rattle.chord_judge.specs.Judged.{first_alone, is_ended_by, is_of, without_first};
@@ -38,7 +38,7 @@ pub(crate) struct OpenLookups {
 }
 
 impl OpenLookups {
-    ghost use Rattle.std.specs.Prelude.{◌≡◌, ◌<◌, ◌++◌, [], ◌∷◌, List, IfOk, IfSome, OnOk, filter, length, map, not};
+    ghost use Rattle.std.specs.Prelude.{◌≡◌, ◌<◌, ◌++◌, [], ◌∷◌, List, IfNone, IfOk, IfSome, OnOk, filter, length, map, not};
     ghost use Rattle.chord_judge.specs.Judged.{first_alone, is_ended_by, is_of, without_first};
     ghost use Rattle.chord_judge.specs.Open.{AreNumbered, Holds, nodes_of};
     ghost use Rattle.chord_judge.specs.Rows.{ends_by};
@@ -73,6 +73,7 @@ impl OpenLookups {
         ensures nodes { nodes_of self.new ≡ nodes_of self.old }
         ensures taken { IfSome result (λ lookup. (lookups : List Lookup) → Holds lookups self.old → first_alone (is_ended_by ended.node ended.key ended.time ended.us) lookups ≡ lookup ∷ []) }
         ensures left { IfSome result (λ lookup. (lookups : List Lookup) → Holds lookups self.old → Holds (without_first (is_ended_by ended.node ended.key ended.time ended.us) lookups) self.new) }
+        ensures none { IfNone result ((lookups : List Lookup) → Holds lookups self.old → first_alone (is_ended_by ended.node ended.key ended.time ended.us) lookups ≡ []) }
     {
         take_first(&mut self.lists[ended.node as usize], ended)
     }
@@ -115,6 +116,7 @@ fn all_in(alloc: Global, lists: &[Vec<Lookup>]) -> Result<Vec<Lookup>, Memory>
 fn take_first(lookups: &mut Vec<Lookup>, ended: Ended) -> Option<Lookup>
     ensures taken { IfSome result (λ lookup. first_alone (is_ended_by ended.node ended.key ended.time ended.us) lookups.old.items ≡ lookup ∷ []) }
     ensures left { IfSome result (λ lookup. lookups.new.items ≡ without_first (is_ended_by ended.node ended.key ended.time ended.us) lookups.old.items) }
+    ensures none { IfNone result (first_alone (is_ended_by ended.node ended.key ended.time ended.us) lookups.old.items ≡ []) }
 {
     let place = first_place(lookups.as_slice(), ended)?;
     Some(lookups.remove(place))
@@ -125,6 +127,7 @@ fn first_place(lookups: &[Lookup], ended: Ended) -> Option<usize>
     ensures within { IfSome result (λ place. place < length lookups.now) }
     ensures first { IfSome result (λ place. (d : Lookup) → first_alone (is_ended_by ended.node ended.key ended.time ended.us) lookups.now ≡ slice_index_or lookups.now place d ∷ []) }
     ensures others { IfSome result (λ place. without_first (is_ended_by ended.node ended.key ended.time ended.us) lookups.now ≡ remove lookups.now place) }
+    ensures none { IfNone result (first_alone (is_ended_by ended.node ended.key ended.time ended.us) lookups.now ≡ []) }
 {
     for (place, lookup) in lookups.iter().enumerate() {
         if ended.is_of(lookup) {

@@ -1,8 +1,8 @@
 use Rattle.std.proofs.Common.{◌∙◌, ap, arith, not}
 use Rattle.std.proofs.lemmas.Grind.{common_steps}
 use Rattle.chord_judge.specs.Inside.{setup_of}
-use Rattle.chord_judge.specs.Judged.{is_of, open_after}
-use Rattle.chord_judge.proofs.InProgress.{askers_filter}
+use Rattle.chord_judge.specs.Judged.{is_ended_by, is_of, open_after}
+use Rattle.chord_judge.proofs.InProgress.{any_first, any_none, askers_filter}
 use Rattle.chord_judge.proofs.Judgements.{found_row, none_begun, same_answer}
 use Rattle.chord_scenario.specs.World.{node_count}
 use Rattle.chord_trace.specs.Kinds.{is_lookup}
@@ -34,3 +34,25 @@ returns-in_ok-push_row-in-Found-clause-rows c = λ lines has.
     (same_answer old c.end.new.self lines answer f.key lookup.begun f.owner f.hops f.timeouts c.in_ok-lookup-in-Found.ensures.members c.in_ok-lookup-in-Found.ensures.changes has
     c.answer-answer.ensures)
     c.in_ok-push_row-in-Found.ensures
+
+pub returns-in_ok-push_row-in-Found-clause-known : goal.returns-in_ok-push_row-in-Found-clause-known
+returns-in_ok-push_row-in-Found-clause-known c = λ lines has.
+    let told = c.args.told in let end = c.in-Found in
+    rw end.is (any_first (is_ended_by told.node end.key told.time end.us) c.in_ok-lookup-in-Found.lookup (open_after lines)
+    (c.in_ok-lookup-in-Found.ensures.taken (open_after lines) has.lookups))
+
+pub returns-in_err-lookup-in-Found-clause-unknown : goal.returns-in_err-lookup-in-Found-clause-unknown
+returns-in_err-lookup-in-Found-clause-unknown c = λ _ lines has.
+    let told = c.args.told in let end = c.in-Found in
+    rw end.is (any_none (is_ended_by told.node end.key told.time end.us) (open_after lines) (c.in_err-lookup-in-Found.ensures.none (open_after lines) has.lookups))
+
+pub returns-in_ok-push_row-in-Lost-clause-known : goal.returns-in_ok-push_row-in-Lost-clause-known
+returns-in_ok-push_row-in-Lost-clause-known c = λ lines has.
+    let told = c.args.told in let end = c.in-Lost in
+    rw end.is (any_first (is_ended_by told.node end.key told.time end.us) c.in_ok-lookup-in-Lost.lookup (open_after lines)
+    (c.in_ok-lookup-in-Lost.ensures.taken (open_after lines) has.lookups))
+
+pub returns-in_err-lookup-in-Lost-clause-unknown : goal.returns-in_err-lookup-in-Lost-clause-unknown
+returns-in_err-lookup-in-Lost-clause-unknown c = λ _ lines has.
+    let told = c.args.told in let end = c.in-Lost in
+    rw end.is (any_none (is_ended_by told.node end.key told.time end.us) (open_after lines) (c.in_err-lookup-in-Lost.ensures.none (open_after lines) has.lookups))
