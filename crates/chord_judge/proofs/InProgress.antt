@@ -1,15 +1,13 @@
 -- The lookups in progress, node by node.
-use Rattle.std.proofs.Common.{◌≡◌, ◌⊎◌, inl, inr, ℕ, zero, suc, ◌+◌, ◌==◌, ◌<◌, ◌≤◌, ◌&&◌, Bool, true, false, cond, not, nat_lt, List, [], ◌∷◌, ◌++◌, Vec, Global, filter, length, set, get_or, refl, sym, ap, ◌∙◌, subst, arith, append-nil, count_by, Option, Some, None, IfNone}
-use Rattle.std.specs.List.{All, AllByRecursion, flat_map, list_any}
-use Rattle.std.specs.List.Sorted.{IsNonDecreasingBy, IsPermutation}
-use Rattle.std.proofs.lemmas.Bool.{and_parts, cases_Bool, cases_eq, eq-eqb, eqb-true, false≢true, ne_eqb}
-use Rattle.std.proofs.lemmas.Bool.Decides.{nat_tests}
+use Rattle.std.proofs.Common.{◌≡◌, ◌⊎◌, inl, inr, ℕ, ◌+◌, ◌==◌, ◌<◌, ◌&&◌, Bool, true, false, cond, not, List, [], ◌∷◌, ◌++◌, Vec, Global, filter, length, set, get_or, refl, sym, ap, ◌∙◌, arith, append-nil, count_by, Option, Some, None, IfNone}
+use Rattle.std.specs.List.{All, list_any}
+use Rattle.std.proofs.lemmas.Bool.{and_parts, cases_eq, eq-eqb, eqb-true, false≢true, ne_eqb}
 use Rattle.std.proofs.lemmas.List.{get_or-set_other, get_or-set_same, length-set}
 use Rattle.std.proofs.lemmas.List.Elements.{All-cons, All-filter, All-head, All-push, All-tail, filter-append}
 use Rattle.std.proofs.lemmas.List.Sums.{sum_by-cons}
 use Rattle.chord_event.specs.declared.line.Line.{Line}
 use Rattle.chord_event.specs.declared.line.Line.TheVariants as line
-use Rattle.chord_judge.specs.Judged.{first_alone, is_begin, is_ended_by, is_of, open_after, open_by, without_first}
+use Rattle.chord_judge.specs.Judged.{first_alone, is_begin, is_ended_by, is_of, open_by, without_first}
 use Rattle.chord_judge.specs.declared.row.Lookup.{Lookup}
 use Rattle.chord_judge.specs.declared.told.Told.{Told}
 use Rattle.chord_trace.specs.Kinds.{is_lookup}

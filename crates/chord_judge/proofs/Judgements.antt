@@ -1,5 +1,5 @@
 -- What a judge holds and writes after a line.
-use Rattle.std.proofs.Common.{◌≡◌, ◌∙◌, sym, ap, subst, ℕ, ◌+◌, Bool, false, cond, List, [], ◌∷◌, ◌++◌, map, arith, count_by}
+use Rattle.std.proofs.Common.{◌≡◌, ◌∙◌, sym, ap, subst, ℕ, false, cond, List, [], ◌∷◌, ◌++◌, map, arith, count_by}
 use Rattle.chord_event.specs.declared.line.Line.{Line}
 use Rattle.chord_event.specs.declared.line.Line.TheVariants as line
 use Rattle.chord_judge.specs.Inside.{HasRead, HoldMembers, changes_after, setup_of}

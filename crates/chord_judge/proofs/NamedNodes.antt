@@ -1,5 +1,5 @@
 -- The nodes by their names.
-use Rattle.std.proofs.Common.{◌≡◌, ◌∙◌, sym, ap, ℕ, zero, suc, ◌+◌, ◌<◌, cond, List, [], ◌∷◌, Vec, Bool, Ordering, nat_cmp, Global, Option, Some, bytes_eq, drop, length, option_map, unwrap_or, arith, refl}
+use Rattle.std.proofs.Common.{◌≡◌, ◌∙◌, sym, ap, ℕ, zero, suc, ◌+◌, ◌<◌, cond, List, [], ◌∷◌, Vec, Bool, Ordering, nat_cmp, Global, Some, bytes_eq, drop, length, option_map, unwrap_or, arith, refl}
 use native.Mathlib.Numerals.{unary_clauses}
 use Rattle.std.specs.BTreeMap.{BTreeMap, insert_entry, is_at}
 use Rattle.std.specs.Cmp.Lexicographic.{slice_cmp}

@@ -1,7 +1,7 @@
 -- A line that a run writes is read as it was.
-use Rattle.std.proofs.Common.{◌≡◌, ◌∙◌, sym, ap, refl, ℕ, zero, suc, ◌+◌, ◌<◌, ◌≤◌, ◌^◌, ◌&&◌, Bool, true, false, not, List, [], ◌∷◌, ◌++◌, Option, Some, None, arith, length, inl, inr, bytes_eq, codes, append_assoc, option_map, unwrap_or}
+use Rattle.std.proofs.Common.{◌≡◌, ◌∙◌, sym, ap, refl, ℕ, zero, suc, ◌+◌, ◌<◌, ◌≤◌, ◌^◌, Bool, true, false, not, List, [], ◌∷◌, ◌++◌, Option, Some, None, arith, length, inl, inr, bytes_eq, codes, append_assoc, option_map, unwrap_or}
 use Rattle.std.specs.Fmt.{decimal}
-use Rattle.std.specs.List.{AllByRecursion, concat, list_all, slice_get}
+use Rattle.std.specs.List.{concat, list_all, slice_get}
 use Rattle.std.proofs.Math.Pow.{pow_mono}
 use Rattle.std.proofs.lemmas.Bool.{and_parts, cases_Bool}
 use Rattle.std.proofs.lemmas.List.{append_cancel_right}
@@ -15,11 +15,8 @@ use Rattle.chord_judge.specs.Words.{after_word, first_word, number_after, number
 use Rattle.chord_judge.specs.Written.{AreInRange, HasPlainNames, IsWritable, is_break, saying}
 use Rattle.chord_judge.specs.declared.lines.Kind.{Kind}
 use Rattle.chord_judge.specs.declared.lines.Kind.TheVariants as kind
-use Rattle.chord_judge.specs.declared.lines.Said.{Said}
 use Rattle.chord_judge.specs.declared.lines.Said.TheVariants as outcome
-use Rattle.chord_judge.specs.declared.told.Told.{Told}
 use Rattle.chord_judge.proofs.WordLemmas.{IsWord, after_word_alone, after_word_of, decimal_word, first_word_alone, first_word_of, number_after_read, number_read}
-use Rattle.chord_scenario.specs.Blocks.{nodes_named}
 use Rattle.chord_scenario.specs.Range.{IsInRange}
 use Rattle.chord_scenario.specs.Settings.{index_from}
 use Rattle.chord_scenario.specs.Setup.{Setup}

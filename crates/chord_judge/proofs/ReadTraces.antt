@@ -1,12 +1,11 @@
 -- The trace of a run is read as the lines that it was written from.
-use Rattle.std.proofs.Common.{◌≡◌, ◌∙◌, sym, ap, refl, subst, ℕ, ◌<◌, ◌==◌, ◌&&◌, Bool, true, false, not, List, [], ◌∷◌, ◌++◌, Option, Some, None, codes, append_assoc, append-nil, if◌then◌else◌}
+use Rattle.std.proofs.Common.{◌≡◌, ◌∙◌, sym, ap, refl, subst, ℕ, ◌<◌, ◌==◌, Bool, true, false, not, List, [], ◌∷◌, ◌++◌, Option, Some, None, codes, if◌then◌else◌}
 use Rattle.std.specs.Fmt.{decimal}
 use Rattle.std.specs.List.{All, AllByRecursion, concat, cons_option, filter_map, flat_map, list_all}
 use Rattle.std.proofs.lemmas.Bool.{and_parts}
 use Rattle.std.proofs.lemmas.List.Folds.{concat-append}
 use Rattle.std.proofs.lemmas.List.Elements.{All-append, All-cons, All-head, All-nil, All-tail}
 use Rattle.chord_audit.specs.declared.audit_line.AuditLine.{AuditLine}
-use Rattle.chord_event.specs.declared.block.Block.{Block}
 use Rattle.chord_event.specs.declared.line.CommandKind.{CommandKind}
 use Rattle.chord_event.specs.declared.line.CommandKind.TheVariants as command
 use Rattle.chord_event.specs.declared.line.Line.{Line}
@@ -28,7 +27,7 @@ use Rattle.chord_scenario.specs.Range.{IsInRange}
 use Rattle.chord_scenario.specs.Setup.{Setup}
 use Rattle.chord_scenario.specs.World.{name_of, node_count}
 use Rattle.chord_trace.specs.Pieces.{blocks_of}
-use Rattle.chord_trace.specs.Texts.{audit_text, block_text, command_text, line_text, line_words, message_text, message_words, piece_text, pieces_text, yes_or_no}
+use Rattle.chord_trace.specs.Texts.{audit_text, block_text, command_text, line_text, line_words, message_text, message_words, pieces_text, yes_or_no}
 use Rattle.chord_trace.specs.declared.piece.Piece.{Piece}
 use Rattle.chord_trace.specs.declared.piece.Piece.TheVariants as piece
 

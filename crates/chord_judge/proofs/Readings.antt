@@ -1,18 +1,16 @@
 -- What is read of a line is of the scenario.
-use Rattle.std.proofs.Common.{◌≡◌, ℕ, ◌^◌, ◌<◌, ◌&&◌, Bool, true, false, nat_lt, List, [], ◌∷◌, Option, Some, None, codes, length, option_map, subst, ◌==◌, refl, sym, ap, ◌∙◌, arith, inl, inr}
+use Rattle.std.proofs.Common.{◌≡◌, ℕ, ◌^◌, ◌<◌, ◌&&◌, false, nat_lt, List, [], ◌∷◌, Option, Some, None, codes, length, option_map, subst, ◌==◌, refl, arith, inl, inr}
 use Rattle.std.specs.Str.Parse.{digits_value}
 use Rattle.std.proofs.lemmas.Bool.{and_parts, cases_Bool, ltb-true}
 use Rattle.std.proofs.lemmas.Bool.Decides.{nat_tests}
 use Rattle.std.proofs.lemmas.List.Elements.{All-cons, All-nil}
 use Rattle.chord_event.specs.declared.line.Line.{Line}
 use Rattle.chord_event.specs.declared.line.Line.TheVariants as line
-use Rattle.chord_judge.specs.Lines.{IfTold}
-use Rattle.chord_judge.specs.Reading.{found_with, key_in, kind_named, line_alone, line_of, lost_with, node_named, said, said_of, said_with}
+use Rattle.chord_judge.specs.Reading.{found_with, key_in, line_alone, line_of, lost_with, node_named}
 use Rattle.chord_judge.specs.Tellings.{IsOnCircle, IsToldOf}
 use Rattle.chord_judge.specs.Words.{after_word, first_word, is_numeral, number_after, number_below}
 use Rattle.chord_judge.specs.declared.lines.Kind.{Kind}
 use Rattle.chord_judge.specs.declared.lines.Kind.TheVariants as kind
-use Rattle.chord_judge.specs.declared.told.Told.{Told}
 use Rattle.chord_scenario.specs.Blocks.{IsLineOf}
 use Rattle.chord_scenario.specs.Setup.{Setup}
 use Rattle.chord_scenario.specs.World.{node_count}

@@ -1,5 +1,5 @@
 -- The lines that a run writes, as a judge is to be told them.
-use Rattle.std.specs.Prelude.{◌≡◌, ℕ, ◌<◌, ◌^◌, ◌==◌, ◌||◌, Bool, false, true, List, [], ◌∷◌, Option, Some, None, if◌then◌else◌}
+use Rattle.std.specs.Prelude.{◌≡◌, ℕ, ◌<◌, ◌^◌, ◌==◌, ◌||◌, Bool, false, true, List, Option, Some, None, if◌then◌else◌}
 use Rattle.std.specs.List.{All, filter_map, flat_map}
 use Rattle.chord_event.specs.declared.block.Block.{Block}
 use Rattle.chord_event.specs.declared.line.Line.{Line}
@@ -7,7 +7,7 @@ use Rattle.chord_event.specs.declared.line.Line.TheVariants as line
 use Rattle.chord_judge.specs.declared.lines.Said.{Said}
 use Rattle.chord_judge.specs.declared.lines.Said.TheVariants as outcome
 use Rattle.chord_judge.specs.declared.told.Told.{Told}
-use Rattle.chord_scenario.specs.Blocks.{IsBlockOf, IsLineOf}
+use Rattle.chord_scenario.specs.Blocks.{IsLineOf}
 use Rattle.chord_scenario.specs.Setup.{Setup}
 use Rattle.chord_scenario.specs.World.{name_of, node_count}
 use Rattle.chord_trace.specs.Pieces.{blocks_of}

@@ -1,4 +1,4 @@
-use Rattle.std.proofs.Common.{◌∙◌, ap, sym}
+use Rattle.std.proofs.Common.{◌∙◌, ap}
 use Rattle.chord_judge.proofs.Streams.{line_taken, other_taken}
 use Rattle.chord_judge.proofs.stream.Stream.end_line.Goals.{in-Told+in-Ok, in-Other}
 use Rattle.chord_judge.proofs.stream.Stream.end_line.Goals as goal

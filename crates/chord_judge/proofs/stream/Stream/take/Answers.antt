@@ -1,4 +1,4 @@
-use Rattle.std.proofs.Common.{◌≡◌, ◌∙◌, ◌++◌, ◌+◌, ◌-◌, ◌==◌, ℕ, [], ◌∷◌, ap, sym, arith, refl, take, drop, length}
+use Rattle.std.proofs.Common.{◌≡◌, ◌++◌, ◌+◌, ◌-◌, ◌==◌, ℕ, [], ◌∷◌, ap, arith, refl, take, drop, length}
 use Rattle.std.proofs.lemmas.List.{take_all, take_rest}
 use Rattle.std.specs.List.{position_or_len}
 use Rattle.chord_judge.proofs.Streams.{after_end, after_feed, no_feed_in, part_taken, taken_as}
