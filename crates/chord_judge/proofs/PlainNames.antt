@@ -1,15 +1,20 @@
 -- The names of the nodes of an accepted scenario are plain.
 use Rattle.std.proofs.Common.{◌≡◌, ◌∙◌, sym, ap, subst, refl, ℕ, ◌<◌, ◌≤◌, ◌==◌, ◌&&◌, ◌||◌, Bool, true, false, not, nat_le, List, [], ◌∷◌, ◌++◌, Option, Some, None, inl, inr, arith, bytes_eq, codes, decimal, find, get_or, length, option_map, unwrap_or}
-use Rattle.std.specs.List.{AllByRecursion, list_all, range_with_len, slice_get}
+use Rattle.std.specs.List.{All, AllByRecursion, list_all, range_with_len, slice_get}
 use Rattle.std.proofs.lemmas.Bool.{and_parts, cases_Bool, eqb-true, false≢true}
 use Rattle.std.proofs.lemmas.List.Elements.{All-from_recursion}
 use Rattle.std.proofs.lemmas.Option.{same_Some, slice_get-get_or}
-use Rattle.chord_judge.specs.Written.{HasPlainNames, is_break}
+use Rattle.chord_judge.specs.Judged.{judged}
+use Rattle.chord_judge.specs.Table.{heading, rows_text}
+use Rattle.chord_judge.specs.Traces.{table_text}
+use Rattle.chord_judge.specs.Written.{HasPlainNames, IsWritableBlock, is_break, told_of}
 use Rattle.chord_judge.proofs.ReadBack.{joined}
+use Rattle.chord_judge.proofs.ReadTraces.{trace_judged}
 use Rattle.chord_judge.proofs.WordLemmas.{IsWord, decimal_word}
 use Rattle.chord_scenario.specs.Accepted.{Accepts, nodes_in}
 use Rattle.chord_scenario.specs.Faults.{bad_name, file_fault, first_answer, has_bad_name, is_name, is_name_byte, is_prefix, same_id, same_name}
 use Rattle.chord_scenario.specs.Groups.{key_questions, late_questions, node_questions}
+use Rattle.chord_scenario.specs.Range.{IsInRange}
 use Rattle.chord_scenario.specs.Rows.{rows_of}
 use Rattle.chord_scenario.specs.Sections.{Section, sections}
 use Rattle.chord_scenario.specs.Settings.{flags_at, index_of, name_at, node_of, nodes_at, nodes_of, numbered_node}
@@ -27,26 +32,21 @@ use Rattle.chord_scenario.proofs.FirstRepeat.{mapped_none}
 use Rattle.chord_scenario.proofs.LatencyFacts.{first_of}
 use Rattle.chord_scenario.proofs.Questions.{first_answer-append}
 use Rattle.chord_scenario.proofs.Scenarios.{node_questions-distinct, scenario_fault-file}
+use Rattle.chord_trace.specs.Pieces.{blocks_of}
+use Rattle.chord_trace.specs.Texts.{pieces_text}
+use Rattle.chord_trace.specs.declared.piece.Piece.{Piece}
 
--- the questions of an accepted scenario find no fault, in their three groups
-module _ (toml csv : List ℕ) (sc : Setup) (accepted : Accepts toml csv sc) where
-  pub record HasNoFaults : Type 0 where
-    pub keys : first_answer (key_questions (number_at key.Profile accepted.top) (number_at key.Bits accepted.top) (sections accepted.top)) ≡ None
-    pub nodes : first_answer (node_questions (sections accepted.top) (nodes_in accepted.top)) ≡ None
-    pub links : first_answer (late_questions accepted.top (sections accepted.top) (nodes_in accepted.top) (rows_of csv)) ≡ None
-
-  pub no_faults : HasNoFaults
-  unfolding file_fault
-  no_faults =
-      let top = accepted.top in
-      let none = sym (scenario_fault-file toml csv top accepted.is_document) ∙ accepted.no_fault in
-      let of_keys = key_questions (number_at key.Profile top) (number_at key.Bits top) (sections top) in
-      let of_nodes = node_questions (sections top) (nodes_in top) in
-      let of_links = late_questions top (sections top) (nodes_in top) (rows_of csv) in
-      let (keys, rest) = or_none (first_answer of_keys) (first_answer (of_nodes ++ of_links))
-      (sym (first_answer-append of_keys (of_nodes ++ of_links)) ∙ none) in
-      let (nodes, links) = or_none (first_answer of_nodes) (first_answer of_links) (sym (first_answer-append of_nodes of_links) ∙ rest) in
-      record { keys = keys; nodes = nodes; links = links }
+-- the questions of the nodes of an accepted scenario find no fault
+no_fault : (toml csv : List ℕ) (sc : Setup) (accepted : Accepts toml csv sc) → first_answer (node_questions (sections accepted.top) (nodes_in accepted.top)) ≡ None
+unfolding file_fault
+no_fault toml csv sc accepted =
+    let top = accepted.top in
+    let of_keys = key_questions (number_at key.Profile top) (number_at key.Bits top) (sections top) in
+    let of_nodes = node_questions (sections top) (nodes_in top) in
+    let of_links = late_questions top (sections top) (nodes_in top) (rows_of csv) in
+    let none = sym (scenario_fault-file toml csv top accepted.is_document) ∙ accepted.no_fault in
+    let after_keys = (or_none (first_answer of_keys) (first_answer (of_nodes ++ of_links)) (sym (first_answer-append of_keys (of_nodes ++ of_links)) ∙ none)).1 in
+    (or_none (first_answer of_nodes) (first_answer of_links) (sym (first_answer-append of_nodes of_links) ∙ after_keys)).0
 
 -- the bytes of names are neither spaces nor line feeds
 name_byte : (byte : ℕ) → is_name_byte byte ≡ true → is_break byte ≡ false
@@ -128,13 +128,13 @@ own_place sc i distinct within =
     ap (λ (o : Option Node). index_of (unwrap_or (option_map (λ (x : Node). x.name) o) []) sc.nodes) (slice_get-get_or sc.nodes i d within)
     ∙ index_of-own sc.nodes i d distinct within
 
--- the law
+-- the laws
 pub plain_names : (toml csv : List ℕ) (sc : Setup) → Accepts toml csv sc → HasPlainNames sc
 plain_names toml csv sc accepted =
     let ss = sections accepted.top in
     let nodes = nodes_in accepted.top in
     let same : sc.nodes ≡ nodes = ap (λ (s : Setup). s.nodes) accepted.is_setup.values in
-    let none = (no_faults toml csv sc accepted).nodes in
+    let none = no_fault toml csv sc accepted in
     let distinct : same_name sc.nodes ≡ None = ap same_name same ∙ node_questions-distinct ss nodes none in
     let good = (or_none (bad_name ss) (first_answer (same_name nodes ∷ same_id nodes ∷ [])) none).0 in
     let named : AllByRecursion IsNamed sc.nodes = subst (AllByRecursion IsNamed) (sym same) (words_in (number_at key.Bits accepted.top) ss good) in
@@ -143,3 +143,7 @@ plain_names toml csv sc accepted =
       apart = λ i j at_i at_j alike. same_Some i j (sym (own_place sc i distinct at_i)
           ∙ ap (λ (name : List ℕ). index_of name sc.nodes) alike ∙ own_place sc j distinct at_j);
     }
+
+pub accepted_trace_judged : (toml csv : List ℕ) (sc : Setup) → Accepts toml csv sc → IsInRange sc → (pieces : List Piece)
+    → All (IsWritableBlock sc) (blocks_of pieces) → table_text sc (pieces_text sc pieces) ≡ heading ++ rows_text sc (judged sc (told_of pieces))
+accepted_trace_judged toml csv sc accepted range = trace_judged sc range (plain_names toml csv sc accepted)

@@ -43,12 +43,17 @@ pub fn traces_are_readable()
     ensures { (sc : Setup) → IsInRange sc → HasPlainNames sc → (pieces : List Piece) → All (IsWritableBlock sc) (blocks_of pieces) → IsReadable sc (pieces_text sc pieces) }
 {}
 
+/// The table of the trace of a run is that of the lines of the run.
+pub fn traces_are_judged_as_written()
+    ensures { (sc : Setup) → IsInRange sc → HasPlainNames sc → (pieces : List Piece) → All (IsWritableBlock sc) (blocks_of pieces) → table_text sc (pieces_text sc pieces) ≡ heading ++ rows_text sc (judged sc (told_of pieces)) }
+{}
+
 /// The names of the nodes of an accepted scenario are plain.
 pub fn accepted_scenarios_have_plain_names()
     ensures { (toml csv : List ℕ) (sc : Setup) → Accepts toml csv sc → HasPlainNames sc }
 {}
 
-/// The table of the trace of a run is that of the lines of the run.
-pub fn traces_are_judged_as_written()
-    ensures { (sc : Setup) → IsInRange sc → HasPlainNames sc → (pieces : List Piece) → All (IsWritableBlock sc) (blocks_of pieces) → table_text sc (pieces_text sc pieces) ≡ heading ++ rows_text sc (judged sc (told_of pieces)) }
+/// The table of the trace of a run of an accepted scenario is that of the lines of the run.
+pub fn accepted_runs_are_judged_as_written()
+    ensures { (toml csv : List ℕ) (sc : Setup) → Accepts toml csv sc → IsInRange sc → (pieces : List Piece) → All (IsWritableBlock sc) (blocks_of pieces) → table_text sc (pieces_text sc pieces) ≡ heading ++ rows_text sc (judged sc (told_of pieces)) }
 {}

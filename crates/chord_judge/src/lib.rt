@@ -16,9 +16,9 @@ mod words;
 
 pub use judge::{Judge, JudgeFault};
 pub use laws::{
-    accepted_scenarios_have_plain_names, each_lookup_has_a_row, lines_are_read_as_written,
-    right_owners_are_unique, right_owners_pass_the_test_alone, traces_are_judged_as_written,
-    traces_are_readable,
+    accepted_runs_are_judged_as_written, accepted_scenarios_have_plain_names,
+    each_lookup_has_a_row, lines_are_read_as_written, right_owners_are_unique,
+    right_owners_pass_the_test_alone, traces_are_judged_as_written, traces_are_readable,
 };
 pub use lines::{Kind, Said};
 pub use row::{Answer, End, Lookup, Row};
