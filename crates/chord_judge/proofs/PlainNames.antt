@@ -37,7 +37,8 @@ use Rattle.chord_trace.specs.Texts.{pieces_text}
 use Rattle.chord_trace.specs.declared.piece.Piece.{Piece}
 
 -- the questions of the nodes of an accepted scenario find no fault
-no_fault : (toml csv : List ℕ) (sc : Setup) (accepted : Accepts toml csv sc) → first_answer (node_questions (sections accepted.top) (nodes_in accepted.top)) ≡ None
+no_fault : (toml csv : List ℕ) (sc : Setup) (accepted : Accepts toml csv sc)
+    → first_answer (node_questions (sections accepted.top) (nodes_in accepted.top)) ≡ None
 unfolding file_fault
 no_fault toml csv sc accepted =
     let top = accepted.top in
@@ -45,7 +46,8 @@ no_fault toml csv sc accepted =
     let of_nodes = node_questions (sections top) (nodes_in top) in
     let of_links = late_questions top (sections top) (nodes_in top) (rows_of csv) in
     let none = sym (scenario_fault-file toml csv top accepted.is_document) ∙ accepted.no_fault in
-    let after_keys = (or_none (first_answer of_keys) (first_answer (of_nodes ++ of_links)) (sym (first_answer-append of_keys (of_nodes ++ of_links)) ∙ none)).1 in
+    let later = of_nodes ++ of_links in
+    let after_keys = (or_none (first_answer of_keys) (first_answer later) (sym (first_answer-append of_keys later) ∙ none)).1 in
     (or_none (first_answer of_nodes) (first_answer of_links) (sym (first_answer-append of_nodes of_links) ∙ after_keys)).0
 
 -- the bytes of names are neither spaces nor line feeds
