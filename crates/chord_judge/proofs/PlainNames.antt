@@ -1,5 +1,5 @@
 -- The names of the nodes of an accepted scenario are plain.
-use Rattle.std.proofs.Common.{◌≡◌, ◌∙◌, sym, ap, subst, refl, ℕ, ◌<◌, ◌==◌, ◌&&◌, Bool, true, false, not, nat_le, List, [], ◌∷◌, ◌++◌, Option, Some, None, inl, inr, bytes_eq, codes, decimal, find, length, option_map, unwrap_or}
+use Rattle.std.proofs.Common.{◌≡◌, ◌∙◌, sym, ap, subst, refl, ℕ, ◌<◌, ◌≤◌, ◌==◌, ◌&&◌, Bool, true, false, not, nat_le, List, [], ◌∷◌, ◌++◌, Option, Some, None, inl, inr, bytes_eq, codes, decimal, find, length, option_map, unwrap_or}
 use Rattle.std.specs.List.{All, AllByRecursion, list_all, range_with_len, slice_get}
 use Rattle.std.proofs.lemmas.Bool.{and_parts, cases_Bool, eqb-true, false≢true}
 use Rattle.std.proofs.lemmas.List.Elements.{All-from_recursion}
@@ -14,7 +14,6 @@ use Rattle.chord_judge.proofs.WordLemmas.{IsWord, decimal_word}
 use Rattle.chord_scenario.specs.Accepted.{Accepts, nodes_in}
 use Rattle.chord_scenario.specs.Faults.{bad_name, file_fault, first_answer, has_bad_name, is_name, is_name_byte, is_prefix, same_id, same_name}
 use Rattle.chord_scenario.specs.Groups.{key_questions, late_questions, node_questions}
-use Rattle.chord_scenario.specs.Range.{IsInRange}
 use Rattle.chord_scenario.specs.Rows.{rows_of}
 use Rattle.chord_scenario.specs.Sections.{Section, sections}
 use Rattle.chord_scenario.specs.Settings.{flags_at, index_of, name_at, node_of, nodes_at, nodes_of, numbered_node}
@@ -29,6 +28,7 @@ use Rattle.chord_scenario.specs.declared.setting.Node.{Node}
 use Rattle.chord_scenario.proofs.DistinctNames.{index_of-own, or_none}
 use Rattle.chord_scenario.proofs.EachNode.{at_index, each-made, each-mapped}
 use Rattle.chord_scenario.proofs.FirstRepeat.{mapped_none}
+use Rattle.chord_scenario.proofs.InRange.{keys_fit}
 use Rattle.chord_scenario.proofs.LatencyFacts.{first_of}
 use Rattle.chord_scenario.proofs.Questions.{first_answer-append}
 use Rattle.chord_scenario.proofs.Scenarios.{node_questions-distinct, scenario_fault-file}
@@ -36,19 +36,24 @@ use Rattle.chord_trace.specs.Pieces.{blocks_of}
 use Rattle.chord_trace.specs.Texts.{pieces_text}
 use Rattle.chord_trace.specs.declared.piece.Piece.{Piece}
 
--- the questions of the nodes of an accepted scenario find no fault
-no_fault : (toml csv : List ℕ) (sc : Setup) (accepted : Accepts toml csv sc)
-    → first_answer (node_questions (sections accepted.top) (nodes_in accepted.top)) ≡ None
-unfolding file_fault
-no_fault toml csv sc accepted =
-    let top = accepted.top in
-    let of_keys = key_questions (number_at key.Profile top) (number_at key.Bits top) (sections top) in
-    let of_nodes = node_questions (sections top) (nodes_in top) in
-    let of_links = late_questions top (sections top) (nodes_in top) (rows_of csv) in
-    let none = sym (scenario_fault-file toml csv top accepted.is_document) ∙ accepted.no_fault in
-    let later = of_nodes ++ of_links in
-    let after_keys = (or_none (first_answer of_keys) (first_answer later) (sym (first_answer-append of_keys later) ∙ none)).1 in
-    (or_none (first_answer of_nodes) (first_answer of_links) (sym (first_answer-append of_nodes of_links) ∙ after_keys)).0
+-- the questions of the keys and of the nodes of an accepted scenario find no fault
+module _ (toml csv : List ℕ) (sc : Setup) (accepted : Accepts toml csv sc) where
+  record HasNoFaults : Type 0 where
+    keys : first_answer (key_questions (number_at key.Profile accepted.top) (number_at key.Bits accepted.top) (sections accepted.top)) ≡ None
+    nodes : first_answer (node_questions (sections accepted.top) (nodes_in accepted.top)) ≡ None
+
+  no_faults : HasNoFaults
+  unfolding file_fault
+  no_faults =
+      let top = accepted.top in
+      let of_keys = key_questions (number_at key.Profile top) (number_at key.Bits top) (sections top) in
+      let of_nodes = node_questions (sections top) (nodes_in top) in
+      let of_links = late_questions top (sections top) (nodes_in top) (rows_of csv) in
+      let none = sym (scenario_fault-file toml csv top accepted.is_document) ∙ accepted.no_fault in
+      let later = of_nodes ++ of_links in
+      let (keys, after_keys) = or_none (first_answer of_keys) (first_answer later) (sym (first_answer-append of_keys later) ∙ none) in
+      let nodes = (or_none (first_answer of_nodes) (first_answer of_links) (sym (first_answer-append of_nodes of_links) ∙ after_keys)).0 in
+      record { keys = keys; nodes = nodes }
 
 -- the bytes of names are neither spaces nor line feeds
 name_byte : (byte : ℕ) → is_name_byte byte ≡ true → is_break byte ≡ false
@@ -136,7 +141,7 @@ plain_names toml csv sc accepted =
     let ss = sections accepted.top in
     let nodes = nodes_in accepted.top in
     let same : sc.nodes ≡ nodes = ap (λ (s : Setup). s.nodes) accepted.is_setup.values in
-    let none = no_fault toml csv sc accepted in
+    let none = (no_faults toml csv sc accepted).nodes in
     let distinct : same_name sc.nodes ≡ None = ap same_name same ∙ node_questions-distinct ss nodes none in
     let good = (or_none (bad_name ss) (first_answer (same_name nodes ∷ same_id nodes ∷ [])) none).0 in
     let named : AllByRecursion IsNamed sc.nodes = subst (AllByRecursion IsNamed) (sym same) (words_in (number_at key.Bits accepted.top) ss good) in
@@ -146,6 +151,12 @@ plain_names toml csv sc accepted =
           ∙ ap (λ (name : List ℕ). index_of name sc.nodes) alike ∙ own_place sc j distinct at_j);
     }
 
-pub accepted_trace_judged : (toml csv : List ℕ) (sc : Setup) → Accepts toml csv sc → IsInRange sc → (pieces : List Piece)
+few_bits : (toml csv : List ℕ) (sc : Setup) → Accepts toml csv sc → sc.bits ≤ 128
+few_bits toml csv sc accepted =
+    let top = accepted.top in
+    subst (λ (n : ℕ). n ≤ 128) (sym (ap (λ (s : Setup). s.bits) accepted.is_setup.values))
+    (keys_fit (number_at key.Profile top) (number_at key.Bits top) top (no_faults toml csv sc accepted).keys).greatest
+
+pub accepted_trace_judged : (toml csv : List ℕ) (sc : Setup) → Accepts toml csv sc → (pieces : List Piece)
     → All (IsWritableBlock sc) (blocks_of pieces) → table_text sc (pieces_text sc pieces) ≡ heading ++ rows_text sc (judged sc (told_of pieces))
-accepted_trace_judged toml csv sc accepted range = trace_judged sc range (plain_names toml csv sc accepted)
+accepted_trace_judged toml csv sc accepted = trace_judged sc (few_bits toml csv sc accepted) (plain_names toml csv sc accepted)

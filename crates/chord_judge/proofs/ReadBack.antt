@@ -17,7 +17,6 @@ use Rattle.chord_judge.specs.declared.lines.Kind.{Kind}
 use Rattle.chord_judge.specs.declared.lines.Kind.TheVariants as kind
 use Rattle.chord_judge.specs.declared.lines.Said.TheVariants as outcome
 use Rattle.chord_judge.proofs.WordLemmas.{IsWord, after_word_alone, after_word_of, decimal_word, first_word_alone, first_word_of, number_after_read, number_read}
-use Rattle.chord_scenario.specs.Range.{IsInRange}
 use Rattle.chord_scenario.specs.Settings.{index_from}
 use Rattle.chord_scenario.specs.Setup.{Setup}
 use Rattle.chord_scenario.specs.World.{name_of, node_count}
@@ -99,7 +98,7 @@ words_text sc time node l = decimal time ++ 32 ∷ (name_of sc node ++ 32 ∷ li
 
 -- what is known of a line
 record Known (sc : Setup) (time node : ℕ) : Type 0 where
-  range : IsInRange sc
+  range : sc.bits ≤ 128
   plain : HasPlainNames sc
   early : time < 2 ^ 64
   there : node < node_count sc
@@ -152,9 +151,9 @@ timeouts_word n = joined (codes "timeouts=") (decimal n) (literal (codes "timeou
 us_word : (n : ℕ) → IsWord (us_text n)
 us_word n = joined (codes "us=") (decimal n) (literal (codes "us=") refl) (decimal_word n)
 
-key_read : (sc : Setup) (key : ℕ) → IsInRange sc → key < 2 ^ sc.bits → number_below (2 ^ sc.bits) (decimal key) ≡ Some key
+key_read : (sc : Setup) (key : ℕ) → sc.bits ≤ 128 → key < 2 ^ sc.bits → number_below (2 ^ sc.bits) (decimal key) ≡ Some key
 key_read sc key range low =
-    let few : 2 ^ sc.bits ≤ 2 ^ 128 = pow_mono range.numbers.bits_greatest in
+    let few : 2 ^ sc.bits ≤ 2 ^ 128 = pow_mono range in
     number_read (2 ^ sc.bits) key low (omega (arith, low, few))
 
 -- what is read of the end of a lookup with an answer
@@ -182,7 +181,7 @@ found_from sc t t1 t2 t3 t4 key owner hops timeouts a b c d e f g h =
         found_with (key_in sc a) (node_named sc b) (number_after (codes "hops=") (2 ^ 32) c) (number_after (codes "timeouts=") (2 ^ 32) d)
         (number_after (codes "us=") (2 ^ 64) e)
 
-found_read : (sc : Setup) (key owner hops timeouts us : ℕ) → IsInRange sc → HasPlainNames sc → owner < node_count sc → AreInRange sc key hops timeouts us
+found_read : (sc : Setup) (key owner hops timeouts us : ℕ) → sc.bits ≤ 128 → HasPlainNames sc → owner < node_count sc → AreInRange sc key hops timeouts us
     → found_in sc (found_text sc key owner hops timeouts us) ≡ Some (line.Found key owner hops timeouts us)
 found_read sc key owner hops timeouts us range plain within numbers =
     let t3 = timeouts_text timeouts ++ 32 ∷ us_text us in
@@ -225,7 +224,7 @@ lost_from sc t t1 t2 t3 key hops timeouts a b c e g h =
     read a c d e =
         lost_with (key_in sc a) (number_after (codes "hops=") (2 ^ 32) c) (number_after (codes "timeouts=") (2 ^ 32) d) (number_after (codes "us=") (2 ^ 64) e)
 
-lost_read : (sc : Setup) (key hops timeouts us : ℕ) → IsInRange sc → AreInRange sc key hops timeouts us
+lost_read : (sc : Setup) (key hops timeouts us : ℕ) → sc.bits ≤ 128 → AreInRange sc key hops timeouts us
     → lost_in sc (lost_text key hops timeouts us) ≡ Some (line.Lost key hops timeouts us)
 lost_read sc key hops timeouts us range numbers =
     let t2 = timeouts_text timeouts ++ 32 ∷ us_text us in
@@ -300,7 +299,7 @@ line_read sc time node (line.Ignored command) known fits = other sc time node (c
 pub written_text : (sc : Setup) (time node : ℕ) (l : Line) → line_text sc time node l ≡ words_text sc time node l ++ 10 ∷ []
 written_text sc time node l = simp append_assoc
 
-pub text_read : (sc : Setup) → IsInRange sc → HasPlainNames sc → (time node : ℕ) (l : Line) → IsWritable sc time node l
+pub text_read : (sc : Setup) → sc.bits ≤ 128 → HasPlainNames sc → (time node : ℕ) (l : Line) → IsWritable sc time node l
     → said sc (words_text sc time node l) ≡ saying time node l
 text_read sc range plain time node l fits = line_read sc time node l (record { range = range; plain = plain; early = fits.early; there = fits.there }) fits
 
@@ -321,7 +320,7 @@ audit_read sc audit =
     (joined (codes "members=") (decimal audit.members) (literal (codes "members=") refl) (decimal_word audit.members))
 
 -- the law
-pub read_back : (sc : Setup) → IsInRange sc → HasPlainNames sc → (time node : ℕ) (l : Line) (text : List ℕ) → IsWritable sc time node l
+pub read_back : (sc : Setup) → sc.bits ≤ 128 → HasPlainNames sc → (time node : ℕ) (l : Line) (text : List ℕ) → IsWritable sc time node l
     → line_text sc time node l ≡ text ++ codes "\n" → said sc text ≡ saying time node l
 read_back sc range plain time node l text fits is =
     let same : text ≡ words_text sc time node l = append_cancel_right text (words_text sc time node l) (10 ∷ []) (sym is ∙ written_text sc time node l) in

@@ -1,5 +1,5 @@
 -- The trace of a run is read as the lines that it was written from.
-use Rattle.std.proofs.Common.{◌≡◌, ◌∙◌, sym, ap, refl, subst, ℕ, ◌<◌, ◌==◌, Bool, true, false, not, List, [], ◌∷◌, ◌++◌, Option, Some, None, codes, if◌then◌else◌}
+use Rattle.std.proofs.Common.{◌≡◌, ◌∙◌, sym, ap, refl, subst, ℕ, ◌<◌, ◌≤◌, ◌==◌, Bool, true, false, not, List, [], ◌∷◌, ◌++◌, Option, Some, None, codes, if◌then◌else◌}
 use Rattle.std.specs.Fmt.{decimal}
 use Rattle.std.specs.List.{All, AllByRecursion, concat, cons_option, filter_map, flat_map, list_all}
 use Rattle.std.proofs.lemmas.Bool.{and_parts}
@@ -23,7 +23,6 @@ use Rattle.chord_judge.proofs.ReadBack.{audit_read, name_word, text_read, words_
 use Rattle.chord_judge.proofs.Streams.{HasNoFeed, lines_append, lines_none, rest_append, rest_grows, told_append}
 use Rattle.chord_judge.proofs.WordLemmas.{IsWord, decimal_word, no_feed}
 use Rattle.chord_scenario.specs.Blocks.{IsLineOf}
-use Rattle.chord_scenario.specs.Range.{IsInRange}
 use Rattle.chord_scenario.specs.Setup.{Setup}
 use Rattle.chord_scenario.specs.World.{name_of, node_count}
 use Rattle.chord_trace.specs.Pieces.{blocks_of}
@@ -205,7 +204,7 @@ told_as time node l = by_kind (is_judged l)
     by_kind true = refl
     by_kind false = refl
 
-line_whole : (sc : Setup) → IsInRange sc → HasPlainNames sc → (time node : ℕ) (l : Line) → IsWritable sc time node l
+line_whole : (sc : Setup) → sc.bits ≤ 128 → HasPlainNames sc → (time node : ℕ) (l : Line) → IsWritable sc time node l
     → IsWhole sc (line_text sc time node l) (cons_option (telling time node l) [])
 line_whole sc range plain time node l fits =
     subst (λ (t : List ℕ). IsWhole sc t (cons_option (telling time node l) [])) (sym (written_text sc time node l))
@@ -214,7 +213,7 @@ line_whole sc range plain time node l fits =
     (whole_line sc (words_text sc time node l) (line_feedless sc time node l plain fits)
     (subst IsLine (sym (text_read sc range plain time node l fits)) (says_something time node l))))
 
-lines_whole : (sc : Setup) → IsInRange sc → HasPlainNames sc → (time node : ℕ) (ls : List Line) → All (IsWritable sc time node) ls
+lines_whole : (sc : Setup) → sc.bits ≤ 128 → HasPlainNames sc → (time node : ℕ) (ls : List Line) → All (IsWritable sc time node) ls
     → IsWhole sc (flat_map (line_text sc time node) ls) (filter_map (telling time node) ls)
 lines_whole sc range plain time node [] fits = whole_none sc
 lines_whole sc range plain time node (l ∷ ls) fits =
@@ -279,7 +278,7 @@ audit_whole sc audit =
     (subst (λ (o : Option Told). IsWhole sc (text ++ 10 ∷ []) (cons_option o [])) (ap told_in (audit_read sc audit))
     (whole_line sc text plain (subst IsLine (sym (audit_read sc audit)) tt)))
 
-pieces_whole : (sc : Setup) → IsInRange sc → HasPlainNames sc → (pieces : List Piece) → All (IsWritableBlock sc) (blocks_of pieces)
+pieces_whole : (sc : Setup) → sc.bits ≤ 128 → HasPlainNames sc → (pieces : List Piece) → All (IsWritableBlock sc) (blocks_of pieces)
     → IsWhole sc (pieces_text sc pieces) (told_of pieces)
 pieces_whole sc range plain [] fits = whole_none sc
 pieces_whole sc range plain (piece.OfEvent block ∷ pieces) fits =
@@ -290,14 +289,14 @@ pieces_whole sc range plain (piece.OfAudit audit ∷ pieces) fits =
     whole_then sc (audit_text audit) (pieces_text sc pieces) [] (told_of pieces) (audit_whole sc audit) (pieces_whole sc range plain pieces fits)
 
 -- the laws
-pub trace_read : (sc : Setup) → IsInRange sc → HasPlainNames sc → (pieces : List Piece) → All (IsWritableBlock sc) (blocks_of pieces)
+pub trace_read : (sc : Setup) → sc.bits ≤ 128 → HasPlainNames sc → (pieces : List Piece) → All (IsWritableBlock sc) (blocks_of pieces)
     → told_lines sc (pieces_text sc pieces) ≡ told_of pieces
 trace_read sc range plain pieces fits = (pieces_whole sc range plain pieces fits).told
 
-pub trace_judged : (sc : Setup) → IsInRange sc → HasPlainNames sc → (pieces : List Piece) → All (IsWritableBlock sc) (blocks_of pieces)
+pub trace_judged : (sc : Setup) → sc.bits ≤ 128 → HasPlainNames sc → (pieces : List Piece) → All (IsWritableBlock sc) (blocks_of pieces)
     → table_text sc (pieces_text sc pieces) ≡ heading ++ rows_text sc (judged sc (told_of pieces))
 trace_judged sc range plain pieces fits = ap (λ (t : List Told). heading ++ rows_text sc (judged sc t)) (trace_read sc range plain pieces fits)
 
-pub trace_readable : (sc : Setup) → IsInRange sc → HasPlainNames sc → (pieces : List Piece) → All (IsWritableBlock sc) (blocks_of pieces)
+pub trace_readable : (sc : Setup) → sc.bits ≤ 128 → HasPlainNames sc → (pieces : List Piece) → All (IsWritableBlock sc) (blocks_of pieces)
     → IsReadable sc (pieces_text sc pieces)
 trace_readable sc range plain pieces fits = (pieces_whole sc range plain pieces fits).readable

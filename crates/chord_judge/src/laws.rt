@@ -55,5 +55,5 @@ pub fn accepted_scenarios_have_plain_names()
 
 /// The table of the trace of a run of an accepted scenario is that of the lines of the run.
 pub fn accepted_runs_are_judged_as_written()
-    ensures { (toml csv : List ℕ) (sc : Setup) → Accepts toml csv sc → IsInRange sc → (pieces : List Piece) → All (IsWritableBlock sc) (blocks_of pieces) → table_text sc (pieces_text sc pieces) ≡ heading ++ rows_text sc (judged sc (told_of pieces)) }
+    ensures { (toml csv : List ℕ) (sc : Setup) → Accepts toml csv sc → (pieces : List Piece) → All (IsWritableBlock sc) (blocks_of pieces) → table_text sc (pieces_text sc pieces) ≡ heading ++ rows_text sc (judged sc (told_of pieces)) }
 {}
