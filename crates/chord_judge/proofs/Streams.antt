@@ -1,5 +1,5 @@
 -- What a stream holds after more of a text.
-use Rattle.std.proofs.Common.{◌≡◌, ◌∙◌, sym, ap, refl, subst, ℕ, suc, ◌+◌, ◌<◌, ◌≤◌, ◌==◌, Bool, true, false, cond, not, List, [], ◌∷◌, ◌++◌, Option, Some, None, arith, reverse, string_bytes, append_assoc, append-nil, length, take, drop, get_or, map, Result, Ok, Err, OnOk}
+use Rattle.std.proofs.Common.{◌≡◌, ◌∙◌, sym, ap, refl, subst, ℕ, suc, ◌+◌, ◌<◌, ◌≤◌, ◌==◌, Bool, true, false, cond, not, List, [], ◌∷◌, ◌++◌, Option, Some, None, arith, reverse, string_bytes, append_assoc, append-nil, length, take, drop, get_or, map, min, length-append, take-append-drop, ◌-◌, ◌^◌, Result, Ok, Err, OnOk}
 use Rattle.std.specs.List.{All, AllByRecursion, cons_option, filter_map, position_or_len}
 use Rattle.std.proofs.KnownBytes.{Appends-nil, Appends-trans, Consumes-kept, Consumes-nil, Consumes-trans}
 use Rattle.std.proofs.Math.Seq.{take-add}
@@ -14,7 +14,7 @@ use Rattle.chord_judge.specs.Judged.{is_known, open_after, rows_after, rows_by}
 use Rattle.chord_judge.specs.Reading.{said}
 use Rattle.chord_judge.specs.Table.{heading, row_text, rows_text}
 use Rattle.chord_judge.specs.Taken.{HasTaken}
-use Rattle.chord_judge.specs.Traces.{AreKnown, IsLine, WasBegun, WasJudged, lines_from, rest_from, table_text, told_in, told_lines}
+use Rattle.chord_judge.specs.Traces.{AreKnown, EndsRefused, HasRefused, IsLine, WasBegun, WasJudged, WasRefused, lines_from, rest_from, table_text, told_in, told_lines}
 use Rattle.chord_judge.specs.declared.judge.Judge.{Judge}
 use Rattle.chord_judge.specs.declared.lines.Said.{Said}
 use Rattle.chord_judge.specs.declared.lines.Said.TheVariants as outcome
@@ -86,14 +86,15 @@ lines_part text part h =
 
 -- more bytes of a line
 pub part_taken : (sc : Setup) (text written part : List ℕ) (s s2 : Stream) → HasNoFeed part → HasTaken sc text written s → s2.judge ≡ s.judge
-    → s2.line.items ≡ s.line.items ++ part → s2.rows ≡ s.rows → s2.text ≡ s.text → HasTaken sc (text ++ part) written s2
-part_taken sc text written part s s2 plain has judge line rows table =
+    → s2.line.items ≡ s.line.items ++ part → s2.rows ≡ s.rows → s2.text ≡ s.text → s2.lines ≡ s.lines → HasTaken sc (text ++ part) written s2
+part_taken sc text written part s s2 plain has judge line rows table count =
     let same = told_part sc text part plain in
     record {
       setup = ap setup_of judge ∙ has.setup;
       judge = rw (same, judge) has.judge;
       readable = subst (All (λ (l : List ℕ). IsLine (said sc l))) (sym (lines_part text part plain)) has.readable;
       known = subst (λ (t : List Told). AreKnown (reverse t)) (sym same) has.known;
+      count = count ∙ has.count ∙ ap (λ (ls : List (List ℕ)). min (length ls) (2 ^ 64 - 1)) (sym (lines_part text part plain));
       line = line ∙ ap (λ (l : List ℕ). l ++ part) has.line ∙ sym (rest_grows (rest_from [] text) part plain) ∙ sym (rest_append [] text part);
       rows = ap (λ r. r.items) rows ∙ has.rows;
       table = rw (same, table) has.table;
@@ -101,12 +102,12 @@ part_taken sc text written part s s2 plain has judge line rows table =
 
 -- the end of a line
 feed_taken : (sc : Setup) (text written : List ℕ) (o : Said) (s s2 : Stream) (rows : List Row) (lines : List Told) → HasTaken sc text written s
-    → said sc (rest_from [] text) ≡ o → IsLine o → AreKnown lines
+    → said sc (rest_from [] text) ≡ o → IsLine o → AreKnown lines → s2.lines ≡ min (s.lines + 1) (2 ^ 64 - 1)
     → reverse (told_lines sc (text ++ 10 ∷ [])) ≡ lines → setup_of s2.judge ≡ sc → HasRead sc lines s2.judge → s2.line.items ≡ [] → s2.rows.items ≡ []
     → string_bytes s2.text ≡ string_bytes s.text ++ rows_text sc rows
     → rows_after sc lines ≡ rows_after sc (reverse (told_lines sc text)) ++ rows
     → HasTaken sc (text ++ 10 ∷ []) written s2
-feed_taken sc text written o s s2 rows lines has says is_line known told setup read line empty table more =
+feed_taken sc text written o s s2 rows lines has says is_line known count told setup read line empty table more =
     let before = rows_after sc (reverse (told_lines sc text)) in
     record {
       setup = setup;
@@ -114,6 +115,10 @@ feed_taken sc text written o s s2 rows lines has says is_line known told setup r
       readable = subst (All (λ (l : List ℕ). IsLine (said sc l))) (sym (lines_append [] text (10 ∷ [])))
           (All-push (λ (l : List ℕ). IsLine (said sc l)) (lines_from [] text) (rest_from [] text) has.readable (subst IsLine (sym says) is_line));
       known = subst AreKnown (sym told) known;
+      count =
+          let ended : lines_from [] (text ++ 10 ∷ []) ≡ lines_from [] text ++ rest_from [] text ∷ [] = lines_append [] text (10 ∷ []) in
+          let one : length (lines_from [] (text ++ 10 ∷ [])) ≡ length (lines_from [] text) + 1 = ap length ended ∙ length-append (lines_from [] text) (rest_from [] text ∷ []) in
+          omega (arith, count, has.count, one);
       line = line ∙ sym (rest_append [] text (10 ∷ []));
       rows = empty;
       table = rw told (
@@ -128,13 +133,13 @@ feed_taken sc text written o s s2 rows lines has says is_line known told setup r
 -- the end of a line that says nothing to a judge: `o` is what was read of it, in the scenario of the reader
 pub other_taken : (sc own : Setup) (text written line : List ℕ) (o : Said) (s s2 : Stream) (rows : List Row) → HasTaken sc text written s → own ≡ setup_of s.judge
     → o ≡ said own line → line ≡ s.line.items → o ≡ outcome.Other → s2.judge ≡ s.judge → s2.line.items ≡ [] → s2.rows.items ≡ []
-    → rows ≡ s.rows.items → string_bytes s2.text ≡ string_bytes s.text ++ rows_text own rows
+    → rows ≡ s.rows.items → string_bytes s2.text ≡ string_bytes s.text ++ rows_text own rows → s2.lines ≡ min (s.lines + 1) (2 ^ 64 - 1)
     → HasTaken sc (text ++ 10 ∷ []) written s2
-other_taken sc own text written line o s s2 rows has owner read of other judge ended empty none table =
+other_taken sc own text written line o s s2 rows has owner read of other judge ended empty none table count =
     let lines = reverse (told_lines sc text) in
     let is : said sc (rest_from [] text) ≡ outcome.Other =
     ap (λ (l : List ℕ). said sc l) (sym (of ∙ has.line)) ∙ ap (λ (u : Setup). said u line) (sym (owner ∙ has.setup)) ∙ sym read ∙ other in
-    feed_taken sc text written outcome.Other s s2 [] lines has is tt has.known (ap reverse (told_feed sc text None (ap told_in is) ∙ append-nil (told_lines sc text)))
+    feed_taken sc text written outcome.Other s s2 [] lines has is tt has.known count (ap reverse (told_feed sc text None (ap told_in is) ∙ append-nil (told_lines sc text)))
     (ap setup_of judge ∙ has.setup) (rw judge has.judge) ended empty
     (table ∙ ap (λ (r : List Row). string_bytes s.text ++ rows_text own r) (none ∙ has.rows))
     (sym (append-nil (rows_after sc lines)))
@@ -149,9 +154,9 @@ pub line_taken : (sc own : Setup) (text written line : List ℕ) (o : Said) (tol
     → ((lines : List Told) → HasRead (setup_of s.judge) lines s.judge → is_known told.line told.time told.node (open_after lines) ≡ true)
     → s2.judge ≡ judge → rows ≡ made
     → s2.line.items ≡ [] → s2.rows.items ≡ []
-    → string_bytes s2.text ≡ string_bytes s.text ++ rows_text own rows
+    → string_bytes s2.text ≡ string_bytes s.text ++ rows_text own rows → s2.lines ≡ min (s.lines + 1) (2 ^ 64 - 1)
     → HasTaken sc (text ++ 10 ∷ []) written s2
-line_taken sc own text written line o told s s2 judge rows made has owner read of is setup reads more knows now same ended empty table =
+line_taken sc own text written line o told s s2 judge rows made has owner read of is setup reads more knows now same ended empty table count =
     let lines = reverse (told_lines sc text) in
     let before : HasRead (setup_of s.judge) lines s.judge = subst (λ (u : Setup). HasRead u lines s.judge) (sym has.setup) has.judge in
     let after : HasRead sc (told ∷ lines) judge = subst (λ (u : Setup). HasRead u (told ∷ lines) judge) has.setup (reads lines before) in
@@ -161,7 +166,7 @@ line_taken sc own text written line o told s s2 judge rows made has owner read o
     same
     ∙ more lines before ∙ ap (λ (r : List Row). r ++ rows_by (setup_of s.judge) lines (open_after lines) told.line told.time told.node) has.rows
     ∙ ap (λ (u : Setup). rows_by u lines (open_after lines) told.line told.time told.node) has.setup in
-    feed_taken sc text written (outcome.Told told) s s2 rows (told ∷ lines) has says tt (knows lines before, has.known)
+    feed_taken sc text written (outcome.Told told) s s2 rows (told ∷ lines) has says tt (knows lines before, has.known) count
     (ap reverse (told_feed sc text (Some told) (ap told_in says)) ∙ reverse-append (told_lines sc text) (told ∷ []))
     (ap setup_of now ∙ setup ∙ has.setup) (subst (HasRead sc (told ∷ lines)) (sym now) after) ended empty
     (table ∙ ap (λ (u : Setup). string_bytes s.text ++ rows_text u rows) (owner ∙ has.setup))
@@ -341,3 +346,25 @@ way_begun sc unread old s taken = record { text = []; written = []; read = Consu
 pub on_ok : {A E : Type 0} (P Q : Type 0) (r : Result A E) → (P → Q) → OnOk r P → OnOk r Q
 on_ok P Q (Ok x) f p = f p
 on_ok P Q (Err e) f p = tt
+
+-- the line at whose end a piece has this line feed is refused
+pub piece_refused : (sc : Setup) (text piece rest : List ℕ) (start n number : ℕ) → rest ≡ drop start piece → n ≡ position_or_len (λ (byte : ℕ). byte == 10) rest
+    → n < length rest → EndsRefused sc ((text ++ take start piece) ++ take n rest) number → HasRefused sc (text ++ piece) number
+piece_refused sc text piece rest start n number same is within ends =
+    let k = start + (n + 1) in
+    let before = (text ++ take start piece) ++ take n rest in
+    record {
+      before = before;
+      more = drop k piece;
+      parts = ap (λ (l : List ℕ). text ++ l) (sym (take-append-drop k piece))
+          ∙ sym (append_assoc text (take k piece) (drop k piece))
+          ∙ ap (λ (l : List ℕ). l ++ drop k piece) (sym (after_feed text piece rest start n same is within))
+          ∙ append_assoc before (10 ∷ []) (drop k piece);
+      ends = ends;
+    }
+
+-- a piece that was read has the line
+pub refused_after : (sc : Setup) (unread left next old new : Option (List ℕ)) (s : Stream) (more : List ℕ) (number : ℕ) (way : IsUnderWay sc unread left old new s)
+    → Consumes left next more → HasRefused sc (way.text ++ more) number → WasRefused sc number unread next
+refused_after sc unread left next old new s more number way consumed refused =
+    record { text = way.text ++ more; read = Consumes-trans unread left next way.text more way.read consumed; refused = refused }

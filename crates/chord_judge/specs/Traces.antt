@@ -1,5 +1,5 @@
 -- What the text of a trace says, and the table of its lookups.
-use Rattle.std.specs.Prelude.{◌≡◌, ℕ, ◌==◌, true, cond, reverse, List, [], ◌∷◌, ◌++◌, Option, Some, None}
+use Rattle.std.specs.Prelude.{◌≡◌, ℕ, ◌+◌, ◌-◌, ◌^◌, ◌==◌, Bool, false, true, cond, length, min, not, reverse, List, [], ◌∷◌, ◌++◌, Option, Some, None}
 use Rattle.std.specs.Io.KnownBytes.{Appends, Consumes, IsAtEnd}
 use Rattle.std.specs.List.{All, filter_map}
 use Rattle.des_output.specs.Writing.{AppendsFront}
@@ -49,6 +49,33 @@ told_lines sc text = filter_map (λ line. told_in (said sc line)) (lines_from []
 -- the table of the lookups of a trace: its heading, and a row for each lookup
 abbrev pub table_text : Setup → List ℕ → List ℕ
 table_text sc text = heading ++ rows_text sc (judged sc (told_lines sc text))
+
+-- a judge refuses a line after these ones, the newest first: it says nothing, or ends a lookup that is not in progress
+abbrev pub is_refused : Said → List Told → Bool
+is_refused outcome.Nothing before = true
+is_refused outcome.Other before = false
+is_refused (outcome.Told told) before = not (is_known told.line told.time told.node (open_after before))
+
+-- a text ends in the first line that is refused, without its line feed; the line has this number, counted from 1, and the
+-- greatest number of 64 bits if it is the line of a greater one
+pub record EndsRefused (sc : Setup) (text : List ℕ) (number : ℕ) : Type 0 where
+  pub readable : IsReadable sc text
+  pub known : AreKnown (reverse (told_lines sc text))
+  pub refused : is_refused (said sc (rest_from [] text)) (reverse (told_lines sc text)) ≡ true
+  pub counted : number ≡ min (length (lines_from [] text) + 1) (2 ^ 64 - 1)
+
+-- a text has a line that is refused, and the first one has this number
+pub record HasRefused (sc : Setup) (text : List ℕ) (number : ℕ) : Type 0 where
+  pub before : List ℕ
+  pub more : List ℕ
+  pub parts : text ≡ before ++ 10 ∷ more
+  pub ends : EndsRefused sc before number
+
+-- a text was read, and the first of its lines that is refused has this number
+pub record WasRefused (sc : Setup) (number : ℕ) (unread left : Option (List ℕ)) : Type 0 where
+  pub text : List ℕ
+  pub read : Consumes unread left text
+  pub refused : HasRefused sc text number
 
 -- a text was read, and a beginning of the table of its lookups was written: all of it, some or none
 pub record WasBegun (sc : Setup) (unread left : Option (List ℕ)) (old new : Option (List ℕ)) : Type 0 where

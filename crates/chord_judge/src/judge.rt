@@ -82,7 +82,7 @@ impl<'a> Judge<'a> {
     }
 
     /// Takes the next line, and adds the rows of the lookups that it ends.
-    #[tactic(auto, using(crate::proofs::InProgress::askers_filter, crate::proofs::InProgress::askers_without))]
+    #[tactic(auto, using(crate::proofs::InProgress::askers_without))]
     pub fn read(&mut self, told: Told, rows: &mut Vec<Row>) -> Result<(), JudgeFault>
         requires { IsToldOf (setup_of self.old) told }
         ensures setup { setup_of self.new ≡ setup_of self.old }

@@ -1,7 +1,7 @@
 //! From the text of a trace to the table of its lookups.
-ghost use Rattle.std.specs.Prelude.{◌≡◌, OnOk, false};
+ghost use Rattle.std.specs.Prelude.{◌≡◌, ℕ, Err, OnOk, false};
 ghost use Rattle.chord_judge.specs.Inside.{setup_of};
-ghost use Rattle.chord_judge.specs.Traces.{WasBegun, WasJudged};
+ghost use Rattle.chord_judge.specs.Traces.{WasBegun, WasJudged, WasRefused};
 ghost use Rattle.des_output.specs.Watched.{has_failed, wrapped};
 
 use crate::judge::{Judge, JudgeFault};
@@ -24,17 +24,26 @@ pub enum TableFault {
     Read,
     /// The writer of the table failed.
     Write,
-    /// The line of this number, counted from 1, is none that a run of the scenario writes.
+    /// The line of this number, counted from 1, says nothing, or ends a lookup that is not in
+    /// progress: no run of the scenario writes it.
     Line(u64),
 }
 
 impl From<Memory> for TableFault {
+    ghost use Rattle.chord_judge.specs.declared.stream.TableFault.TheVariants.{Memory};
+
+    ghost from_gives = { λ _ fault. fault ≡ Memory };
+
     fn from(_error: Memory) -> TableFault {
         TableFault::Memory
     }
 }
 
 impl From<AllocError> for TableFault {
+    ghost use Rattle.chord_judge.specs.declared.stream.TableFault.TheVariants.{Memory};
+
+    ghost from_gives = { λ _ fault. fault ≡ Memory };
+
     fn from(_error: AllocError) -> TableFault {
         TableFault::Memory
     }
@@ -52,6 +61,7 @@ pub fn judge_trace<R: Read, W: Write>(
 ) -> Result<(), TableFault>
     requires { has_failed output.old ≡ false }
     ensures beginning { WasBegun scenario.now (R.remaining (wrapped trace.old)) (R.remaining (wrapped trace.new)) (W.contents (wrapped output.old)) (W.contents (wrapped output.new)) }
+    ensures refused { (number : ℕ) → result ≡ Err (TableFault.Line number) → WasRefused scenario.now number (R.remaining (wrapped trace.old)) (R.remaining (wrapped trace.new)) }
     ensures whole { OnOk result (WasJudged scenario.now (R.remaining (wrapped trace.old)) (R.remaining (wrapped trace.new)) (W.contents (wrapped output.old)) (W.contents (wrapped output.new))) }
 {
     let mut stream = Stream::new(alloc, scenario)?;
@@ -76,18 +86,19 @@ pub(crate) struct Stream<'a> {
 }
 
 impl<'a> Stream<'a> {
-    ghost use Rattle.std.specs.Prelude.{◌≡◌, ◌<◌, ◌++◌, [], ◌∷◌, ℕ, List, OnOk, IfOk, length, string_bytes};
+    ghost use Rattle.std.specs.Prelude.{◌≡◌, ◌≢◌, ◌<◌, ◌++◌, [], ◌∷◌, ℕ, List, Err, OnOk, IfErr, IfOk, length, string_bytes};
     ghost use Rattle.std.specs.Io.KnownBytes.{Appends};
     ghost use Rattle.chord_judge.specs.Inside.{setup_of};
     ghost use Rattle.chord_judge.specs.Taken.{HasTaken};
-    ghost use Rattle.chord_judge.specs.Traces.{WasBegun, WasJudged, table_text};
+    ghost use Rattle.chord_judge.specs.Traces.{EndsRefused, HasRefused, WasBegun, WasJudged, WasRefused, table_text};
     ghost use Rattle.chord_scenario.specs.Setup.{Setup};
     ghost use Rattle.des_output.specs.Watched.{has_failed, wrapped};
     ghost use Rattle.des_output.specs.Writing.{AppendsFront};
 
     /// A stream that has taken nothing yet, with the heading to be written.
     fn new(alloc: Global, scenario: &'a Scenario) -> Result<Stream<'a>, TableFault>
-        ensures { IfOk result (HasTaken scenario.entry.now [] []) }
+        ensures taken { IfOk result (HasTaken scenario.entry.now [] []) }
+        ensures memory { IfErr result (λ fault. fault ≡ TableFault.Memory) }
     {
         Ok(Stream {
             judge: Judge::new(alloc, scenario)?,
@@ -111,6 +122,7 @@ impl<'a> Stream<'a> {
         requires begun { HasTaken (setup_of self.old.judge) [] [] self.old }
         requires sound { has_failed output.old ≡ false }
         ensures beginning { WasBegun (setup_of self.old.judge) (R.remaining (wrapped trace.old)) (R.remaining (wrapped trace.new)) (W.contents (wrapped output.old)) (W.contents (wrapped output.new)) }
+        ensures refused { (number : ℕ) → result ≡ Err (TableFault.Line number) → WasRefused (setup_of self.old.judge) number (R.remaining (wrapped trace.old)) (R.remaining (wrapped trace.new)) }
         ensures whole { OnOk result (WasJudged (setup_of self.old.judge) (R.remaining (wrapped trace.old)) (R.remaining (wrapped trace.new)) (W.contents (wrapped output.old)) (W.contents (wrapped output.new))) }
     {
         for _ in 0..u64::MAX {
@@ -130,7 +142,8 @@ impl<'a> Stream<'a> {
 
     /// Takes a piece of the trace.
     fn take(&mut self, piece: &[u8]) -> Result<(), TableFault>
-        ensures { OnOk result ((sc : Setup) (text written : List ℕ) → HasTaken sc text written self.old → HasTaken sc (text ++ piece.now) written self.new) }
+        ensures taken { OnOk result ((sc : Setup) (text written : List ℕ) → HasTaken sc text written self.old → HasTaken sc (text ++ piece.now) written self.new) }
+        ensures refused { (number : ℕ) → result ≡ Err (TableFault.Line number) → (sc : Setup) (text written : List ℕ) → HasTaken sc text written self.old → HasRefused sc (text ++ piece.now) number }
     {
         let mut start = 0;
         while start < piece.len() {
@@ -147,7 +160,8 @@ impl<'a> Stream<'a> {
 
     /// Takes the line feed that ends a line.
     fn end_line(&mut self) -> Result<(), TableFault>
-        ensures { OnOk result ((sc : Setup) (text written : List ℕ) → HasTaken sc text written self.old → HasTaken sc (text ++ 10 ∷ []) written self.new) }
+        ensures taken { OnOk result ((sc : Setup) (text written : List ℕ) → HasTaken sc text written self.old → HasTaken sc (text ++ 10 ∷ []) written self.new) }
+        ensures refused { (number : ℕ) → result ≡ Err (TableFault.Line number) → (sc : Setup) (text written : List ℕ) → HasTaken sc text written self.old → EndsRefused sc text number }
     {
         self.lines = self.lines.saturating_add(1);
         match self.reader.read(self.line.as_slice()) {
@@ -167,7 +181,8 @@ impl<'a> Stream<'a> {
 
     /// Takes the end of the trace. A line that has no line feed is not taken.
     fn finish(&mut self, alloc: Global) -> Result<(), TableFault>
-        ensures { OnOk result ((sc : Setup) (text written : List ℕ) → HasTaken sc text written self.old → table_text sc text ≡ written ++ string_bytes self.new.text) }
+        ensures memory { IfErr result (λ fault. fault ≡ TableFault.Memory) }
+        ensures table { OnOk result ((sc : Setup) (text written : List ℕ) → HasTaken sc text written self.old → table_text sc text ≡ written ++ string_bytes self.new.text) }
     {
         self.judge.finish(alloc, &mut self.rows)?;
         push_rows_text(&mut self.text, self.reader.scenario, self.rows.as_slice())?;
@@ -178,6 +193,7 @@ impl<'a> Stream<'a> {
     fn write<W: Write>(&mut self, output: &mut Watched<W>) -> Result<(), TableFault>
         requires { has_failed output.old ≡ false }
         ensures sound { OnOk result (has_failed output.new ≡ false) }
+        ensures unrefused { (number : ℕ) → result ≢ Err (TableFault.Line number) }
         ensures front { AppendsFront (W.contents (wrapped output.old)) (W.contents (wrapped output.new)) (string_bytes self.old.text) }
         ensures whole { OnOk result (Appends (W.contents (wrapped output.old)) (W.contents (wrapped output.new)) (string_bytes self.old.text)) }
         ensures taken { OnOk result ((sc : Setup) (text written : List ℕ) → HasTaken sc text written self.old → HasTaken sc text (written ++ string_bytes self.old.text) self.new) }
