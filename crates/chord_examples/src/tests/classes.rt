@@ -56,7 +56,8 @@ fn is_fault<T: Abort + AllocGlobal>(rt: &T, fault: &ScenarioFault, wanted: &str)
 /// A name that a node or another class has too is found with its number among all nodes.
 #[test]
 fn repeated_names(rt: HostRuntime) {
-    let beside = "[[node]]\nname = \"a\"\n[[node]]\nname = \"n70000\"\n[[nodes]]\ncount = 70001\nprefix = \"n\"\n";
+    let beside =
+        "[[node]]\nname = \"a\"\n[[node]]\nname = \"n70000\"\n[[nodes]]\ncount = 70001\nprefix = \"n\"\n";
     is_refused(&rt, beside, "S7 SameName node 2 node 70003");
     let classes = "[[nodes]]\ncount = 12\nprefix = \"n\"\n[[nodes]]\ncount = 2\nprefix = \"n1\"\n";
     is_refused(&rt, classes, "S7 SameName node 11 node 13");
@@ -77,6 +78,10 @@ fn refused_classes(rt: HostRuntime) {
     is_refused(&rt, long.as_str(), "S6 BadName nodes 2");
     let one = "[[nodes]]\ncount = 1\nprefix = \"n\"\n";
     is_refused(&rt, one, "S5 OutOfRange nodes 1 count");
-    is_refused(&rt, "[[nodes]]\ncount = 2\n", "S3 MissingKey nodes 1 prefix");
+    is_refused(
+        &rt,
+        "[[nodes]]\ncount = 2\n",
+        "S3 MissingKey nodes 1 prefix",
+    );
     is_refused(&rt, "", "S3 MissingKey top node");
 }
