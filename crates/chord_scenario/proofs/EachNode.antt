@@ -1,5 +1,5 @@
 -- What holds of all that is made of each table.
-use Rattle.std.proofs.Common.{◌≡◌, ℕ, zero, suc, List, [], ◌∷◌, ◌++◌, map, replicate, slice_get, Some, subst}
+use Rattle.std.proofs.Common.{◌≡◌, ℕ, zero, suc, List, [], ◌∷◌, ◌++◌, map, slice_get, Some, subst}
 use Rattle.std.specs.List.{AllByRecursion, flat_map}
 use Rattle.std.proofs.lemmas.Option.{same_Some}
 
@@ -7,10 +7,6 @@ module _ {B : Type 0} (P : B → Type 0) where
   both : (xs ys : List B) → AllByRecursion P xs → AllByRecursion P ys → AllByRecursion P (xs ++ ys)
   both [] ys hx hy = hy
   both (x ∷ xs) ys hx hy = (hx.0, both xs ys hx.1 hy)
-
-  pub each-replicated : (n : ℕ) (x : B) → P x → AllByRecursion P (replicate n x)
-  each-replicated zero x h = tt
-  each-replicated (suc n) x h = (h, each-replicated n x h)
 
   pub at_index : (xs : List B) (i : ℕ) (x : B) → AllByRecursion P xs → slice_get xs i ≡ Some x → P x
   at_index [] i x h is = absurd (cc)

@@ -49,7 +49,7 @@ record IsFaultless (top : Members) (rows : List Row) : Type 0 where
   initial : too_few_initial (number_at key.Profile top == 4) (number_at key.List top) (nodes_in top) ≡ None
   in_time : time_after_end (number_at key.DurationUs top) (sections top) ≡ None
   good_rows : bad_latency_row rows ≡ None
-  far : below_window (number_at key.WindowUs top) (number_at key.LatencyUs top) (nodes_in top) (coordinates_of (sections top)) rows ≡ None
+  far : below_window (number_at key.WindowUs top) (number_at key.LatencyUs top) (nodes_in top) (coordinates_of (number_at key.Seed top) (sections top)) rows ≡ None
 
 faultless : (top : Members) (rows : List Row) → first_answer (node_questions (sections top) (nodes_in top)) ≡ None
     → first_answer (late_questions top (sections top) (nodes_in top) rows) ≡ None → IsFaultless top rows
@@ -134,7 +134,7 @@ module _ (profile : ℕ) (top : Members) (rows : List Row) (cells : List ℕ) (i
       let sound = holds_in_file (IsSound profile bits needs) top (sound_sections profile bits (sections top) keys) in
       let none = faultless top rows own late in
       let numbers = numbers_fit profile bits needs top sound.top is_profile (nodes_in top) (commands_in top) cells in
-      let coordinates = coordinates_fit profile bits needs sc bits (sections top) refl refl (sound_sections profile bits (sections top) keys) in
+      let coordinates = coordinates_fit profile bits needs sc bits (number_at key.Seed top) (sections top) refl refl (sound_sections profile bits (sections top) keys) in
       let enough : 2 ≤ node_count sc = two_nodes profile bits needs top sound bits in
       record {
         numbers = numbers;

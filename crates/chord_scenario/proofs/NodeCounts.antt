@@ -20,10 +20,16 @@ use Rattle.chord_scenario.specs.FileKeys.{key_name}
 use Rattle.chord_scenario.specs.KeyFaults.{has_wrong_type, is_listed, is_out_of_range}
 use Rattle.chord_scenario.specs.Values.{agrees, are_tables, as_whole, data_at, has_type, is_in_range, is_table, is_within, item_count, number_at}
 use Rattle.chord_scenario.specs.Sections.{Section, table_at, tables_among, tables_of, sections}
-use Rattle.chord_scenario.specs.Settings.{flags_at, name_at, nodes_at, nodes_of, numbered_node, size_at}
+use Rattle.chord_scenario.specs.Settings.{flags_at, name_at, nodes_at, nodes_of, numbered_node}
 use Rattle.chord_scenario.proofs.SoundSections.{IsSound, HoldsInFile, all-append}
 use Rattle.chord_scenario.proofs.Entries.{Lists, profile_cases, has_typed, not_out, not_wrong, required_fits, unlisted_default}
 use Rattle.chord_scenario.proofs.KeyFaults.{unlisted-none}
+
+-- how many nodes a table describes, by its place
+abbrev pub size_at : Place → Members → ℕ
+size_at (place.Node n) ms = 1
+size_at (place.Nodes n) ms = number_at key.Count ms
+size_at _ ms = 0
 
 -- the sizes of tables, added up
 abbrev pub sizes : List Section → ℕ

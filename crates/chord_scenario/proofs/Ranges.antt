@@ -1,7 +1,7 @@
 -- The numbers of a range that pass a test.
-use Rattle.std.proofs.Common.{◌≡◌, ◌∙◌, ℕ, zero, suc, ◌+◌, ◌<◌, ◌≤◌, Bool, true, false, cond, List, [], ◌∷◌, ◌++◌, map, replicate, sym, ap, arith, add-one, append-nil, append_assoc}
+use Rattle.std.proofs.Common.{◌≡◌, ◌∙◌, ℕ, zero, suc, ◌+◌, ◌<◌, ◌≤◌, Bool, true, false, cond, List, [], ◌∷◌, ◌++◌, map, sym, ap, arith, add-one, append-nil, append_assoc}
 use Rattle.std.specs.List.{All, AllByRecursion, filter, range_with_len}
-use Rattle.std.proofs.lemmas.List.{map_push, replicate_more}
+use Rattle.std.proofs.lemmas.List.{map_push}
 use Rattle.std.proofs.lemmas.List.Elements.{All-filter, All-from_recursion, filter-append}
 
 pub range-more : (a n : ℕ) → range_with_len a (n + 1) ≡ range_with_len a n ++ (a + n) ∷ []
@@ -20,12 +20,6 @@ mapped-range_more make before done more n x added h is =
     let e : 0 + n ≡ n = omega arith in
     let next = ap (map make) (range-more 0 n ∙ ap (λ (k : ℕ). range_with_len 0 n ++ k ∷ []) e) ∙ map_push make (range_with_len 0 n) n in
     added ∙ ap (λ l. l ++ x ∷ []) h ∙ append_assoc before so_far (x ∷ []) ∙ ap (λ y. before ++ (so_far ++ y ∷ [])) is ∙ ap (λ l. before ++ l) (sym next)
-
--- and one more that is always the same
-pub replicated_more : {A : Type 0} (before done more : List A) (n : ℕ) (x : A) → more ≡ done ++ x ∷ [] → done ≡ before ++ replicate n x
-    → more ≡ before ++ replicate (n + 1) x
-replicated_more before done more n x added h =
-    added ∙ ap (λ l. l ++ x ∷ []) h ∙ append_assoc before (replicate n x) (x ∷ []) ∙ ap (λ l. before ++ l) (replicate_more n x)
 
 pub filter-range_more : (p : ℕ → Bool) (n : ℕ) → filter p (range_with_len 0 (n + 1)) ≡ filter p (range_with_len 0 n) ++ cond (p n) (n ∷ []) []
 filter-range_more p n =

@@ -45,7 +45,7 @@ setup_with top nodes commands latencies = record {
   bootstraps = bootstraps_of nodes;
   commands = commands;
   latencies = latencies;
-  coordinates = coordinates_of (sections top);
+  coordinates = coordinates_of (number_at key.Seed top) (sections top);
 }
 
 -- the nodes of a file, in its order

@@ -35,6 +35,10 @@ finger_purpose = 9
 abbrev pub leave_purpose : ℕ
 leave_purpose = 10
 
+-- the purpose of the draw of the place of a node of a class
+abbrev pub place_purpose : ℕ
+place_purpose = 11
+
 -- when a timer's delay is drawn: in which life of the node, for the end of a life and for the rise after it; otherwise
 -- at which time
 abbrev pub timer_occasion : (time : ℕ) → Body → ℕ

@@ -224,8 +224,8 @@ questions top rows =
     ∷ bad_latency_row rows
     ∷ self_link (profile == 4) ss rows
     ∷ same_link_twice rows
-    ∷ below_window (number_at key.WindowUs top) (number_at key.LatencyUs top) nodes (coordinates_of ss) rows
-    ∷ rows_and_coordinates (coordinates_of ss) rows
+    ∷ below_window (number_at key.WindowUs top) (number_at key.LatencyUs top) nodes (coordinates_of (number_at key.Seed top) ss) rows
+    ∷ rows_and_coordinates (coordinates_of (number_at key.Seed top) ss) rows
     ∷ []
 
 -- the first fault

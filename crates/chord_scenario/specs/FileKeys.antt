@@ -63,6 +63,7 @@ key_name key.Bootstrap = codes "bootstrap"
 key_name key.XUs = codes "x_us"
 key_name key.YUs = codes "y_us"
 key_name key.HeightUs = codes "height_us"
+key_name key.SideUs = codes "side_us"
 key_name key.Count = codes "count"
 key_name key.Prefix = codes "prefix"
 key_name key.AtUs = codes "at_us"
@@ -197,6 +198,7 @@ class_keys profile =
     ∷ optional key.Churn Boolean
     ∷ optional key.Bootstrap Boolean
     ∷ coordinate_keys
+    ++ optional key.SideUs (Whole 0 500000000) ∷ []
     else []
 
 -- the keys of a command's table; only a join must have `via`, and only a lookup `key`

@@ -51,4 +51,4 @@ pair_questions window default nodes coordinates rows =
 abbrev pub late_questions : Members → List Section → List Node → List Row → List (Option ScenarioFault)
 late_questions top ss nodes rows =
     link_questions (number_at key.Profile top == 4) (number_at key.List top) (number_at key.DurationUs top) ss nodes rows
-    ++ pair_questions (number_at key.WindowUs top) (number_at key.LatencyUs top) nodes (coordinates_of ss) rows
+    ++ pair_questions (number_at key.WindowUs top) (number_at key.LatencyUs top) nodes (coordinates_of (number_at key.Seed top) ss) rows

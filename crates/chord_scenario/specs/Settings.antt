@@ -2,6 +2,8 @@
 use Rattle.std.specs.Prelude.{
   ℕ,
   ◌+◌,
+  ◌-◌,
+  ◌%◌,
   ◌^◌,
   Bool,
   true,
@@ -25,13 +27,14 @@ use Rattle.std.specs.Prelude.{
   option_and_then,
   unwrap_or,
   length,
-  replicate,
+  min,
   decimal,
   slice_get,
   if◌then◌else◌,
 }
 use Rattle.std.specs.List.{list_any, range_with_len}
 use Rattle.chord_circle.specs.Names.{ident_of_name}
+use Rattle.des_stream.specs.Draws.{first_number, own_stream, second_number}
 use Rattle.toml.specs.Data.{Members, as_table}
 use Rattle.chord_scenario.specs.declared.key.Place.{Place}
 use Rattle.chord_scenario.specs.declared.key.Place.TheVariants as place
@@ -49,6 +52,7 @@ use Rattle.chord_scenario.specs.declared.setting.Action.{Action}
 use Rattle.chord_scenario.specs.declared.setting.Action.TheVariants.{Join, Crash, Leave, Lookup}
 use Rattle.chord_scenario.specs.declared.operation.Operation.{Operation}
 use Rattle.chord_scenario.specs.declared.operation.Operation.TheVariants as operation
+use Rattle.chord_scenario.specs.Draws.{place_purpose}
 use Rattle.chord_scenario.specs.Operations.{operation_named}
 use Rattle.chord_scenario.specs.Values.{data_at, number_at, truth_at, truth_or, text_at, as_whole, identifier_of}
 use Rattle.chord_scenario.specs.Sections.{Section}
@@ -162,25 +166,41 @@ nodes_of bits ss = flat_map (λ s. nodes_at bits s.at s.members) ss
 -- a node or a class has one of the keys of coordinates
 abbrev pub is_placed_section : Section → Bool
 is_placed_section s =
-    has_nodes s.at && (is_some (data_at key.XUs s.members) || is_some (data_at key.YUs s.members) || is_some (data_at key.HeightUs s.members))
+    has_nodes s.at && (is_some (data_at key.XUs s.members) || is_some (data_at key.YUs s.members) || is_some (data_at key.HeightUs s.members)
+    || is_some (data_at key.SideUs s.members))
 
--- the coordinates of a table of nodes in microseconds, each 0 if its key is absent
+-- the coordinates of a table of nodes in microseconds, each 0 if its key is absent: those of its node, or the corner of the
+-- places of a class
 abbrev pub coordinates_at : Members → Coordinates
 coordinates_at ms = record { x = number_at key.XUs ms; y = number_at key.YUs ms; height = number_at key.HeightUs ms }
 
--- how many nodes a table describes, by its place
-abbrev pub size_at : Place → Members → ℕ
-size_at (place.Node n) ms = 1
-size_at (place.Nodes n) ms = number_at key.Count ms
-size_at _ ms = 0
+-- where a node is that is drawn as far from the corner along an axis, in microseconds: not beyond the end of the axis
+abbrev pub along_axis : (corner drawn : ℕ) → ℕ
+along_axis corner drawn = min (corner + drawn) 500000000
 
--- the coordinates of each node of a table, by its place: the nodes of a class have the same
-abbrev pub places_at : Place → Members → List Coordinates
-places_at at ms = replicate (size_at at ms) (coordinates_at ms)
+-- the place of a node in the square of this side, by the number of its class and its own number there, which both count
+-- from 0 and are far below 2^32
+abbrev pub drawn_place : (seed class : ℕ) → (corner : Coordinates) → (side number : ℕ) → Coordinates
+drawn_place seed class corner side number = record {
+  x = along_axis corner.x (first_number seed (own_stream (number % 2 ^ 32) place_purpose) class (side + 1));
+  y = along_axis corner.y (second_number seed (own_stream (number % 2 ^ 32) place_purpose) class (side + 1));
+  height = corner.height;
+}
+
+-- the coordinates of the nodes of a class
+abbrev pub places_of_class : (seed class : ℕ) → Members → List Coordinates
+places_of_class seed class ms =
+    map (drawn_place seed class (coordinates_at ms) (number_at key.SideUs ms)) (range_with_len 0 (number_at key.Count ms))
+
+-- the coordinates of each node of a table, by its place; the places of classes are numbered from 1
+abbrev pub places_at : (seed : ℕ) → Place → Members → List Coordinates
+places_at seed (place.Node n) ms = coordinates_at ms ∷ []
+places_at seed (place.Nodes n) ms = places_of_class seed (n - 1) ms
+places_at seed _ ms = []
 
 -- the coordinates of the nodes of a file, in order, if nodes have them
-unfoldable pub coordinates_of : List Section → List Coordinates
-coordinates_of ss = if list_any is_placed_section ss then flat_map (λ s. places_at s.at s.members) ss else []
+unfoldable pub coordinates_of : (seed : ℕ) → List Section → List Coordinates
+coordinates_of seed ss = if list_any is_placed_section ss then flat_map (λ s. places_at seed s.at s.members) ss else []
 
 -- the number, from n, of the first node of this name
 abbrev pub index_from : ℕ → List ℕ → List Node → Option ℕ

@@ -89,6 +89,7 @@ pub enum FileKey {
     XUs,
     YUs,
     HeightUs,
+    SideUs,
     Count,
     Prefix,
     AtUs,
@@ -98,7 +99,7 @@ pub enum FileKey {
 }
 
 /// The keys as the file writes them, in the order of `FileKey`.
-static KEY_NAMES: [&str; 58] = [
+static KEY_NAMES: [&str; 59] = [
     "profile",
     "bits",
     "list",
@@ -151,6 +152,7 @@ static KEY_NAMES: [&str; 58] = [
     "x_us",
     "y_us",
     "height_us",
+    "side_us",
     "count",
     "prefix",
     "at_us",
@@ -508,8 +510,12 @@ const COUNT: Entry = Entry(
 
 const PREFIX: Entry = Entry(FileKey::Prefix, Form::Text, Presence::Required);
 
+const SIDE: Entry = Entry(FileKey::SideUs, ALONG_AXIS, Presence::Optional);
+
 /// The keys of a class of nodes, which only the extended profile has.
-static CLASS_KEYS: [Entry; 8] = [COUNT, PREFIX, INITIAL, CHURNS, BOOTSTRAP, X, Y, HEIGHT];
+static CLASS_KEYS: [Entry; 9] = [
+    COUNT, PREFIX, INITIAL, CHURNS, BOOTSTRAP, X, Y, HEIGHT, SIDE,
+];
 
 const AT: Entry = Entry(
     FileKey::AtUs,

@@ -87,7 +87,8 @@ fn is_placed_section(table: &PlacedTable<'_>) -> bool
     has_nodes(table.at)
         && (value_at(table.table, FileKey::XUs).is_some()
             || value_at(table.table, FileKey::YUs).is_some()
-            || value_at(table.table, FileKey::HeightUs).is_some())
+            || value_at(table.table, FileKey::HeightUs).is_some()
+            || value_at(table.table, FileKey::SideUs).is_some())
 }
 
 /// Whether some node has one of the keys of coordinates.

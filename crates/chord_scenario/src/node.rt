@@ -1,10 +1,10 @@
 //! The nodes of a scenario file.
-ghost use Rattle.std.specs.Prelude.{◌≡◌, ◌<◌, ◌≤◌, ◌^◌, ◌++◌, IfOk, IfSome, OnOk, length, map, option_and_then, replicate};
+ghost use Rattle.std.specs.Prelude.{◌≡◌, ◌<◌, ◌≤◌, ◌^◌, ◌++◌, IfOk, IfSome, OnOk, length, map, option_and_then};
 ghost use Rattle.std.specs.List.{All};
 ghost use Rattle.chord_scenario.specs.Values.{data_at, identifier_of};
 ghost use Rattle.toml.specs.View.{table_view};
 ghost use Rattle.chord_scenario.specs.Sections.{section_of};
-ghost use Rattle.chord_scenario.specs.Settings.{bootstraps_of, class_of, coordinates_at, coordinates_of, flags_at, identifier_at, name_at, node_of, nodes_at, nodes_of, numbered_node, size_at};
+ghost use Rattle.chord_scenario.specs.Settings.{bootstraps_of, class_of, coordinates_at, coordinates_of, drawn_place, flags_at, identifier_at, name_at, node_of, nodes_at, nodes_of, numbered_node, places_at, places_of_class};
 
 use crate::key::{FileKey, Place};
 use crate::keys_check::has_placed_node;
@@ -13,8 +13,15 @@ use crate::section::PlacedTable;
 use crate::setting::{Coordinates, Node};
 use crate::value::{identifier_of, number_at, truth_at, value_at};
 use chord_circle::{Circle, Ident, Raw};
+use chord_stream::Stream;
 use std::alloc::{AllocError, Global};
 use toml::Table;
+
+/// The purpose of the words that decide where a node of a class is.
+const PLACE_PURPOSE: u32 = 11;
+
+/// The end of an axis of the plane, in microseconds.
+const AXIS_END: u64 = 500_000_000;
 
 /// The number of the identifier at a key, if the key holds one.
 fn identifier_number(table: &Table, key: FileKey) -> Option<Raw>
@@ -58,12 +65,13 @@ fn node(alloc: Global, circle: Circle, table: &Table) -> Result<Node, AllocError
         Some(ident) => ident,
         None => circle.ident_of_name(name.as_bytes()),
     };
+    let flags = flags_at(table);
     Ok(Node {
         name: Name::new(alloc, name)?,
         ident,
-        initial: truth_at(table, FileKey::Initial),
-        churn: truth_at(table, FileKey::Churn),
-        bootstrap: truth_at(table, FileKey::Bootstrap),
+        initial: flags.initial,
+        churn: flags.churn,
+        bootstrap: flags.bootstrap,
     })
 }
 
@@ -146,7 +154,7 @@ fn push_nodes(
     Ok(())
 }
 
-/// The coordinates of each node that a table describes.
+/// The coordinates of a table: those of its node, or the corner of the places of a class.
 fn coordinates_at(table: &Table) -> Coordinates
     ensures { result ≡ coordinates_at (table_view table.now) }
 {
@@ -157,49 +165,72 @@ fn coordinates_at(table: &Table) -> Coordinates
     }
 }
 
-/// Adds one place so many times.
-fn push_places(
-    coordinates: &mut Vec<Coordinates>,
-    place: Coordinates,
-    count: u64,
-) -> Result<(), AllocError>
-    ensures { OnOk result (coordinates.new.items ≡ coordinates.old.items ++ replicate count place) }
+/// The place of a node in a square of this side, by the number of its class and its own number there. No place is beyond
+/// the end of an axis.
+fn drawn_place(seed: u64, class: usize, corner: Coordinates, side: u64, number: u64) -> Coordinates
+    requires { side < 2 ^ 63 }
+    ensures { result ≡ drawn_place seed class corner side number }
 {
-    for _added in 0..count {
-        coordinates.push(place)?;
+    let stream = Stream::for_purpose(seed, (number % (1 << 32)) as u32, PLACE_PURPOSE);
+    let (x, y) = stream.numbers_in(class as u64, (side + 1, side + 1));
+    Coordinates {
+        x: corner.x.saturating_add(x).min(AXIS_END),
+        y: corner.y.saturating_add(y).min(AXIS_END),
+        height: corner.height,
+    }
+}
+
+/// Adds the places of the nodes of a class.
+fn push_class_places(
+    seed: u64,
+    class: usize,
+    table: &Table,
+    coordinates: &mut Vec<Coordinates>,
+) -> Result<(), AllocError>
+    ensures { OnOk result (coordinates.new.items ≡ coordinates.old.items ++ places_of_class seed class (table_view table.now)) }
+{
+    let corner = coordinates_at(table);
+    let side = number_at(table, FileKey::SideUs);
+    for number in 0..number_at(table, FileKey::Count) {
+        coordinates.push(drawn_place(seed, class, corner, side, number))?;
     }
     Ok(())
 }
 
-/// How many nodes a table describes.
-fn size_of(table: &PlacedTable<'_>) -> u64
-    ensures { result ≡ size_at table.now.at (table_view table.now.table.now) }
+/// Adds the places of the nodes that a table describes: of one, or of those of a class.
+fn push_places(
+    seed: u64,
+    table: &PlacedTable<'_>,
+    coordinates: &mut Vec<Coordinates>,
+) -> Result<(), AllocError>
+    ensures { OnOk result (coordinates.new.items ≡ coordinates.old.items ++ places_at seed table.now.at (table_view table.now.table.now)) }
 {
     match table.at {
-        Place::Node(_) => 1,
-        Place::Nodes(_) => number_at(table.table, FileKey::Count),
-        _ => 0,
+        Place::Node(_) => coordinates.push(coordinates_at(table.table))?,
+        Place::Nodes(number) => {
+            let class = number.saturating_sub(1);
+            push_class_places(seed, class, table.table, coordinates)?;
+        }
+        _ => {}
     }
+    Ok(())
 }
 
 /// The coordinates of the nodes of a file, in order, if nodes have them.
 #[tactic(auto, unfolding(crate::specs::Settings::coordinates_of))]
 pub(crate) fn coordinates(
     alloc: Global,
+    seed: u64,
     tables: &[PlacedTable<'_>],
 ) -> Result<Vec<Coordinates>, AllocError>
-    ensures { IfOk result (λ v. v.items ≡ coordinates_of (map section_of tables.now)) }
+    ensures { IfOk result (λ v. v.items ≡ coordinates_of seed (map section_of tables.now)) }
 {
     let mut coordinates = Vec::new(alloc);
     if !has_placed_node(tables) {
         return Ok(coordinates);
     }
     for table in tables {
-        push_places(
-            &mut coordinates,
-            coordinates_at(table.table),
-            size_of(table),
-        )?;
+        push_places(seed, table, &mut coordinates)?;
     }
     Ok(coordinates)
 }

@@ -136,15 +136,16 @@ fn checked_distances(
     requires distinct { same_name rows.now.names.nodes.now ≡ None }
     requires known { row_fault UnknownNode (row_names_unknown rows.now.names.nodes.now) (rows_of rows.now.text.now) ≡ None }
     requires good { bad_latency_row (rows_of rows.now.text.now) ≡ None }
-    ensures sound { IfOk result (λ _. first_answer (pair_questions (number_at key.WindowUs (table_view top.now)) (number_at key.LatencyUs (table_view top.now)) rows.now.names.nodes.now (coordinates_of (map section_of tables.now)) (rows_of rows.now.text.now)) ≡ None) }
-    ensures coordinates { IfOk result (λ d. d.coordinates.items ≡ coordinates_of (map section_of tables.now)) }
+    ensures sound { IfOk result (λ _. first_answer (pair_questions (number_at key.WindowUs (table_view top.now)) (number_at key.LatencyUs (table_view top.now)) rows.now.names.nodes.now (coordinates_of (number_at key.Seed (table_view top.now)) (map section_of tables.now)) (rows_of rows.now.text.now)) ≡ None) }
+    ensures coordinates { IfOk result (λ d. d.coordinates.items ≡ coordinates_of (number_at key.Seed (table_view top.now)) (map section_of tables.now)) }
     ensures square { IfOk result (λ d. HasLatencies rows.now.names.nodes.now (rows_of rows.now.text.now) (square_or_zeros (length rows.now.names.nodes.now) d.cells.items)) }
-    ensures refused { IfErr result (λ e. (e ≡ ScenarioFault.Memory) ⊎ (first_answer (pair_questions (number_at key.WindowUs (table_view top.now)) (number_at key.LatencyUs (table_view top.now)) rows.now.names.nodes.now (coordinates_of (map section_of tables.now)) (rows_of rows.now.text.now)) ≡ Some e)) }
+    ensures refused { IfErr result (λ e. (e ≡ ScenarioFault.Memory) ⊎ (first_answer (pair_questions (number_at key.WindowUs (table_view top.now)) (number_at key.LatencyUs (table_view top.now)) rows.now.names.nodes.now (coordinates_of (number_at key.Seed (table_view top.now)) (map section_of tables.now)) (rows_of rows.now.text.now)) ≡ Some e)) }
 {
     let cells = latencies(alloc, rows)?;
     let window = number_at(top, FileKey::WindowUs);
     let default = number_at(top, FileKey::LatencyUs);
-    let coordinates = coordinates(alloc, tables)?;
+    let seed = number_at(top, FileKey::Seed);
+    let coordinates = coordinates(alloc, seed, tables)?;
     if let Some(fault) = below_window(alloc, rows, &cells, &coordinates, default, window)? {
         return Err(fault);
     }
@@ -175,7 +176,7 @@ fn link_nodes(
     ensures sound { IfOk result (λ _. first_answer (late_questions (table_view top.now) (map section_of tables.now) names.entry.nodes.now (rows_of csv.now)) ≡ None) }
     ensures good { IfOk result (λ _. bad_latency_row (rows_of csv.now) ≡ None) }
     ensures commands { IfOk result (λ l. l.commands.items ≡ commands_of circle names.entry.nodes.now (map section_of tables.now)) }
-    ensures coordinates { IfOk result (λ l. l.distances.coordinates.items ≡ coordinates_of (map section_of tables.now)) }
+    ensures coordinates { IfOk result (λ l. l.distances.coordinates.items ≡ coordinates_of (number_at key.Seed (table_view top.now)) (map section_of tables.now)) }
     ensures square { IfOk result (λ l. HasLatencies names.entry.nodes.now (rows_of csv.now) (square_or_zeros (length names.entry.nodes.now) l.distances.cells.items)) }
     ensures refused { IfErr result (λ e. (e ≡ ScenarioFault.Memory) ⊎ (first_answer (late_questions (table_view top.now) (map section_of tables.now) names.entry.nodes.now (rows_of csv.now)) ≡ Some e)) }
 {
@@ -260,7 +261,7 @@ fn assembled(
 ) -> Scenario
     requires circle { circle ≡ number_at key.Bits (table_view top.now) }
     requires profile { number_at key.Profile (table_view top.now) ≤ 4 }
-    requires coordinates { linked.distances.coordinates.items ≡ coordinates_of (sections (table_view top.now)) }
+    requires coordinates { linked.distances.coordinates.items ≡ coordinates_of (number_at key.Seed (table_view top.now)) (sections (table_view top.now)) }
     requires bootstraps { bootstraps.items ≡ bootstraps_of nodes.items }
     requires in_range { IsInRange (setup_with (table_view top.now) nodes.items linked.commands.items (square_or_zeros (length nodes.items) linked.distances.cells.items)) }
     ensures { result ≡ setup_with (table_view top.now) nodes.items linked.commands.items (square_or_zeros (length nodes.items) linked.distances.cells.items) }

@@ -1,6 +1,6 @@
 //! What a table holds at a key, and which values a key may hold.
 
-ghost use Rattle.std.specs.Prelude.{◌≡◌, ◌^◌, nat_lt, option_map, option_copied};
+ghost use Rattle.std.specs.Prelude.{◌≡◌, ◌<◌, ◌^◌, IfSome, nat_lt, option_map, option_copied};
 ghost use Rattle.std.specs.List.{list_all};
 ghost use Rattle.toml.specs.View.{table_view, view, items_view};
 ghost use Rattle.chord_scenario.specs.Values.{data_at, number_at, truth_at, truth_or, text_at, as_whole, are_tables, has_type, hexadecimal, is_hexadecimal_digit, is_within, is_profile, identifier_of, has_digits, is_in_range, agrees};
@@ -19,7 +19,8 @@ pub(crate) fn value_at<'a>(table: &'a Table, key: FileKey) -> Option<&'a Value>
 
 /// The whole number from 0 that a value is.
 pub(crate) fn whole(value: &Value) -> Option<u64>
-    ensures { result ≡ as_whole (view value.now) }
+    ensures value { result ≡ as_whole (view value.now) }
+    ensures below { IfSome result (λ number. number < 2 ^ 63) }
 {
     match value.as_integer() {
         Some(number) => u64::try_from(number).ok(),
@@ -29,7 +30,8 @@ pub(crate) fn whole(value: &Value) -> Option<u64>
 
 /// The number at a key, and 0 if the key holds none.
 pub(crate) fn number_at(table: &Table, key: FileKey) -> u64
-    ensures { result ≡ number_at key (table_view table.now) }
+    ensures value { result ≡ number_at key (table_view table.now) }
+    ensures below { result < 2 ^ 63 }
 {
     match value_at(table, key) {
         Some(value) => whole(value).unwrap_or(0),

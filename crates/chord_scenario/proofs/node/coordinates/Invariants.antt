@@ -7,5 +7,5 @@ use Rattle.chord_scenario.proofs.node.coordinates.Given as goal
 -- the coordinates so far, followed by those of the tables left, are all
 abbrev pub invariant-loop-table : goal.invariant-loop-table
 invariant-loop-table l =
-    l.coordinates.items ++ flat_map (λ s. places_at s.at s.members) (map section_of (drop l.table-index l.tables))
-    ≡ flat_map (λ s. places_at s.at s.members) (map section_of l.tables)
+    l.coordinates.items ++ flat_map (λ s. places_at l.seed s.at s.members) (map section_of (drop l.table-index l.tables))
+    ≡ flat_map (λ s. places_at l.seed s.at s.members) (map section_of l.tables)

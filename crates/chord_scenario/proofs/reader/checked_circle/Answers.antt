@@ -18,9 +18,9 @@ fit top profile bits ss same is none = keys_fit profile (number_at key.Bits top)
 pub circle_of-requires-clause-least : goal.circle_of-requires-clause-least
 circle_of-requires-clause-least c =
     (fit (table_view c.args.top.now) c.number_at-profile.result c.number_at-bits.result (map section_of c.args.tables.now) c.requires
-    c.number_at-bits.ensures (sym c.key_fault.ensures ∙ c.in-None.is)).least
+    c.number_at-bits.ensures.value (sym c.key_fault.ensures ∙ c.in-None.is)).least
 
 pub circle_of-requires-clause-greatest : goal.circle_of-requires-clause-greatest
 circle_of-requires-clause-greatest c =
     (fit (table_view c.args.top.now) c.number_at-profile.result c.number_at-bits.result (map section_of c.args.tables.now) c.requires
-    c.number_at-bits.ensures (sym c.key_fault.ensures ∙ c.in-None.is)).greatest
+    c.number_at-bits.ensures.value (sym c.key_fault.ensures ∙ c.in-None.is)).greatest

@@ -21,7 +21,7 @@ module _ (top : Members) (ss : List Section) (nodes : List Node) (rows : List Ro
   links = link_questions (number_at key.Profile top == 4) (number_at key.List top) (number_at key.DurationUs top) ss nodes rows
 
   abbrev pairs : List (Option ScenarioFault)
-  pairs = pair_questions (number_at key.WindowUs top) (number_at key.LatencyUs top) nodes (coordinates_of ss) rows
+  pairs = pair_questions (number_at key.WindowUs top) (number_at key.LatencyUs top) nodes (coordinates_of (number_at key.Seed top) ss) rows
 
   -- a fault of commands and rows, each for itself, comes before those of pairs
   of_links : (e : ScenarioFault) → (e ≡ Memory) ⊎ (first_answer links ≡ Some e) → (e ≡ Memory) ⊎ (first_answer (late_questions top ss nodes rows) ≡ Some e)
