@@ -28,6 +28,8 @@ LIVES = "[churn]\nlife_min_us = 30\nlife_max_us = 90\ndown_min_us = 20\ndown_max
 LOOKUPS = "[lookups]\ngap_min_us = 20\ngap_max_us = 70\n"
 RUN = TOP.replace("duration_us = 200", "duration_us = 900") + "loss_ppm = 20000\ndetail = true\n"
 HERE = "x_us = 0\ny_us = 0\n"
+LOW = HERE + "height_us = 5\n"
+"""The lines of nodes whose latencies are just long enough."""
 
 
 def beside(*classes: str) -> str:
@@ -52,17 +54,30 @@ FAULTS = (
     (beside(PAIR + "height_us = 9\n"), "S3 MissingKey node 1 x_us"),
     (TOP + PAIR + "height_us = 9\n", "S3 MissingKey nodes 1 x_us"),
     (TOP + a_class(further=HERE) + a_class(prefix="b"), "S3 MissingKey nodes 2 x_us"),
+    ("side_us = 9\n" + TOP + PAIR, "S2 UnknownKey top"),
+    (NODES + "side_us = 9\n", "S2 UnknownKey node 3"),
+    (beside(PAIR + "side_us = 9\n"), "S3 MissingKey node 1 x_us"),
+    (TOP + PAIR + "side_us = 0\n", "S3 MissingKey nodes 1 x_us"),
+    (TOP + PAIR + "x_us = 0\nside_us = 9\n", "S3 MissingKey nodes 1 y_us"),
+    (TOP + PAIR + 'side_us = "9"\n', "S3 MissingKey nodes 1 x_us"),
+    (TOP + PAIR + LOW + a_class(prefix="b", further="side_us = 9\n"), "S3 MissingKey nodes 2 x_us"),
     ("nodes = 3\n" + EXTENDED, "S4 WrongType top nodes"),
     ("nodes = [1]\n" + EXTENDED, "S4 WrongType top nodes"),
     (beside(a_class('"2"')), "S4 WrongType nodes 1 count"),
     (beside('[[nodes]]\ncount = 2\nprefix = 2\n'), "S4 WrongType nodes 1 prefix"),
     (beside(PAIR + "initial = 1\n"), "S4 WrongType nodes 1 initial"),
+    (TOP + PAIR + LOW + "side_us = 9.0\n", "S4 WrongType nodes 1 side_us"),
+    (TOP + PAIR + LOW + "side_us = true\n", "S4 WrongType nodes 1 side_us"),
+    (TOP + PAIR + HERE + "side_us = [9]\nheight_us = []\n", "S4 WrongType nodes 1 height_us"),
     ("nodes = []\n" + EXTENDED, "S5 OutOfRange top nodes"),
     (TOP + "".join(a_class(prefix="abcdefghijklmnopq"[i]) for i in range(17)), "S5 OutOfRange top nodes"),
     (beside(a_class(1)), "S5 OutOfRange nodes 1 count"),
     (beside(a_class(1_048_577)), "S5 OutOfRange nodes 1 count"),
     (beside(PAIR, a_class(0, "b")), "S5 OutOfRange nodes 2 count"),
     (TOP + PAIR + "x_us = 500000001\ny_us = 0\n", "S5 OutOfRange nodes 1 x_us"),
+    (TOP + PAIR + LOW + "side_us = -1\n", "S5 OutOfRange nodes 1 side_us"),
+    (TOP + PAIR + LOW + "side_us = 500_000_001\n", "S5 OutOfRange nodes 1 side_us"),
+    (TOP + PAIR + HERE + "side_us = -1\nheight_us = -1\n", "S5 OutOfRange nodes 1 height_us"),
     ("node = []\n" + TOP + PAIR, "S5 OutOfRange top node"),
     (beside(a_class(prefix="")), "S6 BadName nodes 1"),
     (beside(a_class(prefix="a b")), "S6 BadName nodes 1"),
@@ -75,12 +90,14 @@ FAULTS = (
     ((TOP + a_class(10)).replace("bits = 64", "bits = 6"), "S8 SameId a6 a8"),
     (beside(PAIR).replace('node = "n0"', 'node = "a2"'), "S9 UnknownNode command 1"),
     (TOP + a_class(further=HERE + "height_us = 4\n"), "S15 LatencyBelowWindow a0 a1"),
+    (TOP + a_class(further=HERE + "height_us = 4\nside_us = 500_000_000\n"), "S15 LatencyBelowWindow a0 a1"),
 )
 """Scenarios, each with its first fault."""
 ACCEPTED = (
     beside(PAIR), beside(a_class(prefix="audit")), beside(a_class(prefix="A.z_-9" + 19 * "x")),
     beside(a_class(70_000, "m")), TOP + PAIR, TOP + PAIR + "initial = false\n",
-    beside(PAIR).replace('node = "n0"', 'node = "a1"'), TOP + a_class(further=HERE + "height_us = 5\n"),
+    beside(PAIR).replace('node = "n0"', 'node = "a1"'), TOP + a_class(further=LOW),
+    TOP + a_class(further=LOW + "side_us = 0\n"), TOP + a_class(further=LOW + "side_us = 500_000_000\n"),
     TOP + "".join(a_class(prefix="abcdefghijklmnop"[i]) for i in range(16)),
 )
 
@@ -100,8 +117,13 @@ WORLDS = (
     RUN + LIVES + LOOKUPS + a_class(9, "a", "initial = true\nchurn = true\n"),
     RUN + LOOKUPS + '[[node]]\nname = "x"\ninitial = true\n[[node]]\nname = "y"\nid = 7\n'
     + a_class(5, "a", "initial = true\n") + a_class(4, "b", "initial = true\nbootstrap = true\n") + MOVES,
-    RUN + LIVES + LOOKUPS + a_class(4, "a", f"initial = true\n{HERE}height_us = 5\n")
+    RUN + LIVES + LOOKUPS + a_class(4, "a", f"initial = true\n{LOW}")
     + a_class(6, "b", "initial = true\nchurn = true\nx_us = 9\ny_us = 4\nheight_us = 6\n"),
+    RUN + LIVES + LOOKUPS + f'[[node]]\nname = "x"\ninitial = true\n{LOW}[[node]]\nname = "y"\nid = 7\n{LOW}'
+    + a_class(3, "a", f"initial = true\n{LOW}") + a_class(5, "b", f"initial = true\n{LOW}side_us = 12\n") + MOVES,
+    RUN + LIVES + LOOKUPS
+    + a_class(5, "a", "initial = true\nx_us = 499_999_995\ny_us = 0\nheight_us = 5\nside_us = 9\n")
+    + a_class(6, "b", "initial = true\nchurn = true\nx_us = 499_999_990\ny_us = 4\nheight_us = 6\nside_us = 30\n"),
 )
 """Scenarios that run."""
 
@@ -138,7 +160,7 @@ class ClassesTest(TestCase):
         found = read_scenario(text.encode(), b"a1,n0,20\n")
         self.assertEqual((found.latency(0, 4), found.latency(4, 0), found.latency(3, 4)), (20, 20, 10))
         self.assertEqual(fault(text, "a2,n0,20"), "S9 UnknownNode row 1")
-        self.assertEqual(fault(TOP + a_class(further=HERE + "height_us = 5\n"), "a0,a1,20"), "S16 RowsAndCoordinates")
+        self.assertEqual(fault(TOP + a_class(further=LOW), "a0,a1,20"), "S16 RowsAndCoordinates")
 
     def test_nodes(self) -> None:
         """Nodes come before classes; those of a class have its values, and identifiers of their names."""

@@ -16,7 +16,7 @@ from chordsim_tools.study.document import toml_text
 from chordsim_tools.trace.command import main as trace
 from tests.support.programs import ended
 from tests.support.rings import Left, ProgramTest
-from tests.test_classes import ACCEPTED, FAULTS, HERE, PAIR, TOP, WORLDS, a_class, beside
+from tests.test_classes import ACCEPTED, FAULTS, LOW, PAIR, TOP, WORLDS, a_class, beside
 
 
 class ClassesProgram(ProgramTest):
@@ -39,7 +39,7 @@ class ClassesProgram(ProgramTest):
         """Rows of the latency file name nodes of classes."""
         self.has_answer(beside(PAIR), "a1,n0,20\n", "ok nodes=5 commands=1")
         self.has_answer(beside(PAIR), "a2,n0,20\n", "S9 UnknownNode row 1")
-        placed = TOP + a_class(further=HERE + "height_us = 5\n")
+        placed = TOP + a_class(further=LOW)
         self.has_answer(placed, "a0,a1,20\n", "S16 RowsAndCoordinates")
 
     def test_identifiers(self) -> None:

@@ -28,7 +28,7 @@ class ExplainCoordinatesTest(TestCase):
         places = ("node 1 x_us", "node 1 y_us", "node 2 y_us", "node 3 x_us", "node 3 y_us")
         missing = [f"S3 MissingKey {place}" for place in places]
         assert [one.fault for one in found] == [*missing, "S15 LatencyBelowWindow n0 n1"]
-        hint = "if one node has `x_us`, `y_us` or `height_us`, each node has `x_us` and `y_us`"
+        hint = "if one table of nodes has `x_us`, `y_us`, `height_us` or `side_us`, each has `x_us` and `y_us`"
         assert (found[0].line, found[0].hints, found[0].allowed) == (17, [hint], "an integer from 0 to 500000000")
 
     def test_other_profiles(self) -> None:

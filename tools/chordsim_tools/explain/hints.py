@@ -102,7 +102,8 @@ def of_missing_key(key: str, place: str, table: dict[str, Any], profile: Profile
     if key == "node" and "nodes" in listed:
         hints.append("a class of nodes, [[nodes]], is enough too")
     if key in ("x_us", "y_us"):
-        hints.append("if one node has `x_us`, `y_us` or `height_us`, each node has `x_us` and `y_us`")
+        keys = "`x_us`, `y_us`, `height_us` or `side_us`"
+        hints.append(f"if one table of nodes has {keys}, each has `x_us` and `y_us`")
     return hints
 
 

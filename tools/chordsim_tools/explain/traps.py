@@ -12,7 +12,7 @@ from chordsim_tools.explain.world_traps import world_traps
 from chordsim_tools.known import known
 from chordsim_tools.quantities import time_text
 from chordsim_tools.scenario import coordinates
-from chordsim_tools.scenario.classes import expanded, node_count, node_sections
+from chordsim_tools.scenario.classes import expanded, node_count, node_places, node_sections
 from chordsim_tools.scenario.defaults import check_us, is_extended
 from chordsim_tools.scenario.reading import jitters_of
 from chordsim_tools.scenario.tables import EXTENDED, PROFILES, rows_of
@@ -45,10 +45,8 @@ def warn(traps: list[str]) -> None:
 
 def greatest_latency(top: dict[str, Any], latency: bytes) -> int:
     """The greatest latency of two nodes, with the spread."""
-    # Of a class, whose nodes are all at one place, two are enough.
-    sections = [*node_sections(top), *top.get("nodes", [])]
-    if "x_us" in sections[0]:
-        nodes = [known(coordinates.coordinates_of(section)) for section in sections]
+    if "x_us" in node_sections(top)[0]:
+        nodes = [known(place) for place in node_places(top, alike=2)]
         return coordinates.greatest_latency(nodes) + int(top.get("spread_us", 0))
     rows = rows_of(latency)
     count = node_count(top)

@@ -10,7 +10,7 @@ from chordsim_tools.explain.positions import Position
 from chordsim_tools.known import known
 from chordsim_tools.reference.circle import Circle
 from chordsim_tools.scenario.faults import Fault, Node, ident_of
-from chordsim_tools.scenario.tables import BILLION, COORDINATES, MOST_OF_PREFIX, Key, is_in_own_range
+from chordsim_tools.scenario.tables import BILLION, MOST_OF_PREFIX, Key, is_in_own_range
 
 Parts = tuple[str, str, str, list[str]]
 """What is wrong, what is there, what is allowed, and what was likely meant."""
@@ -262,8 +262,7 @@ def low_heights(fault: Fault, files: Files) -> Parts:
 def rows_and_coordinates(_: Fault, files: Files) -> Parts:
     """S16."""
     count = len(files.document.rows)
-    names = {key.name for key in COORDINATES}
-    first = next(section for section in files.document.sections if names & set(section.table))
+    first = next(section for section in files.document.sections if files.document.is_placed(section))
     likely = [f"run it without the latency file, or take the coordinates away, from {first.name} on"]
     what = "nodes have coordinates, and the latency file has a row"
     return what, f"{count} row{'' if count == 1 else 's'}", "no row: the coordinates give all latencies", likely

@@ -1,39 +1,44 @@
 """The random words of a node (docs/rules.md, section 5)."""
 
+from collections.abc import Iterator, Sequence
+from struct import pack, unpack
+
 MASK = 0xFFFFFFFF
 CONSTANTS = (0x61707865, 0x3320646E, 0x79622D32, 0x6B206574)  # "expand 32-byte k"
 
 
-def rotate(word: int, places: int) -> int:
+def rotate(word: int, places: int, mask: int) -> int:
     """Turns a 32-bit word left by this number of places."""
-    return ((word << places) | (word >> (32 - places))) & MASK
+    return ((word << places) | (word >> (32 - places))) & mask
 
 
-def quarter_round(s: list[int], a: int, b: int, c: int, d: int) -> None:
+def quarter_round(s: list[int], a: int, b: int, c: int, d: int, mask: int) -> None:
     """The quarter round of ChaCha on four words of the state."""
-    s[a] = (s[a] + s[b]) & MASK
-    s[d] = rotate(s[d] ^ s[a], 16)
-    s[c] = (s[c] + s[d]) & MASK
-    s[b] = rotate(s[b] ^ s[c], 12)
-    s[a] = (s[a] + s[b]) & MASK
-    s[d] = rotate(s[d] ^ s[a], 8)
-    s[c] = (s[c] + s[d]) & MASK
-    s[b] = rotate(s[b] ^ s[c], 7)
+    s[a] = (s[a] + s[b]) & mask
+    s[d] = rotate(s[d] ^ s[a], 16, mask)
+    s[c] = (s[c] + s[d]) & mask
+    s[b] = rotate(s[b] ^ s[c], 12, mask)
+    s[a] = (s[a] + s[b]) & mask
+    s[d] = rotate(s[d] ^ s[a], 8, mask)
+    s[c] = (s[c] + s[d]) & mask
+    s[b] = rotate(s[b] ^ s[c], 7, mask)
 
 
-def block(start: list[int], rounds: int) -> list[int]:
-    """The sixteen words of the ChaCha block that begins with this state."""
+def block(start: list[int], rounds: int, mask: int = MASK) -> list[int]:
+    """The sixteen words of the ChaCha block that begins with this state.
+
+    With a mask of many lanes each number is a word of as many blocks, which are computed at once: see `groups`."""
     s = list(start)
     for _ in range(rounds // 2):
-        quarter_round(s, 0, 4, 8, 12)
-        quarter_round(s, 1, 5, 9, 13)
-        quarter_round(s, 2, 6, 10, 14)
-        quarter_round(s, 3, 7, 11, 15)
-        quarter_round(s, 0, 5, 10, 15)
-        quarter_round(s, 1, 6, 11, 12)
-        quarter_round(s, 2, 7, 8, 13)
-        quarter_round(s, 3, 4, 9, 14)
-    return [(word + first) & MASK for word, first in zip(s, start)]
+        quarter_round(s, 0, 4, 8, 12, mask)
+        quarter_round(s, 1, 5, 9, 13, mask)
+        quarter_round(s, 2, 6, 10, 14, mask)
+        quarter_round(s, 3, 7, 11, 15, mask)
+        quarter_round(s, 0, 5, 10, 15, mask)
+        quarter_round(s, 1, 6, 11, 12, mask)
+        quarter_round(s, 2, 7, 8, 13, mask)
+        quarter_round(s, 3, 4, 9, 14, mask)
+    return [(word + first) & mask for word, first in zip(s, start)]
 
 
 def key_words(seed: int) -> list[int]:
@@ -60,3 +65,23 @@ class Stream:
             stream = [self.stream & MASK, self.stream >> 32]
             self.words = block([*CONSTANTS, *self.key, *counter, *stream], 8)
         return self.words[place % 16]
+
+
+def groups(seed: int, streams: Sequence[int], number: int) -> Iterator[tuple[int, ...]]:
+    """The words 4k to 4k + 3, for this number k, of each of these streams of a seed.
+
+    The streams are lanes of 64 bits in one number. A word takes the lower half of its lane. What a sum, or a word that
+    is turned, has in the upper half is masked off: so no lane changes another one."""
+    ones = int.from_bytes(bytes([1, 0, 0, 0, 0, 0, 0, 0]) * len(streams), "little")
+    mask = MASK * ones
+    numbers = int.from_bytes(pack(f"<{len(streams)}Q", *streams), "little")
+    counter = number // 4
+    same = [word * ones for word in (*CONSTANTS, *key_words(seed), counter & MASK, counter >> 32)]
+    words = block([*same, numbers & mask, numbers >> 32 & mask], 8, mask)[number % 4 * 4 :][:4]
+    return zip(*(unpack(f"<{len(streams)}Q", word.to_bytes(8 * len(streams), "little")) for word in words))
+
+
+def scaled(words: Sequence[int], *bounds: int) -> list[int]:
+    """A number below each bound, of which there are at most two: of two of the four words each."""
+    doubles = words[0] * 2**32 + words[1], words[2] * 2**32 + words[3]
+    return [double * bound // 2**64 for double, bound in zip(doubles, bounds)]

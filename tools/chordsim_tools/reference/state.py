@@ -40,6 +40,11 @@ class Drawn(IntEnum):
     CHECK_TICK = 8
     FIRST_FINGER = 9
     LEAVE = 10
+    PLACE = 11
+
+    def stream(self, node: int) -> int:
+        """The number of the stream from which a node draws this in the extended profile."""
+        return node + self * 2**32
 
 
 @dataclass(slots=True)

@@ -1,7 +1,7 @@
 """A turn: what a node may do at an event, apart from the rules (docs/rules.md, sections 3 to 5 and 8.1 to 8.3)."""
 
 from chordsim_tools.known import known
-from chordsim_tools.reference.chacha import Stream
+from chordsim_tools.reference.chacha import Stream, scaled
 from chordsim_tools.reference.circle import Circle
 from chordsim_tools.reference.state import (
     KINDS, REQUEST_OF, Body, Call, CheckTick, Drawn, Event, FingerTick, Leave, LifeEnd, ListReply, Lookup, Message,
@@ -29,7 +29,7 @@ class World:
 
     def own_stream(self, node: int, what: Drawn) -> Stream:
         """The stream from which a node draws this in the extended profile."""
-        number = node + what * 2**32
+        number = what.stream(node)
         if number not in self.own_streams:
             self.own_streams[number] = Stream(self.scenario.seed, number)
         return self.own_streams[number]
@@ -108,8 +108,7 @@ class Turn:
         """A number below each bound: of one word each, modulo the bound; in the extended profile of two words each."""
         words = self.words(what, occasion, len(bounds))
         if self.world.scenario.profile == 4:
-            doubles = [words[0] * 2**32 + words[1], words[2] * 2**32 + words[3]]
-            return [w * n // 2**64 for w, n in zip(doubles, bounds)]
+            return scaled(words, *bounds)
         return [word % n for word, n in zip(words, bounds)]
 
     def time_from_span(self, least: int, greatest: int, what: Drawn, occasion: int) -> int:

@@ -12,10 +12,12 @@ from chordsim_tools.known import known
 from chordsim_tools.reference.circle import Circle
 from chordsim_tools.scenario.classes import class_names
 from chordsim_tools.scenario.tables import (
-    BILLION, COORDINATES, EXTENDED, MOST_OF_PREFIX, Key, Place, Row, has_type, is_in_own_range, places_of, profile_of,
-    value_of_id,
+    BILLION, COORDINATES, EXTENDED, MOST_OF_PREFIX, SIDE, Key, Place, Row, has_type, is_in_own_range, places_of,
+    profile_of, value_of_id,
 )
 
+PLACED = [*COORDINATES, SIDE]
+"""The keys of coordinates."""
 AUDIT = ("name", "audit")
 """The only name that no node may have. A prefix may be this, since a number follows it."""
 
@@ -106,8 +108,11 @@ class Document:
     @cached_property
     def has_coordinates(self) -> bool:
         """Whether a node or a class has a key of coordinates, in a profile that has these keys."""
-        names = {key.name for key in COORDINATES if key in self.profile.tables["node"]}
-        return any(names & section.table.keys() for section in self.sections)
+        return any(self.is_placed(section) for section in self.sections)
+
+    def is_placed(self, section: Place) -> bool:
+        """Whether a node or a class has a key of coordinates that is listed for it."""
+        return any(key in section.keys for key in PLACED if key.name in section.table)
 
     @property
     def has_nodes(self) -> bool:

@@ -5,7 +5,8 @@ from typing import Any
 
 from chordsim_tools.cli import Refused
 from chordsim_tools.known import known
-from chordsim_tools.scenario.coordinates import Coordinates, coordinates_of
+from chordsim_tools.scenario.classes import node_places
+from chordsim_tools.scenario.coordinates import Coordinates
 from chordsim_tools.scenario.defaults import check_us, is_extended, join_pause_us, joins_forever
 from chordsim_tools.scenario.faults import Document, faults_of
 from chordsim_tools.scenario.tables import parse_toml, rows_of, value_of_id
@@ -13,7 +14,7 @@ from chordsim_tools.scenario.tables import parse_toml, rows_of, value_of_id
 
 @dataclass(slots=True)
 class NodeSpec:
-    """A node of the scenario. All nodes have coordinates, or none has. Those of a class share theirs."""
+    """A node of the scenario. All nodes have coordinates, or none has."""
 
     name: str
     ident: int
@@ -144,8 +145,8 @@ def whole_scenario(document: Document) -> Scenario:
     top = document.top.table
     alike = {id(section): alike_of(section.table) for section in document.sections}
     nodes = [
-        NodeSpec(known(node.name), known(ident), *alike[id(node.place)])
-        for node, ident in zip(document.nodes, document.idents, strict=True)
+        NodeSpec(known(node.name), known(ident), *alike[id(node.place)], place)
+        for node, ident, place in zip(document.nodes, document.idents, node_places(top), strict=True)
     ]
     commands = [command_of(place.table, document.numbers) for place in document.commands]
     plain = {key.name: top[key.name] for key in document.top.keys if key.kind == "integer" and key.required}
@@ -182,10 +183,10 @@ def ways_of(top: dict[str, Any]) -> Ways:
     return replace(PUBLISHED, **{key.name: top[key.name] for key in fields(Ways) if key.name in top})
 
 
-def alike_of(table: dict[str, Any]) -> tuple[bool, bool, bool, Coordinates | None]:
-    """What the nodes of a table are alike in: all but their names and identifiers."""
+def alike_of(table: dict[str, Any]) -> tuple[bool, bool, bool]:
+    """What the nodes of a table are alike in: all but their names, identifiers and places."""
     initial, churn, bootstrap = (table.get(word, False) for word in ("initial", "churn", "bootstrap"))
-    return initial, churn, bootstrap, coordinates_of(table)
+    return initial, churn, bootstrap
 
 
 def command_of(table: dict[str, Any], numbers: dict[str, int]) -> Command:

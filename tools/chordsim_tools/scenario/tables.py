@@ -121,12 +121,16 @@ WAYS = [
     Key("create_alone", "boolean", required=False),
 ]
 """Further keys of its top: the rules of Chord as published, each of which can be switched off or changed."""
+EDGE = 500_000_000
+"""No coordinate in the plane is greater than this."""
 COORDINATES = [
-    Key("x_us", "integer", 0, 500_000_000, required=False),
-    Key("y_us", "integer", 0, 500_000_000, required=False),
+    Key("x_us", "integer", 0, EDGE, required=False),
+    Key("y_us", "integer", 0, EDGE, required=False),
     Key("height_us", "integer", 0, 100_000_000, required=False),
 ]
 """The keys of a node's coordinates."""
+SIDE = Key("side_us", "integer", 0, EDGE, required=False)
+"""The further key of the coordinates of a class, whose nodes are in a square of this side."""
 OF_NODES = [Key("bootstrap", "boolean", required=False), *COORDINATES]
 """The keys of a node that the extended profile alone has."""
 MOST_CLASSES = 16
@@ -140,6 +144,7 @@ CLASSES = [
     Key("initial", "boolean", required=False),
     Key("churn", "boolean", required=False),
     *OF_NODES,
+    SIDE,
 ]
 """The keys of a class of nodes, which the extended profile alone has."""
 CHURN = [Key(f"{word}_us", "integer", 1, BILLION) for word in ("life_min", "life_max", "down_min", "down_max")]
