@@ -144,9 +144,9 @@ class FollowingTest(TestCase):
         text = TOP + in_square(9, 3)
         scenario = read_scenario(text.encode(), b"")
         study = latencies_of(expanded(tomllib.loads(text)), b"")
-        for a, b, micros in ((0, 1, 16), (0, 2, 13), (1, 2, 13)):
-            self.assertEqual((scenario.latency(a, b), scenario.latency(b, a)), (micros, micros))
-            self.assertEqual(study(f"a{a}", f"a{b}"), micros)
+        for pair, micros in (((0, 1), 16), ((0, 2), 13), ((1, 2), 13)):
+            self.assertEqual((scenario.latency(*pair), scenario.latency(*reversed(pair))), (micros, micros))
+            self.assertEqual(study(*(f"a{node}" for node in pair)), micros)
 
     def test_written_out(self) -> None:
         """As tables of their own the nodes have their places, and the key is gone."""
@@ -258,4 +258,5 @@ class PlacesProgram(ProgramTest):
     def test_rows(self) -> None:
         """No row goes with a square."""
         self.has_answer(TOP + in_square(9), "a0,a1,20\n", "S16 RowsAndCoordinates")
-        self.has_answer(TOP + a_class(further=HERE + "height_us = 4\nside_us = 9\n"), "", "S15 LatencyBelowWindow a0 a1")
+        low = HERE + "height_us = 4\n"
+        self.has_answer(TOP + in_square(500_000_000, corner=low), "", "S15 LatencyBelowWindow a0 a1")
