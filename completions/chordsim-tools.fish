@@ -48,7 +48,7 @@ complete -c chordsim-generate -l no-clean-lists -d 'profile 4 alone: a joining n
 complete -c chordsim-generate -l no-join-asks -d 'profile 4 alone: a joining node is a member before its first successor has answered'
 complete -c chordsim-generate -l create-alone -d 'profile 4 alone: a bootstrap node whose join fails without any answer makes a ring'
 complete -c chordsim-generate -l bootstrap -x -d 'profile 4 alone: how many nodes, the first ones, are those that others try in turn to join through: 0 to NODES (0)'
-complete -c chordsim-generate -l coordinates -x -d 'profile 4 alone: latencies by coordinates: square:SIDE:MIN..MAX (SIDE 0us to 500s, MIN and MAX 1us to 100s), king, file:NAME or regions:NAME (none)'
+complete -c chordsim-generate -l coordinates -x -d 'profile 4 alone: latencies by coordinates: square:SIDE:MIN..MAX or square:SIDE:HEIGHT (SIDE 0us to 500s, heights 1us to 100s), king, file:NAME or regions:NAME (none)'
 complete -c chordsim-generate -l seed -x -d 'of the simulated streams, and of all that is drawn here: 0 to 9223372036854775807 (1)'
 complete -c chordsim-generate -l churn-uniform -x -d 'lives and down times that the program draws: two spans of 1us to 1000s'
 complete -c chordsim-generate -l lifetime -x -d 'lives drawn here: exp:MEAN, pareto:ALPHA:MIN or uniform:MIN..MAX, times 1us to 1000000s, ALPHA 0.1 to 100'

@@ -15,7 +15,10 @@ from chordsim_tools.scenario.coordinates import Coordinates
 from chordsim_tools.scenario.tables import COORDINATES, GREATEST_SIZE
 
 GREATEST_SIDE, _, GREATEST_HEIGHT = (key.greatest for key in COORDINATES)
-LAWS = "square:SIDE:MIN..MAX (SIDE 0us to 500s, MIN and MAX 1us to 100s), king, file:NAME or regions:NAME"
+LAWS = (
+    "square:SIDE:MIN..MAX or square:SIDE:HEIGHT (SIDE 0us to 500s, heights 1us to 100s), king, file:NAME or "
+    "regions:NAME"
+)
 STREAM = 7
 """Which stream of a seed the coordinates are drawn from. The earlier ones are those of the commands of a scenario."""
 
@@ -32,6 +35,11 @@ class Square:
         """The coordinates of a node."""
         x, y = draws.between(0, self.side), draws.between(0, self.side)
         return Coordinates(x, y, draws.between(self.least, self.greatest))
+
+    @property
+    def has_one_height(self) -> bool:
+        """Whether all heights are the same, as those of a class."""
+        return self.least == self.greatest
 
 
 @dataclass(frozen=True)
@@ -115,8 +123,9 @@ def law_of_places(text: str) -> Law | None:
 
 
 def square_of(text: str) -> Square | None:
-    """SIDE:MIN..MAX, or nothing."""
-    side, heights = time_of(text.partition(":")[0]), span_of(text.partition(":")[2])
+    """SIDE:MIN..MAX or SIDE:HEIGHT, or nothing."""
+    first, _, rest = text.partition(":")
+    side, heights = time_of(first), span_of(rest if ".." in rest else f"{rest}..{rest}")
     if side is None or heights is None or side > GREATEST_SIDE or heights[0] < 1 or heights[1] > GREATEST_HEIGHT:
         return None
     return Square(side, *heights)
@@ -130,8 +139,13 @@ def places_of(law: Law, seed: int, names: list[str]) -> tuple[Coordinates, ...]:
         regions = read_regions(law.name)
         places = placed(regions).places
         return tuple(places[region] for region in regions.of_nodes(names))
-    streams = Split(Draws(seed).split(STREAM)[-1], len(names))
+    streams = streams_of(seed, len(names))
     return tuple(law.draw(streams[place]) for place in range(len(names)))
+
+
+def streams_of(seed: int, count: int) -> Split:
+    """The stream of each of so many nodes."""
+    return Split(Draws(seed).split(STREAM)[-1], count)
 
 
 def places_in(file: str, names: list[str]) -> tuple[Coordinates, ...]:

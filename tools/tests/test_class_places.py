@@ -105,8 +105,8 @@ class PlacesTest(TestCase):
     def test_least_and_greatest_numbers(self) -> None:
         """Words of zeros make 0, and words of ones the side, also that of the whole plane."""
         for bound in (1, 2, 100_001, 500_000_001):
-            self.assertEqual(scaled([0] * 4, bound, bound), [0, 0])
-            self.assertEqual(scaled([2**32 - 1] * 4, bound, bound), [bound - 1] * 2)
+            self.assertEqual(scaled([0] * 4, bound, bound), (0, 0))
+            self.assertEqual(scaled([2**32 - 1] * 4, bound, bound), (bound - 1, bound - 1))
 
     def test_no_side(self) -> None:
         """With a side of 0 all nodes are at the corner, as without the key."""

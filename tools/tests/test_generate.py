@@ -62,7 +62,7 @@ REFUSED = [
     ("--profile 4 --nodes 1048577", "--nodes: 2 to 1048576"),
     ("--profile 2 --classes", "--classes: only with --profile 4"),
     ("--profile 4 --classes --coordinates king", "--coordinates: with --classes, and above 65536 nodes, regions:NAME"),
-    ("--profile 4 --nodes 65537 --coordinates square:0:1ms..1ms", "--coordinates: with --classes, and above 65536"),
+    ("--profile 4 --nodes 65537 --coordinates square:0:1ms..2ms", "--coordinates: with --classes, and above 65536"),
     ("--profile 4 --retries 4", "--retries: 0 to 3"),
     ("--profile 2 --retries 0", "--retries: only with --profile 4"),
     ("--join-pause 0", "--join-pause: only with --profile 4"),
@@ -91,7 +91,11 @@ REFUSED = [
     ("--profile 4 --join-pause 1001s", "--join-pause: a time of 0us to 1000s"),
     ("--profile 4 --max-events 100000000001", "--max-events: 1 to 100000000000"),
     ("--profile 2 --coordinates square:1s:1us..1us", "--coordinates: only with --profile 4"),
-    ("--profile 4 --coordinates square:501s:1us..1us", "--coordinates: square:SIDE:MIN..MAX (SIDE 0us to 500s"),
+    ("--profile 4 --coordinates square:501s:1us", "--coordinates: square:SIDE:MIN..MAX or square:SIDE:HEIGHT (SIDE"),
+    ("--profile 4 --coordinates square:1s:0us", "--coordinates: square:SIDE:MIN..MAX"),
+    ("--profile 4 --coordinates square:1s", "--coordinates: square:SIDE:MIN..MAX"),
+    ("--profile 4 --coordinates square:1s:", "--coordinates: square:SIDE:MIN..MAX"),
+    ("--profile 4 --coordinates square:1s:1us..", "--coordinates: square:SIDE:MIN..MAX"),
     ("--profile 4 --coordinates square:1s:0us..1us", "--coordinates: square:SIDE:MIN..MAX"),
     ("--profile 4 --coordinates square:1s:1us..101s", "--coordinates: square:SIDE:MIN..MAX"),
     ("--profile 4 --coordinates circle:1s:1us..1us", "--coordinates: square:SIDE:MIN..MAX"),
@@ -289,6 +293,7 @@ class GenerateTest(TestCase):
         assert ring.window_us == 6 and made(f"{arguments} --window 2us").window_us == 2
         alike = made("--profile 4 --nodes 2 --coordinates square:0:4ms..4ms")
         assert [node.coordinates for node in alike.nodes] == [Coordinates(0, 0, 4000)] * 2
+        assert made("--profile 4 --nodes 2 --coordinates square:0:4ms") == alike
         assert alike.window_us == 8000
 
     def test_coordinates_of_their_own(self) -> None:

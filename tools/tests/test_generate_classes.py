@@ -7,7 +7,10 @@ from typing import Any
 from unittest import TestCase
 
 from chordsim import Scenario
+from chordsim_tools.explain.traps import greatest_latency
 from chordsim_tools.generate.command import main
+from chordsim_tools.known import known
+from chordsim_tools.scenario.classes import node_places
 from chordsim_tools.scenario.reading import read_scenario
 from tests.support.programs import ended
 
@@ -16,6 +19,10 @@ REFUSED = (
     ("--nodes 70000 --bits 20", "--bits: the names of two of the 70000 nodes have the same identifier of 20 bits"),
     ("--nodes 12 --classes --bits 4", "of 4 bits; more bits, or another --seed"),
     ("--nodes 12 --classes --bits 4 --ids names", "of 4 bits; more bits (see"),
+    ("--classes --coordinates king", "--coordinates: with --classes, and above 65536 nodes, regions:NAME or square:"),
+    ("--classes --coordinates file:a.csv", "regions:NAME or square:SIDE:HEIGHT, since a class has one height"),
+    ("--classes --coordinates square:9ms:1us..2us", "square:SIDE:HEIGHT, since a class has one height"),
+    ("--classes --coordinates square:9ms:1ms --window 2001us", "--window: a time of 1us to 2ms (the sum of the two"),
     ("--classes " + " ".join(f"--group g{i}:2" for i in range(17)), "--nodes: the nodes are of 17 kinds, and a"),
     (f"--classes --group {'a' * 24}:2", "--group: names of a class begin with at most 25 characters, and "),
     (f"--classes --group {'a' * 24}:9 --ids names --initial 5", f"and {'a' * 24}-b has 26; take a shorter"),
@@ -82,6 +89,46 @@ class GenerateClassesTest(TestCase):
         for one in top["nodes"]:
             self.assertEqual((one["x_us"], one["y_us"], one["height_us"]), places[one["prefix"][:2]])
 
+    def test_square(self) -> None:
+        """The nodes of a class are in a square whose side is in its table, and the window is two heights.
+
+        The first numbers of seed 1 are those that tests.test_class_places has by hand."""
+        top = made("--nodes 20 --classes --coordinates square:100ms:5ms")
+        whole = {"count": 20, "prefix": "n1.", "initial": True, "x_us": 0, "y_us": 0, "height_us": 5000}
+        self.assertEqual((top["nodes"], top["window_us"]), ([{**whole, "side_us": 100_000}], 10_000))
+        self.assertEqual(places_of(top)[:3], [(2147, 49522), (53424, 4884), (34259, 30146)])
+        other = made("--nodes 20 --classes --coordinates square:100ms:5ms --seed 2")
+        self.assertEqual(places_of(other)[:3], [(95015, 59846), (43491, 88140), (18427, 41339)])
+        same = made("--nodes 20 --classes --coordinates square:100ms:5ms..5ms")
+        self.assertEqual(same["nodes"], top["nodes"])
+        one_place = made("--nodes 20 --classes --coordinates square:0:5ms")
+        self.assertEqual(one_place["nodes"], [whole])
+
+    def test_square_of_single_nodes(self) -> None:
+        """A node that is like no other has the place that it has without classes; the classes are in one square."""
+        arguments = "--nodes 20 --coordinates square:100ms:5ms --bootstrap 1 --initial 12 --bits 64 --ids names"
+        top, alone = made(f"{arguments} --classes"), places_of(made(arguments))
+        self.assertEqual([one["name"] for one in top["node"]], ["n0", "nb10"])
+        self.assertEqual([(one["x_us"], one["y_us"]) for one in top["node"]], [alone[0], alone[11]])
+        self.assertEqual([one["side_us"] for one in top["nodes"]], [100_000] * 2)
+        places = places_of(top)
+        self.assertEqual(len(set(places)), 20)
+        self.assertEqual(places[2:4] + places[12:14], [(2147, 49522), (53424, 4884), (95962, 18671), (22459, 42585)])
+
+    def test_greatest_latency(self) -> None:
+        """What is said of the timeout knows where all nodes are."""
+        for arguments in ("", "--bootstrap 1 --initial 12", "--group eu:7 --group us:6"):
+            words = f"--nodes 20 --classes --bits 64 --coordinates square:100ms:5ms --timeout 1ms {arguments}".split()
+            status, text, told = ended(main, "--profile", "4", *words)
+            trip = 2 * greatest_latency(tomllib.loads(text), b"")
+            self.assertEqual(status, 0)
+            self.assertIn(f"is below the greatest round trip, {trip} ", told)
+
+    def test_many_in_a_square(self) -> None:
+        """Above 65,536 nodes they are a class, also in a square."""
+        (one,) = tomllib.loads(text_of("--nodes 65537 --coordinates square:1ms:5ms --ids names"))["nodes"]
+        self.assertEqual((one["count"], one["side_us"], one["height_us"]), (65537, 1000, 5000))
+
     def test_same_world(self) -> None:
         """Classes change names and identifiers alone: lives, joins and lookups are those of single nodes."""
         arguments = "--nodes 30 --bits 64 --lifetime exp:20s --down exp:5s --lookups 0.1 --duration 1m --leaves 300000"
@@ -118,6 +165,11 @@ class GenerateClassesTest(TestCase):
         """The Python package has the option too."""
         scenario = Scenario.generate(profile=4, nodes=5, classes=True, ids="names")
         self.assertEqual(scenario.nodes, ("n0", "n1", "n2", "n3", "n4"))
+
+
+def places_of(top: dict[str, Any]) -> list[tuple[int, int]]:
+    """The places of all nodes of a scenario, as its reader draws them."""
+    return [(known(place).x_us, known(place).y_us) for place in node_places(top)]
 
 
 def named(top: dict[str, Any]) -> list[str]:

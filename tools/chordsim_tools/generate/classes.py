@@ -2,16 +2,21 @@
 
 from collections import Counter
 from collections.abc import Iterable, Sequence
-from dataclasses import dataclass, replace
+from dataclasses import asdict, dataclass, replace
 
 from chordsim_tools.cli import Failure
 from chordsim_tools.generate.plan import Plan
+from chordsim_tools.known import known
+from chordsim_tools.places import Square, streams_of
 from chordsim_tools.reference.circle import Circle
+from chordsim_tools.scenario.classes import class_places
 from chordsim_tools.scenario.coordinates import Coordinates
 from chordsim_tools.scenario.tables import MOST_CLASSES, MOST_OF_PREFIX
 
 Kind = tuple[str, bool, bool, bool, Coordinates | None]
-"""What nodes are alike in: their group, whether they are initial, churn and are bootstrap nodes, and their place."""
+"""What nodes are alike in: their group, whether they are initial, churn and are bootstrap nodes, and their place.
+
+If the places of a class are drawn, this is the corner of their square."""
 LETTERS = ("", *"bcdefghijklmnop")
 """What is in the names of the nodes of each kind of a group."""
 
@@ -67,6 +72,11 @@ def alone_of(classes: Iterable[NodeClass]) -> list[int]:
     return [node for one in classes for node in one.nodes[one.counted :]]
 
 
+def counted_of(classes: Iterable[NodeClass]) -> list[NodeClass]:
+    """The classes that have tables."""
+    return [one for one in classes if one.counted > 0]
+
+
 def with_another(classes: list[NodeClass]) -> list[NodeClass]:
     """The same classes, of which the greatest leaves its last node alone: there are no tables [[node]], or two or more.
 
@@ -74,6 +84,26 @@ def with_another(classes: list[NodeClass]) -> list[NodeClass]:
     greatest = max(classes, key=lambda one: one.counted)
     left = replace(greatest, counted=greatest.counted - 1 if greatest.counted > 2 else 0)
     return [left if one is greatest else one for one in classes]
+
+
+def place_of(plan: Plan, node: int) -> Coordinates:
+    """The place of a node that has a table of its own. If there is a square, it is drawn here as without classes."""
+    place = plan.places[node]
+    if plan.side == 0:
+        return place
+    square = Square(plan.side, place.height_us, place.height_us)
+    return square.draw(streams_of(plan.top["seed"], node + 1)[node])
+
+
+def drawn_places(plan: Plan, classes: Sequence[NodeClass]) -> Sequence[Coordinates]:
+    """The places of all nodes, with those that the program draws."""
+    if plan.side == 0:
+        return plan.places
+    places = [place_of(plan, node) for node in alone_of(classes)]
+    for number, one in enumerate(counted_of(classes)):
+        table = {"count": one.counted, **asdict(plan.places[one.nodes[0]]), "side_us": plan.side}
+        places += map(known, class_places(plan.top["seed"], number, table))
+    return places
 
 
 def prefix_of(plan: Plan, group: str, letter: str) -> str:

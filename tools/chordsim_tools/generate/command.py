@@ -11,7 +11,7 @@ from chordsim_tools.explain.world_traps import world_traps
 from chordsim_tools.files import check_output, check_apart, put
 from chordsim_tools.generate.arguments import OPTIONS, PROG, arguments_again, parser_of
 from chordsim_tools.generate.bare import LIMITS, bare_traps
-from chordsim_tools.generate.classes import classes_of, names_of
+from chordsim_tools.generate.classes import classes_of, drawn_places, names_of
 from chordsim_tools.generate.commands import Streams, commands_of, initial_nodes, lives_of
 from chordsim_tools.generate.outages import struck
 from chordsim_tools.generate.plan import Plan, check
@@ -93,7 +93,7 @@ def write_planned(plan: Plan, args: Namespace) -> None:
     made = made_of(plan)
     put(whole_text(plan, made, arguments_again(args)), args.file)
     say("".join(f"{note}\n" for note in plan.notes))
-    latency = greatest_latency(plan.places) if plan.places else plan.top["latency_us"]
+    latency = greatest_latency(drawn_places(plan, made.classes)) if plan.places else plan.top["latency_us"]
     slowest = latency + plan.top.get("spread_us", 0)
     traps = timeout_trap(plan.top["timeout_us"], slowest, plan.top.get("retries", 0))
     warn([*bare_traps(args, LIMITS), *traps, *duration_traps(plan.top), *world_traps(document_of(plan, made))])

@@ -57,6 +57,7 @@ through); and a longer run begins as the shorter one (if --arrive is given).
 --coordinates gives each node a place and a height. The latency of two nodes is then the sum of their heights and the
 way between their places; --latency only makes the default of --timeout.
   square:SIDE:MIN..MAX   places that are equally likely in a square of this side, and heights in the span
+  square:SIDE:HEIGHT     the same with one height. Classes have `side_us`, and the program draws the places of their nodes
   king                   places and heights that tools/latency --king makes, for this seed
   file:NAME              those of a file that tools/latency --fit or --king has written
   regions:NAME           those that come nearest to the latencies between regions, which are the groups of the nodes.
@@ -85,6 +86,8 @@ examples:
   tools/generate --profile 4 --no-goes-on --lookup-timeouts 8   lookups begin again at their node after each silent one
   tools/generate --profile 4 --nodes 4096 --coordinates king --timeout 1s
   tools/generate --profile 4 --nodes 1048576 --duration 1s      a million nodes, in one table
+  tools/generate --profile 4 --nodes 100000 --coordinates square:60ms:5ms --timeout 1s
+                                                                many nodes at places of their own, in one table
   tools/generate --lookups 0.5 --keys zipf:0.9:1000 --seed 3
   tools/generate --random 7 --links links.csv -o any.toml
 A scenario that is run with a latency file wants a --window of at most the file's least latency and a --timeout above

@@ -16,7 +16,7 @@ from chordsim_tools.generate.nodes import (
 from chordsim_tools.generate.outages import Outage
 from chordsim_tools.generate.top import network_of, top_of
 from chordsim_tools.options import Given, Options
-from chordsim_tools.places import Law, RegionsFile, places_of
+from chordsim_tools.places import Law, RegionsFile, Square, places_of
 from chordsim_tools.quantities import time_text
 from chordsim_tools.regions import placed, read_regions
 from chordsim_tools.scenario.coordinates import Coordinates
@@ -32,7 +32,8 @@ class Plan:
 
     The nodes below `initial` begin as members, unless the start is drawn or a churn trace says it. Those below
     `bootstraps` are bootstrap nodes. Of a million lives that commands end, `leaves` end with a leave. The nodes have
-    coordinates, or the list is empty. If the scenario has classes, nodes that are alike have one table.
+    coordinates, or the list is empty. If the scenario has classes, nodes that are alike have one table. If there is a
+    side, the nodes of classes are in a square of it from their coordinates on, and the program draws where.
     """
 
     top: dict[str, int]
@@ -53,6 +54,7 @@ class Plan:
     bootstraps: int = 0
     leaves: int = 0
     is_classed: bool = False
+    side: int = 0
     notes: tuple[str, ...] = ()
 
     @property
@@ -79,7 +81,9 @@ def check(args: Namespace, parser: Parser) -> Plan:
     duration = options.get("duration", default_duration(first))
     hosts = (*first, *newcomers(options, len(first), room_of(profile, bits), duration))
     is_classed = are_classed(options, profile, len(hosts))
-    places = coordinates_of(options, profile, hosts)
+    options.only_with("coordinates", profile == 4, "--profile 4")
+    square = square_of_classes(options) if is_classed else None
+    places = coordinates_of(options, hosts) if square is None else (Coordinates(0, 0, square.least),) * len(hosts)
     top = top_of(options, profile, (bits, duration, initial, len(first)), places) | network_of(options, profile)
     check_companions(options, initial < len(first))
     return Plan(
@@ -101,6 +105,7 @@ def check(args: Namespace, parser: Parser) -> Plan:
         bootstraps=bootstraps_of(options, profile, len(first)),
         leaves=0 if options.has("churn-uniform") else leaves_of(options, profile),
         is_classed=is_classed,
+        side=0 if square is None else square.side,
         notes=notes_of(options),
     )
 
@@ -131,17 +136,25 @@ def bootstraps_of(options: Options, profile: int, nodes: int) -> int:
 
 
 def are_classed(options: Options, profile: int, nodes: int) -> bool:
-    """Whether nodes that are alike have one table. Then they are not at places of their own, nor named by a file."""
+    """Whether nodes that are alike have one table. Then no file names them, and no law gives them heights or places.
+
+    But they may be in a square in which the program draws their places."""
     options.only_with("classes", profile == 4, "--profile 4")
     if not options.has("classes") and nodes <= MOST_TABLES:
         return False
     if options.has("churn-trace"):
         options.refuse("churn-trace", "not with --classes, whose nodes have names of their classes")
     law: Law | None = options.get("coordinates", None)
-    if law is not None and not isinstance(law, RegionsFile):
+    if law is not None and not isinstance(law, RegionsFile) and square_of_classes(options) is None:
         when = f"with --classes, and above {MOST_TABLES} nodes,"
-        options.refuse("coordinates", f"{when} regions:NAME alone, since the nodes of a class are at one place")
+        options.refuse("coordinates", f"{when} regions:NAME or square:SIDE:HEIGHT, since a class has one height")
     return True
+
+
+def square_of_classes(options: Options) -> Square | None:
+    """The square of the nodes of classes, if they are in one."""
+    law: Law | None = options.get("coordinates", None)
+    return law if isinstance(law, Square) and law.has_one_height else None
 
 
 def notes_of(options: Options) -> tuple[str, ...]:
@@ -165,9 +178,8 @@ def is_stationary(options: Options) -> bool:
     return True
 
 
-def coordinates_of(options: Options, profile: int, hosts: tuple[Host, ...]) -> tuple[Coordinates, ...]:
+def coordinates_of(options: Options, hosts: tuple[Host, ...]) -> tuple[Coordinates, ...]:
     """The coordinates of the nodes, if they have any."""
-    options.only_with("coordinates", profile == 4, "--profile 4")
     law: Law | None = options.get("coordinates", None)
     return () if law is None else places_of(law, options.get("seed", 1), [host.name for host in hosts])
 

@@ -8,10 +8,11 @@ from typing import Any
 
 from chordsim_tools.draws import Draws
 from chordsim_tools.explain.world_traps import round_told
-from chordsim_tools.generate.classes import NodeClass, alone_of, churns
+from chordsim_tools.generate.classes import NodeClass, alone_of, churns, counted_of, place_of
 from chordsim_tools.generate.commands import CRASH, JOIN, LEAVE, LOOKUP, Command
 from chordsim_tools.generate.idents import of_names, seeded
 from chordsim_tools.generate.plan import Plan
+from chordsim_tools.scenario.coordinates import Coordinates
 from chordsim_tools.scenario.reading import Churn
 
 DOES = {CRASH: "crash", LEAVE: "leave", JOIN: "join", LOOKUP: "lookup"}
@@ -40,7 +41,7 @@ def text_of(plan: Plan, made: Made, arguments: list[str]) -> str:
         tables.append(table("[lookups]\n", asdict(plan.lookups)))
     alone = alone_of(made.classes) if plan.is_classed else range(plan.nodes)
     tables += [node_table(plan, node, made) for node in alone]
-    tables += [class_table(plan, one, made) for one in made.classes if one.counted > 0]
+    tables += [class_table(plan, one, made) for one in counted_of(made.classes)]
     tables += [command_table(command, made.names) for command in made.commands]
     return "\n".join(tables)
 
@@ -99,7 +100,7 @@ def nodes_told(plan: Plan) -> list[str]:
 
 def classes_told(classes: list[NodeClass]) -> list[str]:
     """The classes, with the prefixes of their names."""
-    told = ", ".join(f"{one.prefix} {one.counted}" for one in classes if one.counted > 0)
+    told = ", ".join(f"{one.prefix} {one.counted}" for one in counted_of(classes))
     return [f"Classes: {told}."] if told else []
 
 
@@ -121,26 +122,36 @@ def node_table(plan: Plan, node: int, made: Made) -> str:
     lines = [f'name = "{made.names[node]}"']
     if node in made.idents:
         lines.append(f"id = {key_text(made.idents[node])}")
-    return "[[node]]\n" + "\n".join([*lines, *lines_of(plan, node, node in made.initial)]) + "\n"
+    lines += lines_of(plan, node, node in made.initial)
+    if plan.places:
+        lines += place_lines(place_of(plan, node))
+    return "[[node]]\n" + "\n".join(lines) + "\n"
 
 
 def class_table(plan: Plan, one: NodeClass, made: Made) -> str:
     """The table of a class."""
     first = one.nodes[0]
-    lines = [f"count = {one.counted}", f'prefix = "{one.prefix}"']
-    return "[[nodes]]\n" + "\n".join([*lines, *lines_of(plan, first, first in made.initial)]) + "\n"
+    lines = [f"count = {one.counted}", f'prefix = "{one.prefix}"', *lines_of(plan, first, first in made.initial)]
+    if plan.places:
+        lines += place_lines(plan.places[first])
+    if plan.side > 0:
+        lines.append(f"side_us = {plan.side}")
+    return "[[nodes]]\n" + "\n".join(lines) + "\n"
 
 
 def lines_of(plan: Plan, node: int, is_initial: bool) -> list[str]:
-    """The lines of a node that others may have too."""
+    """The lines of a node that others may have too, without its place."""
     lines = ["initial = true"] if is_initial else []
     if churns(plan, node):
         lines.append("churn = true")
     if node < plan.bootstraps:
         lines.append("bootstrap = true")
-    if plan.places:
-        lines += [f"{key} = {value}" for key, value in asdict(plan.places[node]).items()]
     return lines
+
+
+def place_lines(place: Coordinates) -> list[str]:
+    """The lines of a place."""
+    return [f"{key} = {value}" for key, value in asdict(place).items()]
 
 
 def command_table(command: Command, names: list[str]) -> str:

@@ -81,7 +81,7 @@ def groups(seed: int, streams: Sequence[int], number: int) -> Iterator[tuple[int
     return zip(*(unpack(f"<{len(streams)}Q", word.to_bytes(8 * len(streams), "little")) for word in words))
 
 
-def scaled(words: Sequence[int], *bounds: int) -> list[int]:
-    """A number below each bound, of which there are at most two: of two of the four words each."""
-    doubles = words[0] * 2**32 + words[1], words[2] * 2**32 + words[3]
-    return [double * bound // 2**64 for double, bound in zip(doubles, bounds)]
+def scaled(words: Sequence[int], first: int, second: int = 1) -> tuple[int, int]:
+    """Two numbers below these bounds: w n / 2^64, rounded down, of which each w is two of the four words."""
+    a, b, c, d = words
+    return (a << 32 | b) * first >> 64, (c << 32 | d) * second >> 64

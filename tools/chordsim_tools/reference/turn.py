@@ -108,7 +108,7 @@ class Turn:
         """A number below each bound: of one word each, modulo the bound; in the extended profile of two words each."""
         words = self.words(what, occasion, len(bounds))
         if self.world.scenario.profile == 4:
-            return scaled(words, *bounds)
+            return list(scaled(words, *bounds)[: len(bounds)])
         return [word % n for word, n in zip(words, bounds)]
 
     def time_from_span(self, least: int, greatest: int, what: Drawn, occasion: int) -> int:
