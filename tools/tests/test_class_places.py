@@ -156,6 +156,8 @@ class FollowingTest(TestCase):
             {"name": "a0", "x_us": 0, "y_us": 4, **alike}, {"name": "a1", "x_us": 5, "y_us": 0, **alike},
             {"name": "b0", "x_us": 0, "y_us": 0, **alike}, {"name": "b1", "x_us": 0, "y_us": 0, **alike},
         ])
+        undrawn = expanded(tomllib.loads(TOP + in_square(9)), is_drawn=False)["node"]
+        self.assertEqual(undrawn, [{"name": name, "x_us": 0, "y_us": 0, **alike} for name in ("a0", "a1")])
 
     def test_greatest_latency(self) -> None:
         """The farthest two nodes are those of the drawn places, not those of the square."""

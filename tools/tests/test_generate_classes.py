@@ -95,7 +95,7 @@ class GenerateClassesTest(TestCase):
         The first numbers of seed 1 are those that tests.test_class_places has by hand."""
         top = made("--nodes 20 --classes --coordinates square:100ms:5ms")
         whole = {"count": 20, "prefix": "n1.", "initial": True, "x_us": 0, "y_us": 0, "height_us": 5000}
-        self.assertEqual((top["nodes"], top["window_us"]), ([{**whole, "side_us": 100_000}], 10_000))
+        self.assertEqual((top["nodes"], top["window_us"]), ([whole | {"side_us": 100_000}], 10_000))
         self.assertEqual(places_of(top)[:3], [(2147, 49522), (53424, 4884), (34259, 30146)])
         other = made("--nodes 20 --classes --coordinates square:100ms:5ms --seed 2")
         self.assertEqual(places_of(other)[:3], [(95015, 59846), (43491, 88140), (18427, 41339)])

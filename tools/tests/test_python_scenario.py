@@ -53,6 +53,7 @@ bootstrap = true
 x_us = 0
 y_us = 9
 height_us = 8
+side_us = 7
 """
 """A scenario with each key that there is."""
 

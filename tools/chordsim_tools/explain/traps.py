@@ -57,7 +57,7 @@ def greatest_latency(top: dict[str, Any], latency: bytes) -> int:
 def traps_of(top: dict[str, Any], greatest: int) -> list[str]:
     """The traps of a scenario that is accepted, with this greatest latency."""
     of_timeouts = timeout_trap(top["timeout_us"], greatest, top.get("retries", 0))
-    return [*of_timeouts, *duration_traps(top), *world_traps(expanded(top))]
+    return [*of_timeouts, *duration_traps(top), *world_traps(expanded(top, is_drawn=False))]
 
 
 def timeout_trap(timeout: int, greatest: int, retries: int = 0) -> list[str]:

@@ -10,7 +10,7 @@ from chordsim_tools.scenario.coordinates import Coordinates, coordinates_of
 from chordsim_tools.scenario.tables import MOST_OF_CLASS
 
 Table = dict[str, Any]
-AT_ONCE = 4096
+AT_ONCE = 1024
 """The places of so many nodes are drawn together."""
 
 
@@ -55,14 +55,16 @@ def words_of_class(seed: int, number: int, count: int) -> Iterator[tuple[int, ..
         yield from groups(seed, streams, number)
 
 
-def expanded(top: Table) -> Table:
-    """A scenario that is accepted, with all its nodes as tables [[node]]. Without classes it is the same one."""
+def expanded(top: Table, is_drawn: bool = True) -> Table:
+    """A scenario that is accepted, with all its nodes as tables [[node]]. Without classes it is the same one.
+
+    If places are not drawn, since nobody asks for them, the nodes of a class are at the corner of its square."""
     if "nodes" not in top:
         return top
     tables = list(top.get("node", []))
     for number, table in enumerate(top["nodes"]):
         alike = {key: value for key, value in table.items() if key not in ("count", "prefix", "side_us")}
-        places = class_places(top["seed"], number, table)
+        places = class_places(top["seed"], number, table if is_drawn else {**table, "side_us": 0})
         tables += ({"name": name, **alike, **plane_keys(place)} for name, place in zip(class_names(table), places))
     return {**{key: value for key, value in top.items() if key != "nodes"}, "node": tables}
 
