@@ -11,19 +11,19 @@ With a side of 100000 the first number of a0 is 0x057fa59540b3283c * 100001 / 2^
 
 import tomllib
 from itertools import islice
+from random import Random
 from unittest import TestCase
 
 from chordsim import Scenario
 from chordsim_tools.explain.traps import greatest_latency, traps_of
 from chordsim_tools.flat import flat_form
 from chordsim_tools.reference.chacha import Stream, groups, scaled
-from chordsim_tools.reference.simulation import Simulation
 from chordsim_tools.scenario.classes import expanded, node_places
 from chordsim_tools.scenario.coordinates import Coordinates
 from chordsim_tools.scenario.reading import read_scenario
 from chordsim_tools.study.repairs import latencies_of
 from tests.support.rings import PLANS, ProgramTest
-from tests.test_classes import HERE, LOW, PAIR, TOP, a_class, beside
+from tests.test_classes import HERE, LOOKUPS, LOW, PAIR, RUN, TOP, a_class, beside, run_of
 from tests.test_explain import faults
 
 ASKED = '[[command]]\nat_us = 100\ndo = "lookup"\nnode = "a0"\nkey = "f29bc91bbdab169f"\n'
@@ -35,6 +35,18 @@ FOUND = "{time} a0 found 17481787499552118431 a1 hops=0 timeouts=0 us={micros}"
 def in_square(side: int, count: int = 2, prefix: str = "a", corner: str = LOW) -> str:
     """A class whose nodes are in a square of this side."""
     return a_class(count, prefix, f"initial = true\n{corner}side_us = {side}\n")
+
+
+def random_world(seed: int) -> str:
+    """A ring of up to six classes near one place, mostly at the edge of the plane, each with a side of its own."""
+    dice = Random(seed)
+    x, y = dice.choice([(0, 0), (250_000_000, 7), (499_999_960, 0), (499_999_970, 499_999_930)])
+    text = (RUN + LOOKUPS).replace("seed = 1", f"seed = {dice.choice([0, 2**63 - 1, dice.getrandbits(63)])}")
+    for prefix in "abcdef"[: dice.randint(1, 6)]:
+        corner = f"x_us = {x + dice.randint(0, 30)}\ny_us = {y + dice.randint(0, 30)}\n"
+        height = f"height_us = {dice.randint(5, 9)}\n"
+        text += in_square(dice.choice([0, 1, 9, 60, 99]), dice.randint(2, 6), prefix, corner + height)
+    return text
 
 
 def places_of(text: str) -> list[tuple[int, int]]:
@@ -175,7 +187,7 @@ class FollowingTest(TestCase):
     def test_lookup(self) -> None:
         """A lookup takes 16 on the way to a1 and 16 back. If both are at the corner these are 10 and 10."""
         for side, micros in ((9, 32), (0, 20)):
-            lines = list(Simulation(read_scenario((TOP + in_square(side) + ASKED).encode(), b"")).lines())
+            lines = run_of(TOP + in_square(side) + ASKED)
             self.assertIn(FOUND.format(time=100 + micros, micros=micros), lines)
 
     def test_python(self) -> None:
@@ -250,6 +262,13 @@ class PlacesProgram(ProgramTest):
                 with self.subTest(side=side, plan=plan):
                     lines = self.left(TOP + in_square(side) + ASKED, plan=plan).trace.splitlines()
                     self.assertIn(FOUND.format(time=100 + micros, micros=micros), lines)
+
+    def test_random(self) -> None:
+        """Traces are those of the reference simulator, whose nodes are at the same places."""
+        for seed in range(12):
+            text = random_world(seed)
+            with self.subTest(text=text):
+                self.assertEqual(self.left(text).trace.splitlines(), run_of(text))
 
     def test_far(self) -> None:
         """In the last corner of the plane all nodes are at one place, whatever the side is."""
