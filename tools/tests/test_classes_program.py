@@ -71,21 +71,27 @@ class ClassesProgram(ProgramTest):
             self.assertEqual((status, sorted(rows.splitlines())), (0, sorted(table.read_text().splitlines())))
 
     def test_study(self) -> None:
-        """A study has the same numbers of both, and more nodes of a class are those of another base."""
-        for text in WORLDS:
-            self.assertEqual(self.runs_of(text, "list = [1, 3]"), self.runs_of(written_out(text), "list = [1, 3]"))
-        first, *_ = WORLDS
-        varied = self.runs_of(first, '"nodes.count" = [5, 12]')
-        for count, rows in ((5, varied[:2]), (12, varied[2:])):
-            alone = self.runs_of(written_out(first.replace("count = 9", f"count = {count}")), "list = [2]")
-            self.assertEqual([row[1:] for row in rows], [row[1:] for row in alone])
+        """A study has the same numbers of both, and more nodes of a class are those of another base.
 
-    def runs_of(self, base: str, vary: str) -> list[list[str]]:
-        """The rows of `runs.csv` of a study of two seeds."""
+        Places that are drawn are those of each seed, so that each has nodes of its own."""
+        for text in WORLDS:
+            rows = []
+            for seed in (1, 2):
+                alone = written_out(text.replace("\nseed = 1\n", f"\nseed = {seed}\n"))
+                rows += self.runs_of(alone, "list = [1, 3]", seed)
+            self.assertEqual(sorted(self.runs_of(text, "list = [1, 3]", 1, 2)), sorted(rows))
+        first, *_ = WORLDS
+        varied = self.runs_of(first, '"nodes.count" = [5, 12]', 1, 2)
+        for count, rows in ((5, varied[:2]), (12, varied[2:])):
+            nodes = written_out(first.replace("count = 9", f"count = {count}"))
+            self.assertEqual([row[1:] for row in rows], [row[1:] for row in self.runs_of(nodes, "list = [2]", 1, 2)])
+
+    def runs_of(self, base: str, vary: str, *seeds: int) -> list[list[str]]:
+        """The rows of `runs.csv` of a study of these seeds."""
         with tempfile.TemporaryDirectory() as name:
             folder = Path(name)
             (folder / "base.toml").write_text(base, encoding="utf-8")
-            head = 'question = "How?"\nbase = "base.toml"\nseeds = [1, 2]\n'
+            head = f'question = "How?"\nbase = "base.toml"\nseeds = {list(seeds)}\n'
             (folder / "study.toml").write_text(f"{head}[vary]\n{vary}\n", encoding="utf-8")
             with patch.dict(os.environ, CHORDSIM=self.program):
                 files = str(folder / "study.toml"), "-o", str(folder / "out")
