@@ -58,6 +58,8 @@ use Rattle.chord_command.specs.Commands.{
   engine_rule,
   serial_rule,
   trace_rule,
+  digest_rule,
+  edges_rule,
 }
 use Rattle.clap.proofs.WalkLemmas.{both}
 use Rattle.clap.specs.declared.builder.arg.Arg.{Arg}
@@ -178,7 +180,7 @@ pub judge_is_free : is_simple_and_free judge_app ≡ true
 unfolding judge_app clap_on_literals
 judge_is_free = refl
 
-pub judge_rules : (c : Command) → app_of c ≡ judge_app → HasRules c (scenario_rule ∷ latency_rule ∷ trace_rule ∷ [])
+pub judge_rules : (c : Command) → app_of c ≡ judge_app → HasRules c (scenario_rule ∷ latency_rule ∷ trace_rule ∷ digest_rule ∷ edges_rule ∷ [])
 unfolding judge_app
 judge_rules c same = has_rules c judge_app same refl refl refl
 

@@ -106,13 +106,21 @@ trace_rule = record (new_rule (codes "trace")) {
   action = Some Set;
 }
 
+-- the option `--digest`, which takes the name of the file for the digest
+abbrev pub digest_rule : Rule
+digest_rule = option_rule (codes "digest")
+
+-- the option `--edges`, which takes the times at which the counts of the digest begin anew
+abbrev pub edges_rule : Rule
+edges_rule = option_rule (codes "edges")
+
 -- the options of `check` and `ids`
 abbrev pub rules_of_files : List Rule
 rules_of_files = scenario_rule ∷ latency_rule ∷ []
 
 -- the options of `judge`
 abbrev pub rules_of_judge : List Rule
-rules_of_judge = scenario_rule ∷ latency_rule ∷ trace_rule ∷ []
+rules_of_judge = scenario_rule ∷ latency_rule ∷ trace_rule ∷ digest_rule ∷ edges_rule ∷ []
 
 -- the options of `run`
 abbrev pub rules_of_run : OptionNames → List Rule
@@ -139,9 +147,10 @@ check_app = with_rule (with_rule (new_app (codes "check")) scenario_rule) latenc
 unfoldable pub ids_app : App
 ids_app = with_rule (with_rule (new_app (codes "ids")) scenario_rule) latency_rule
 
--- the command `judge` and its options: the input files and the trace file
+-- the command `judge` and its options: the input files, the trace file, the digest file and the edges
 unfoldable pub judge_app : App
-judge_app = with_rule (with_rule (with_rule (new_app (codes "judge")) scenario_rule) latency_rule) trace_rule
+judge_app =
+    with_rule (with_rule (with_rule (with_rule (with_rule (new_app (codes "judge")) scenario_rule) latency_rule) trace_rule) digest_rule) edges_rule
 
 -- the command `run` and its options: the input files, the engine, the division of the nodes, and the trace file
 unfoldable pub run_app : OptionNames → App

@@ -7,6 +7,7 @@ use Rattle.std.specs.Str.Parse.{IsNumeral, digits_value, without_leading_plus}
 use Rattle.clap.specs.Words.{Row, Text, fault_of, first_of, matches_of, one_of, takes}
 use Rattle.chord_command.specs.Commands.{OptionNames, check_app, ids_app, judge_app, run_app}
 use Rattle.chord_command.specs.declared.order.Files.{Files}
+use Rattle.chord_command.specs.declared.order.Judging.{Judging}
 use Rattle.chord_plan.specs.declared.plan.Engine.{Engine}
 use Rattle.chord_plan.specs.declared.plan.Engine.TheVariants as engine
 use Rattle.chord_plan.specs.declared.plan.Plan.{Plan}
@@ -68,9 +69,15 @@ abbrev pub HasOptions : List Row → Files → Plan → Option (String Global) �
 HasOptions rows files plan trace =
     HasFiles rows files × HasPlan rows plan × (first_of (codes "trace") rows ≡ option_map string_bytes trace)
 
--- the files and the trace file that these options name
-abbrev pub IsJudged : List Row → Files → Option (String Global) → Type 0
-IsJudged rows files trace = HasFiles rows files × (first_of (codes "trace") rows ≡ option_map string_bytes trace)
+-- the trace file, the digest file and the edges are those of the options
+pub record HasJudging (rows : List Row) (j : Judging) : Type 0 where
+  pub trace : first_of (codes "trace") rows ≡ option_map string_bytes j.trace
+  pub digest : first_of (codes "digest") rows ≡ option_map string_bytes j.digest
+  pub edges : first_of (codes "edges") rows ≡ option_map string_bytes j.edges
+
+-- the files of a scenario, and what a judge reads and writes, are those of the options
+abbrev pub IsJudged : List Row → Files → Judging → Type 0
+IsJudged rows files judging = HasFiles rows files × HasJudging rows judging
 
 -- the arguments from `run` on give these files, this plan and this trace
 abbrev pub IsRunOf : List Text → Files → Plan → Option (String Global) → Type 0
@@ -85,9 +92,9 @@ IsOrderOf words (order.Check files) =
 IsOrderOf words (order.Ids files) =
     (command_word words ≡ Some (codes "ids")) × (fault_of ids_app (drop 1 words) ≡ [])
     × HasFiles (matches_of ids_app (drop 1 words)) files
-IsOrderOf words (order.Judge files trace) =
+IsOrderOf words (order.Judge files judging) =
     (command_word words ≡ Some (codes "judge")) × (fault_of judge_app (drop 1 words) ≡ [])
-    × IsJudged (matches_of judge_app (drop 1 words)) files trace
+    × IsJudged (matches_of judge_app (drop 1 words)) files judging
 IsOrderOf words (order.Run files plan trace) =
     (command_word words ≡ Some (codes "run")) × IsRunOf (drop 1 words) files plan trace
 

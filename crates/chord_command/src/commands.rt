@@ -1,7 +1,7 @@
 //! The command line of the program, for clap to read.
 ghost use Rattle.std.specs.Prelude.{◌≡◌, false, List, IfOk};
 ghost use Rattle.clap.specs.Words.{Rule, app_of, new_app, rule_of};
-ghost use Rattle.chord_command.specs.Commands.{HaveRules, IsEngineNames, IsSplitNames, Names, OptionNames, check_app, engine_rule, ids_app, judge_app, latency_rule, option_rule, parts_rule, rules_of_files, rules_of_judge, rules_of_run, run_app, scenario_rule, serial_rule, split_rule, trace_rule, with_rules, workers_rule};
+ghost use Rattle.chord_command.specs.Commands.{HaveRules, IsEngineNames, IsSplitNames, Names, OptionNames, check_app, digest_rule, edges_rule, engine_rule, ids_app, judge_app, latency_rule, option_rule, parts_rule, rules_of_files, rules_of_judge, rules_of_run, run_app, scenario_rule, serial_rule, split_rule, trace_rule, with_rules, workers_rule};
 
 use clap::{Arg, ArgAction, Command, value_parser};
 use std::alloc::{AllocError, Global};
@@ -114,7 +114,7 @@ fn file_arguments<'a>(alloc: Global) -> Result<Vec<Arg<'a>>, AllocError>
     Ok(arguments)
 }
 
-/// The files of a scenario, and the trace of a run of it.
+/// The files of a scenario, and what is read and written of a run of it.
 fn judge_arguments<'a>(alloc: Global) -> Result<Vec<Arg<'a>>, AllocError>
     ensures { IfOk result (λ v. HaveRules v.items rules_of_judge) }
 {
@@ -122,6 +122,8 @@ fn judge_arguments<'a>(alloc: Global) -> Result<Vec<Arg<'a>>, AllocError>
         scenario_argument(alloc),
         latency_argument(alloc),
         read_trace_argument(alloc),
+        digest_argument(alloc),
+        edges_argument(alloc),
     ]?;
     Ok(arguments)
 }
@@ -231,6 +233,26 @@ fn read_trace_argument<'a>(alloc: Global) -> Arg<'a>
 {
     let help = "File with the trace of a run of the scenario [default: standard input]";
     option_argument(alloc, "trace", "FILE", help)
+}
+
+fn digest_argument<'a>(alloc: Global) -> Arg<'a>
+    ensures rule { rule_of result ≡ digest_rule }
+    ensures local { result.global ≡ false }
+{
+    let help =
+        "File for what the table leaves out: how many messages of each kind there were, and the \
+        lines of nodes, audits and timeouts; its old content is lost [default: none]";
+    option_argument(alloc, "digest", "FILE", help)
+}
+
+fn edges_argument<'a>(alloc: Global) -> Arg<'a>
+    ensures rule { rule_of result ≡ edges_rule }
+    ensures local { result.global ≡ false }
+{
+    let help =
+        "Times at which the numbers of messages begin anew, in their order, with commas between them \
+        [default: none]";
+    option_argument(alloc, "edges", "US,US,..", help)
 }
 
 fn trace_argument<'a>(alloc: Global) -> Arg<'a>

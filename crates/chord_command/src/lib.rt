@@ -6,6 +6,6 @@ mod order;
 mod process;
 mod words;
 
-pub use order::{Files, Order};
+pub use order::{Files, Judging, Order};
 pub use process::read_process;
 pub use words::{WordFault, read_words};

@@ -11,11 +11,10 @@ pub enum Order {
     Check(Files),
     /// Print the identifier of each node.
     Ids(Files),
-    /// Judge the lookups of a trace of the scenario, which is in the file of this name, or comes from
-    /// standard input.
+    /// Judge the lookups of a trace of the scenario.
     Judge {
         files: Files,
-        trace: Option<String>,
+        judging: Judging,
     },
     /// Run the scenario. The trace goes to the file of this name, or to standard output.
     Run {
@@ -37,6 +36,17 @@ impl Order {
             Order::Run { files, .. } => files,
         }
     }
+}
+
+/// What a judge reads and writes beside the files of the scenario.
+#[derive(Drop)]
+pub struct Judging {
+    /// The file of the trace, which comes from standard input if there is none.
+    pub trace: Option<String>,
+    /// The file for the digest of the trace.
+    pub digest: Option<String>,
+    /// The times at which the counts of the digest begin anew, as the option gives them.
+    pub edges: Option<String>,
 }
 
 /// The names of the files that a scenario is read from.

@@ -3,11 +3,11 @@ ghost use Rattle.std.specs.Prelude.{◌≡◌, ◌↔◌, Some, IsTrue, true, ma
 ghost use Rattle.clap.specs.Words.{fault_of, first_of, first_value, found_of, kind_of, matches_of, one_of, one_text, rows_of, takes};
 ghost use Rattle.clap.specs.declared.error.kind.ErrorKind.TheVariants.{OutOfMemory};
 ghost use Rattle.chord_command.specs.Commands.{OptionNames, check_app, ids_app, judge_app, run_app};
-ghost use Rattle.chord_command.specs.Orders.{HasFiles, HasOptions, HasPlan, IsCountUpTo, IsJudged, IsOrderOf, IsRunOf, TakesWords, count_or, engine_for, engine_named, engine_of};
+ghost use Rattle.chord_command.specs.Orders.{HasFiles, HasJudging, HasOptions, HasPlan, IsCountUpTo, IsJudged, IsOrderOf, IsRunOf, TakesWords, count_or, engine_for, engine_named, engine_of};
 ghost use Rattle.chord_command.specs.declared.words.WordFault.TheVariants.{Memory};
 
 use crate::commands::{check_command, ids_command, judge_command, run_command, whole_command};
-use crate::order::{Files, Order};
+use crate::order::{Files, Judging, Order};
 use chord_plan::{Engine, Plan, Split};
 use clap::error::ErrorKind;
 use clap::{ArgMatches, Command, Error};
@@ -68,8 +68,8 @@ fn order_in(alloc: Global, words: &[String]) -> Result<Order, WordFault>
         "check" => Ok(Order::Check(files_of_check(alloc, rest)?)),
         "ids" => Ok(Order::Ids(files_of_ids(alloc, rest)?)),
         "judge" => {
-            let (files, trace) = judge_options(alloc, rest)?;
-            Ok(Order::Judge { files, trace })
+            let (files, judging) = judge_options(alloc, rest)?;
+            Ok(Order::Judge { files, judging })
         }
         "run" => {
             let (files, plan, trace) = run_options(alloc, rest)?;
@@ -99,7 +99,7 @@ fn files_of_ids(alloc: Global, words: &[String]) -> Result<Files, WordFault>
     files_in(alloc, &matches)
 }
 
-fn judge_options(alloc: Global, words: &[String]) -> Result<(Files, Option<String>), WordFault>
+fn judge_options(alloc: Global, words: &[String]) -> Result<(Files, Judging), WordFault>
     ensures accepted { OnOk result (fault_of judge_app (map string_bytes words.now) ≡ []) }
     ensures options { IfOk result (λ r. IsJudged (matches_of judge_app (map string_bytes words.now)) r.0 r.1) }
     ensures taken { takes judge_app (map string_bytes words.now) ≡ true → IfErr result (λ e. e ≡ WordFault.Memory) }
@@ -109,17 +109,24 @@ fn judge_options(alloc: Global, words: &[String]) -> Result<(Files, Option<Strin
     judge_options_in(alloc, &matches)
 }
 
-fn judge_options_in(
-    alloc: Global,
-    matches: &ArgMatches<'_>,
-) -> Result<(Files, Option<String>), WordFault>
+fn judge_options_in(alloc: Global, matches: &ArgMatches<'_>) -> Result<(Files, Judging), WordFault>
     requires { is_some (first_value (found_of matches.now) (codes "scenario")) ≡ true }
     ensures options { IfOk result (λ r. IsJudged (rows_of (found_of matches.now)) r.0 r.1) }
     ensures memory { IfErr result (λ e. e ≡ WordFault.Memory) }
 {
-    let trace = text_in(alloc, matches, "trace")?;
     let files = files_in(alloc, matches)?;
-    Ok((files, trace))
+    let judging = judging_in(alloc, matches)?;
+    Ok((files, judging))
+}
+
+fn judging_in(alloc: Global, matches: &ArgMatches<'_>) -> Result<Judging, AllocError>
+    ensures { IfOk result (HasJudging (rows_of (found_of matches.now))) }
+{
+    Ok(Judging {
+        trace: text_in(alloc, matches, "trace")?,
+        digest: text_in(alloc, matches, "digest")?,
+        edges: text_in(alloc, matches, "edges")?,
+    })
 }
 
 fn run_options(alloc: Global, words: &[String]) -> Result<RunOptions, WordFault>

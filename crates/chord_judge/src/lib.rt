@@ -1,6 +1,8 @@
 //! The judge of lookups: what became of each lookup of a run, by the lines of its trace.
 #![tactic(auto)]
 
+mod digest;
+mod digested;
 mod judge;
 mod laws;
 mod lines;
@@ -14,6 +16,8 @@ mod table;
 mod told;
 mod words;
 
+pub use digest::{Digest, edges_in};
+pub use digested::Digested;
 pub use judge::{Judge, JudgeFault};
 pub use laws::{
     accepted_runs_are_judged_as_written, accepted_scenarios_have_plain_names,

@@ -1,5 +1,6 @@
 //! From the text of a trace to the table of its lookups.
-ghost use Rattle.std.specs.Prelude.{◌≡◌, ℕ, Err, OnOk, false};
+ghost use Rattle.std.specs.Prelude.{◌≡◌, ℕ, Err, OnOk, false, true};
+ghost use Rattle.chord_judge.specs.Faults.{is_write_fault};
 ghost use Rattle.chord_judge.specs.Inside.{setup_of};
 ghost use Rattle.chord_judge.specs.Traces.{WasBegun, WasJudged, WasRefused};
 ghost use Rattle.des_output.specs.Watched.{has_failed, wrapped};
@@ -9,7 +10,7 @@ use crate::lines::{LineReader, Said};
 use crate::row::Row;
 use crate::table::{HEADING, push_rows_text};
 use crate::words::place_in;
-use chord_event::{Memory, RunError};
+use chord_event::Memory;
 use chord_scenario::Scenario;
 use des_output::{Watched, write_text};
 use std::alloc::{AllocError, Global};
@@ -60,6 +61,8 @@ pub fn judge_trace<R: Read, W: Write>(
     output: &mut Watched<W>,
 ) -> Result<(), TableFault>
     requires { has_failed output.old ≡ false }
+    ensures writer { has_failed output.new ≡ is_write_fault result }
+    ensures reader { has_failed trace.old ≡ false → has_failed trace.new ≡ true → result ≡ Err TableFault.Read }
     ensures beginning { WasBegun scenario.now (R.remaining (wrapped trace.old)) (R.remaining (wrapped trace.new)) (W.contents (wrapped output.old)) (W.contents (wrapped output.new)) }
     ensures refused { (number : ℕ) → result ≡ Err (TableFault.Line number) → WasRefused scenario.now number (R.remaining (wrapped trace.old)) (R.remaining (wrapped trace.new)) }
     ensures whole { OnOk result (WasJudged scenario.now (R.remaining (wrapped trace.old)) (R.remaining (wrapped trace.new)) (W.contents (wrapped output.old)) (W.contents (wrapped output.new))) }
@@ -86,8 +89,9 @@ pub(crate) struct Stream<'a> {
 }
 
 impl<'a> Stream<'a> {
-    ghost use Rattle.std.specs.Prelude.{◌≡◌, ◌≢◌, ◌<◌, ◌++◌, [], ◌∷◌, ℕ, List, Err, OnOk, IfErr, IfOk, length, string_bytes};
+    ghost use Rattle.std.specs.Prelude.{◌≡◌, ◌<◌, ◌++◌, [], ◌∷◌, ℕ, List, Err, OnOk, IfErr, IfOk, false, length, string_bytes, true};
     ghost use Rattle.std.specs.Io.KnownBytes.{Appends};
+    ghost use Rattle.chord_judge.specs.Faults.{is_write_fault};
     ghost use Rattle.chord_judge.specs.Inside.{setup_of};
     ghost use Rattle.chord_judge.specs.Taken.{HasTaken};
     ghost use Rattle.chord_judge.specs.Traces.{EndsRefused, HasRefused, WasBegun, WasJudged, WasRefused, table_text};
@@ -121,6 +125,8 @@ impl<'a> Stream<'a> {
         requires room { 0 < length chunk.old }
         requires begun { HasTaken (setup_of self.old.judge) [] [] self.old }
         requires sound { has_failed output.old ≡ false }
+        ensures writer { has_failed output.new ≡ is_write_fault result }
+        ensures reader { has_failed trace.old ≡ false → has_failed trace.new ≡ true → result ≡ Err TableFault.Read }
         ensures beginning { WasBegun (setup_of self.old.judge) (R.remaining (wrapped trace.old)) (R.remaining (wrapped trace.new)) (W.contents (wrapped output.old)) (W.contents (wrapped output.new)) }
         ensures refused { (number : ℕ) → result ≡ Err (TableFault.Line number) → WasRefused (setup_of self.old.judge) number (R.remaining (wrapped trace.old)) (R.remaining (wrapped trace.new)) }
         ensures whole { OnOk result (WasJudged (setup_of self.old.judge) (R.remaining (wrapped trace.old)) (R.remaining (wrapped trace.new)) (W.contents (wrapped output.old)) (W.contents (wrapped output.new))) }
@@ -142,6 +148,7 @@ impl<'a> Stream<'a> {
 
     /// Takes a piece of the trace.
     fn take(&mut self, piece: &[u8]) -> Result<(), TableFault>
+        ensures unwritten { is_write_fault result ≡ false }
         ensures taken { OnOk result ((sc : Setup) (text written : List ℕ) → HasTaken sc text written self.old → HasTaken sc (text ++ piece.now) written self.new) }
         ensures refused { (number : ℕ) → result ≡ Err (TableFault.Line number) → (sc : Setup) (text written : List ℕ) → HasTaken sc text written self.old → HasRefused sc (text ++ piece.now) number }
     {
@@ -160,6 +167,7 @@ impl<'a> Stream<'a> {
 
     /// Takes the line feed that ends a line.
     fn end_line(&mut self) -> Result<(), TableFault>
+        ensures unwritten { is_write_fault result ≡ false }
         ensures taken { OnOk result ((sc : Setup) (text written : List ℕ) → HasTaken sc text written self.old → HasTaken sc (text ++ 10 ∷ []) written self.new) }
         ensures refused { (number : ℕ) → result ≡ Err (TableFault.Line number) → (sc : Setup) (text written : List ℕ) → HasTaken sc text written self.old → EndsRefused sc text number }
     {
@@ -192,8 +200,8 @@ impl<'a> Stream<'a> {
     /// Writes the text so far.
     fn write<W: Write>(&mut self, output: &mut Watched<W>) -> Result<(), TableFault>
         requires { has_failed output.old ≡ false }
-        ensures sound { OnOk result (has_failed output.new ≡ false) }
-        ensures unrefused { (number : ℕ) → result ≢ Err (TableFault.Line number) }
+        ensures writer { has_failed output.new ≡ is_write_fault result }
+        ensures only { IfErr result (λ fault. fault ≡ TableFault.Write) }
         ensures front { AppendsFront (W.contents (wrapped output.old)) (W.contents (wrapped output.new)) (string_bytes self.old.text) }
         ensures whole { OnOk result (Appends (W.contents (wrapped output.old)) (W.contents (wrapped output.new)) (string_bytes self.old.text)) }
         ensures taken { OnOk result ((sc : Setup) (text written : List ℕ) → HasTaken sc text written self.old → HasTaken sc text (written ++ string_bytes self.old.text) self.new) }
@@ -203,7 +211,6 @@ impl<'a> Stream<'a> {
                 self.text.clear();
                 Ok(())
             }
-            Err(RunError::Memory) => Err(TableFault::Memory),
             Err(_) => Err(TableFault::Write),
         }
     }

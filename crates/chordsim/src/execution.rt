@@ -5,7 +5,7 @@ ghost use Rattle.std.specs.Process.{exit_status};
 ghost use Rattle.des_output.specs.Watched.{has_failed};
 
 use crate::judging::{conclude_table, judge};
-use crate::status::{conclude, refuse_trace};
+use crate::status::{Overwritten, conclude, refuse_output};
 use chord_command::{Files, Order};
 use chord_event::RunError;
 use chord_play::{LatencyFile, Plan, PlayFault, Question, Text, or_write_fault, run, tell};
@@ -19,7 +19,7 @@ use std::sync::Wait;
 use std::thread::Threads;
 use std::{fs, io};
 
-/// Carries out the order, and returns the exit status: 0 on success, 1 if a file is refused, 2 if the trace would
+/// Carries out the order, and returns the exit status: 0 on success, 1 if a file is refused, 2 if the output would
 /// overwrite an input file, 3 if the run fails. What is printed goes to the console.
 pub fn carry_out<T: FileSystem + AllocGlobal + Input + Threads + Wait + Sync, C: Print + Eprint>(
     rt: &T,
@@ -29,12 +29,12 @@ pub fn carry_out<T: FileSystem + AllocGlobal + Input + Threads + Wait + Sync, C:
     ensures { (exit_status result ≡ 0) ⊎ (exit_status result ≡ 1) ⊎ (exit_status result ≡ 2) ⊎ (exit_status result ≡ 3) }
 {
     let _held = hold_standard_streams(rt);
-    if let Some(text) = overwritten_by_trace(rt, order) {
-        return refuse_trace(console, order.files(), text);
+    if let Some(overwritten) = overwritten_by(rt, order) {
+        return refuse_output(console, overwritten);
     }
-    if let Order::Judge { files, trace } = order {
-        let outcome = judge(rt, console, files, trace.as_ref());
-        return conclude_table(console, files, trace.as_ref(), outcome);
+    if let Order::Judge { files, judging } = order {
+        let outcome = judge(rt, console, files, judging);
+        return conclude_table(console, files, judging, outcome);
     }
     let outcome = perform(rt, console, order);
     conclude(console, order.files(), outcome)
@@ -50,23 +50,29 @@ fn hold_standard_streams<T: FileSystem>(rt: &T) -> Held<T::File> {
 /// What takes the place of the three streams, or of later descriptors if they are open.
 type Held<F> = (io::Result<F>, io::Result<F>, io::Result<F>);
 
-/// The input file that the trace of the order would overwrite.
-fn overwritten_by_trace(rt: &impl FileSystem, order: &Order) -> Option<Text> {
-    let Order::Run {
-        files,
-        trace: Some(trace),
-        ..
-    } = order
-    else {
-        return None;
+/// The input file that the order would overwrite.
+fn overwritten_by<'a>(rt: &impl FileSystem, order: &'a Order) -> Option<Overwritten<'a>> {
+    let (option, output, trace) = match order {
+        Order::Run { trace, .. } => ("--trace", trace.as_ref()?, None),
+        Order::Judge { judging, .. } => {
+            ("--digest", judging.digest.as_ref()?, judging.trace.as_ref())
+        }
+        _ => return None,
     };
-    if is_same_file(rt, trace, &files.scenario) {
-        return Some(Text::Scenario);
+    let files = order.files();
+    let inputs = [
+        ("scenario", Some(&files.scenario)),
+        ("latency", files.latency.as_ref()),
+        ("trace", trace),
+    ];
+    for (what, input) in inputs {
+        if let Some(name) = input {
+            if is_same_file(rt, output, name) {
+                return Some(Overwritten { option, what, name });
+            }
+        }
     }
-    match &files.latency {
-        Some(latency) if is_same_file(rt, trace, latency) => Some(Text::Latency),
-        _ => None,
-    }
+    None
 }
 
 /// Whether both paths lead to one regular file, by links too. Other files, such as a terminal or `/dev/null`, are

@@ -1,15 +1,17 @@
 //! Judges the lookups of a trace: opens its files, and reports the outcome.
-ghost use Rattle.std.specs.Prelude.{◌≡◌, ◌⊎◌};
+ghost use Rattle.std.specs.Prelude.{◌≡◌, ◌⊎◌, false};
 ghost use Rattle.std.specs.Process.{exit_status};
+ghost use Rattle.des_output.specs.Watched.{has_failed};
 
 use crate::execution::{buffered, open};
 use crate::status::conclude;
-use chord_command::Files;
+use chord_command::{Files, Judging};
 use chord_event::RunError;
-use chord_judge::{TableFault, judge_trace};
+use chord_judge::{Digest, Digested, TableFault, edges_in, judge_trace};
 use chord_play::{PlayFault, load, or_write_fault};
 use chord_scenario::Scenario;
 use chord_trace::Watched;
+use std::alloc::Global;
 use std::io::{Read, Write};
 use std::process::ExitCode;
 use std::rt::Files as FileSystem;
@@ -24,6 +26,25 @@ pub enum JudgeFailure {
     Read,
     /// The line of this number, counted from 1, is none that a run of the scenario writes.
     Line(u64),
+    /// The edges are no times in their order.
+    Edges,
+}
+
+impl From<PlayFault> for JudgeFailure {
+    fn from(fault: PlayFault) -> JudgeFailure {
+        JudgeFailure::Play(fault)
+    }
+}
+
+impl From<TableFault> for JudgeFailure {
+    fn from(fault: TableFault) -> JudgeFailure {
+        match fault {
+            TableFault::Memory => JudgeFailure::Play(PlayFault::Run(RunError::Memory)),
+            TableFault::Write => JudgeFailure::Play(PlayFault::Run(RunError::Write)),
+            TableFault::Read => JudgeFailure::Read,
+            TableFault::Line(line) => JudgeFailure::Line(line),
+        }
+    }
 }
 
 /// Opens the files, and writes the table of the lookups of the trace to the console.
@@ -31,61 +52,75 @@ pub fn judge<T: FileSystem + AllocGlobal + Input, C: Print>(
     rt: &T,
     console: &C,
     files: &Files,
-    trace: Option<&String>,
+    judging: &Judging,
 ) -> Result<(), JudgeFailure> {
-    let (mut scenario, mut latency) = match open(rt, files) {
-        Ok(texts) => texts,
-        Err(fault) => return Err(JudgeFailure::Play(fault)),
-    };
-    let scenario = match load(rt.alloc(), &mut scenario, &mut latency) {
-        Ok(scenario) => scenario,
-        Err(fault) => return Err(JudgeFailure::Play(fault)),
-    };
-    match trace {
+    let edges = edges_of(rt.alloc(), judging)?;
+    let (mut scenario, mut latency) = open(rt, files)?;
+    let scenario = load(rt.alloc(), &mut scenario, &mut latency)?;
+    let digest = judging.digest.as_ref();
+    match &judging.trace {
         Some(name) => match fs::open(rt, name.as_str()) {
-            Ok(file) => judge_to(rt, console, &scenario, file),
+            Ok(file) => judge_from(rt, console, &scenario, file, (digest, edges)),
             Err(_) => Err(JudgeFailure::Read),
         },
-        None => judge_to(rt, console, &scenario, rt.reader()),
+        None => judge_from(rt, console, &scenario, rt.reader(), (digest, edges)),
     }
 }
 
-/// Judges with a buffer in front of the console, which is written to in every case.
-fn judge_to<T: AllocGlobal, C: Print, R: Read + Drop>(
+/// The times at which the counts of the digest begin anew.
+fn edges_of(alloc: Global, judging: &Judging) -> Result<Vec<u64>, JudgeFailure> {
+    let Some(text) = &judging.edges else {
+        return Ok(Vec::new(alloc));
+    };
+    match edges_in(alloc, text.as_str()) {
+        Ok(Some(edges)) => Ok(edges),
+        Ok(None) => Err(JudgeFailure::Edges),
+        Err(_) => Err(JudgeFailure::from(TableFault::Memory)),
+    }
+}
+
+/// Judges a trace, and writes its digest if a file for that is named.
+fn judge_from<T: FileSystem + AllocGlobal, C: Print, R: Read + Drop>(
     rt: &T,
     console: &C,
     scenario: &Scenario,
     trace: R,
+    (digest, edges): (Option<&String>, Vec<u64>),
 ) -> Result<(), JudgeFailure> {
-    let mut trace = Watched::new(trace);
-    let mut output = match buffered(rt.alloc(), io::writer(console)) {
-        Ok(buffer) => Watched::new(buffer),
-        Err(fault) => return Err(JudgeFailure::Play(fault)),
+    let Some(name) = digest else {
+        return judge_to(rt, console, scenario, &mut Watched::new(trace));
     };
-    let judged = judge_trace(rt.alloc(), scenario, &mut trace, &mut output);
+    let file = or_write_fault(fs::create(rt, name.as_str()))?;
+    let digest = Digest::new(rt.alloc(), edges);
+    let mut trace = Watched::new(Digested::new(trace, digest, file));
+    judge_to(rt, console, scenario, &mut trace)?;
+    Ok(trace.into_inner().finish()?)
+}
+
+/// Judges with a buffer in front of the console, which is written to in every case.
+fn judge_to<T: AllocGlobal, C: Print, R: Read>(
+    rt: &T,
+    console: &C,
+    scenario: &Scenario,
+    trace: &mut Watched<R>,
+) -> Result<(), JudgeFailure> {
+    let mut output = Watched::new(buffered(rt.alloc(), io::writer(console))?);
+    let judged = judge_trace(rt.alloc(), scenario, trace, &mut output);
     let flushed = or_write_fault(output.flush());
-    match judged {
-        Err(TableFault::Memory) => Err(JudgeFailure::Play(PlayFault::Run(RunError::Memory))),
-        Err(TableFault::Write) => Err(JudgeFailure::Play(PlayFault::Run(RunError::Write))),
-        Err(TableFault::Read) => Err(JudgeFailure::Read),
-        Err(TableFault::Line(line)) => Err(JudgeFailure::Line(line)),
-        Ok(()) => match flushed {
-            Ok(()) => Ok(()),
-            Err(fault) => Err(JudgeFailure::Play(fault)),
-        },
-    }
+    judged?;
+    Ok(flushed?)
 }
 
 /// The status of a judgement. If the table was not written to its end, standard error says why.
 pub fn conclude_table(
     rt: &impl Eprint,
     files: &Files,
-    trace: Option<&String>,
+    judging: &Judging,
     outcome: Result<(), JudgeFailure>,
 ) -> ExitCode
-    ensures { (exit_status result ≡ 0) ⊎ (exit_status result ≡ 1) ⊎ (exit_status result ≡ 3) }
+    ensures { (exit_status result ≡ 0) ⊎ (exit_status result ≡ 1) ⊎ (exit_status result ≡ 2) ⊎ (exit_status result ≡ 3) }
 {
-    let name = match trace {
+    let name = match &judging.trace {
         Some(name) => name.as_str(),
         None => "standard input",
     };
@@ -99,6 +134,12 @@ pub fn conclude_table(
         Err(JudgeFailure::Line(line)) => {
             let _ = eprintln!(rt; "refused: line {line} of {name} is of no run of the scenario");
             ExitCode::from(1)
+        }
+        Err(JudgeFailure::Edges) => {
+            let _ = eprintln!(rt;
+                "error: --edges has to give times in microseconds, in their order, with commas between them"
+            );
+            ExitCode::from(2)
         }
     }
 }

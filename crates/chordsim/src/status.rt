@@ -6,7 +6,7 @@ ghost use Rattle.chordsim.specs.Statuses.{IsShown, status_of_outcome, status_of_
 use crate::failure::{FAILED, FailedRun, Failure};
 use chord_command::{Files, WordFault};
 use chord_event::RunError;
-use chord_play::{PlayFault, Text};
+use chord_play::PlayFault;
 use std::fmt::Display;
 use std::process::ExitCode;
 
@@ -62,16 +62,21 @@ fn show(rt: &(impl Print + Eprint), text: impl Display + Drop) -> ExitCode
     }
 }
 
-/// The status of a run whose trace would overwrite this input file, and the reason on standard error.
-pub fn refuse_trace(rt: &impl Eprint, files: &Files, text: Text) -> ExitCode
+/// An input file that the file of an option would overwrite.
+#[derive(Drop)]
+pub struct Overwritten<'a> {
+    pub option: &'static str,
+    /// What the input file has.
+    pub what: &'static str,
+    pub name: &'a str,
+}
+
+/// The status of an order that would overwrite an input file, and the reason on standard error.
+pub fn refuse_output(rt: &impl Eprint, overwritten: Overwritten<'_>) -> ExitCode
     ensures { exit_status result ≡ 2 }
 {
-    let name = files.name(text);
-    let what = match text {
-        Text::Scenario => "scenario",
-        Text::Latency => "latency",
-    };
-    let _ = eprintln!(rt; "error: --trace names the {what} file: {name}");
+    let Overwritten { option, what, name } = overwritten;
+    let _ = eprintln!(rt; "error: {option} names the {what} file: {name}");
     ExitCode::from(REFUSED_ARGUMENTS)
 }
 

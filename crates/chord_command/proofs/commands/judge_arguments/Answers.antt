@@ -8,6 +8,10 @@ returns c =
       (
         c.latency_argument.ensures.rule,
         c.latency_argument.ensures.local,
-        (c.read_trace_argument.ensures.rule, c.read_trace_argument.ensures.local, tt),
+        (
+          c.read_trace_argument.ensures.rule,
+          c.read_trace_argument.ensures.local,
+          (c.digest_argument.ensures.rule, c.digest_argument.ensures.local, (c.edges_argument.ensures.rule, c.edges_argument.ensures.local, tt)),
+        ),
       ),
     )

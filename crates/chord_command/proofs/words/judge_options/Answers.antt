@@ -2,13 +2,13 @@ use Rattle.std.proofs.Common.{rules, ◌∙◌, ◌∷◌, [], ap, map, sym, ref
 use Rattle.std.proofs.lemmas.Result.{IfOk-weaker}
 use Rattle.clap.specs.Words.{fault_of, is_simple, is_simple_and_free, matches_of, takes}
 use Rattle.chord_command.specs.Orders.{IsJudged}
-use Rattle.chord_command.specs.Commands.{latency_rule, trace_rule}
+use Rattle.chord_command.specs.Commands.{digest_rule, edges_rule, latency_rule, trace_rule}
 use Rattle.chord_command.proofs.CommandFacts.{judge_is_free, judge_is_simple, judge_rules, scenario_given}
 use Rattle.chord_command.proofs.words.judge_options.Goals as goal
 
 pub judge_options_in-requires : goal.judge_options_in-requires
 judge_options_in-requires c =
-    scenario_given c.in_ok-command.command c.in_ok-matches.matches c.in_ok-matches.ensures.parsed (latency_rule ∷ trace_rule ∷ [])
+    scenario_given c.in_ok-command.command c.in_ok-matches.matches c.in_ok-matches.ensures.parsed (latency_rule ∷ trace_rule ∷ digest_rule ∷ edges_rule ∷ [])
     (judge_rules c.in_ok-command.command c.in_ok-command.ensures) refl
 
 pub returns-clause-options : goal.returns-clause-options

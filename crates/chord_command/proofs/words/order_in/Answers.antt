@@ -136,7 +136,7 @@ returns-in_ok-files-in-judge-clause-order c =
     let judge = c.in_ok-files-in-judge in (
       word ∙ ap (λ t. Some t) (sym c.as_str.ensures.value ∙ c.in-judge.is),
       subst (λ given. fault_of judge_app given ≡ []) (sym rest) judge.ensures.accepted,
-      subst (λ given. IsJudged (matches_of judge_app given) judge.files judge.trace) (sym rest) judge.ensures.options,
+      subst (λ given. IsJudged (matches_of judge_app given) judge.files judge.judging) (sym rest) judge.ensures.options,
     )
 
 pub returns-in_default-clause-taken : goal.returns-in_default-clause-taken

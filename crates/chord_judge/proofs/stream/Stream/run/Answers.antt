@@ -1,4 +1,4 @@
-use Rattle.std.proofs.Common.{◌<◌, ap, arith, length, take}
+use Rattle.std.proofs.Common.{◌<◌, ◌||◌, ◌∙◌, false, ap, arith, length, take}
 use Rattle.std.proofs.lemmas.Grind.{common_steps}
 use Rattle.chord_judge.proofs.Streams.{begun_after, begun_at_end, begun_before, begun_here, begun_kept, judged_at_end, on_ok, refused_after, way_begun, way_on}
 use Rattle.chord_judge.specs.Inside.{setup_of}
@@ -41,7 +41,7 @@ returns-in_err-write-clause-beginning g c =
     (c.in_ok-take.ensures.taken (setup_of c.args.self.now.judge) way.text way.written way.taken) c.write-in-loop.ensures.front
 
 pub loop-init : goal.loop-init
-loop-init g c = record { room = c.requires.room; sound = c.requires.sound; way = way_begun (setup_of c.args.self.now.judge) _ _ c.args.self.now c.requires.begun }
+loop-init g c = record { room = c.requires.room; sound = c.requires.sound; heard = λ h. h; way = way_begun (setup_of c.args.self.now.judge) _ _ c.args.self.now c.requires.begun }
 
 pub loop-preserved : goal.loop-preserved
 loop-preserved g c =
@@ -49,7 +49,8 @@ loop-preserved g c =
     let h = c.in-Ok.ensures.bytes in
     let taken = c.in_ok-take.ensures.taken (setup_of c.args.self.now.judge) way.text way.written way.taken in record {
       room = omega (arith, c.loop.invariant.room, c.read.auto.buf);
-      sound = c.in_ok-write.ensures.sound;
+      sound = c.in_ok-write.ensures.writer;
+      heard = λ h. c.in-Ok.ensures.noted ∙ ap (λ b. b || false) (c.loop.invariant.heard h);
       way = way_on (setup_of c.args.self.now.judge) _ _ _ _ _ _ c.loop.self c.take.new.self c.write-in-loop.new.self _ way h.0 taken
           c.in_ok-write.ensures.whole (c.in_ok-write.ensures.taken (setup_of c.args.self.now.judge) _ way.written taken);
     }

@@ -8,6 +8,7 @@ abbrev pub invariant-loop : goal.invariant-loop
 invariant-loop g l = record {
   room : 0 < length l.chunk;
   sound : has_failed l.output ≡ false;
+  heard : has_failed l.initial.trace ≡ false → has_failed l.trace ≡ false;
   way : IsUnderWay (setup_of l.fn.self.judge) (g.R.Read.remaining (wrapped l.initial.trace)) (g.R.Read.remaining (wrapped l.trace))
       (g.W.Write.contents (wrapped l.initial.output)) (g.W.Write.contents (wrapped l.output)) l.self;
 }
