@@ -183,6 +183,37 @@ class Commands(unittest.TestCase):
                 self.assertEqual(ended, (ARGUMENTS, "", f"error: --trace names {named}\n"))
         self.assertEqual((self.read("a.toml"), self.read("b.csv")), (RING, "n0,n3,15\n"))
 
+    def test_digests_that_name_an_input(self) -> None:
+        """A digest never overwrites the files that are read, by links to them either."""
+        (self.folder / "a.link").symlink_to("a.toml")
+        self.write("c", TRACE)
+        files = "--scenario a.toml --latency b.csv --trace c"
+        for digest, named in (
+            ("a.link", "the scenario file: a.toml"), ("./b.csv", "the latency file: b.csv"), ("c", "the trace file: c"),
+        ):
+            with self.subTest(digest):
+                ended = self.ended(f"judge {files} --digest {digest}")
+                self.assertEqual(ended, (ARGUMENTS, "", f"error: --digest names {named}\n"))
+        self.assertEqual((self.read("a.toml"), self.read("c")), (RING, TRACE))
+        self.assertEqual(self.ended(f"judge {files} --digest /dev/full")[::2], (FAILED, "failed: 4 Write\n"))
+        unmade = self.ended(f"judge {files} --digest no/d")
+        self.assertEqual(unmade, (FAILED, "", "failed: 4 Write\n"))
+
+    def test_edges_that_are_refused(self) -> None:
+        """Edges are whole numbers in their order. They are read before any file, without a digest too."""
+        told = "error: --edges has to give times in microseconds, in their order, with commas between them\n"
+        for edges in ("", "1,", ",1", "2,1", "1;2", "x", "-1", "1.5", "18446744073709551616"):
+            for digest in ("", "--digest d"):
+                with self.subTest(edges=edges, digest=digest):
+                    ended = self.ended(f"judge --scenario no.toml {digest} --edges={edges}")
+                    self.assertEqual(ended, (ARGUMENTS, "", told))
+        self.assertFalse((self.folder / "d").exists())
+        self.write("c", TRACE)
+        for edges in ("0", "7", "1,1,2", "18446744073709551615"):
+            with self.subTest(edges=edges):
+                line = f"judge --scenario a.toml --latency b.csv --trace c --digest d --edges {edges}"
+                self.assertEqual(self.ended(line)[::2], (0, ""))
+
     def test_files_of_two_file_systems(self) -> None:
         """A trace is another file than the scenario's even if both have one number, in two file systems."""
         mount = "mkdir one two && mount -t tmpfs one one && mount -t tmpfs two two && cp a.toml one/ && : > two/out"
