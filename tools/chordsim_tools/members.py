@@ -118,6 +118,24 @@ class Members:
         return mark if number - mark[0] < len(self.times) - number else (len(self.times), self.places)
 
 
+class Presence:
+    """When each node was a member, by all changes that were told."""
+
+    def __init__(self, members: Members) -> None:
+        """The history of these members."""
+        if not members.is_timed:
+            raise ValueError("the times of changes were not told")
+        self.idents = members.idents
+        self.turns = {place: [-1] for place in members.marks[0][1]}
+        """When each node came, went, came again and so on, by its identifier. Who was there at the start came before."""
+        for time, (place, _) in zip(members.times, members.changes, strict=True):
+            self.turns.setdefault(place, []).append(time)
+
+    def was_member(self, name: str, time: int) -> bool:
+        """Whether a node was a member after the changes until and with a time."""
+        return bisect_right(self.turns.get(self.idents[name], ()), time) % 2 == 1
+
+
 class Way:
     """The way clockwise from a key to a node: how many members are on it, and whether the node is one itself."""
 

@@ -14,7 +14,6 @@ from chordsim_tools.cli import Refused as RefusedFile
 from chordsim_tools.explain.world_traps import alone_traps, bootstrap_traps, leave_traps, mean_life, second_ring_traps
 from chordsim_tools.generate.command import main as generate
 from chordsim_tools.messages import MESSAGES, REPLIES, REQUESTS, messages_made
-from chordsim_tools.study.asked import AskLines
 from chordsim_tools.study.keys import varied_keys
 from chordsim_tools.study.messages import Traffic, in_pieces
 from chordsim_tools.study.pieces import Pieces
@@ -30,6 +29,7 @@ from chordsim_tools.trace.stories import answer_story
 from chordsim_tools.trace.summary import summary
 from chordsim_tools.trace.tables import node_rows, step_rows, step_table, verdict
 from chordsim_tools.trace.text import report_text, summary_text
+from tests.support.judging import AskLines, read_digest
 from tests.support.programs import ended
 from tests.support.worlds import RING
 from tests.test_churn_trace import TRACE, written
@@ -348,10 +348,10 @@ class StudyTest(TestCase):
 
     def test_messages(self) -> None:
         """A leave is made by a line `send` or `lose`, in the piece of its time, and in a column of its own."""
-        traffic = Traffic(Scope(600, 100, 0, 0, None, True, True))
-        part = b"5 a leave\n5 a send leave b\n150 b leave\n150 b send leave a\n160 b drop leave a\n"
-        assert traffic.sift(part) == b"5 a leave\n150 b leave\n160 b drop leave a\n"
-        traffic.read("170 c lose leave a")
+        scope = Scope(600, 100, 0, 0, None, True, True)
+        traffic = Traffic(scope)
+        lines = ("5 a leave", "5 a send leave b", "150 b leave", "150 b send leave a", "160 b drop leave a")
+        read_digest((*lines, "170 c lose leave a"), scope, traffic)
         assert (traffic.lines["send leave"], traffic.lines["lose leave"]) == (2, 1)
         counts = in_pieces(traffic)["sent-leave"]
         assert (counts[0], sum(counts)) == (1, 3)

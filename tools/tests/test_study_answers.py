@@ -4,9 +4,9 @@ from typing import Any
 from unittest import TestCase
 
 from chordsim_tools.members import Members
-from chordsim_tools.study.answers import Answers
+from chordsim_tools.study.answers import answer_numbers
 from chordsim_tools.study.repairs import latencies_of
-from chordsim_tools.study.served import Scope
+from tests.support.judging import table_of
 
 NODES: list[dict[str, Any]] = [{"name": name} for name in ("a", "b", "c", "d")]
 
@@ -14,12 +14,8 @@ NODES: list[dict[str, Any]] = [{"name": name} for name in ("a", "b", "c", "d")]
 def told(top: dict[str, Any], *lines: str, rows: bytes = b"") -> dict[str, int | str | None]:
     """The columns of a ring of a, b and c, which d joins: lookups begun from 100 to 800 us are judged."""
     members = Members({"a": 1, "b": 2, "c": 3, "d": 4}, ["a", "b", "c"])
-    answers = Answers(Scope(1000, 1000, 100, 200), members, latencies_of(top, rows))
-    for line in lines:
-        if line.endswith(" member"):
-            members.add("d", int(line.split(" ", maxsplit=1)[0]))
-        answers.read(line)
-    return answers.numbers()
+    answered = table_of(lines, members).by_begins.between(100, 800).answered
+    return answer_numbers(answered, members, latencies_of(top, rows))
 
 
 class AnswersTest(TestCase):

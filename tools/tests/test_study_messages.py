@@ -3,6 +3,7 @@
 import csv
 import heapq
 import tomllib
+from collections.abc import Iterable, Iterator
 from random import Random
 from typing import Any
 from unittest import TestCase
@@ -22,6 +23,7 @@ from chordsim_tools.study.repairs import latencies_of
 from chordsim_tools.study.served import scope_of
 from chordsim_tools.study.task import events_before, span_of
 from chordsim_tools.study.trace import TraceReader
+from tests.support.judging import read_digest, read_trace
 from tests.support.programs import ended, program
 from tests.support.worlds import EXAMPLES
 from tests.test_study_run import call, study_folder
@@ -69,15 +71,26 @@ def numbers_of(
     idents = {node.name: node.ident for node in scenario.nodes}
     initial = [node.name for node in scenario.nodes if node.initial]
     reader = TraceReader(Members(idents, initial), scope_of(top, top["audit_us"], warmup_us, 0))
-    for line in simulation.lines():
-        if reader.traffic.sift(f"{line}\n".encode()):
-            reader.read(line)
-        report.read(line)
-    reader.numbers()
+    read_trace(noted(simulation.lines(), report), reader)
     before = known(simulation.before)
     made = {kind: count - before[1][kind] for kind, count in sent(simulation, report).items()}
     span = span_of(top, simulation.events - before[0], reader, latencies_of(top, rows))
     return message_numbers(reader.traffic, span), made
+
+
+def noted(lines: Iterable[str], report: Report) -> Iterator[str]:
+    """These lines, each of which a report reads before."""
+    for line in lines:
+        report.read(line)
+        yield line
+
+
+def traffic_of(*lines: str, duration_us: int = 100, warmup_us: int = 10) -> Traffic:
+    """What these lines of a run with detail say of messages."""
+    scope = scope_of({"duration_us": duration_us, "node": [], "detail": True}, 50, warmup_us, 0)
+    traffic = Traffic(scope)
+    read_digest(lines, scope, traffic)
+    return traffic
 
 
 def sent(simulation: Simulation, report: Report) -> dict[str, int]:
@@ -206,45 +219,39 @@ class StudyMessagesTest(TestCase):
             assert wanted == 0 or int(cells["messages"]) == sum(made.values()), (cells, made)
 
     def test_names_that_are_words_of_detail(self) -> None:
-        """Nodes that are called ask and send, and a part that begins before the warm-up."""
-        traffic = Traffic(scope_of({"duration_us": 100, "node": [], "detail": True}, 50, 10, 0))
-        part = (
-            b"9 ask lookup 5\n9 send ask step ask call=3\n10 send timeout ask\n10 ask ask step send call=4\n"
-            b"11 ask found 5 send hops=1 timeouts=0 us=2\n12 ask send notify ask\nevents 4\n"
+        """Nodes that are called ask and send, and messages, of whose stabilization a digest has the line."""
+        traffic = traffic_of(
+            "9 ask lookup 5", "9 send ask step ask call=3", "10 send timeout ask", "10 ask ask step send call=4",
+            "11 ask found 5 send hops=1 timeouts=0 us=2", "12 ask send notify ask",
+            "13 messages ask get-state ask call=5", "14 messages timeout ask", "14 messages drop ping send",
         )
-        left = b"9 ask lookup 5\n10 send timeout ask\n11 ask found 5 send hops=1 timeouts=0 us=2\nevents 4\n"
-        assert traffic.sift(part) == left and traffic.sift(left) == left
-        assert +traffic.lines == {"ask step": 1, "send notify": 1}
+        assert +traffic.lines == {"ask step": 1, "send notify": 1, "ask get-state": 1, "drop ping": 1}
 
     def test_pieces(self) -> None:
-        """Six pieces of 15 us from 10 on. Read line by line or all at once, they have the same."""
+        """Six pieces of 15 us from 10 on."""
         kinds = ["step", "ping"]
-        lines = [f"{time} a ask {kinds[time % 2]} b call={time}\n".encode() for time in range(100)]
-        traffics = [Traffic(scope_of({"duration_us": 100, "node": [], "detail": True}, 50, 10, 0)) for _ in range(2)]
-        assert [traffics[0].sift(line) for line in lines] == [b""] * 100 and traffics[1].sift(b"".join(lines)) == b""
-        assert traffics[0].pieces == traffics[1].pieces and traffics[0].lines == traffics[1].lines
-        assert [piece["ask step"] for piece in traffics[1].pieces] == [8, 7, 8, 7, 8, 7]
-        assert traffics[1].lines["ask step"] == 45 and traffics[1].lines["ask ping"] == 45
+        traffic = traffic_of(*(f"{time} a ask {kinds[time % 2]} b call={time}" for time in range(100)))
+        assert [piece["ask step"] for piece in traffic.pieces] == [8, 7, 8, 7, 8, 7]
+        assert traffic.lines["ask step"] == 45 and traffic.lines["ask ping"] == 45
 
     def test_lookups_by_hand(self) -> None:
         """A step to b; one to c, which is sent again and has no reply; one to b again; and one to d, the owner.
 
         These are five requests, and three of four calls have a reply. A request of a finger is none of a lookup.
         """
-        traffic = Traffic(scope_of({"duration_us": 300, "node": [], "detail": True}, 50, 0, 0))
         of, of_finger = "key=5 since=100", "key=8 since=130"
-        lines = (
+        lines = [
             "100 a lookup 5", f"100 a ask step b call=1 {of}", f"120 a ask step c call=2 {of}",
             f"130 a ask step b call=3 {of_finger}", "150 a again step c", f"150 a ask step c call=2 {of}",
             "180 a timeout c", f"180 a ask step b call=4 {of}", f"200 a ask get-state d call=5 {of}",
             "220 a found 5 d hops=1 timeouts=1 us=120", f"230 a ask step b call=6 {of}", "240 a ask get-state b call=7",
-        )
-        traffic.sift("".join(f"{line}\n" for line in lines).encode())
+        ]
+        traffic = traffic_of(*lines, duration_us=300, warmup_us=0)
         assert traffic.lines[OF_LOOKUPS] == 8
         # Pieces of 50 us: from 100, 150 and 200 on.
         assert [piece[OF_LOOKUPS] for piece in traffic.pieces] == [0, 0, 2, 2, 4, 0]
-        traffic.sift(f"250 e lookup 5\n250 e crash\n250 e ask step b call=9 {of.replace('100', '250')}\n".encode())
-        assert traffic.lines[OF_LOOKUPS] == 8
+        lines += ["250 e lookup 5", "250 e crash", f"250 e ask step b call=9 {of.replace('100', '250')}"]
+        assert traffic_of(*lines, duration_us=300, warmup_us=0).lines[OF_LOOKUPS] == 8
 
     def test_run_of_lookups_alone(self) -> None:
         """A fourth of the nodes crashes and nothing is repaired: all messages are of lookups, and none is upkeep.
@@ -262,13 +269,11 @@ class StudyMessagesTest(TestCase):
 
     def test_detail_after_a_warmup(self) -> None:
         """The lines from 10 on. A lost request has two lines, and another lost message has one."""
-        traffic = Traffic(scope_of({"duration_us": 100, "node": [], "detail": True}, 50, 10, 0))
-        for line in (
+        traffic = traffic_of(
             "9 a ask step b call=3", "10 a lose step b", "10 a ask step b call=3", "11 a again step b",
             "11 a ask step b call=3", "12 b send step-reply a", "13 b lose step-reply a", "14 b drop ping a",
             "15 a send notify b",
-        ):
-            traffic.read(line)
+        )
         assert {kind: count for kind, count in exact(traffic).items() if count} == {
             "step": 2, "step-reply": 2, "notify": 1}
 

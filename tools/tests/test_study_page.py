@@ -7,6 +7,7 @@ from chordsim_tools.members import Members
 from chordsim_tools.study.page import page
 from chordsim_tools.study.served import Scope
 from chordsim_tools.study.trace import TraceReader
+from tests.support.judging import read_trace
 from tests.support.studies import row, table_of, tables_of, unwrapped
 
 LIMIT: dict[str, Any] = {"number": "right_of_begun", "is_least": True, "value": 0.9}
@@ -53,8 +54,7 @@ class StudyPageTest(TestCase):
         lines = [f"101 n{number} stranded n0" for number in range(1, 10)]
         for time in range(105, 1000, 10):
             lines += [f"{time} n0 lookup 5", f"{time} n0 found 5 n0 hops=0 timeouts=0 us=0"]
-        for line in lines:
-            reader.read(line)
+        read_trace(lines, reader)
         numbers = {word: "" if value is None else str(value) for word, value in reader.numbers().items()}
         rows = [{**row(list=1, seed=seed), **numbers} for seed in range(1, 6)]
         cells = cells_of(told(rows), "list=1")

@@ -15,15 +15,19 @@ from unittest import SkipTest, TestCase
 from unittest.mock import patch
 
 from chordsim_tools.cli import Refused
+from chordsim_tools.members import Members, Presence
 from chordsim_tools.study.columns import Column
 from chordsim_tools.study.command import main
 from chordsim_tools.study.curves import Curves
 from chordsim_tools.study.front import BELOW, LOST, ON, UNSURE, Plane, spots_of
+from chordsim_tools.study.judged import Judged
 from chordsim_tools.study.layout import layout_of
 from chordsim_tools.study.looks import Axis, look_of, setting_words, value_words
 from chordsim_tools.study.numbers import groups
 from chordsim_tools.study.overtime import network_of, percent, pieces, points_of
+from chordsim_tools.study.served import Scope
 from chordsim_tools.study.tables import Tables
+from tests.support.judging import read_digest, table_of
 from tests.test_study_run import TOOL, call, study_folder
 
 PLOTS = [f"{name}.{form}" for name in ("cost", "right", "times", "network", "cdf", "tail") for form in ("png", "svg")]
@@ -238,17 +242,19 @@ class CurvesTest(TestCase):
 
     def test_lines(self) -> None:
         """Lookups of the judged span, and timeouts and losses of all steps; a node may be called as a word is."""
-        curves = Curves(100, 30, 20, 30)
-        for line in (
+        scope, members, curves = Scope(100, 30, 20, 30), Members({"b": 1}, ["b"]), Curves(100, 30)
+        lines = (
             "10 a lookup 5", "20 a lookup 6", "25 a found 5 b hops=9 timeouts=0 us=15", "29 timeout timeout b",
-            "30 a found 6 b hops=2 timeouts=1 us=10", "31 a lose step b", "69 a lookup 7", "70 found lookup 8",
+            "30 a found 6 b hops=2 timeouts=1 us=10", "31 a lose step b", "69 found lookup 7", "70 found lookup 8",
             "70 a again step b", "75 again again step b",
             "80 a ignored lookup", "90 found found 7 b hops=1 timeouts=0 us=21",
             "95 found found 8 b hops=3 timeouts=0 us=25",
             "100 audit members=2 dead=0 ring=2 ordered=yes principals=2 sufficient=yes",
-        ):
-            curves.read(line)
-        numbers = curves.numbers()
+        )
+        read_digest(lines, scope, curves)
+        judged = Judged(scope)
+        judged.take(table_of(lines, members), Presence(members))
+        numbers = curves.numbers(judged)
         assert (numbers["begun"], numbers["found"], numbers["hops"]) == (2, 2, [0, 1, 1])
         assert numbers["us"][0] == 10 and numbers["us"][-1] == 21
         assert (numbers["timeouts"], numbers["losses"]) == ([1, 0, 0, 0], [0, 1, 0, 0])

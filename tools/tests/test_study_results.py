@@ -5,6 +5,7 @@ from pathlib import Path
 from typing import Any
 from unittest import TestCase
 
+from chordsim_tools.study.lookups import HEADING
 from tests.test_study_parts import merged, run_share
 from tests.test_study_run import STUDY, call, called, runs_called, said, study_folder
 
@@ -94,10 +95,11 @@ class ResultsTest(TestCase):
             assert call(folder) == (0, "") and runs_called(folder) == 4 and path.read_text() == before
 
     def test_program_that_is_none(self) -> None:
-        """It ends well and writes nothing, or no report."""
+        """It ends well and writes nothing, no table, or no report."""
         with study_folder() as folder:
             idents = '[ "$1" != ids ] || for i in $(seq 0 15); do echo "n$i $i"; done'
-            for text, command in (("exit 0", "ids"), (idents, "run")):
+            table = f'{idents}; [ "$1" != judge ] || {{ echo {HEADING}; : > "$5"; }}'
+            for text, command in (("exit 0", "ids"), (idents, "judge"), (table, "run")):
                 path = folder / "none"
                 path.write_text(f"#!/bin/sh\n{text}\n")
                 path.chmod(0o755)

@@ -62,6 +62,15 @@ run)
     printf 'events 4\\nlookups 1\\nfound 1\\nringless 0\\n'
     if grep -qx 'profile = [24]' "$3"; then echo 'losses 1'; fi
     if grep -qx 'profile = 4' "$3"; then printf 'again 1\\nforgotten 2\\n'; fi ;;
+judge)
+    until [ "$1" = --digest ]; do shift; done
+    trace=$(cat)
+    echo "$trace" | grep -v ' lookup \\| found ' > "$2"
+    echo asker,key,begun_us,ended_us,us,hops,timeouts,named,right_owner,strict,defensible
+    case $trace in
+    *' found 11 n1 '*) echo n0,11,10,30,20,1,0,n1,n1,right,right ;;
+    *) echo n0,11,10,30,20,1,0,n2,n1,wrong,wrong ;;
+    esac ;;
 esac
 """
 

@@ -8,6 +8,7 @@ from chordsim_tools.study.goal import Limit
 from chordsim_tools.study.page import page
 from chordsim_tools.study.served import Scope
 from chordsim_tools.study.trace import TraceReader
+from tests.support.judging import read_trace
 from tests.support.studies import row, table_of, tables_of, unwrapped
 from tests.test_study_plan import HEAD, MADE, SEEDS, in_folder
 
@@ -24,8 +25,7 @@ def outage_of(*lines: str, gap_us: float | None = None) -> dict[str, Any]:
     scope = Scope(250, 100, 0, 0, gap_us)
     members = Members({"a": 10, "b": 20, "c": 30}, ["a", "b", "c"])
     reader = TraceReader(members, scope, {"outage": scope.within(100, 150)})
-    for line in lines:
-        reader.read(line)
+    read_trace(lines, reader)
     head = "outage."
     return {word.removeprefix(head): value for word, value in reader.numbers().items() if word.startswith(head)}
 
@@ -75,8 +75,7 @@ class StudySpansTest(TestCase):
         readers = [TraceReader(Members({"a": 10, "b": 20, "c": 30}, ["a", "b", "c"]), Scope(250, 100), spans)
                    for spans in both]
         for reader in readers:
-            for line in LINES:
-                reader.read(line)
+            read_trace(LINES, reader)
         plain, with_span = (reader.numbers() for reader in readers)
         assert plain == {word: value for word, value in with_span.items() if "." not in word or word[:3] == "all"}
 

@@ -15,6 +15,7 @@ from chordsim_tools.study.served import Scope
 from chordsim_tools.study.starts import churn_trap, longest_round, round_traps, seeds_traps
 from chordsim_tools.study.steady import look
 from chordsim_tools.study.tables import Tables
+from tests.support.judging import table_of
 from tests.support.studies import row, tables_of, unwrapped
 from tests.test_study_run import BASE, STUDY, called, said, study_folder
 
@@ -147,16 +148,21 @@ class PiecesTest(TestCase):
 
     def test_percentiles(self) -> None:
         """Ten lookups in each piece of 100 us from 100 on; in the second one five have no answer, in the third six."""
-        pieces = Pieces(Scope(800, 100, 100, 100), Members({"n0": 3}, ["n0"]))
-        for place in range(-1, 7):
-            for number in range(10):
-                begin, taken = 100 + 100 * place + number, 20 + 10 * place + number
-                end = "lost 5" if number >= 10 - {1: 5, 2: 6}.get(place, 0) else "found 5 n1"
-                pieces.read(f"{begin + taken} n0 {end} hops=1 timeouts=0 us={taken}")
-        # By nearest rank the fifth of ten, which the third piece does not have.
-        assert set(pieces.percentiles().values()) == {None} and len(pieces.percentiles()) == 4
-        pieces.lost[2], pieces.times[2] = 5, [40, 41, 42, 43, 44]
-        assert pieces.numbers()["pieces-us-p50"] == "24 34 44 54 64 74"
+        columns = []
+        for lost in ({1: 5, 2: 6}, {1: 5, 2: 5}):
+            members, lines = Members({"n0": 3, "n1": 4}, ["n1"]), []
+            for place in range(-1, 7):
+                for number in range(10):
+                    begin, taken = 100 + 100 * place + number, 20 + 10 * place + number
+                    end = "lost 5" if number >= 10 - lost.get(place, 0) else "found 5 n1"
+                    lines.append(f"{begin + taken} n0 {end} hops=1 timeouts=0 us={taken}")
+            pieces = Pieces(Scope(800, 100, 100, 100), members)
+            pieces.take(table_of(lines, members))
+            columns.append(pieces.numbers() | pieces.percentiles())
+        # By nearest rank the fifth of ten, which the third piece does not have, and does with one answer more.
+        assert [columns[0][f"pieces-us-p{share}"] for share in ("50", "90", "99", "99.9")] == [None] * 4
+        assert columns[1]["pieces-us-p50"] == "24 34 44 54 64 74"
+        assert columns[0]["pieces-judged-lost"] == "0 5 6 0 0 0"
 
 
 class StartTest(TestCase):

@@ -7,6 +7,7 @@ from chordsim_tools.study.served import Scope, scope_of
 from chordsim_tools.study.survival import Times, percentile
 from chordsim_tools.study.trace import TraceReader
 from chordsim_tools.study.view import Numbers
+from tests.support.judging import read_trace
 
 IDENTS = {"a": 10, "b": 20, "c": 30, "d": 40}
 
@@ -17,8 +18,7 @@ def reader(
     """A reader of these lines; a, b and c are members at the start; three steps of 100 us."""
     scope = Scope(250, 100, warmup_us, cooldown_us, gap_us, join_forever)
     one = TraceReader(Members(IDENTS, ["a", "b", "c"]), scope)
-    for line in lines:
-        one.read(line)
+    read_trace(lines, one)
     return one
 
 
@@ -98,7 +98,7 @@ class StudyTraceTest(TestCase):
         numbers = one.numbers()
         words = ("judged-lookups", "judged-found", "judged-lost", "right", "us-p99", "hops-p50", "judged-audits")
         assert [numbers[word] for word in words] == [2, 1, 1, 1, 30, 4, 1]
-        assert (one.all_lookups, one.all_found) == (4, 2)
+        assert (len(one.table), len(one.table.answered)) == (4, 2)
 
     def test_lost_messages(self) -> None:
         """They change nothing: a lost message is not a lost lookup, and its sender stays a member."""

@@ -1,15 +1,18 @@
 """Members that are taken for dead, by hand and as the reference simulator removes them from successor lists."""
 
 import tomllib
+from collections.abc import Iterable
 from unittest import TestCase
 
 from chordsim_tools.members import Members
 from chordsim_tools.reference.simulation import Simulation
 from chordsim_tools.reference.state import Event, Purpose, Status, Timeout
 from chordsim_tools.scenario.reading import read_scenario
-from chordsim_tools.study.asked import AskLines
 from chordsim_tools.study.page import page
+from chordsim_tools.study.reading import LineReader, Taker
+from chordsim_tools.study.served import Scope, scope_of
 from chordsim_tools.study.trouble import Trouble
+from tests.support.judging import read_digest
 from tests.support.studies import row, table_of, tables_of
 from tests.support.worlds import EXAMPLES, SWITCHED_OFF
 
@@ -17,22 +20,16 @@ NAMES = ("timeouts", "timeouts-of-members", "removed-members", "again", "strande
 IDENTS = {"a": 10, "b": 20, "c": 30, "d": 40}
 
 
-def numbers_of(*lines: str, warmup_us: int = 0) -> list[int | str | None]:
+def numbers_of(*lines: str, warmup_us: int = 0, detail: bool = False) -> list[int | str | None]:
     """What is counted in these lines; a, b and c are members, and a timeout takes 100 us."""
-    trouble = Trouble(Members(IDENTS, ["a", "b", "c"]), {"timeout_us": 100}, warmup_us)
-    for line in lines:
-        trouble.read(line)
+    trouble = Trouble(Members(IDENTS, ["a", "b", "c"]), {"timeout_us": 100, "detail": detail}, warmup_us)
+    read_digest(lines, Scope(1000, 1000), trouble)
     return [trouble.numbers()[f"cost-{name}"] for name in NAMES]
 
 
 def with_detail(*lines: str) -> list[int | str | None]:
     """The same of a run with detail."""
-    asked = AskLines()
-    trouble = Trouble(Members(IDENTS, ["a", "b", "c"]), {"timeout_us": 100}, 0, asked)
-    for line in lines:
-        asked.read(f"{line}\n".encode())
-        trouble.read(line)
-    return [trouble.numbers()[f"cost-{name}"] for name in NAMES]
+    return numbers_of(*lines, detail=True)
 
 
 class Removing(Simulation):
@@ -48,6 +45,26 @@ class Removing(Simulation):
         if asked is not None and asked.status == Status.MEMBER and any(" timeout " in line for line in lines):
             self.removed += 1
         return lines
+
+
+class Following(LineReader):
+    """Reads who is a member."""
+
+    def __init__(self, members: Members) -> None:
+        """The members, which change."""
+        self.members = members
+
+    def takers(self) -> Iterable[tuple[str, Taker]]:
+        """Lines of nodes that come and go."""
+        return [("member", self.come), *((word, self.go) for word in ("crash", "leave", "stranded"))]
+
+    def come(self, _: int, fields: list[str]) -> None:
+        """A node is a member."""
+        self.members.add(fields[1])
+
+    def go(self, _: int, fields: list[str]) -> None:
+        """A node is no member."""
+        self.members.remove(fields[1])
 
 
 class TroubleTest(TestCase):
@@ -92,17 +109,8 @@ class TroubleTest(TestCase):
             scenario, top = read_scenario(changed.encode(), b""), tomllib.loads(changed)
             idents = {node.name: node.ident for node in scenario.nodes}
             members = Members(idents, [node.name for node in scenario.nodes if node.initial])
-            asked = AskLines() if scenario.detail else None
-            trouble, simulation = Trouble(members, top, 0, asked), Removing(scenario)
-            for line in simulation.lines():
-                _, name, word, *_ = line.split(" ")
-                if word == "member":
-                    members.add(name)
-                elif word in ("crash", "leave", "stranded"):
-                    members.remove(name)
-                if asked is not None:
-                    asked.read(f"{line}\n".encode())
-                trouble.read(line)
+            trouble, simulation = Trouble(members, top, 0), Removing(scenario)
+            read_digest(simulation.lines(), scope_of(top, 1, 0, 0), Following(members), trouble)
             assert trouble.removed == simulation.removed
             counts.append(simulation.removed)
         assert counts[0] > 3 * counts[1] > 0 and counts[2] > 0

@@ -7,6 +7,7 @@ from chordsim_tools.members import Members
 from chordsim_tools.study.page import page
 from chordsim_tools.study.served import Scope
 from chordsim_tools.study.trace import TraceReader
+from tests.support.judging import read_trace
 from tests.support.studies import row, table_of, tables_of, unwrapped
 
 COUNTS = dict.fromkeys(
@@ -59,6 +60,5 @@ class UnravelTest(TestCase):
         """The first line `stranded` of the whole run, before the warm-up too."""
         for lines, wanted in ((("5 a stranded b", "7 b stranded a"), 5), ((), None)):
             reader = TraceReader(Members({"a": 1, "b": 2}, ["a", "b"]), Scope(100, 50, 50))
-            for line in lines:
-                reader.read(line)
+            read_trace(lines, reader)
             assert reader.numbers()["stranded-at-us"] == wanted

@@ -1,13 +1,13 @@
 """The answers of a run: how many name each node, and how long they take beside a round trip to the node they name."""
 
 from collections import Counter
-from collections.abc import Callable, Iterable
+from itertools import compress
+from operator import ne
 
 from chordsim_tools.members import Members
-from chordsim_tools.study.reading import Ended, LineReader
+from chordsim_tools.study.lookups import Lookups
 from chordsim_tools.study.repairs import Latency
-from chordsim_tools.study.served import Scope
-from chordsim_tools.study.survival import percentile
+from chordsim_tools.study.survival import percentile, ranked
 
 SHARES = (1, 50, 99)
 """The percentiles of how many answers name a member."""
@@ -15,36 +15,21 @@ STRETCHES = (10, 50, 90)
 """Those of the stretch, as articles on routing give it."""
 
 
-class Answers(LineReader):
-    """Reads the answers to judged lookups from the lines of a trace."""
+def stretches(answered: Lookups, latency: Latency) -> list[int]:
+    """The thousandths of the stretch of each answer that names another node, in ascending order."""
+    is_other = list(map(ne, answered.askers, answered.named))
+    askers, named, taken = (compress(column, is_other) for column in (answered.askers, answered.named, answered.us))
+    return sorted(1000 * us // (2 * away) for us, away in zip(taken, map(latency, askers, named)))
 
-    def __init__(self, scope: Scope, members: Members, latency: Latency) -> None:
-        """No answers yet. The members are those of the reader of the trace, which reads each line before."""
-        self.scope = scope
-        self.members = members
-        self.latency = latency
-        self.named: Counter[str] = Counter()
-        self.stretches: list[int] = []
 
-    def enders(self) -> Iterable[Callable[[Ended], None]]:
-        """All lookups that end."""
-        return [self.end]
-
-    def end(self, ended: Ended) -> None:
-        """A lookup ends. It has an answer if it has found an owner."""
-        owner = ended.owner
-        if owner is None or self.scope.half(ended.begun) is None:
-            return
-        self.named[owner] += 1
-        if owner != ended.asker:
-            self.stretches.append(1000 * ended.us // (2 * self.latency(ended.asker, owner)))
-
-    def numbers(self) -> dict[str, int | str | None]:
-        """What a row of runs.csv has of it, at the end of the run."""
-        counts = [self.named[self.members.names[place]] for place in self.members.places]
-        owned: dict[str, int | str | None] = {f"owned-p{share}": percentile(counts, share) for share in SHARES}
-        owned["owned-most"] = max(counts, default=None)
-        for share in STRETCHES:
-            thousandths = percentile(self.stretches, share)
-            owned[f"stretch-p{share}"] = None if thousandths is None else f"{thousandths / 1000:.3f}"
-        return owned
+def answer_numbers(answered: Lookups, members: Members, latency: Latency) -> dict[str, int | str | None]:
+    """What a row of runs.csv has of the answers to the judged lookups, with the members at the end of the run."""
+    named = Counter(answered.named)
+    counts = [named[members.names[place]] for place in members.places]
+    owned: dict[str, int | str | None] = {f"owned-p{share}": percentile(counts, share) for share in SHARES}
+    owned["owned-most"] = max(counts, default=None)
+    thousandths = stretches(answered, latency)
+    for share in STRETCHES:
+        stretch = ranked(thousandths, share)
+        owned[f"stretch-p{share}"] = None if stretch is None else f"{stretch / 1000:.3f}"
+    return owned

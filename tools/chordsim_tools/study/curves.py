@@ -2,13 +2,14 @@
 
 import json
 from collections import Counter
-from collections.abc import Callable, Iterable
+from collections.abc import Iterable
 from pathlib import Path
 from typing import Any
 
 from chordsim_tools.files import read_input, sum_of, write_whole
+from chordsim_tools.study.judged import Judged
 from chordsim_tools.study.plan import Study
-from chordsim_tools.study.reading import Ended, LineReader, Taker
+from chordsim_tools.study.reading import LineReader, Taker
 from chordsim_tools.study.tables import Row, csv_text, write_tables
 
 POINTS = 100
@@ -17,52 +18,37 @@ CDF, STEPS, TAIL = "cdf.csv", "steps.csv", "tail.csv"
 
 
 class Curves(LineReader):
-    """Reads the lines of a trace. What begins before `warmup_us`, or in the cool-down, counts in the steps alone."""
+    """Reads the lines of what the network does, from the start on, and takes the judged lookups."""
 
-    def __init__(self, duration_us: int, window_us: int, warmup_us: int, cooldown_us: int) -> None:
+    def __init__(self, duration_us: int, window_us: int) -> None:
         """A reader that has read nothing."""
         self.window_us = window_us
-        self.judged = range(warmup_us, duration_us - cooldown_us)
-        self.begun = 0
-        self.times: list[int] = []
-        self.hops: Counter[int] = Counter()
         steps = (duration_us + window_us - 1) // window_us
         self.counts = {word: [0] * steps for word in ("timeout", "lose", "again")}
 
     def takers(self) -> Iterable[tuple[str, Taker]]:
-        """Lookups that begin, and what the network does."""
-        return [("lookup", self.begin), *((word, self.count) for word in self.counts)]
-
-    def enders(self) -> Iterable[Callable[[Ended], None]]:
-        """All lookups that end."""
-        return [self.end]
+        """What the network does."""
+        return [(word, self.count) for word in self.counts]
 
     def count(self, time: int, fields: list[str]) -> None:
         """A call times out, or a message is lost or sent again."""
         self.counts[fields[2]][time // self.window_us] += 1
 
-    def begin(self, time: int, _fields: list[str]) -> None:
-        """A lookup begins."""
-        self.begun += time in self.judged
+    def numbers(self, judged: Judged) -> dict[str, Any]:
+        """What a result keeps: the times at equal shares of the found lookups, the first and the last among them.
 
-    def end(self, ended: Ended) -> None:
-        """A lookup ends. One that is lost has no point of a curve."""
-        if ended.owner is not None and ended.begun in self.judged:
-            self.times.append(ended.us)
-            self.hops[ended.hops] += 1
-
-    def numbers(self) -> dict[str, Any]:
-        """What a result keeps: the times at equal shares of the found lookups, the first and the last among them."""
-        times = sorted(self.times)
+        A lookup that is lost has no point of a curve."""
+        times, hops = judged.times.ended, Counter(judged.hops)
         last = len(times) - 1
         return {
-            "begun": self.begun,
+            "begun": len(judged.table),
             "found": len(times),
             "us": [times[last * point // POINTS] for point in range(POINTS + 1)] if times else [],
-            "hops": [self.hops[number] for number in range(max(self.hops, default=-1) + 1)],
+            "hops": [hops[number] for number in range(max(hops, default=-1) + 1)],
             "timeouts": self.counts["timeout"],
             "losses": self.counts["lose"],
             "again": self.counts["again"],
+            "tail": judged.times.tail(),
         }
 
 

@@ -1,39 +1,25 @@
 """The messages of a run: counted in the extended profile, whose traces have lines of detail, and estimated in the
 others (docs/studies.md)."""
 
-import re
-import sys
-from bisect import bisect_left
 from collections import Counter
-from collections.abc import Callable, Iterable, Iterator
+from collections.abc import Iterable
 from dataclasses import dataclass
 from typing import Any
 
 from chordsim_tools.messages import MESSAGES, REPLIES, REQUESTS, messages_made
-from chordsim_tools.study.asked import AskLines
+from chordsim_tools.study.lookups import Table
 from chordsim_tools.study.pieces import COLUMN, cell_of
-from chordsim_tools.study.reading import Ended, LineReader, Taker
+from chordsim_tools.study.reading import LineReader, Taker
 from chordsim_tools.study.served import PIECES, Population, Scope
 
 ENDS = ("crash", "join-failed")
 """The words of lines after which a node is down, in the profiles whose messages are estimated."""
-ASKS, SENDS = (re.compile(rb"\n\d+ [^ \n]+ %b [^\n]*(?=\n)" % word) for word in (b"ask", b"send"))
-"""Lines of detail, each with the line feed before it, which is found sooner than the begin of a line."""
-OF_LOOKUPS = "of lookups"
-"""The word for the messages of users' lookups in a run with detail, among those of its lines."""
-MADE = (*(f"ask {kind}" for kind in REQUESTS), *(f"send {kind}" for kind in MESSAGES if kind not in REQUESTS))
-"""What lines of detail say was made."""
-
-
-def time_of(line: bytes) -> int:
-    """The time of the first line; the report comes after all times."""
-    word = line.partition(b" ")[0]
-    return int(word) if word.isdigit() else sys.maxsize
-
-
-def without(lines: re.Pattern[bytes], part: bytes) -> bytes:
-    """Whole lines of a trace, but for some."""
-    return lines.sub(b"", b"\n" + part)[1:]
+OF_LOOKUPS = "lookups all"
+"""The words of the count of messages of users' lookups in a run with detail."""
+COUNTED = ("ask", "send", "drop", "lookups")
+"""The words of lines that are counted from one edge of the pieces to the next, TIME messages WORD KIND COUNT."""
+COUNT_FIELDS = 5
+"""How many fields such a line has. A line `ask` of a stabilization has one more, and its node may be `messages`."""
 
 
 class Traffic(LineReader):
@@ -42,37 +28,37 @@ class Traffic(LineReader):
     def __init__(self, scope: Scope) -> None:
         """No lines yet."""
         self.scope = scope
-        self.edges = scope.edges()
         self.lines: Counter[str] = Counter()
         self.hops = self.timeouts = 0
         self.pieces: list[Counter[str]] = [Counter() for _ in range(PIECES)]
         """What lines say was made in each piece of the judged span."""
-        self.asked = AskLines()
 
     def takers(self) -> Iterable[tuple[str, Taker]]:
         """Lines of messages, and those of nodes that come and go."""
         return [
-            *((word, self.message) for word in ("drop", "lose", "ask", "send")),
+            *((word, self.count) for word in COUNTED), ("lose", self.lose),
             *((word, self.move) for word in ("join", "member", *ENDS)),
         ]
 
-    def enders(self) -> Iterable[Callable[[Ended], None]]:
-        """All lookups that end."""
-        return [self.end]
+    def count(self, time: int, fields: list[str]) -> None:
+        """So many lines of a kind: the edges of the pieces part them."""
+        if len(fields) == COUNT_FIELDS:
+            self.add(f"{fields[2]} {fields[3]}", time, int(fields[4]))
 
-    def message(self, time: int, fields: list[str]) -> None:
-        """A message is dropped, lost or, with detail, made."""
-        self.add(f"{fields[2]} {fields[3]}", time, 1)
+    def lose(self, time: int, fields: list[str]) -> None:
+        """A message is lost."""
+        self.add(f"lose {fields[3]}", time, 1)
 
     def move(self, time: int, fields: list[str]) -> None:
         """A node comes or goes."""
         self.add(fields[2], time, 1)
 
-    def end(self, ended: Ended) -> None:
-        """A lookup ends."""
-        if ended.time >= self.scope.warmup_us:
-            self.hops += ended.hops
-            self.timeouts += ended.timeouts
+    def take(self, table: Table) -> None:
+        """The lookups of the run, whose hops and timeouts count by their ends."""
+        for kind in (table.answered, table.lost):
+            first = kind.ended_before(self.scope.warmup_us)
+            self.hops += sum(kind.hops[first:])
+            self.timeouts += sum(kind.timeouts[first:])
 
     def add(self, word: str, time: int, count: int) -> None:
         """Counts so many more from `warmup_us` on, and in the piece of their time, if it is judged."""
@@ -82,33 +68,6 @@ class Traffic(LineReader):
         piece = self.scope.piece(time)
         if piece is not None:
             self.pieces[piece][word] += count
-
-    def sift(self, part: bytes) -> bytes:
-        """Counts the lines of detail in whole lines of a trace, and leaves the others. A run has millions of them."""
-        if not self.scope.has_detail:
-            return part
-        for time, lines in self.parted(part):
-            for made in MADE:
-                self.add(made, time, lines.count(f" {made} ".encode()))
-        rest = without(SENDS, part)
-        for time, lines in self.parted(rest):
-            self.add(OF_LOOKUPS, time, self.asked.read(lines))
-        return without(ASKS, rest)
-
-    def parted(self, part: bytes) -> Iterator[tuple[int, bytes]]:
-        """These lines, parted if a piece of the judged span begins or ends among them, each part with its first time.
-
-        What is after the last time of a trace is its report."""
-        first, last = time_of(part), time_of(part[part.rfind(b"\n", 0, -1) + 1 :])
-        edges = [edge for edge in self.edges if first < edge <= last]
-        if not edges:
-            yield first, part
-            return
-        lines = part.splitlines(keepends=True)
-        places = [0, *(bisect_left(lines, edge, key=time_of) for edge in edges), len(lines)]
-        for begin, end in zip(places, places[1:]):
-            if begin < end:
-                yield time_of(lines[begin]), b"".join(lines[begin:end])
 
     def sum_of(self, word: str, kinds: tuple[str, ...]) -> int:
         """How many lines of a word are of these kinds."""

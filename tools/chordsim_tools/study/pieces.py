@@ -1,9 +1,10 @@
 """Numbers in pieces of the judged span, by which a page sees whether they are steady."""
 
-from collections.abc import Callable, Iterable
+from collections.abc import Iterable
 
 from chordsim_tools.members import Members
-from chordsim_tools.study.reading import Ended, LineReader, Taker
+from chordsim_tools.study.lookups import Table
+from chordsim_tools.study.reading import LineReader, Taker
 from chordsim_tools.study.served import PIECES, Integral, Scope
 
 LEAST_LOOKUPS = {"50": 10, "90": 20, "99": 100, "99.9": 1000}
@@ -26,56 +27,47 @@ def cell_of(values: Iterable[int]) -> str:
 
 
 class Pieces(LineReader):
-    """Reads the lines of a trace. Lookups count by their begin; those that are cut off are left out."""
+    """Reads the lines of nodes, and takes lookups by their begin; those that are cut off are left out."""
 
     def __init__(self, scope: Scope, members: Members) -> None:
         """No lookups yet. The members are those of the reader of the trace, which reads each line before."""
         self.scope = scope
         self.members = members
         self.member_time = Integral(scope.edges(), len(members.places))
-        self.times: list[list[int]] = [[] for _ in range(PIECES)]
-        self.lost = [0] * PIECES
-        self.sums = {word: [0] * PIECES for word in ("hops", "timeouts", "us")}
+        self.pieces = [Table() for _ in range(PIECES)]
 
     def takers(self) -> Iterable[tuple[str, Taker]]:
         """The lines that change the members."""
         return [(word, self.move) for word in ("member", "create", "crash", "leave", "stranded")]
 
-    def enders(self) -> Iterable[Callable[[Ended], None]]:
-        """All lookups that end."""
-        return [self.end]
-
     def move(self, time: int, _fields: list[str]) -> None:
         """A member comes or goes."""
         self.member_time.change(time, len(self.members.places) - self.member_time.count)
 
-    def end(self, ended: Ended) -> None:
-        """A lookup ends."""
-        place = self.scope.piece(ended.begun)
-        if place is None:
-            return
-        self.sums["hops"][place] += ended.hops
-        self.sums["timeouts"][place] += ended.timeouts
-        self.sums["us"][place] += ended.us
-        if ended.owner is None:
-            self.lost[place] += 1
-        else:
-            self.times[place].append(ended.us)
+    def take(self, table: Table) -> None:
+        """The lookups of the run."""
+        self.pieces = table.by_begins.pieces(self.scope.edges())
+
+    def sums(self, word: str) -> list[int]:
+        """The sums of a number of the lookups that came to an end."""
+        return [sum(getattr(piece.answered, word)) + sum(getattr(piece.lost, word)) for piece in self.pieces]
 
     def numbers(self) -> dict[str, int | str | None]:
         """What a row of runs.csv has of it, at the end of the run."""
         self.member_time.change(self.scope.duration_us, 0)
         columns = {
-            "judged-found": list(map(len, self.times)), "judged-lost": self.lost,
-            **{f"ended-{word}": sums for word, sums in self.sums.items()}, "cost-member-us": self.member_time.sums,
+            "judged-found": [len(piece.answered) for piece in self.pieces],
+            "judged-lost": [len(piece.lost) for piece in self.pieces],
+            **{f"ended-{word}": self.sums(word) for word in ("hops", "timeouts", "us")},
+            "cost-member-us": self.member_time.sums,
         }
         return {f"{COLUMN}{word}": cell_of(values) for word, values in columns.items()} | self.percentiles()
 
     def percentiles(self) -> dict[str, int | str | None]:
         """The times. One that a piece does not have is left out in all."""
         found: dict[str, int | str | None] = {}
-        ordered = [sorted(times) for times in self.times]
+        ordered = [(sorted(piece.answered.us), len(piece.lost)) for piece in self.pieces]
         for share in LEAST_LOOKUPS:
-            cells = [ranked(times, lost, share) for times, lost in zip(ordered, self.lost, strict=True)]
+            cells = [ranked(times, lost, share) for times, lost in ordered]
             found[f"{COLUMN}us-p{share}"] = " ".join(cells) if all(cells) else None
         return found

@@ -1,9 +1,10 @@
 """The program chordsim, as a study calls it."""
 
+import os
 import signal
 import subprocess
 import tempfile
-from collections.abc import Callable, Iterator
+from collections.abc import Callable, Iterable, Iterator, Sequence
 from contextlib import contextmanager
 from pathlib import Path
 from typing import IO
@@ -11,9 +12,10 @@ from typing import IO
 from chordsim_tools.cli import Failure
 from chordsim_tools.files import reason
 from chordsim_tools.known import known
+from chordsim_tools.study.lookups import Table, read_table
 
-PART = 1 << 18
-"""So many bytes of an output are read at once."""
+CLOSED = "failed: 4 Write"
+"""What the program says if nobody reads what it writes into a pipe."""
 
 
 def one_line(text: bytes) -> str:
@@ -32,28 +34,43 @@ class Program:
 
     def check(self) -> None:
         """Fails if the scenario is refused."""
-        with self.lines("check"):
+        with self.output(["check"]):
             pass
 
     def idents(self, names: list[str]) -> dict[str, int]:
         """The identifier of each node. The program has to give one for each of these names."""
-        with self.lines("ids") as lines:
-            idents = {name: int(ident) for name, ident in (line.split(" ") for line in lines)}
+        with self.output(["ids"]) as output:
+            idents = {name: int(ident) for name, ident in (line.split(" ") for line in lines_of(output))}
         if idents.keys() != set(names):
             raise self.wrong("ids")
         return idents
 
-    def run(self, read: Callable[[str], None], sift: Callable[[bytes], bytes] = bytes) -> dict[str, int]:
-        """Runs the scenario: each line of the trace to a reader; gives the report. `sift` sees all lines before, many
-        at once, and leaves those that are to be read."""
-        report: dict[str, int] = {}
-        with self.lines("run", "--serial", sift=sift) as lines:
-            for line in lines:
-                if line[:1].isdigit():
-                    read(line)
-                else:
-                    word, number = line.split(" ")
-                    report[word] = int(number)
+    def run(self) -> dict[str, int]:
+        """Runs the scenario; gives the report."""
+        with self.output(["run", "--serial", "--trace", os.devnull]) as output:
+            lines = list(lines_of(output))
+        return self.report_of(line for line in lines if not line[:1].isdigit())
+
+    def judged(self, edges: Iterable[int], read: Callable[[str], None]) -> tuple[Table, dict[str, int]]:
+        """Runs the scenario and judges its trace as it comes: each line of the digest to a reader, in which messages are
+        counted from one of the edges to the next; gives the lookups and the report."""
+        times = ",".join(map(str, sorted({*edges} - {0})))
+        with tempfile.TemporaryDirectory() as folder:
+            digest = Path(folder) / "digest"
+            judge = ["judge", "--digest", str(digest), *(["--edges", times] if times else [])]
+            with self.output(["run", "--serial"], judge) as output:
+                table = read_table(output)
+            if not digest.is_file():
+                raise self.wrong("judge")
+            with digest.open("rb") as file:
+                return table, self.report_of(read_timed(lines_of(file), read))
+
+    def report_of(self, lines: Iterable[str]) -> dict[str, int]:
+        """The report in these lines."""
+        try:
+            report = {word: int(number) for word, number in (line.split(" ") for line in lines)}
+        except (ValueError, LookupError):
+            report = {}
         if "events" not in report:
             raise self.wrong("run")
         return report
@@ -63,47 +80,86 @@ class Program:
         return Failure(3, f"{self.path} {command}: the output is not that of chordsim")
 
     @contextmanager
-    def lines(self, *arguments: str, sift: Callable[[bytes], bytes] = bytes) -> Iterator[Iterator[str]]:
-        """The lines of standard output. Fails if the status is not 0; the program never outlives the block."""
-        command = [str(self.path), arguments[0], *self.files, *arguments[1:]]
+    def output(self, *calls: Sequence[str]) -> Iterator[IO[bytes]]:
+        """What the last of these calls writes; each one reads what the one before it writes. Fails if a status is not
+        0; the program never outlives the block."""
         wrong = False
         try:
-            with tempfile.TemporaryFile() as errors:
-                process = started(command, errors)
-                output = known(process.stdout)
+            with Pipe() as pipe:
+                for command, *arguments in calls:
+                    pipe.start([str(self.path), command, *self.files, *arguments])
+                output = known(pipe.processes[-1].stdout)
                 try:
-                    try:
-                        yield lines_of(output, sift)
-                    except (ValueError, LookupError):
-                        wrong = True
-                    output.read()
-                    process.wait()
-                finally:
-                    process.kill()
-                    process.wait()
-                    output.close()
-                errors.seek(0)
-                if process.returncode != 0:
-                    raise ended(process.returncode, errors.read())
+                    yield output
+                except (ValueError, LookupError):
+                    wrong = True
+                output.read()
+                pipe.end()
         except OSError as fault:
             raise Failure(3, f"cannot run {self.path}: {reason(fault)}") from None
         if wrong:
-            raise self.wrong(arguments[0])
+            raise self.wrong(calls[-1][0])
 
 
-def lines_of(output: IO[bytes], sift: Callable[[bytes], bytes]) -> Iterator[str]:
-    """The lines of an output that are left of each part of it."""
-    rest = b""
-    while part := output.read(PART):
-        whole, end, rest = (rest + part).rpartition(b"\n")
-        yield from sift(whole + end).decode("utf-8", "replace").split("\n")[:-1]
-    if rest:
-        yield rest.decode("utf-8", "replace")
+class Pipe:
+    """Processes each of which reads what the one before it writes."""
+
+    def __init__(self) -> None:
+        """No processes yet."""
+        self.processes: list[subprocess.Popen[bytes]] = []
+        self.errors: list[IO[bytes]] = []
+
+    def __enter__(self) -> "Pipe":
+        """The pipe."""
+        return self
+
+    def __exit__(self, *_: object) -> None:
+        """None of the processes is left."""
+        for process in self.processes:
+            process.kill()
+            process.wait()
+            known(process.stdout).close()
+        for errors in self.errors:
+            errors.close()
+
+    def start(self, command: list[str]) -> None:
+        """One more process, whose standard output is to be read."""
+        before = self.processes[-1].stdout if self.processes else None
+        self.errors.append(tempfile.TemporaryFile())
+        self.processes.append(subprocess.Popen(command, stdin=before, stdout=subprocess.PIPE, stderr=self.errors[-1]))
+        if before is not None:
+            # So the process before this one learns if this one ends.
+            before.close()
+
+    def end(self) -> None:
+        """Waits for all processes. Fails as the first of them that failed by itself."""
+        for process, errors in zip(self.processes, self.errors, strict=True):
+            status = process.wait()
+            errors.seek(0)
+            told = errors.read()
+            is_last = process is self.processes[-1]
+            if status != 0 and (is_last or not is_closed(status, told)):
+                raise ended(status, told)
 
 
-def started(command: list[str], errors: IO[bytes]) -> subprocess.Popen[bytes]:
-    """The program with these arguments, its standard output to be read."""
-    return subprocess.Popen(command, stdout=subprocess.PIPE, stderr=errors)
+def is_closed(status: int, errors: bytes) -> bool:
+    """Whether the program ended because nobody read what it wrote."""
+    return status == -signal.SIGPIPE or (status == 3 and one_line(errors) == CLOSED)
+
+
+def lines_of(output: Iterable[bytes]) -> Iterator[str]:
+    """The lines of an output, without their line feeds."""
+    for line in output:
+        yield line.decode("utf-8", "replace").removesuffix("\n")
+
+
+def read_timed(lines: Iterable[str], read: Callable[[str], None]) -> Iterator[str]:
+    """Lines with a time are read, and the others are left."""
+    for line in lines:
+        if line[:1].isdigit():
+            read(line)
+        else:
+            yield line
 
 
 def ended(status: int, errors: bytes) -> Failure:

@@ -2,6 +2,7 @@
 
 from dataclasses import dataclass
 
+from chordsim_tools.study.lookups import Table
 from chordsim_tools.study.served import Population, Scope
 
 
@@ -42,9 +43,15 @@ class Steps:
         """The step that is open."""
         return self.steps[self.at]
 
-    def begun_at(self, time: int) -> Step:
-        """The step in which a lookup began."""
-        return self.steps[time // self.scope.window_us]
+    def take(self, table: Table) -> None:
+        """The lookups of the run."""
+        edges = [number * self.scope.window_us for number in range(len(self.steps) + 1)]
+        ends = [table.answered.ended_before(time) for time in edges]
+        for step, first, end in zip(self.steps, ends, ends[1:]):
+            step.found, step.right = end - first, sum(table.answered.is_right[first:end])
+        for step, begun in zip(self.steps, table.by_begins.pieces(edges)):
+            step.lookups, step.ended = len(begun), len(begun.answered) + len(begun.lost)
+            step.right_of_ended = sum(begun.answered.is_right)
 
     def go_to(self, time: int, members: int) -> None:
         """Closes the steps that end by a time; so many nodes have been members since the last line."""

@@ -1,7 +1,8 @@
 """How long lookups take, all of them: those that were given up never end, those that were cut off are censored."""
 
-from collections import Counter
+from bisect import bisect_right
 from collections.abc import Iterable
+from math import ceil, inf
 
 NEVER = "never"
 ROUNDING = 1e-9
@@ -13,10 +14,12 @@ LEAST_BEYOND = 10
 
 def percentile(values: list[int], share: int) -> int | None:
     """Nearest rank: of k values in ascending order the one at place k * share / 100, rounded up, counted from 1."""
-    if not values:
-        return None
-    place = (len(values) * share + 99) // 100
-    return sorted(values)[place - 1]
+    return ranked(sorted(values), share)
+
+
+def ranked(ordered: list[int], share: int) -> int | None:
+    """The same of values that are in ascending order."""
+    return ordered[(len(ordered) * share + 99) // 100 - 1] if ordered else None
 
 
 class Times:
@@ -40,17 +43,27 @@ class Times:
         """Some percentiles. At equal times lookups that were cut off come after those that ended."""
         wanted = sorted(shares)
         found: dict[float, int | str | None] = dict.fromkeys(wanted, NEVER if self.count() else None)
-        left, rest, reached = 1.0, self.count(), 0
-        ended, cut = Counter(self.ended), Counter(self.cut)
-        for time in sorted({*ended, *cut}):
-            left *= 1 - ended[time] / rest
-            while ended[time] and reached < len(wanted) and left <= 1 - wanted[reached] / 100 + ROUNDING:
-                found[wanted[reached]] = time
+        ended, left, rest, begin, reached = sorted(self.ended), 1.0, self.count(), 0, 0
+        for cut in [*sorted(self.cut), inf]:
+            # Until a lookup is cut off, each one that ends takes away an equal share of what is left.
+            end = bisect_right(ended, cut, begin)
+            while end > begin and reached < len(wanted):
+                place = begin + needed(left, rest, 1 - wanted[reached] / 100)
+                if place > end:
+                    break
+                found[wanted[reached]] = ended[place - 1]
                 reached += 1
-            rest -= ended[time] + cut[time]
+            left *= 1 - (end - begin) / rest if rest else 1
+            rest -= end - begin + 1
+            begin = end
         return found
 
     def tail(self) -> list[tuple[float, int]]:
         """The percentiles that a plot of the tail has: those that are reached, with ten lookups or more beyond them."""
         known = [share for share in TAIL if self.count() * (1 - share / 100) >= LEAST_BEYOND - ROUNDING]
         return [(share, time) for share, time in self.percentiles(known).items() if isinstance(time, int)]
+
+
+def needed(left: float, rest: int, wanted: float) -> int:
+    """How many of so many lookups have to end so that of the share that is left no more than this one is."""
+    return max(1, ceil(rest * (1 - (wanted + ROUNDING) / left)))

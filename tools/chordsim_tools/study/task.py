@@ -9,10 +9,10 @@ from typing import Any
 from chordsim_tools.cli import Failure
 from chordsim_tools.members import Members
 from chordsim_tools.scenario.classes import expanded
-from chordsim_tools.study.answers import Answers
+from chordsim_tools.study.answers import answer_numbers
 from chordsim_tools.study.curves import Curves
 from chordsim_tools.study.document import toml_text
-from chordsim_tools.study.messages import Span, message_numbers, time_of
+from chordsim_tools.study.messages import Span, message_numbers
 from chordsim_tools.study.pieces import Pieces
 from chordsim_tools.study.program import Program
 from chordsim_tools.study.reading import Readers
@@ -40,11 +40,10 @@ def readers_of(task: Task, top: dict[str, Any], idents: dict[str, int]) -> tuple
     """The readers of the run's trace."""
     initial = [node["name"] for node in top["node"] if node.get("initial") is True]
     scope = scope_of(top, task.window_us, task.warmup_us, task.cooldown_us)
-    curves = Curves(top["duration_us"], task.window_us, task.warmup_us, task.cooldown_us)
+    curves = Curves(top["duration_us"], task.window_us)
     spans = {name: scope.within(begin, end) for name, begin, end in task.spans}
     reader = TraceReader(Members(idents, initial), scope, spans)
-    asked = reader.traffic.asked if scope.has_detail else None
-    return reader, curves, Trouble(reader.members, top, task.warmup_us, asked)
+    return reader, curves, Trouble(reader.members, top, task.warmup_us)
 
 
 def events_before(top: dict[str, Any], time: int, program: Path, latency: Path | None) -> int:
@@ -57,7 +56,7 @@ def events_before(top: dict[str, Any], time: int, program: Path, latency: Path |
         shorter = {word: value for word, value in top.items() if word != "detail"}
         text = toml_text({**shorter, "duration_us": min(time, top["duration_us"]), "command": commands})
         scenario.write_text(text, encoding="utf-8")
-        return Program(program, scenario, latency).run(lambda _: None)["events"]
+        return Program(program, scenario, latency).run()["events"]
 
 
 def span_of(top: dict[str, Any], events: int, reader: TraceReader, latency: Latency) -> Span:
@@ -78,17 +77,12 @@ def result_of(task: Task, program: Path, scenario: Path, latency: Path | None) -
     reader, curves, trouble = readers_of(task, top, idents)
     latency_us = latencies_of(top, task.latency or b"")
     pieces = Pieces(reader.scope, reader.members)
-    answers = Answers(reader.scope, reader.members, latency_us)
-    readers = Readers(reader, curves, trouble, pieces, answers)
-
-    def sift(part: bytes) -> bytes:
-        """The lines of detail are counted many at once, and the others are left."""
-        reader.traffic.asked.forget(time_of(part) - top["timeout_us"])
-        return reader.traffic.sift(part)
-
-    report = caller.run(readers.read, sift)
-    if (reader.all_lookups, reader.all_found) != (report.get("lookups"), report.get("found")):
-        raise Failure(3, "the report does not count the lines of the trace")
+    readers = Readers(reader, curves, trouble, pieces)
+    table, report = caller.judged(reader.scope.edges(), readers.read)
+    if (len(table), len(table.answered)) != (report.get("lookups"), report.get("found")):
+        raise Failure(3, "the report does not count the lookups of the trace")
+    reader.take(table)
+    pieces.take(table)
     numbers = reader.numbers()
     events = report["events"] - events_before(written, task.warmup_us, program, latency)
     span = span_of(top, events, reader, latency_us)
@@ -97,9 +91,9 @@ def result_of(task: Task, program: Path, scenario: Path, latency: Path | None) -
         "report": report,
         "numbers": {
             **numbers, **message_numbers(reader.traffic, span), **trouble.numbers(),
-            **pieces.numbers(), **answers.numbers(),
+            **pieces.numbers(), **answer_numbers(reader.judged.table.answered, reader.members, latency_us),
             "scenario-list": top["list"], "scenario-bits": top["bits"],
         },
-        "curves": {**curves.numbers(), "tail": reader.judged.times.tail()},
+        "curves": curves.numbers(reader.judged),
         "series": reader.over_time.rows(),
     }

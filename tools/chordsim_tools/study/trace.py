@@ -1,12 +1,12 @@
 """What a study takes from a trace: right and wrong answers, times, audits, members, and numbers over time."""
 
-from collections.abc import Callable, Iterable, Mapping
-from itertools import chain
+from collections.abc import Iterable, Mapping
 
-from chordsim_tools.members import Members
+from chordsim_tools.members import Members, Presence
+from chordsim_tools.study.lookups import Table
 from chordsim_tools.study.messages import Traffic
 from chordsim_tools.study.pieces import COLUMN, cell_of
-from chordsim_tools.study.reading import Ended, LineReader, Taker
+from chordsim_tools.study.reading import LineReader, Taker
 from chordsim_tools.study.served import Scope
 from chordsim_tools.study.steps import Steps
 from chordsim_tools.study.view import Numbers, View
@@ -17,89 +17,45 @@ MOVES = ("join", "member", "create", "crash", "leave", "stranded", "join-failed"
 
 
 class TraceReader(LineReader):
-    """Reads the lines of a trace in their order. What begins outside of the judged spans counts in the steps alone."""
+    """Reads the lines of nodes and messages in their order, and then takes the lookups. Those that begin outside of the
+    judged spans count in the steps alone."""
 
     def __init__(self, members: Members, scope: Scope, spans: Mapping[str, Scope] | None = None) -> None:
         """A reader that has read nothing; the members are those at the start. Further spans have names."""
         self.members = members
         self.scope = scope
         initial = [members.names[place] for place in members.places]
-        self.view = View(members, initial, scope)
-        self.spans = {name: View(members, initial, one) for name, one in (spans or {}).items()}
+        self.view = View(initial, scope)
+        self.spans = {name: View(initial, one) for name, one in (spans or {}).items()}
         self.views = [self.view, *self.spans.values()]
         self.judged, self.population = self.view.judged, self.view.population
         self.traffic = Traffic(scope)
         self.over_time = Steps(scope, self.population)
-        self.open: dict[str, list[int]] = {}
-        """When the lookups of each node began that have not ended."""
-        self.all_lookups = self.all_found = 0
+        self.table = Table()
         self.audit_members: list[int] = []
         self.whole = self.torn = 0
         self.ringless_since: int | None = None
-        self.ended_ringless = self.right_ringless = 0
         self.stranded_at: int | None = None
 
     def takers(self) -> Iterable[tuple[str, Taker]]:
         """All lines that change something, and those of messages."""
         return [
-            ("audit", self.audit), ("lookup", self.lookup), ("busy", self.refuse),
+            ("audit", self.audit), ("busy", self.refuse),
             *((word, self.move) for word in MOVES), *self.traffic.takers(),
         ]
-
-    def enders(self) -> Iterable[Callable[[Ended], None]]:
-        """All lookups that end."""
-        return [self.end, *self.traffic.enders()]
 
     def go_to(self, time: int) -> None:
         """Closes the steps that are over. Call it before anything changes."""
         self.over_time.go_to(time, len(self.members.places))
 
-    def lookup(self, time: int, fields: list[str]) -> None:
-        """A lookup begins."""
-        self.go_to(time)
-        self.open.setdefault(fields[1], []).append(time)
-        self.all_lookups += 1
-        self.over_time.now().lookups += 1
+    def take(self, table: Table) -> None:
+        """The lookups of the run, after all lines."""
+        presence = Presence(self.members)
+        self.table = table
+        self.traffic.take(table)
+        self.over_time.take(table)
         for view in self.views:
-            view.judged.begin(time)
-
-    def end(self, ended: Ended) -> None:
-        """A lookup ends."""
-        self.go_to(ended.time)
-        begins = self.open.get(ended.asker, [])
-        if ended.begun in begins:
-            begins.remove(ended.begun)
-        if ended.owner is None:
-            self.lost(ended)
-        else:
-            self.found(ended, ended.owner)
-
-    def found(self, ended: Ended, owner: str) -> None:
-        """A lookup has found an owner."""
-        right = self.members.is_owner(owner, ended.key)
-        self.all_found += 1
-        step = self.over_time.now()
-        step.found += 1
-        step.right += right
-        self.end_without_ring(right)
-        begun = self.over_time.begun_at(ended.begun)
-        begun.ended += 1
-        begun.right_of_ended += right
-        for view in self.views:
-            view.judged.answer(ended, owner, right)
-
-    def lost(self, ended: Ended) -> None:
-        """A lookup ends without an owner."""
-        self.end_without_ring(False)
-        self.over_time.begun_at(ended.begun).ended += 1
-        for view in self.views:
-            view.judged.give_up(ended)
-
-    def end_without_ring(self, right: bool) -> None:
-        """A lookup ends. It counts if the last audit has found no ring."""
-        if self.ringless_since is not None:
-            self.ended_ringless += 1
-            self.right_ringless += right
+            view.end(table, presence)
 
     def refuse(self, time: int, fields: list[str]) -> None:
         """A lookup of a node cannot begin."""
@@ -118,8 +74,6 @@ class TraceReader(LineReader):
             self.over_time.now().refused += self.population.is_up.get(name, False)
         for view in self.views:
             view.move(time, fields)
-        if word in ("crash", "leave"):
-            self.cut_off(time, name)
         if word in ("member", "create"):
             self.members.add(name, time)
         elif word in ("crash", "leave", "stranded"):
@@ -127,19 +81,12 @@ class TraceReader(LineReader):
         if word == "stranded" and self.stranded_at is None:
             self.stranded_at = time
 
-    def cut_off(self, time: int, name: str) -> None:
-        """A node crashes or leaves: its lookups are cut off."""
-        begins = self.open.pop(name, [])
-        for view in self.views:
-            view.judged.go(time, begins)
-
     def audit(self, time: int, fields: list[str]) -> None:
         """An audit: TIME audit members=M dead=D ring=R ordered=yes|no ..."""
         self.go_to(time)
         facts = dict(word.split("=") for word in fields[2:])
         if facts["ring"] != "0":
             self.ringless_since = None
-            self.ended_ringless = self.right_ringless = 0
         elif self.ringless_since is None:
             self.ringless_since = time
         if time <= self.scope.warmup_us:
@@ -155,16 +102,16 @@ class TraceReader(LineReader):
         It is lost if they go over a tenth of the run at least, and at most half of the lookups that end in that time
         are right."""
         since, latest = self.ringless_since, self.scope.duration_us - self.scope.duration_us // 10
-        is_lost = since is not None and since <= latest and 2 * self.right_ringless <= self.ended_ringless
-        return since if is_lost else None
+        if since is None or since > latest:
+            return None
+        answered, lost = self.table.answered, self.table.lost
+        right = answered.is_right[answered.ended_before(since) :]
+        ended = len(right) + len(lost) - lost.ended_before(since)
+        return since if 2 * sum(right) <= ended else None
 
     def numbers(self) -> Numbers:
-        """What a row of runs.csv has beside the report. Call it once, at the end of the trace."""
+        """What a row of runs.csv has beside the report. Call it once, after the lookups were taken."""
         self.over_time.finish(len(self.members.places))
-        begins = list(chain.from_iterable(self.open.values()))
-        self.open = {}
-        for view in self.views:
-            view.end(begins)
         audits = len(self.audit_members)
         return {
             **self.view.judged_numbers(),
@@ -176,7 +123,7 @@ class TraceReader(LineReader):
             "stranded-at-us": self.stranded_at,
             **self.view.wanted_numbers(),
             **self.view.half_numbers(),
-            f"{COLUMN}right-defensible": cell_of(self.view.judged.defensible_in_pieces),
+            f"{COLUMN}right-defensible": cell_of(self.judged.defensible_in_pieces()),
             "duration-us": self.scope.duration_us,
             "cost-member-us": sum(self.population.members.sums),
             **self.span_numbers(),

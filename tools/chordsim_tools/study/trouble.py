@@ -5,31 +5,40 @@ from collections.abc import Iterable
 from typing import Any
 
 from chordsim_tools.members import Members
-from chordsim_tools.study.asked import AskLines
 from chordsim_tools.study.reading import LineReader, Taker
 
 WORDS = ("again", "stranded", "join-failed")
 STATES = ("get-state", "state-reply")
+ASK_FIELDS = 6
+"""How many fields a line `ask` has. A count of such lines has one less."""
 
 
 class Trouble(LineReader):
     """Counts from `warmup_us` to the end. Each line is read here after the members have changed by it."""
 
-    def __init__(self, members: Members, top: dict[str, Any], warmup_us: int, asked: AskLines | None = None) -> None:
-        """No lines yet; members and, with detail, lines `ask` are those of a reader of the same trace.
-
-        Lines `ask` are read before the others, and keep the stabilizations of a timeout."""
+    def __init__(self, members: Members, top: dict[str, Any], warmup_us: int) -> None:
+        """No lines yet; the members are those of a reader of the same trace."""
         self.members = members
         self.timeout_us = int(top["timeout_us"])
+        self.has_detail = top.get("detail") is True
         self.warmup_us = warmup_us
         self.lines: Counter[str] = Counter()
         self.of_members = self.removed = 0
         self.states_lost: dict[tuple[str, str], int] = {}
-        self.asked = asked
+        self.stabilized: dict[str, tuple[str, int]] = {}
+        """Whom each member has asked for its state at last, and when."""
 
     def takers(self) -> Iterable[tuple[str, Taker]]:
-        """Messages that are lost, timeouts, and what is only counted."""
-        return [("lose", self.lose), ("timeout", self.time_out), *((word, self.count) for word in WORDS)]
+        """Messages that are lost, timeouts with the stabilizations before them, and what is only counted."""
+        return [
+            ("lose", self.lose), ("ask", self.ask), ("timeout", self.time_out),
+            *((word, self.count) for word in WORDS),
+        ]
+
+    def ask(self, time: int, fields: list[str]) -> None:
+        """A member stabilizes: TIME NODE ask get-state SUCCESSOR call=C, right before the timeout of this successor."""
+        if len(fields) == ASK_FIELDS:
+            self.stabilized[fields[1]] = fields[4], time
 
     def lose(self, time: int, fields: list[str]) -> None:
         """A message is lost: TIME NODE lose KIND RECEIVER."""
@@ -52,7 +61,7 @@ class Trouble(LineReader):
 
         With detail it is known whether it was asked as a successor, and not as the owner of a key."""
         called = time - self.timeout_us
-        was_successor = self.asked is None or self.asked.has_stabilized(*pair, called)
+        was_successor = not self.has_detail or self.stabilized.get(pair[0]) == (pair[1], called)
         lost_at = self.states_lost.pop(pair, None) if was_successor else None
         if time >= self.warmup_us:
             self.of_members += 1

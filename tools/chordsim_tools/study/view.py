@@ -2,23 +2,24 @@
 
 from collections.abc import Iterable
 
-from chordsim_tools.members import Members
+from chordsim_tools.members import Presence
 from chordsim_tools.study.judged import Judged
+from chordsim_tools.study.lookups import Table
 from chordsim_tools.study.served import Population, Scope
-from chordsim_tools.study.survival import percentile
+from chordsim_tools.study.survival import ranked
 
 Numbers = dict[str, int | str | None]
 PERCENTILES = (50, 90, 99)
 
 
 class View:
-    """Follows the nodes and the lookups of one span."""
+    """Follows the nodes of one span, and takes its lookups."""
 
-    def __init__(self, members: Members, initial: Iterable[str], scope: Scope) -> None:
-        """A view that has seen nothing; the members are those of the reader of the trace."""
+    def __init__(self, initial: Iterable[str], scope: Scope) -> None:
+        """A view that has seen nothing, of a run with these members at the start."""
         self.scope = scope
         self.population = Population(initial, scope)
-        self.judged = Judged(members, scope)
+        self.judged = Judged(scope)
 
     def move(self, time: int, fields: list[str]) -> None:
         """A node comes, goes or does not do what a command says. Call it before the members change."""
@@ -27,29 +28,29 @@ class View:
             self.judged.refuse(time, name, self.population)
         self.population.read(time, name, word, rest[0] if rest else None)
 
-    def end(self, begins: Iterable[int]) -> None:
-        """The run ends, and cuts off the lookups that began at these times."""
-        self.judged.finish(begins)
+    def end(self, table: Table, presence: Presence) -> None:
+        """The run is over: its lookups, and when its nodes were members."""
+        self.judged.take(table, presence)
         self.population.end(self.scope.duration_us)
 
     def judged_numbers(self) -> Numbers:
         """What became of the judged lookups."""
-        judged = self.judged
+        judged, table = self.judged, self.judged.table
         right = sum(judged.right)
         numbers: Numbers = {
-            "judged-lookups": sum(judged.begun), "judged-found": judged.found, "judged-lost": judged.lost,
-            "right": right, "wrong": judged.found - right,
+            "judged-lookups": len(table), "judged-found": len(table.answered), "judged-lost": len(table.lost),
+            "right": right, "wrong": len(table.answered) - right,
         }
-        for word, values in (("us", judged.found_times), ("hops", judged.hops)):
+        for word, values in (("us", judged.times.ended), ("hops", judged.hops)):
             for share in PERCENTILES:
-                numbers[f"{word}-p{share}"] = percentile(values, share)
+                numbers[f"{word}-p{share}"] = ranked(values, share)
         for part, time in judged.times.percentiles((*PERCENTILES, 99.9)).items():
             numbers[f"all-us-p{part}"] = time
         return numbers | {
-            "ended-us": judged.ended_us, "ended-hops": judged.ended_hops, "ended-timeouts": judged.ended_timeouts,
-            "right-defensible": right + judged.defensible,
+            **{f"ended-{word}": judged.sum_of(word) for word in ("us", "hops", "timeouts")},
+            "right-defensible": judged.defensible(),
             "wrong-down": judged.names_down, "wrong-newcomer": judged.misses_newcomer,
-            "cut-by-crash": judged.cut_by_crash, "cut-by-end": judged.cut_by_end,
+            "cut-by-crash": len(table.cut), "cut-by-end": len(table.unfinished),
         }
 
     def wanted_numbers(self) -> Numbers:
