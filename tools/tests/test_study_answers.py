@@ -5,7 +5,7 @@ from unittest import TestCase
 
 from chordsim_tools.members import Members
 from chordsim_tools.study.answers import answer_numbers
-from chordsim_tools.study.repairs import latencies_of
+from chordsim_tools.study.latencies import Latencies
 from tests.support.judging import table_of
 
 NODES: list[dict[str, Any]] = [{"name": name} for name in ("a", "b", "c", "d")]
@@ -15,7 +15,7 @@ def told(top: dict[str, Any], *lines: str, rows: bytes = b"") -> dict[str, int |
     """The columns of a ring of a, b and c, which d joins: lookups begun from 100 to 800 us are judged."""
     members = Members({"a": 1, "b": 2, "c": 3, "d": 4}, ["a", "b", "c"])
     answered = table_of(lines, members).by_begins.between(100, 800).answered
-    return answer_numbers(answered, members, latencies_of(top, rows))
+    return answer_numbers(answered, members, Latencies(top, rows))
 
 
 class AnswersTest(TestCase):

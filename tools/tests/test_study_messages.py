@@ -18,8 +18,8 @@ from chordsim_tools.reference.state import Event
 from chordsim_tools.scenario.reading import Scenario, read_scenario
 from chordsim_tools.study.document import toml_text
 from chordsim_tools.study.estimates import GROUPS, MOST_ERROR, WITHIN, most_off
+from chordsim_tools.study.latencies import Latencies
 from chordsim_tools.study.messages import OF_LOOKUPS, Traffic, exact, message_numbers
-from chordsim_tools.study.repairs import latencies_of
 from chordsim_tools.study.served import scope_of
 from chordsim_tools.study.task import events_before, span_of
 from chordsim_tools.study.trace import TraceReader
@@ -74,7 +74,7 @@ def numbers_of(
     read_trace(noted(simulation.lines(), report), reader)
     before = known(simulation.before)
     made = {kind: count - before[1][kind] for kind, count in sent(simulation, report).items()}
-    span = span_of(top, simulation.events - before[0], reader, latencies_of(top, rows))
+    span = span_of(top, simulation.events - before[0], reader, Latencies(top, rows))
     return message_numbers(reader.traffic, span), made
 
 

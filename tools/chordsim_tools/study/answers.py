@@ -5,8 +5,8 @@ from itertools import compress
 from operator import ne
 
 from chordsim_tools.members import Members
+from chordsim_tools.study.latencies import Latencies
 from chordsim_tools.study.lookups import Lookups
-from chordsim_tools.study.repairs import Latency
 from chordsim_tools.study.survival import percentile, ranked
 
 SHARES = (1, 50, 99)
@@ -15,20 +15,20 @@ STRETCHES = (10, 50, 90)
 """Those of the stretch, as articles on routing give it."""
 
 
-def stretches(answered: Lookups, latency: Latency) -> list[int]:
+def stretches(answered: Lookups, latencies: Latencies) -> list[int]:
     """The thousandths of the stretch of each answer that names another node, in ascending order."""
     is_other = list(map(ne, answered.askers, answered.named))
     askers, named, taken = (compress(column, is_other) for column in (answered.askers, answered.named, answered.us))
-    return sorted(1000 * us // (2 * away) for us, away in zip(taken, map(latency, askers, named)))
+    return sorted(500 * us // away for us, away in zip(taken, latencies.of_all(askers, named), strict=True))
 
 
-def answer_numbers(answered: Lookups, members: Members, latency: Latency) -> dict[str, int | str | None]:
+def answer_numbers(answered: Lookups, members: Members, latencies: Latencies) -> dict[str, int | str | None]:
     """What a row of runs.csv has of the answers to the judged lookups, with the members at the end of the run."""
     named = Counter(answered.named)
     counts = [named[members.names[place]] for place in members.places]
     owned: dict[str, int | str | None] = {f"owned-p{share}": percentile(counts, share) for share in SHARES}
     owned["owned-most"] = max(counts, default=None)
-    thousandths = stretches(answered, latency)
+    thousandths = stretches(answered, latencies)
     for share in STRETCHES:
         stretch = ranked(thousandths, share)
         owned[f"stretch-p{share}"] = None if stretch is None else f"{stretch / 1000:.3f}"

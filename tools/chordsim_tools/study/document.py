@@ -2,7 +2,31 @@
 
 import json
 import re
+import tomllib
 from typing import Any
+
+VALUE = r'true|false|0|[1-9][0-9]*|"[^"\\\n]*"'
+"""A boolean, an integer, or a text without escapes, as both JSON and TOML have them."""
+PLAIN = re.compile(rf"(?:[A-Za-z0-9_-]+ = (?:{VALUE})\n|\n\[[a-z]+\]\n|\n\[\[[a-z]+\]\]\n)*")
+PAIR = re.compile(r"^([A-Za-z0-9_-]+) = (.*)\n", re.MULTILINE)
+HEAD = re.compile(r",?\n(\[+)([a-z]+)\]+\n")
+
+
+def document_of(text: str) -> dict[str, Any]:
+    """A document as `toml_text` writes it, or any other one. The first kind is read by JSON, in a tenth of the time.
+
+    The text has to be TOML: keys and tables that are there twice are not noticed."""
+    if PLAIN.fullmatch(text) is None:
+        return tomllib.loads(text)
+    first, *rest = HEAD.split(PAIR.sub(r'"\1":\2,', text).removesuffix(","))
+    top: dict[str, Any]
+    top, *tables = json.loads(f"[{{{'},{'.join([first, *rest[2::3]])}}}]")
+    for brackets, key, table in zip(rest[::3], rest[1::3], tables, strict=True):
+        if brackets == "[":
+            top[key] = table
+        else:
+            top.setdefault(key, []).append(table)
+    return top
 
 
 def toml_text(top: dict[str, Any]) -> str:

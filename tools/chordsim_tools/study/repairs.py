@@ -6,39 +6,15 @@ two and a half periods costs two turns."""
 import math
 from bisect import bisect_left, insort
 from collections import Counter
-from collections.abc import Callable
 from dataclasses import dataclass
 from statistics import NormalDist
 from typing import Any
 
 from chordsim_tools.members import Members
-from chordsim_tools.scenario.coordinates import coordinates_of
-from chordsim_tools.scenario.tables import rows_of
+from chordsim_tools.study.latencies import Latencies
 
-Latency = Callable[[str, str], int]
-"""The latency from one node to another, by their names."""
 PARTS = 9
 """A spread of latencies is taken as so many values that are equally likely."""
-
-
-def latencies_of(top: dict[str, Any], rows: bytes) -> Latency:
-    """The latency of two nodes, without the spread."""
-    found: dict[tuple[str, str], int] = {}
-    for row in rows_of(rows):
-        first, second, micros = row.fields
-        found[first, second] = found[second, first] = int(micros)
-    places = {node["name"]: coordinates_of(node) for node in top["node"]}
-
-    def latency(first: str, second: str) -> int:
-        """That of a pair. All nodes have coordinates, or none has."""
-        here, there = places[first], places[second]
-        if first == second:
-            return 1
-        if here is None or there is None:
-            return found.get((first, second), int(top["latency_us"]))
-        return here.latency_to(there)
-
-    return latency
 
 
 def spreads(most: int) -> list[float]:
@@ -84,10 +60,10 @@ class Period:
 class Repairs:
     """The stabilizations of a run without messages that are lost or dropped."""
 
-    def __init__(self, top: dict[str, Any], latency: Latency) -> None:
+    def __init__(self, top: dict[str, Any], latencies: Latencies) -> None:
         """Those of a scenario with these latencies."""
         self.period = Period(int(top["stabilize_us"]), int(top.get("jitter_us", 0)))
-        self.latency = latency
+        self.latencies = latencies
         self.spreads = spreads(int(top.get("spread_us", 0)))
         self.timeout = int(top["timeout_us"])
         self.places = {node["name"]: place for place, node in enumerate(top["node"])}
@@ -98,7 +74,7 @@ class Repairs:
         """How many a member begins in a microsecond that has this successor.
 
         Of two events of one time the one comes first that was made by the node that is listed first."""
-        kind = 2 * self.latency(first, second), self.places[first] < self.places[second]
+        kind = 2 * self.latencies.between(first, second), self.places[first] < self.places[second]
         self.seen[kind] += 1
         if kind not in self.known:
             self.known[kind] = 1 / (self.period.mean() * (1 + self.passed(*kind)))

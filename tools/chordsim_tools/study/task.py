@@ -1,7 +1,9 @@
 """One run by itself: all that it needs as texts, so that any process or machine can do it."""
 
+import gc
 import tempfile
-import tomllib
+from collections.abc import Iterator
+from contextlib import contextmanager
 from dataclasses import dataclass
 from pathlib import Path
 from typing import Any
@@ -11,12 +13,13 @@ from chordsim_tools.members import Members
 from chordsim_tools.scenario.classes import expanded
 from chordsim_tools.study.answers import answer_numbers
 from chordsim_tools.study.curves import Curves
-from chordsim_tools.study.document import toml_text
+from chordsim_tools.study.document import document_of, toml_text
+from chordsim_tools.study.latencies import Latencies
 from chordsim_tools.study.messages import Span, message_numbers
 from chordsim_tools.study.pieces import Pieces
 from chordsim_tools.study.program import Program
 from chordsim_tools.study.reading import Readers
-from chordsim_tools.study.repairs import Latency, Repairs, latencies_of
+from chordsim_tools.study.repairs import Repairs
 from chordsim_tools.study.served import scope_of
 from chordsim_tools.study.trace import TraceReader
 from chordsim_tools.study.trouble import Trouble
@@ -59,23 +62,36 @@ def events_before(top: dict[str, Any], time: int, program: Path, latency: Path |
         return Program(program, scenario, latency).run()["events"]
 
 
-def span_of(top: dict[str, Any], events: int, reader: TraceReader, latency: Latency) -> Span:
+def span_of(top: dict[str, Any], events: int, reader: TraceReader, latencies: Latencies) -> Span:
     """What messages are counted or estimated from. An estimate alone needs to know how many stabilizations begin."""
     if reader.scope.has_detail:
         return Span(top, events, reader.population)
-    repairs = Repairs(top, latency)
+    repairs = Repairs(top, latencies)
     begun = repairs.begun(reader.members, reader.scope.warmup_us, top["duration_us"])
     return Span(top, events, reader.population, begun, repairs.skipped())
 
 
+@contextmanager
+def without_collector() -> Iterator[None]:
+    """Does not look for objects in circles: a run makes many objects, and none of these."""
+    was_enabled = gc.isenabled()
+    gc.disable()
+    try:
+        yield
+    finally:
+        if was_enabled:
+            gc.enable()
+
+
+@without_collector()
 def result_of(task: Task, program: Path, scenario: Path, latency: Path | None) -> dict[str, Any]:
     """Runs the program with the task's two files, and gives the result as `done/` keeps it."""
     caller = Program(program, scenario, latency)
-    written = tomllib.loads(task.scenario)
+    written = document_of(task.scenario)
     top = expanded(written)
     idents = caller.idents([node["name"] for node in top["node"]])
     reader, curves, trouble = readers_of(task, top, idents)
-    latency_us = latencies_of(top, task.latency or b"")
+    latencies = Latencies(top, task.latency or b"")
     pieces = Pieces(reader.scope, reader.members)
     readers = Readers(reader, curves, trouble, pieces)
     table, report = caller.judged(reader.scope.edges(), readers.read)
@@ -85,13 +101,13 @@ def result_of(task: Task, program: Path, scenario: Path, latency: Path | None) -
     pieces.take(table)
     numbers = reader.numbers()
     events = report["events"] - events_before(written, task.warmup_us, program, latency)
-    span = span_of(top, events, reader, latency_us)
+    span = span_of(top, events, reader, latencies)
     return {
         "made_of": task.made_of,
         "report": report,
         "numbers": {
             **numbers, **message_numbers(reader.traffic, span), **trouble.numbers(),
-            **pieces.numbers(), **answer_numbers(reader.judged.table.answered, reader.members, latency_us),
+            **pieces.numbers(), **answer_numbers(reader.judged.table.answered, reader.members, latencies),
             "scenario-list": top["list"], "scenario-bits": top["bits"],
         },
         "curves": curves.numbers(reader.judged),
