@@ -1,25 +1,42 @@
 """The lookups of a run as columns, read from the table that `chordsim judge` writes in the order of their ends."""
 
 from bisect import bisect_left
-from collections.abc import Sequence
+from collections.abc import Callable, Iterable, Sequence
 from dataclasses import dataclass, field, fields
 from functools import cached_property
 from itertools import compress, pairwise
-from sys import intern
-from typing import IO, Any
+from operator import add
+from typing import IO, Any, TypeVar
 
+T = TypeVar("T")
 HEADING = "asker,key,begun_us,ended_us,us,hops,timeouts,named,right_owner,strict,defensible"
 WIDTH = HEADING.count(",") + 1
-ASKER, BEGUN, ENDED, US, HOPS, TIMEOUTS, NAMED, STRICT, DEFENSIBLE = 0, 2, 3, 4, 5, 6, 7, 9, 10
-"""The places of the columns that are kept."""
-NUMBERS = (BEGUN, ENDED, US, HOPS, TIMEOUTS)
-ENDS = (("right", "wrong"), ("lost",), ("cut-by-crash", "cut-by-leave"), ("cut-by-end",))
-"""What column `strict` says of lookups that were answered, got no answer, were cut off by their asker, or did not end."""
-WORDS = frozenset(word for words in ENDS for word in words)
-KNOWN = (5, 5, 3, 1)
-"""How many of the numbers such lookups have."""
-PART = 1 << 18
-"""So many bytes of the table are read at once."""
+READ = ASKER, BEGUN, US, HOPS, TIMEOUTS, NAMED, STRICT, DEFENSIBLE = 0, 2, 4, 5, 6, 7, 9, 10
+"""The places of the columns that are read."""
+IS_RIGHT = {"right": True, "wrong": False}
+"""What the last two columns say of a lookup that was answered."""
+LOST, CUT, UNFINISHED = ("lost",), ("cut-by-crash", "cut-by-leave"), ("cut-by-end",)
+"""And what they say of one without an answer, of one that its asker's going cut off, and of one that did not end."""
+WORDS = frozenset((*IS_RIGHT, *LOST, *CUT, *UNFINISHED))
+PART = 1 << 16
+"""So many bytes of the table are read at once: their cells fit into a processor's cache."""
+
+Columns = dict[int, list[str]]
+"""The cells of columns, by their places."""
+
+
+class Known(dict[str, T]):
+    """What texts stand for, which is made of each text once."""
+
+    def __init__(self, make: Callable[[str], T]) -> None:
+        """How it is made."""
+        super().__init__()
+        self.make = make
+
+    def __missing__(self, text: str) -> T:
+        """A text that is new."""
+        self[text] = made = self.make(text)
+        return made
 
 
 @dataclass
@@ -47,12 +64,16 @@ class Lookups:
     def by_begins(self) -> "Lookups":
         """The same in the order in which they began."""
         order = sorted(range(len(self)), key=self.begun.__getitem__)
-        return Lookups(*(list(map(column.__getitem__, order)) if column else [] for column in self.columns()))
+        return Lookups(*([column[place] for place in order] if column else [] for column in self.columns()))
 
     def between(self, first: int, end: int) -> "Lookups":
         """Those that began from one time on and before another. They are in the order of their begins."""
         begin, stop = bisect_left(self.begun, first), bisect_left(self.begun, end)
         return Lookups(*(column[begin:stop] for column in self.columns()))
+
+    def begun_before(self, time: int) -> int:
+        """How many began before a time. They are in the order of their begins."""
+        return bisect_left(self.begun, time)
 
     def ended_before(self, time: int) -> int:
         """How many ended before a time. They are in the order of their ends."""
@@ -89,40 +110,68 @@ class Table:
         """Those that began from each of these times to the next one. They are in the order of their begins."""
         return [self.between(first, end) for first, end in pairwise(edges)]
 
+
+class TableReader:
+    """Makes columns of the lines of the table. What they have often, as names of nodes, is made once."""
+
+    def __init__(self) -> None:
+        """No lines yet."""
+        self.table = Table()
+        self.names = Known(str)
+        self.numbers = Known(int)
+
     def add(self, text: str) -> None:
-        """Further lines of the table."""
-        cells = text.replace("\n", ",").split(",")[:-1]
-        columns = [cells[place::WIDTH] for place in range(WIDTH)]
-        words = set(columns[STRICT])
+        """Further lines."""
+        cells = text.replace("\n", ",").split(",")
+        cells.pop()
+        columns = {place: cells[place::WIDTH] for place in READ}
+        verdicts = columns[STRICT]
+        words = set(verdicts)
         if len(cells) % WIDTH or not words.union(columns[DEFENSIBLE]) <= WORDS:
             raise ValueError("this is not the table of lookups")
-        for kind, ends, known in zip(self.kinds(), ENDS, KNOWN, strict=True):
-            if words.intersection(ends):
-                add_rows(kind, columns, [end in ends for end in columns[STRICT]], known)
+        is_answered = list(map(IS_RIGHT.__contains__, verdicts))
+        self.add_answered({place: list(compress(columns[place], is_answered)) for place in READ})
+        others = ((self.table.lost, LOST), (self.table.cut, CUT), (self.table.unfinished, UNFINISHED))
+        for kind, ends in others:
+            if not words.isdisjoint(ends):
+                self.add_others(kind, columns, [place for place, word in enumerate(verdicts) if word in ends])
 
+    def add_answered(self, columns: Columns) -> None:
+        """Takes lookups that were answered."""
+        kind = self.table.answered
+        begun, us = (list(map(int, columns[place])) for place in (BEGUN, US))
+        kind.begun += begun
+        kind.us += us
+        kind.ended += map(add, begun, us)
+        kind.hops += map(self.numbers.__getitem__, columns[HOPS])
+        kind.timeouts += map(self.numbers.__getitem__, columns[TIMEOUTS])
+        kind.askers += map(self.names.__getitem__, columns[ASKER])
+        kind.named += map(self.names.__getitem__, columns[NAMED])
+        kind.is_right += map(IS_RIGHT.__getitem__, columns[STRICT])
+        kind.is_defensible += map(IS_RIGHT.__getitem__, columns[DEFENSIBLE])
 
-def add_rows(kind: Lookups, columns: Sequence[list[str]], is_of_kind: Sequence[bool], known: int) -> None:
-    """Takes the rows of one kind of end from columns of texts, with so many of the numbers."""
-    if not all(is_of_kind):
-        columns = [list(compress(column, is_of_kind)) for column in columns]
-    for place, numbers in zip(NUMBERS[:known], kind.columns()):
-        numbers += map(int, columns[place])
-    if columns[NAMED][0]:
-        kind.askers += map(intern, columns[ASKER])
-        kind.named += map(intern, columns[NAMED])
-        kind.is_right += map("right".__eq__, columns[STRICT])
-        kind.is_defensible += map("right".__eq__, columns[DEFENSIBLE])
+    def add_others(self, kind: Lookups, columns: Columns, places: Iterable[int]) -> None:
+        """Takes the few others at these places of the columns. Numbers that they do not have are empty cells."""
+        for place in places:
+            begun = int(columns[BEGUN][place])
+            kind.begun.append(begun)
+            if columns[US][place]:
+                kind.us.append(int(columns[US][place]))
+                kind.ended.append(begun + kind.us[-1])
+            if columns[HOPS][place]:
+                kind.hops.append(int(columns[HOPS][place]))
+                kind.timeouts.append(int(columns[TIMEOUTS][place]))
 
 
 def read_table(output: IO[bytes]) -> Table:
     """The table, from a stream."""
-    table = Table()
+    reader = TableReader()
     if output.readline() != f"{HEADING}\n".encode():
         raise ValueError("this is not the table of lookups")
     rest = b""
     while part := output.read(PART):
         whole, end, rest = (rest + part).rpartition(b"\n")
-        table.add((whole + end).decode())
+        reader.add((whole + end).decode())
     if rest:
         raise ValueError("the table ends within a line")
-    return table
+    return reader.table

@@ -14,6 +14,10 @@ from chordsim_tools.files import reason
 from chordsim_tools.known import known
 from chordsim_tools.study.lookups import Table, read_table
 
+PART = 1 << 18
+"""So many bytes of an output are read at once."""
+Read = Callable[[Iterable[str]], Iterable[str]]
+"""Reads the lines of a digest, and gives those without a time."""
 CLOSED = "failed: 4 Write"
 """What the program says if nobody reads what it writes into a pipe."""
 
@@ -51,9 +55,9 @@ class Program:
             lines = list(lines_of(output))
         return self.report_of(line for line in lines if not line[:1].isdigit())
 
-    def judged(self, edges: Iterable[int], read: Callable[[str], None]) -> tuple[Table, dict[str, int]]:
-        """Runs the scenario and judges its trace as it comes: each line of the digest to a reader, in which messages are
-        counted from one of the edges to the next; gives the lookups and the report."""
+    def judged(self, edges: Iterable[int], read: Read) -> tuple[Table, dict[str, int]]:
+        """Runs the scenario and judges its trace as it comes. The lines of the digest are read, in which messages are
+        counted from one of the edges to the next. Gives the lookups and the report."""
         times = ",".join(map(str, sorted({*edges} - {0})))
         with tempfile.TemporaryDirectory() as folder:
             digest = Path(folder) / "digest"
@@ -63,7 +67,7 @@ class Program:
             if not digest.is_file():
                 raise self.wrong("judge")
             with digest.open("rb") as file:
-                return table, self.report_of(read_timed(lines_of(file), read))
+                return table, self.report_of(read(lines_of(file)))
 
     def report_of(self, lines: Iterable[str]) -> dict[str, int]:
         """The report in these lines."""
@@ -147,19 +151,14 @@ def is_closed(status: int, errors: bytes) -> bool:
     return status == -signal.SIGPIPE or (status == 3 and one_line(errors) == CLOSED)
 
 
-def lines_of(output: Iterable[bytes]) -> Iterator[str]:
+def lines_of(output: IO[bytes]) -> Iterator[str]:
     """The lines of an output, without their line feeds."""
-    for line in output:
-        yield line.decode("utf-8", "replace").removesuffix("\n")
-
-
-def read_timed(lines: Iterable[str], read: Callable[[str], None]) -> Iterator[str]:
-    """Lines with a time are read, and the others are left."""
-    for line in lines:
-        if line[:1].isdigit():
-            read(line)
-        else:
-            yield line
+    rest = b""
+    while part := output.read(PART):
+        whole, end, rest = (rest + part).rpartition(b"\n")
+        yield from (whole + end).decode("utf-8", "replace").split("\n")[:-1]
+    if rest:
+        yield rest.decode("utf-8", "replace")
 
 
 def ended(status: int, errors: bytes) -> Failure:

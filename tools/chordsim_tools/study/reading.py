@@ -21,7 +21,7 @@ class LineReader:
 
     def read(self, line: str) -> None:
         """Takes one line, if no other reader does."""
-        self.alone.read(line)
+        self.alone.read([line])
 
 
 class Readers:
@@ -34,9 +34,15 @@ class Readers:
             for word, take in reader.takers():
                 self.takers.setdefault(word, []).append(take)
 
-    def read(self, line: str) -> None:
-        """Takes one line."""
-        fields = line.split(" ")
-        time, word = int(fields[0]), fields[2]
-        for take in self.takers.get("audit" if fields[1] == "audit" else word, ()):
-            take(time, fields)
+    def read(self, lines: Iterable[str]) -> list[str]:
+        """Takes lines; gives those that have no time."""
+        rest = []
+        for line in lines:
+            fields = line.split(" ")
+            if not fields[0].isdigit():
+                rest.append(line)
+                continue
+            time = int(fields[0])
+            for take in self.takers.get("audit" if fields[1] == "audit" else fields[2], ()):
+                take(time, fields)
+        return rest

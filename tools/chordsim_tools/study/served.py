@@ -7,6 +7,7 @@ not vanish."""
 from collections.abc import Iterable
 from dataclasses import dataclass, replace
 from functools import cached_property
+from itertools import pairwise
 from typing import Any
 
 from chordsim_tools.scenario.defaults import joins_forever
@@ -70,21 +71,29 @@ def scope_of(top: dict[str, Any], window_us: int, warmup_us: int, cooldown_us: i
 
 
 class Integral:
-    """A count over time: its sum from each of these times to the next one."""
+    """A count over time: its sum from each of these times to the next one. None of them is before the one ahead."""
 
     def __init__(self, bounds: list[int], count: int) -> None:
         """The count at the start."""
         self.bounds = bounds
         self.count = count
-        self.since = 0
-        self.sums = [0] * (len(bounds) - 1)
+        self.since = self.total = 0
+        self.totals: list[int] = []
+        """The sum from the start to each bound that is over."""
 
     def change(self, time: int, by: int) -> None:
         """The count goes up or down."""
-        for place, (begin, end) in enumerate(zip(self.bounds, self.bounds[1:])):
-            self.sums[place] += self.count * max(0, min(time, end) - max(self.since, begin))
+        while len(self.totals) < len(self.bounds) and self.bounds[len(self.totals)] <= time:
+            self.totals.append(self.total + self.count * (self.bounds[len(self.totals)] - self.since))
+        self.total += self.count * (time - self.since)
         self.count += by
         self.since = time
+
+    @property
+    def sums(self) -> list[int]:
+        """The sums until the last change."""
+        totals = self.totals + [self.total] * (len(self.bounds) - len(self.totals))
+        return [end - begin for begin, end in pairwise(totals)]
 
 
 class Population:

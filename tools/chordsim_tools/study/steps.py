@@ -46,12 +46,16 @@ class Steps:
     def take(self, table: Table) -> None:
         """The lookups of the run."""
         edges = [number * self.scope.window_us for number in range(len(self.steps) + 1)]
-        ends = [table.answered.ended_before(time) for time in edges]
-        for step, first, end in zip(self.steps, ends, ends[1:]):
-            step.found, step.right = end - first, sum(table.answered.is_right[first:end])
-        for step, begun in zip(self.steps, table.by_begins.pieces(edges)):
-            step.lookups, step.ended = len(begun), len(begun.answered) + len(begun.lost)
-            step.right_of_ended = sum(begun.answered.is_right)
+        ends, begins = table.answered, table.by_begins
+        right = begins.answered.is_right
+        until = [ends.ended_before(time) for time in edges]
+        before = [[kind.begun_before(time) for time in edges] for kind in begins.kinds()]
+        for number, step in enumerate(self.steps):
+            step.found = until[number + 1] - until[number]
+            step.right = sum(ends.is_right[until[number] : until[number + 1]])
+            begun = [counts[number + 1] - counts[number] for counts in before]
+            step.lookups, step.ended = sum(begun), sum(begun[:2])
+            step.right_of_ended = sum(right[before[0][number] : before[0][number + 1]])
 
     def go_to(self, time: int, members: int) -> None:
         """Closes the steps that end by a time; so many nodes have been members since the last line."""

@@ -23,7 +23,7 @@ class Trouble(LineReader):
         self.has_detail = top.get("detail") is True
         self.warmup_us = warmup_us
         self.lines: Counter[str] = Counter()
-        self.of_members = self.removed = 0
+        self.timeouts = self.of_members = self.removed = 0
         self.states_lost: dict[tuple[str, str], int] = {}
         self.stabilized: dict[str, tuple[str, int]] = {}
         """Whom each member has asked for its state at last, and when."""
@@ -52,7 +52,7 @@ class Trouble(LineReader):
 
     def time_out(self, time: int, fields: list[str]) -> None:
         """A node is taken for dead: TIME NODE timeout SILENT."""
-        self.count(time, fields)
+        self.timeouts += time >= self.warmup_us
         if self.members.is_member(fields[3]):
             self.taken_for_dead(time, (fields[1], fields[3]))
 
@@ -70,7 +70,7 @@ class Trouble(LineReader):
     def numbers(self) -> dict[str, int | str | None]:
         """What a row of runs.csv has of it."""
         return {
-            "cost-timeouts": self.lines["timeout"],
+            "cost-timeouts": self.timeouts,
             "cost-timeouts-of-members": self.of_members,
             "cost-removed-members": self.removed,
             "cost-again": self.lines["again"],

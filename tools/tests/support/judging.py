@@ -200,9 +200,7 @@ def read_digest(lines: Iterable[str], scope: Scope, *readers: LineReader) -> Non
     digest = Digest(scope.edges())
     for line in lines:
         digest.read(line)
-    every = Readers(*readers)
-    for line in digest.text().splitlines():
-        every.read(line)
+    Readers(*readers).read(digest.text().splitlines())
 
 
 def read_trace(lines: Iterable[str], reader: TraceReader, *others: LineReader) -> Table:
@@ -210,9 +208,7 @@ def read_trace(lines: Iterable[str], reader: TraceReader, *others: LineReader) -
     members = reader.members
     copy = Members(members.idents, [members.names[place] for place in members.places])
     table, digest = judged(lines, copy, reader.scope.edges())
-    every = Readers(reader, *others)
-    for line in digest.splitlines():
-        every.read(line)
+    Readers(reader, *others).read(digest.splitlines())
     lookups = read_table(BytesIO(table.encode()))
     reader.take(lookups)
     return lookups
