@@ -127,7 +127,7 @@ class Presence:
             raise ValueError("the times of changes were not told")
         self.idents = members.idents
         self.turns = {place: [-1] for place in members.marks[0][1]}
-        """When each node came, went, came again and so on, by its identifier. Who was there at the start came before."""
+        """When each node came, went and so on, by its identifier. Who was there at the start came before."""
         for time, (place, _) in zip(members.times, members.changes, strict=True):
             self.turns.setdefault(place, []).append(time)
 

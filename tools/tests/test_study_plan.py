@@ -5,11 +5,12 @@ import tomllib
 from pathlib import Path
 from typing import Any
 from unittest import TestCase
+from unittest.mock import patch
 
 from chordsim_tools.cli import Refused
 from chordsim_tools.known import known
 from chordsim_tools.scenario.reading import read_scenario
-from chordsim_tools.study.document import toml_text
+from chordsim_tools.study.document import document_of, toml_text
 from chordsim_tools.study.goal import Goal, Limit, Precision
 from chordsim_tools.study.plan import label, read_study
 from chordsim_tools.study.worlds import argument_traps, latency_of, scenario_of
@@ -82,7 +83,19 @@ class StudyPlanTest(TestCase):
             "table": {"a key": True, "b": -5}, "text": 'a"b\\c\n\t\x00\x7f\u00e9\U0001f600', "none": [],
             "items": [{"x": 1}, {}, {"y": "z"}], "last": 2**63 - 1,
         }
-        assert tomllib.loads(toml_text(top)) == top
+        assert tomllib.loads(toml_text(top)) == top and document_of(toml_text(top)) == top
+
+    def test_plain_documents(self) -> None:
+        """They are read by JSON, and have the same as by the TOML reader; all others are read by that."""
+        items: list[dict[str, Any]] = [{"x": 1}, {}, {"y": "z,", "t": True}]
+        tops: list[dict[str, Any]] = [{}, {"n": {"x": 10}}, {"x": [{}, {}]}]
+        tops.append({"a": 0, "b-c": "x = [y],", "n": {}, "items": items, "m": {"k": "\u00e9"}})
+        for top in tops:
+            with patch("tomllib.loads", side_effect=AssertionError):
+                assert document_of(toml_text(top)) == top
+        for text in ("a = 1 # one\n", "a = 0x10\n", "a = 1_0\n", "a = -1\n", "a = [1]\n", "[a.b]\nc = 1", 'a = "\t"\n', "\n"):
+            assert document_of(text) == tomllib.loads(text)
+        self.assertRaises(tomllib.TOMLDecodeError, document_of, "a = 01\n")
 
     def test_base_with_what_no_scenario_has(self) -> None:
         """A float, a list of numbers, a table within a table."""

@@ -18,8 +18,10 @@ STRETCHES = (10, 50, 90)
 def stretches(answered: Lookups, latencies: Latencies) -> list[int]:
     """The thousandths of the stretch of each answer that names another node, in ascending order."""
     is_other = list(map(ne, answered.askers, answered.named))
-    askers, named, taken = (compress(column, is_other) for column in (answered.askers, answered.named, answered.us))
-    return sorted(500 * us // away for us, away in zip(taken, latencies.of_all(askers, named), strict=True))
+    askers, named = (list(compress(names, is_other)) for names in (answered.askers, answered.named))
+    ways = zip(compress(answered.us, is_other), latencies.of_all(askers, named), strict=True)
+    # A round trip is twice the way there.
+    return sorted(500 * us // away for us, away in ways)
 
 
 def answer_numbers(answered: Lookups, members: Members, latencies: Latencies) -> dict[str, int | str | None]:

@@ -5,7 +5,7 @@ import re
 import tomllib
 from typing import Any
 
-VALUE = r'true|false|0|[1-9][0-9]*|"[^"\\\n]*"'
+VALUE = r'true|false|0|[1-9][0-9]*|"[^"\\\x00-\x1f]*"'
 """A boolean, an integer, or a text without escapes, as both JSON and TOML have them."""
 PLAIN = re.compile(rf"(?:[A-Za-z0-9_-]+ = (?:{VALUE})\n|\n\[[a-z]+\]\n|\n\[\[[a-z]+\]\]\n)*")
 PAIR = re.compile(r"^([A-Za-z0-9_-]+) = (.*)\n", re.MULTILINE)

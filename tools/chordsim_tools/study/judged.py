@@ -50,10 +50,6 @@ class Judged:
             else:
                 self.names_down += 1
 
-    def sum_of(self, word: str) -> int:
-        """The sum of a number of the judged lookups that came to an end."""
-        return sum(getattr(self.table.answered, word)) + sum(getattr(self.table.lost, word))
-
     def defensible(self) -> int:
         """How many answers were right at some time since the lookup began."""
         return sum(self.table.answered.is_defensible)

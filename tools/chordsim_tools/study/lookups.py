@@ -57,6 +57,11 @@ class Lookups:
         """How many lookups there are."""
         return len(self.begun)
 
+    def sum_of(self, word: str) -> int:
+        """The sum of the column of this name."""
+        column: list[int] = getattr(self, word)
+        return sum(column)
+
     def columns(self) -> list[list[Any]]:
         """All columns."""
         return [getattr(self, one.name) for one in fields(self)]
@@ -105,6 +110,10 @@ class Table:
     def between(self, first: int, end: int) -> "Table":
         """Those that began from one time on and before another. They are in the order of their begins."""
         return Table(*(kind.between(first, end) for kind in self.kinds()))
+
+    def sum_of(self, word: str) -> int:
+        """The sum of a column of those that came to an end."""
+        return self.answered.sum_of(word) + self.lost.sum_of(word)
 
     def pieces(self, edges: Sequence[int]) -> list["Table"]:
         """Those that began from each of these times to the next one. They are in the order of their begins."""

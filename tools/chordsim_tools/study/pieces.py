@@ -48,17 +48,13 @@ class Pieces(LineReader):
         """The lookups of the run."""
         self.pieces = table.by_begins.pieces(self.scope.edges())
 
-    def sums(self, word: str) -> list[int]:
-        """The sums of a number of the lookups that came to an end."""
-        return [sum(getattr(piece.answered, word)) + sum(getattr(piece.lost, word)) for piece in self.pieces]
-
     def numbers(self) -> dict[str, int | str | None]:
         """What a row of runs.csv has of it, at the end of the run."""
         self.member_time.change(self.scope.duration_us, 0)
         columns = {
             "judged-found": [len(piece.answered) for piece in self.pieces],
             "judged-lost": [len(piece.lost) for piece in self.pieces],
-            **{f"ended-{word}": self.sums(word) for word in ("hops", "timeouts", "us")},
+            **{f"ended-{word}": [piece.sum_of(word) for piece in self.pieces] for word in ("hops", "timeouts", "us")},
             "cost-member-us": self.member_time.sums,
         }
         return {f"{COLUMN}{word}": cell_of(values) for word, values in columns.items()} | self.percentiles()

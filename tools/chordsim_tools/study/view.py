@@ -47,7 +47,7 @@ class View:
         for part, time in judged.times.percentiles((*PERCENTILES, 99.9)).items():
             numbers[f"all-us-p{part}"] = time
         return numbers | {
-            **{f"ended-{word}": judged.sum_of(word) for word in ("us", "hops", "timeouts")},
+            **{f"ended-{word}": table.sum_of(word) for word in ("us", "hops", "timeouts")},
             "right-defensible": judged.defensible(),
             "wrong-down": judged.names_down, "wrong-newcomer": judged.misses_newcomer,
             "cut-by-crash": len(table.cut), "cut-by-end": len(table.unfinished),

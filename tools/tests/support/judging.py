@@ -14,15 +14,16 @@ from chordsim_tools.study.trace import TraceReader
 
 HEADING = "asker,key,begun_us,ended_us,us,hops,timeouts,named,right_owner,strict,defensible\n"
 KEPT = frozenset((
-    "join", "member", "create", "crash", "leave", "stranded", "join-failed", "ignored", "busy", "timeout", "lose", "again",
+    "join", "member", "create", "crash", "leave", "stranded", "join-failed", "ignored", "busy", "timeout", "lose",
+    "again",
 ))
 """The words of lines of nodes that a digest has as they are."""
 LINE = re.compile(
     rb"\n(\d+) ([^ \n]+) (?:ask (?:step|get-state) [^ \n]+ call=(\d+) (key=[^\n]+)"
     rb"|lookup (\d+)|(?:found|lost) (\d+)[^\n]* timeouts=(\d+) us=(\d+)|(crash|leave))(?=\n)"
 )
-"""A request for a step or a state that is of a lookup; begin and end of a lookup; the end of its asker's life. Each line
-has the line feed before it."""
+"""A request for a step or a state that is of a lookup; begin and end of a lookup; the end of its asker's life. Each
+line has the line feed before it."""
 
 
 @dataclass(slots=True)
@@ -102,7 +103,8 @@ class Rows:
         # In tests by hand a line of an end may stand for its begin too.
         if (key, begun) in self.open.get(node, []):
             self.open[node].remove((key, begun))
-        numbers = [time, time - begun, rest[-3].removeprefix("hops="), rest[-2].removeprefix("timeouts=")]
+        hops, timeouts = rest[-3].removeprefix("hops="), rest[-2].removeprefix("timeouts=")
+        numbers = (time, time - begun, hops, timeouts)
         if len(rest) == 4:
             self.add(node, key, begun, *numbers, "", "", "lost", "lost")
             return
