@@ -343,7 +343,7 @@ class StudyTest(TestCase):
         for line in ("30 b leave", "200 c crash"):
             one.read(line)
             pieces.read(line)
-        pieces.numbers()
+        pieces.numbers(one.judged)
         assert (pieces.member_time.count, sum(pieces.member_time.sums)) == (1, 30 + 200 + 250)
 
     def test_messages(self) -> None:

@@ -93,7 +93,8 @@ class StudyPlanTest(TestCase):
         for top in tops:
             with patch("tomllib.loads", side_effect=AssertionError):
                 assert document_of(toml_text(top)) == top
-        for text in ("a = 1 # one\n", "a = 0x10\n", "a = 1_0\n", "a = -1\n", "a = [1]\n", "[a.b]\nc = 1", 'a = "\t"\n', "\n"):
+        values = ("1 # one", "0x10", "1_0", "-1", "[1]", '"\t"', "'x'", '"\\u0041"')
+        for text in (*(f"a = {value}\n" for value in values), "[a.b]\nc = 1", "\n"):
             assert document_of(text) == tomllib.loads(text)
         self.assertRaises(tomllib.TOMLDecodeError, document_of, "a = 01\n")
 

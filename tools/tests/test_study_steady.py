@@ -5,8 +5,9 @@ from random import Random
 from typing import Any
 from unittest import TestCase
 
-from chordsim_tools.members import Members
+from chordsim_tools.members import Members, Presence
 from chordsim_tools.messages import MESSAGES
+from chordsim_tools.study.judged import Judged
 from chordsim_tools.study.numbers import summaries
 from chordsim_tools.study.page import page
 from chordsim_tools.study.pieces import Pieces
@@ -156,9 +157,10 @@ class PiecesTest(TestCase):
                     begin, taken = 100 + 100 * place + number, 20 + 10 * place + number
                     end = "lost 5" if number >= 10 - lost.get(place, 0) else "found 5 n1"
                     lines.append(f"{begin + taken} n0 {end} hops=1 timeouts=0 us={taken}")
-            pieces = Pieces(Scope(800, 100, 100, 100), members)
-            pieces.take(table_of(lines, members))
-            columns.append(pieces.numbers() | pieces.percentiles())
+            scope = Scope(800, 100, 100, 100)
+            judged = Judged(scope)
+            judged.take(table_of(lines, members), Presence(members))
+            columns.append(Pieces(scope, members).numbers(judged))
         # By nearest rank the fifth of ten, which the third piece does not have, and does with one answer more.
         assert [columns[0][f"pieces-us-p{share}"] for share in ("50", "90", "99", "99.9")] == [None] * 4
         assert columns[1]["pieces-us-p50"] == "24 34 44 54 64 74"

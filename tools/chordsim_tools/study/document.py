@@ -8,6 +8,7 @@ from typing import Any
 VALUE = r'true|false|0|[1-9][0-9]*|"[^"\\\x00-\x1f]*"'
 """A boolean, an integer, or a text without escapes, as both JSON and TOML have them."""
 PLAIN = re.compile(rf"(?:[A-Za-z0-9_-]+ = (?:{VALUE})\n|\n\[[a-z]+\]\n|\n\[\[[a-z]+\]\]\n)*")
+BARE = re.compile(r"[A-Za-z0-9_-]+")
 PAIR = re.compile(r"^([A-Za-z0-9_-]+) = (.*)\n", re.MULTILINE)
 HEAD = re.compile(r",?\n(\[+)([a-z]+)\]+\n")
 
@@ -51,7 +52,7 @@ def table_text(head: str, table: Any) -> str:
 
 def toml_key(key: str) -> str:
     """A key, in quotes if it needs them."""
-    return key if re.fullmatch(r"[A-Za-z0-9_-]+", key) else toml_value(key, key)
+    return key if BARE.fullmatch(key) else toml_value(key, key)
 
 
 def toml_value(key: str, value: Any) -> str:
@@ -61,6 +62,8 @@ def toml_value(key: str, value: Any) -> str:
     if isinstance(value, int):
         return str(value)
     if isinstance(value, str):
+        if BARE.fullmatch(value):
+            return f'"{value}"'
         # A text of JSON is one of TOML, but for one control character that JSON allows.
         return json.dumps(value, ensure_ascii=False).replace("\x7f", "\\u007f")
     if value == []:

@@ -1,11 +1,11 @@
 """The lookups of a run that are judged: what became of each, and what the world wanted."""
 
-from itertools import compress
+from itertools import chain, compress
 from operator import not_
 
 from chordsim_tools.members import Presence
 from chordsim_tools.study.lookups import Table
-from chordsim_tools.study.served import Population, Scope
+from chordsim_tools.study.served import PIECES, Population, Scope
 from chordsim_tools.study.survival import Times
 
 
@@ -16,6 +16,9 @@ class Judged:
         """No lookups yet."""
         self.scope = scope
         self.table = Table()
+        self.pieces = [Table() for _ in range(PIECES)]
+        self.times_in_pieces: list[list[int]] = [[] for _ in range(PIECES)]
+        """How long the answers took to the lookups of each piece of the span, in ascending order."""
         self.begun, self.refused, self.right = [0, 0], [0, 0], [0, 0]
         self.names_down = self.misses_newcomer = 0
         self.hops: list[int] = []
@@ -35,7 +38,9 @@ class Judged:
         self.begun = list(map(len, halves))
         self.right = [sum(half.answered.is_right) for half in halves]
         self.hops = sorted(self.table.answered.hops)
-        self.times.ended = sorted(self.table.answered.us)
+        self.pieces = self.table.pieces(self.scope.edges())
+        self.times_in_pieces = [sorted(piece.answered.us) for piece in self.pieces]
+        self.times.ended = sorted(chain.from_iterable(self.times_in_pieces))
         self.times.lost = len(self.table.lost)
         self.times.cut = self.table.cut.us + [self.scope.duration_us - begun for begun in self.table.unfinished.begun]
         self.take_wrong(presence)
@@ -56,7 +61,7 @@ class Judged:
 
     def defensible_in_pieces(self) -> list[int]:
         """The same for each piece of the span."""
-        return [sum(piece.answered.is_defensible) for piece in self.table.pieces(self.scope.edges())]
+        return [sum(piece.answered.is_defensible) for piece in self.pieces]
 
     def wanted(self, population: Population) -> list[float]:
         """For each half the lookups begun and refused, and those that nodes which were up but no members missed."""

@@ -16,11 +16,14 @@ class Latencies:
     def __init__(self, top: dict[str, Any], rows: bytes) -> None:
         """Both were accepted by the program."""
         text = rows.decode("utf-8", "replace").removeprefix("\ufeff")
-        named = {(row[0], row[1]): int(row[2]) for row in csv.reader(io.StringIO(text, newline="")) if row}
+        columns = list(zip(*filter(None, csv.reader(io.StringIO(text, newline="")))))
+        firsts, seconds, texts = columns or ((), (), ())
+        micros = list(map(int, texts))
         names = [node["name"] for node in top["node"]]
         self.usual = int(top["latency_us"])
-        self.of_pairs = named | {(second, first): micros for (first, second), micros in named.items()}
-        self.of_pairs |= dict.fromkeys(zip(names, names), 1)
+        self.of_pairs = dict(zip(zip(firsts, seconds), micros))
+        self.of_pairs.update(zip(zip(seconds, firsts), micros))
+        self.of_pairs.update(zip(zip(names, names), repeat(1)))
         places = zip(names, map(coordinates_of, top["node"]))
         self.places = {name: place for name, place in places if place is not None}
 

@@ -1,10 +1,10 @@
 """The lookups of a run as columns, read from the table that `chordsim judge` writes in the order of their ends."""
 
 from bisect import bisect_left
-from collections.abc import Callable, Iterable, Sequence
+from collections.abc import Callable, Mapping, Sequence
 from dataclasses import dataclass, field, fields
 from functools import cached_property
-from itertools import compress, pairwise
+from itertools import pairwise
 from operator import add
 from typing import IO, Any, TypeVar
 
@@ -15,9 +15,8 @@ READ = ASKER, BEGUN, US, HOPS, TIMEOUTS, NAMED, STRICT, DEFENSIBLE = 0, 2, 4, 5,
 """The places of the columns that are read."""
 IS_RIGHT = {"right": True, "wrong": False}
 """What the last two columns say of a lookup that was answered."""
-LOST, CUT, UNFINISHED = ("lost",), ("cut-by-crash", "cut-by-leave"), ("cut-by-end",)
-"""And what they say of one without an answer, of one that its asker's going cut off, and of one that did not end."""
-WORDS = frozenset((*IS_RIGHT, *LOST, *CUT, *UNFINISHED))
+WORDS = frozenset((*IS_RIGHT, "lost", "cut-by-crash", "cut-by-leave", "cut-by-end"))
+"""All that they say: no answer, cut off as the asker went, and not ended."""
 PART = 1 << 16
 """So many bytes of the table are read at once: their cells fit into a processor's cache."""
 
@@ -102,6 +101,12 @@ class Table:
         """How many lookups there are."""
         return sum(map(len, self.kinds()))
 
+    def of_end(self, word: str) -> Lookups:
+        """Those of the kind that this word of the table means."""
+        if word in IS_RIGHT:
+            return self.answered
+        return {"lost": self.lost, "cut-by-end": self.unfinished}.get(word, self.cut)
+
     @cached_property
     def by_begins(self) -> "Table":
         """The same in the order in which they began. All that began in a span of time are side by side."""
@@ -134,16 +139,14 @@ class TableReader:
         cells = text.replace("\n", ",").split(",")
         cells.pop()
         columns = {place: cells[place::WIDTH] for place in READ}
-        verdicts = columns[STRICT]
-        words = set(verdicts)
-        if len(cells) % WIDTH or not words.union(columns[DEFENSIBLE]) <= WORDS:
+        words = {*columns[STRICT], *columns[DEFENSIBLE]}
+        if len(cells) % WIDTH or not words <= WORDS:
             raise ValueError("this is not the table of lookups")
-        is_answered = list(map(IS_RIGHT.__contains__, verdicts))
-        self.add_answered({place: list(compress(columns[place], is_answered)) for place in READ})
-        others = ((self.table.lost, LOST), (self.table.cut, CUT), (self.table.unfinished, UNFINISHED))
-        for kind, ends in others:
-            if not words.isdisjoint(ends):
-                self.add_others(kind, columns, [place for place, word in enumerate(verdicts) if word in ends])
+        others = [place for place, word in enumerate(columns[STRICT]) if word not in IS_RIGHT]
+        rows = [{name: column.pop(place) for name, column in columns.items()} for place in reversed(others)]
+        self.add_answered(columns)
+        for row in reversed(rows):
+            add_row(self.table.of_end(row[STRICT]), row)
 
     def add_answered(self, columns: Columns) -> None:
         """Takes lookups that were answered."""
@@ -159,17 +162,17 @@ class TableReader:
         kind.is_right += map(IS_RIGHT.__getitem__, columns[STRICT])
         kind.is_defensible += map(IS_RIGHT.__getitem__, columns[DEFENSIBLE])
 
-    def add_others(self, kind: Lookups, columns: Columns, places: Iterable[int]) -> None:
-        """Takes the few others at these places of the columns. Numbers that they do not have are empty cells."""
-        for place in places:
-            begun = int(columns[BEGUN][place])
-            kind.begun.append(begun)
-            if columns[US][place]:
-                kind.us.append(int(columns[US][place]))
-                kind.ended.append(begun + kind.us[-1])
-            if columns[HOPS][place]:
-                kind.hops.append(int(columns[HOPS][place]))
-                kind.timeouts.append(int(columns[TIMEOUTS][place]))
+
+def add_row(kind: Lookups, row: Mapping[int, str]) -> None:
+    """Takes one of the few lookups without an answer. Numbers that it does not have are empty cells."""
+    begun = int(row[BEGUN])
+    kind.begun.append(begun)
+    if row[US]:
+        kind.us.append(int(row[US]))
+        kind.ended.append(begun + kind.us[-1])
+    if row[HOPS]:
+        kind.hops.append(int(row[HOPS]))
+        kind.timeouts.append(int(row[TIMEOUTS]))
 
 
 def read_table(output: IO[bytes]) -> Table:

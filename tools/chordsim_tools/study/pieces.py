@@ -3,9 +3,9 @@
 from collections.abc import Iterable
 
 from chordsim_tools.members import Members
-from chordsim_tools.study.lookups import Table
+from chordsim_tools.study.judged import Judged
 from chordsim_tools.study.reading import LineReader, Taker
-from chordsim_tools.study.served import PIECES, Integral, Scope
+from chordsim_tools.study.served import Integral, Scope
 
 LEAST_LOOKUPS = {"50": 10, "90": 20, "99": 100, "99.9": 1000}
 """The percentiles, and how many lookups each piece needs to have one."""
@@ -27,14 +27,13 @@ def cell_of(values: Iterable[int]) -> str:
 
 
 class Pieces(LineReader):
-    """Reads the lines of nodes, and takes lookups by their begin; those that are cut off are left out."""
+    """Reads the lines of nodes. Lookups count by their begin; those that are cut off are left out."""
 
     def __init__(self, scope: Scope, members: Members) -> None:
-        """No lookups yet. The members are those of the reader of the trace, which reads each line before."""
+        """No lines yet. The members are those of the reader of the trace, which reads each line before."""
         self.scope = scope
         self.members = members
         self.member_time = Integral(scope.edges(), len(members.places))
-        self.pieces = [Table() for _ in range(PIECES)]
 
     def takers(self) -> Iterable[tuple[str, Taker]]:
         """The lines that change the members."""
@@ -44,26 +43,23 @@ class Pieces(LineReader):
         """A member comes or goes."""
         self.member_time.change(time, len(self.members.places) - self.member_time.count)
 
-    def take(self, table: Table) -> None:
-        """The lookups of the run."""
-        self.pieces = table.by_begins.pieces(self.scope.edges())
-
-    def numbers(self) -> dict[str, int | str | None]:
+    def numbers(self, judged: Judged) -> dict[str, int | str | None]:
         """What a row of runs.csv has of it, at the end of the run."""
         self.member_time.change(self.scope.duration_us, 0)
         columns = {
-            "judged-found": [len(piece.answered) for piece in self.pieces],
-            "judged-lost": [len(piece.lost) for piece in self.pieces],
-            **{f"ended-{word}": [piece.sum_of(word) for piece in self.pieces] for word in ("hops", "timeouts", "us")},
+            "judged-found": [len(piece.answered) for piece in judged.pieces],
+            "judged-lost": [len(piece.lost) for piece in judged.pieces],
+            **{f"ended-{word}": [piece.sum_of(word) for piece in judged.pieces] for word in ("hops", "timeouts", "us")},
             "cost-member-us": self.member_time.sums,
         }
-        return {f"{COLUMN}{word}": cell_of(values) for word, values in columns.items()} | self.percentiles()
+        return {f"{COLUMN}{word}": cell_of(values) for word, values in columns.items()} | percentiles(judged)
 
-    def percentiles(self) -> dict[str, int | str | None]:
-        """The times. One that a piece does not have is left out in all."""
-        found: dict[str, int | str | None] = {}
-        ordered = [(sorted(piece.answered.us), len(piece.lost)) for piece in self.pieces]
-        for share in LEAST_LOOKUPS:
-            cells = [ranked(times, lost, share) for times, lost in ordered]
-            found[f"{COLUMN}us-p{share}"] = " ".join(cells) if all(cells) else None
-        return found
+
+def percentiles(judged: Judged) -> dict[str, int | str | None]:
+    """The times. One that a piece does not have is left out in all."""
+    found: dict[str, int | str | None] = {}
+    lost = [len(piece.lost) for piece in judged.pieces]
+    for share in LEAST_LOOKUPS:
+        cells = [ranked(*piece, share) for piece in zip(judged.times_in_pieces, lost, strict=True)]
+        found[f"{COLUMN}us-p{share}"] = " ".join(cells) if all(cells) else None
+    return found

@@ -39,10 +39,11 @@ class Readers:
         rest = []
         for line in lines:
             fields = line.split(" ")
-            if not fields[0].isdigit():
+            try:
+                time = int(fields[0])
+            except ValueError:
                 rest.append(line)
                 continue
-            time = int(fields[0])
             for take in self.takers.get("audit" if fields[1] == "audit" else fields[2], ()):
                 take(time, fields)
         return rest

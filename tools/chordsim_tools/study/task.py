@@ -98,7 +98,6 @@ def result_of(task: Task, program: Path, scenario: Path, latency: Path | None) -
     if (len(table), len(table.answered)) != (report.get("lookups"), report.get("found")):
         raise Failure(3, "the report does not count the lookups of the trace")
     reader.take(table)
-    pieces.take(table)
     numbers = reader.numbers()
     events = report["events"] - events_before(written, task.warmup_us, program, latency)
     span = span_of(top, events, reader, latencies)
@@ -107,7 +106,7 @@ def result_of(task: Task, program: Path, scenario: Path, latency: Path | None) -
         "report": report,
         "numbers": {
             **numbers, **message_numbers(reader.traffic, span), **trouble.numbers(),
-            **pieces.numbers(), **answer_numbers(reader.judged.table.answered, reader.members, latencies),
+            **pieces.numbers(reader.judged), **answer_numbers(reader.judged.table.answered, reader.members, latencies),
             "scenario-list": top["list"], "scenario-bits": top["bits"],
         },
         "curves": curves.numbers(reader.judged),
