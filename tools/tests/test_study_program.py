@@ -69,7 +69,7 @@ class ProgramTest(TestCase):
     def test_judge_that_fails(self) -> None:
         """That the pipe is closed then is no failure of its own."""
         for run in (WORKS, FILLS):
-            fails = "judge) echo refused: line 2 is of no run of the scenario >&2; exit 3 ;;\n"
+            fails = "judge) echo refused: line 2 is of no run of the scenario >&2; exit 1 ;;\n"
             assert told(run + fails) == (3, "the program says: refused: line 2 is of no run of the scenario")
         assert told(FILLS + "judge) kill -9 $$ ;;\n") == (3, "the program was ended by SIGKILL")
 

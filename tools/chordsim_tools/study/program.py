@@ -141,9 +141,10 @@ class Pipe:
             status = process.wait()
             errors.seek(0)
             told = errors.read()
-            is_last = process is self.processes[-1]
-            if status != 0 and (is_last or not is_closed(status, told)):
-                raise ended(status, told)
+            if status == 0 or (process is not self.processes[-1] and is_closed(status, told)):
+                continue
+            # What one process writes for another is no file of the user's that could be refused.
+            raise ended(3 if status == 1 and process is not self.processes[0] else status, told)
 
 
 def is_closed(status: int, errors: bytes) -> bool:
