@@ -89,11 +89,11 @@ class StudyPlanTest(TestCase):
         """They are read by JSON, and have the same as by the TOML reader; all others are read by that."""
         items: list[dict[str, Any]] = [{"x": 1}, {}, {"y": "z,", "t": True}]
         tops: list[dict[str, Any]] = [{}, {"n": {"x": 10}}, {"x": [{}, {}]}]
-        tops.append({"a": 0, "b-c": "x = [y],", "n": {}, "items": items, "m": {"k": "\u00e9"}})
+        tops.append({"a": 0, "b-c": "x: [y],", "n": {}, "items": items, "m": {"k": "\u00e9"}})
         for top in tops:
             with patch("tomllib.loads", side_effect=AssertionError):
                 assert document_of(toml_text(top)) == top
-        values = ("1 # one", "0x10", "1_0", "-1", "[1]", '"\t"', "'x'", '"\\u0041"')
+        values = ("1 # one", "0x10", "1_0", "-1", "[1]", '"b = c"', '"\t"', "'x'", '"\\u0041"')
         for text in (*(f"a = {value}\n" for value in values), "[a.b]\nc = 1", "\n"):
             assert document_of(text) == tomllib.loads(text)
         self.assertRaises(tomllib.TOMLDecodeError, document_of, "a = 01\n")

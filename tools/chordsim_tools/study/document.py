@@ -5,12 +5,11 @@ import re
 import tomllib
 from typing import Any
 
-VALUE = r'true|false|0|[1-9][0-9]*|"[^"\\\x00-\x1f]*"'
-"""A boolean, an integer, or a text without escapes, as both JSON and TOML have them."""
+VALUE = r'true|false|0|[1-9][0-9]*|"[^"=\\\x00-\x1f]*"'
+"""A boolean, an integer, or a text without escapes and signs of equality, as both JSON and TOML have them."""
 PLAIN = re.compile(rf"(?:[A-Za-z0-9_-]+ = (?:{VALUE})\n|\n\[[a-z]+\]\n|\n\[\[[a-z]+\]\]\n)*")
+HEAD = re.compile(r"\n(\[+)([a-z]+)\]+\n")
 BARE = re.compile(r"[A-Za-z0-9_-]+")
-PAIR = re.compile(r"^([A-Za-z0-9_-]+) = (.*)\n", re.MULTILINE)
-HEAD = re.compile(r",?\n(\[+)([a-z]+)\]+\n")
 
 
 def document_of(text: str) -> dict[str, Any]:
@@ -19,15 +18,21 @@ def document_of(text: str) -> dict[str, Any]:
     The text has to be TOML: keys and tables that are there twice are not noticed."""
     if PLAIN.fullmatch(text) is None:
         return tomllib.loads(text)
-    first, *rest = HEAD.split(PAIR.sub(r'"\1":\2,', text).removesuffix(","))
+    first, *rest = HEAD.split(text)
     top: dict[str, Any]
-    top, *tables = json.loads(f"[{{{'},{'.join([first, *rest[2::3]])}}}]")
+    top, *tables = json.loads(f"[{','.join(map(json_of, [first, *rest[2::3]]))}]")
     for brackets, key, table in zip(rest[::3], rest[1::3], tables, strict=True):
         if brackets == "[":
             top[key] = table
         else:
             top.setdefault(key, []).append(table)
     return top
+
+
+def json_of(pairs: str) -> str:
+    """The plain keys of a table as JSON."""
+    words = pairs.replace(" = ", '":').replace("\n", ',"')
+    return f'{{"{words[:-2]}}}' if words else "{}"
 
 
 def toml_text(top: dict[str, Any]) -> str:
