@@ -76,7 +76,7 @@ class TableTest(TestCase):
             f"{HEADING}\n{ROWS[0].replace('right', 'good')}\n", f"{HEADING}\n{ROWS[0].replace('20', 'x')}\n",
             f"{HEADING}\n{ROWS[0]}\n\n",
         ):
-            with self.subTest(text=text), self.assertRaises(ValueError):
+            with self.subTest(text=text), self.assertRaises((ValueError, LookupError)):
                 read_table(io.BytesIO(text.encode()))
 
     def test_presence(self) -> None:

@@ -15,8 +15,6 @@ READ = ASKER, BEGUN, US, HOPS, TIMEOUTS, NAMED, STRICT, DEFENSIBLE = 0, 2, 4, 5,
 """The places of the columns that are read."""
 IS_RIGHT = {"right": True, "wrong": False}
 """What the last two columns say of a lookup that was answered."""
-WORDS = frozenset((*IS_RIGHT, "lost", "cut-by-crash", "cut-by-leave", "cut-by-end"))
-"""All that they say: no answer, cut off as the asker went, and not ended."""
 PART = 1 << 16
 """So many bytes of the table are read at once: their cells fit into a processor's cache."""
 
@@ -101,11 +99,11 @@ class Table:
         """How many lookups there are."""
         return sum(map(len, self.kinds()))
 
-    def of_end(self, word: str) -> Lookups:
-        """Those of the kind that this word of the table means."""
-        if word in IS_RIGHT:
-            return self.answered
-        return {"lost": self.lost, "cut-by-end": self.unfinished}.get(word, self.cut)
+    def without_answer(self, word: str) -> Lookups:
+        """The kind of lookups without an answer that this word of the table means."""
+        return {
+            "lost": self.lost, "cut-by-crash": self.cut, "cut-by-leave": self.cut, "cut-by-end": self.unfinished,
+        }[word]
 
     @cached_property
     def by_begins(self) -> "Table":
@@ -138,15 +136,14 @@ class TableReader:
         """Further lines."""
         cells = text.replace("\n", ",").split(",")
         cells.pop()
-        columns = {place: cells[place::WIDTH] for place in READ}
-        words = {*columns[STRICT], *columns[DEFENSIBLE]}
-        if len(cells) % WIDTH or not words <= WORDS:
+        if len(cells) % WIDTH:
             raise ValueError("this is not the table of lookups")
+        columns = {place: cells[place::WIDTH] for place in READ}
         others = [place for place, word in enumerate(columns[STRICT]) if word not in IS_RIGHT]
         rows = [{name: column.pop(place) for name, column in columns.items()} for place in reversed(others)]
         self.add_answered(columns)
         for row in reversed(rows):
-            add_row(self.table.of_end(row[STRICT]), row)
+            add_row(self.table.without_answer(row[STRICT]), row)
 
     def add_answered(self, columns: Columns) -> None:
         """Takes lookups that were answered."""
@@ -176,7 +173,7 @@ def add_row(kind: Lookups, row: Mapping[int, str]) -> None:
 
 
 def read_table(output: IO[bytes]) -> Table:
-    """The table, from a stream."""
+    """The table, from a stream. ValueError or LookupError if it has another one."""
     reader = TableReader()
     if output.readline() != f"{HEADING}\n".encode():
         raise ValueError("this is not the table of lookups")
