@@ -64,19 +64,12 @@ class Program:
             digest = Path(folder) / "digest"
             judge = ["judge", "--digest", str(digest), *(["--edges", times] if times else [])]
             with self.output(["run", "--serial"], judge) as output:
-                # Taken apart as it comes, it takes a third more time: three processes share the processor's caches.
-                table = output.read()
+                # All of it first: taken apart as it comes, it takes a third more time, since the caches are shared then.
+                table = read_table(BytesIO(output.read()))
             if not digest.is_file():
                 raise self.wrong("judge")
             with digest.open("rb") as file:
-                return self.table_of(table), self.report_of(read(lines_of(file)))
-
-    def table_of(self, text: bytes) -> Table:
-        """The table of lookups in this text."""
-        try:
-            return read_table(BytesIO(text))
-        except (ValueError, LookupError):
-            raise self.wrong("judge") from None
+                return table, self.report_of(read(lines_of(file)))
 
     def report_of(self, lines: Iterable[str]) -> dict[str, int]:
         """The report in these lines."""
