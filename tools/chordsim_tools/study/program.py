@@ -64,7 +64,7 @@ class Program:
             digest = Path(folder) / "digest"
             judge = ["judge", "--digest", str(digest), *(["--edges", times] if times else [])]
             with self.output(["run", "--serial"], judge) as output:
-                # All of it first: taken apart as it comes, it takes a third more time, since the caches are shared then.
+                # All of it first: taken apart as it comes, it takes a third more time, as caches are shared then.
                 table = read_table(BytesIO(output.read()))
             if not digest.is_file():
                 raise self.wrong("judge")
