@@ -9,6 +9,7 @@ from pathlib import Path
 from unittest import TestCase
 from unittest.mock import patch
 
+from chordsim_tools.generate.breaking_scenario import breaking_scenario
 from chordsim_tools.members import Members, Presence
 from chordsim_tools.scenario.classes import expanded
 from chordsim_tools.study import lookups
@@ -121,6 +122,14 @@ class ProgramTest(TestCase):
                     end = tomllib.loads(one)["duration_us"]
                     edges = [end // 7, end // 2, end // 2 + 1, end // 2 + 2, end, 2 * end]
                     self.compare(Path(folder) / "scenario.toml", edges)
+
+    def test_breaking_rings(self) -> None:
+        """Rings that break; in the last two a node begins lookups of one key at one time."""
+        for seed in (1, 2, 3, 37, 117):
+            with self.subTest(seed=seed), tempfile.TemporaryDirectory() as folder:
+                text = breaking_scenario(seed).replace("detail = false\n", "")
+                (Path(folder) / "scenario.toml").write_text(with_detail(text))
+                self.compare(Path(folder) / "scenario.toml", [500, 505, 600, 10_000])
 
 
 def in_order(digest: str) -> list[str]:

@@ -253,6 +253,15 @@ class StudyMessagesTest(TestCase):
         lines += ["250 e lookup 5", "250 e crash", f"250 e ask step b call=9 {of.replace('100', '250')}"]
         assert traffic_of(*lines, duration_us=300, warmup_us=0).lines[OF_LOOKUPS] == 8
 
+    def test_lookups_that_are_alike(self) -> None:
+        """Two lookups of one key that begin at one time: a request and a reply for each."""
+        lines = [
+            "100 a lookup 5", "100 a ask step b call=1 key=5 since=100", "100 a lookup 5",
+            "100 a ask step b call=2 key=5 since=100", *["150 a found 5 b hops=1 timeouts=0 us=50"] * 2,
+        ]
+        traffic = traffic_of(*lines, duration_us=300, warmup_us=0)
+        assert [piece[OF_LOOKUPS] for piece in traffic.pieces] == [0, 0, 2, 2, 0, 0]
+
     def test_run_of_lookups_alone(self) -> None:
         """A fourth of the nodes crashes and nothing is repaired: all messages are of lookups, and none is upkeep.
 

@@ -38,32 +38,36 @@ class AskLines:
     """Counts the messages of users' lookups: the requests as they are sent and, at the end of a lookup, a reply for
     each of its calls that did not time out.
 
-    No line says of which lookup a reply is. A refresh of a finger is a lookup too, and has no line `lookup`."""
+    No line says of which lookup a reply is. A refresh of a finger is a lookup too, and has no line `lookup`. Lookups of
+    one key that a node began at one time cannot be told apart: requests are of the one that ends first."""
 
     def __init__(self) -> None:
         """No lines yet."""
-        self.open: dict[bytes, dict[bytes, Asked]] = {}
+        self.open: dict[bytes, dict[bytes, list[Asked]]] = {}
         """The lookups of each node that have not ended, by what lines `ask` say of them."""
 
     def read(self, lines: bytes) -> int:
         """Takes whole lines of a trace; gives how many messages they add."""
-        count, nobody = 0, Asked()
+        count = 0
         for time, node, call, lookup, begun, ended, timeouts, taken, goes in LINE.findall(b"\n" + lines):
             if lookup:
-                one = self.open.get(node, {}).get(lookup)
-                if one is not None:
+                for one in self.open.get(node, {}).get(lookup, [])[:1]:
                     count += 1
                     one.calls += call != one.last
                     one.last = call
             elif begun:
-                self.open.setdefault(node, {})[b"key=%b since=%b" % (begun, time)] = Asked()
+                alike = self.open.setdefault(node, {}).setdefault(b"key=%b since=%b" % (begun, time), [])
+                alike.append(Asked())
             elif ended:
-                begin = int(time) - int(taken)
-                one = self.open.get(node, {}).pop(b"key=%b since=%d" % (ended, begin), nobody)
-                count += max(0, one.calls - int(timeouts))
+                count += self.replies(node, b"key=%b since=%d" % (ended, int(time) - int(taken)), int(timeouts))
             elif goes:
                 self.open.pop(node, None)
         return count
+
+    def replies(self, node: bytes, lookup: bytes, timeouts: int) -> int:
+        """A lookup ends, of whose calls so many timed out: the replies that it had."""
+        alike = self.open.get(node, {}).get(lookup, [])
+        return max(0, alike.pop(0).calls - timeouts) if alike else 0
 
 
 class Rows:
@@ -72,8 +76,8 @@ class Rows:
     def __init__(self, members: Members) -> None:
         """No lines yet."""
         self.members = members
-        self.open: dict[str, list[tuple[int, int]]] = {}
-        """The lookups of each node that have not ended: their keys and begins."""
+        self.open: list[tuple[str, int, int]] = []
+        """The lookups that have not ended: their askers, keys and begins."""
         self.rows: list[str] = []
 
     def read(self, line: str) -> None:
@@ -86,7 +90,7 @@ class Rows:
         """Takes a line of a node."""
         match word:
             case "lookup":
-                self.open.setdefault(node, []).append((int(rest[0]), time))
+                self.open.append((node, int(rest[0]), time))
             case "found" | "lost":
                 self.end(time, node, rest)
             case "member" | "create":
@@ -101,8 +105,8 @@ class Rows:
         """A lookup ends: found KEY OWNER hops=H timeouts=O us=U, or lost, without an owner."""
         key, begun = int(rest[0]), time - int(rest[-1].removeprefix("us="))
         # In tests by hand a line of an end may stand for its begin too.
-        if (key, begun) in self.open.get(node, []):
-            self.open[node].remove((key, begun))
+        if (node, key, begun) in self.open:
+            self.open.remove((node, key, begun))
         hops, timeouts = rest[-3].removeprefix("hops="), rest[-2].removeprefix("timeouts=")
         numbers = (time, time - begun, hops, timeouts)
         if len(rest) == 4:
@@ -116,13 +120,13 @@ class Rows:
 
     def cut_off(self, time: int, node: str, outcome: str) -> None:
         """The lookups of a node are over."""
-        for key, begun in self.open.pop(node, []):
+        for _, key, begun in [one for one in self.open if one[0] == node]:
             self.add(node, key, begun, time, time - begun, "", "", "", "", outcome, outcome)
+        self.open = [one for one in self.open if one[0] != node]
 
     def text(self) -> str:
         """The table at the end of the trace."""
-        left = [(begun, node, key) for node, lookups in self.open.items() for key, begun in lookups]
-        for begun, node, key in sorted(left, key=lambda one: one[0]):
+        for node, key, begun in self.open:
             self.add(node, key, begun, *[""] * 6, "cut-by-end", "cut-by-end")
         return HEADING + "".join(self.rows)
 
@@ -148,7 +152,6 @@ class Digest:
         """Takes a line of the trace or of the report."""
         fields = line.split(" ")
         if not fields[0].isdigit():
-            self.close()
             self.lines.append(line)
             return
         while self.edges and self.edges[0] <= int(fields[0]):
