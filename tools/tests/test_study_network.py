@@ -77,6 +77,11 @@ class LatenciesTest(TestCase):
         """They are in the base, whatever latency_us says."""
         assert "latencies (by the coordinates in base.toml).**" in sentence_of(placed_base=True)
 
+    def test_drawn_coordinates_of_a_base(self) -> None:
+        """A class with a side has other places in each seed."""
+        text = sentence_of(placed_base=True, drawn_base=True)
+        assert PLACED in text and "by the coordinates in" not in text
+
 
 class CoordinateFilesTest(TestCase):
     """Files of coordinates, and bases that have some."""
@@ -91,9 +96,11 @@ class CoordinateFilesTest(TestCase):
         with study_folder() as folder:
             text = BASE.replace("profile = 1", "profile = 4").replace(
                 "initial = true", "initial = true\nx_us = 1\ny_us = 1\nheight_us = 9000")
-            for base, placed in ((BASE, False), (text, True)):
+            drawn = f'{text}\n[[nodes]]\ncount = 2\nprefix = "m"\nx_us = 1\ny_us = 1\nside_us = 9\n'
+            for base, placed in ((BASE, (False, False)), (text, (True, False)), (drawn, (True, True))):
                 (folder / "base.toml").write_text(base)
-                assert manifest_of(read_study(folder / "study.toml"), Path("/x"), "f00")["placed_base"] == placed
+                manifest = manifest_of(read_study(folder / "study.toml"), Path("/x"), "f00")
+                assert (manifest["placed_base"], manifest["drawn_base"]) == placed
 
     def test_changed_file(self) -> None:
         """After a change of the file the report says so, on the page too; the runs are those of the old file."""

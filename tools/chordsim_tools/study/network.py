@@ -12,6 +12,8 @@ OPTION = "--coordinates"
 TRACE = "--churn-trace"
 FILES = ("file:", "regions:")
 """What is before the name of a file that coordinates come from."""
+DRAWN_PLACES = "coordinates of the nodes, which give the latencies"
+"""What is new in each seed if places are drawn."""
 
 
 def values_of(option: str, generate: list[str] | None, vary: Mapping[str, list[Any]]) -> list[str]:
@@ -68,16 +70,23 @@ def are_placed(study: Study) -> bool:
     return study.base is not None and any("x_us" in section for section in node_sections(study.scenario))
 
 
+def are_drawn(study: Study) -> bool:
+    """Whether the places of nodes of a base are drawn, by the seed of each run."""
+    return study.base is not None and any(section.get("side_us") for section in node_sections(study.scenario))
+
+
 def latencies_told(manifest: dict[str, Any]) -> tuple[list[str], list[str]]:
     """Which latencies are new in each seed, and which are the same in all."""
     if manifest["latency_arguments"] is not None:
         regions = given_to("--regions", manifest["latency_arguments"])
         return ([], [f"latencies (between the regions of {regions[0]})"]) if regions else (["latencies"], [])
     laws = values_of(OPTION, manifest["generate"], manifest["vary"])
+    if manifest.get("drawn_base"):
+        return [DRAWN_PLACES], []
     if manifest.get("placed_base"):
         return [], [f"latencies (by the coordinates in {manifest['base']})"]
     if not laws:
         return [], [f"latencies ({manifest['latency'] or 'latency_us for all pairs'})"]
     files = [file_of(law) for law in laws if is_file(law)]
-    new = [] if len(files) == len(laws) else ["coordinates of the nodes, which give the latencies"]
+    new = [] if len(files) == len(laws) else [DRAWN_PLACES]
     return new, [f"latencies (by the coordinates in {name})" for name in files]

@@ -19,7 +19,7 @@ def refusal(study: Study, setting: Setting, task: Task, fault: Failure) -> Failu
 
 def coordinates_of(study: Study) -> str:
     """Where a study has its coordinates."""
-    return "--coordinates of `generate`" if study.generate is not None else "x_us, y_us and height_us of the base"
+    return "--coordinates of `generate`" if study.generate is not None else "x_us, y_us, height_us and side_us of the base"
 
 
 def explained(task: Task) -> str:

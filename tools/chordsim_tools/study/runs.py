@@ -30,7 +30,7 @@ from chordsim_tools.study.starts import start_traps
 from chordsim_tools.study.task import Task, result_of
 from chordsim_tools.study.worlds import argument_traps, latency_of, scenario_of
 
-READING = 11
+READING = 12
 """Goes up if a trace is read in another way, so that no older result is taken for a new one."""
 DIGEST = "sha256"
 """The key of a result's digest. It is of all other keys."""

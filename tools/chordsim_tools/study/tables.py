@@ -14,7 +14,7 @@ from chordsim_tools.files import read_input, sum_of, write_whole
 from chordsim_tools.place import tool
 from chordsim_tools.program import TOP
 from chordsim_tools.scenario.classes import node_count, node_sections
-from chordsim_tools.study.network import are_placed, input_sums
+from chordsim_tools.study.network import are_drawn, are_placed, input_sums
 from chordsim_tools.study.plan import Setting, Study
 from chordsim_tools.study.starts import longest_round
 from chordsim_tools.study.sizes import Sizes, bytes_of
@@ -113,6 +113,7 @@ def manifest_of(study: Study, program: Path, program_sum: str) -> dict[str, Any]
         "latency": study.latency,
         "latency_arguments": study.latency_arguments,
         "placed_base": are_placed(study),
+        "drawn_base": are_drawn(study),
         "seeds": study.seeds,
         "vary": study.vary,
         "window_us": study.window_us,
