@@ -21,7 +21,7 @@ SOURCES = {"plain": EXAMPLES / "plain" / "main.rs", "fast": EXAMPLES / "plain" /
 COMMAND = EXAMPLES / "plain" / "flatten"
 NAMES = (
     "ring", "churn64", "lossy64", "retries64", "half_crash", "join_storm", "slow_repair", "ninth_timeout", "join_stuck",
-    "check_predecessor", "bootstrap_nodes", "deployed64", "coordinates64", "detail16",
+    "check_predecessor", "bootstrap_nodes", "deployed64", "coordinates64", "detail16", "square512",
 )
 # Of all profiles. Some have commands, some rows of latencies, and some more events than they allow.
 SEEDS = range(12)
