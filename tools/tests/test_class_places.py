@@ -21,7 +21,7 @@ from chordsim_tools.reference.chacha import Stream, groups, scaled
 from chordsim_tools.scenario.classes import expanded, node_places
 from chordsim_tools.scenario.coordinates import Coordinates
 from chordsim_tools.scenario.reading import read_scenario
-from chordsim_tools.study.repairs import latencies_of
+from chordsim_tools.study.latencies import Latencies
 from tests.support.rings import PLANS, ProgramTest
 from tests.test_classes import HERE, LOOKUPS, LOW, PAIR, RUN, TOP, a_class, beside, run_of
 from tests.test_explain import faults
@@ -155,10 +155,10 @@ class FollowingTest(TestCase):
         """The squares of the distances are 41, 10 and 13, and each height is 5."""
         text = TOP + in_square(9, 3)
         scenario = read_scenario(text.encode(), b"")
-        study = latencies_of(expanded(tomllib.loads(text)), b"")
+        study = Latencies(expanded(tomllib.loads(text)), b"")
         for pair, micros in (((0, 1), 16), ((0, 2), 13), ((1, 2), 13)):
             self.assertEqual((scenario.latency(*pair), scenario.latency(*reversed(pair))), (micros, micros))
-            self.assertEqual(study(*(f"a{node}" for node in pair)), micros)
+            self.assertEqual(study.between(*(f"a{node}" for node in pair)), micros)
 
     def test_written_out(self) -> None:
         """As tables of their own the nodes have their places, and the key is gone."""
