@@ -15,7 +15,7 @@ _chordsim() {
         return
     fi
     case $previous in
-    --scenario | --latency | --trace)
+    --scenario | --latency | --trace | --digest)
         mapfile -t COMPREPLY < <(compgen -f -- "$current")
         return
         ;;
@@ -27,11 +27,11 @@ _chordsim() {
         mapfile -t COMPREPLY < <(compgen -W "serial crew team" -- "$current")
         return
         ;;
-    --workers | --parts) return ;;
+    --workers | --parts | --edges) return ;;
     esac
     case $command in
     check | ids) options="--scenario --latency --help" ;;
-    judge) options="--scenario --latency --trace --help" ;;
+    judge) options="--scenario --latency --trace --digest --edges --help" ;;
     run) options="--scenario --latency --workers --parts --split --engine --serial --trace --help" ;;
     help) [ "$COMP_CWORD" -eq 2 ] && options="check ids judge run help" ;;
     esac

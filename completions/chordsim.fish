@@ -17,3 +17,5 @@ complete -c chordsim -n '__fish_seen_subcommand_from run' -l engine -x -a 'seria
 complete -c chordsim -n '__fish_seen_subcommand_from run' -l serial -d 'Same as --engine serial'
 complete -c chordsim -n '__fish_seen_subcommand_from run' -l trace -r -F -d 'File for the trace'
 complete -c chordsim -n '__fish_seen_subcommand_from judge' -l trace -r -F -d 'File with the trace'
+complete -c chordsim -n '__fish_seen_subcommand_from judge' -l digest -r -F -d 'File for what the table leaves out'
+complete -c chordsim -n '__fish_seen_subcommand_from judge' -l edges -x -d 'Times at which the numbers of messages begin anew'
