@@ -32,12 +32,25 @@ pub fn carry_out<T: FileSystem + AllocGlobal + Input + Threads + Wait + Sync, C:
     if let Some(overwritten) = overwritten_by(rt, order) {
         return refuse_output(console, overwritten);
     }
-    if let Order::Judge { files, judging } = order {
-        let outcome = judge(rt, console, files, judging);
-        return conclude_table(console, files, judging, outcome);
+    let files = order.files();
+    match order {
+        Order::Check(_) => {
+            let outcome = tell_of(rt, console, files, Question::Counts);
+            conclude(console, files, outcome)
+        }
+        Order::Ids(_) => {
+            let outcome = tell_of(rt, console, files, Question::Idents);
+            conclude(console, files, outcome)
+        }
+        Order::Judge { judging, .. } => {
+            let outcome = judge(rt, console, files, judging);
+            conclude_table(console, files, judging, outcome)
+        }
+        Order::Run { plan, trace, .. } => {
+            let outcome = run_of(rt, console, files, plan, trace.as_ref());
+            conclude(console, files, outcome)
+        }
     }
-    let outcome = perform(rt, console, order);
-    conclude(console, order.files(), outcome)
 }
 
 /// Takes the descriptors of the standard streams that are closed. Without this, a file that is opened later gets one of
@@ -86,38 +99,40 @@ fn is_same_file(rt: &impl FileSystem, first: &str, second: &str) -> bool {
     }
 }
 
-/// Opens the files and carries out the order. The files are opened in this order: the scenario file, the latency
-/// file, and the file for the trace, which is created or emptied. What is printed goes to the console.
-pub fn perform<T: FileSystem + AllocGlobal + Threads + Wait + Sync, C: Print>(
+/// Opens the files, and prints the answer to a question about their scenario.
+fn tell_of<T: FileSystem + AllocGlobal, C: Print>(
     rt: &T,
     console: &C,
-    order: &Order,
+    files: &Files,
+    asked: Question,
 ) -> Result<(), PlayFault> {
-    let (mut scenario, mut latency) = open(rt, order.files())?;
+    let (mut scenario, mut latency) = open(rt, files)?;
     let mut output = Watched::new(io::writer(console));
-    match order {
-        Order::Check(_) => {
-            let asked = Question::Counts;
-            tell(rt.alloc(), asked, &mut scenario, &mut latency, &mut output)
+    tell(rt.alloc(), asked, &mut scenario, &mut latency, &mut output)
+}
+
+/// Opens the files and runs their scenario. The files are opened in this order: the scenario file, the latency file, and
+/// the file for the trace, which is created or emptied. What is printed goes to the console.
+fn run_of<T: FileSystem + AllocGlobal + Threads + Wait + Sync, C: Print>(
+    rt: &T,
+    console: &C,
+    files: &Files,
+    plan: &Plan,
+    trace: Option<&String>,
+) -> Result<(), PlayFault> {
+    let (mut scenario, mut latency) = open(rt, files)?;
+    let mut output = Watched::new(io::writer(console));
+    match trace {
+        Some(name) => {
+            let file = or_write_fault(fs::create(rt, name.as_str()))?;
+            run_to(rt, &mut scenario, &mut latency, plan, file, &mut output)
         }
-        Order::Ids(_) => {
-            let asked = Question::Idents;
-            tell(rt.alloc(), asked, &mut scenario, &mut latency, &mut output)
+        None => {
+            // Both writers hand each piece to the console at once, and the trace is flushed before the report
+            // begins, so the two texts do not mix.
+            let trace = io::writer(console);
+            run_to(rt, &mut scenario, &mut latency, plan, trace, &mut output)
         }
-        // `carry_out` takes these orders itself.
-        Order::Judge { .. } => Ok(()),
-        Order::Run { plan, trace, .. } => match trace {
-            Some(name) => {
-                let file = or_write_fault(fs::create(rt, name.as_str()))?;
-                run_to(rt, &mut scenario, &mut latency, plan, file, &mut output)
-            }
-            None => {
-                // Both writers hand each piece to the console at once, and the trace is flushed before the report
-                // begins, so the two texts do not mix.
-                let trace = io::writer(console);
-                run_to(rt, &mut scenario, &mut latency, plan, trace, &mut output)
-            }
-        },
     }
 }
 
