@@ -1,5 +1,5 @@
 //! What the table of lookups leaves out of a trace: how many messages there were, and the lines of nodes and audits.
-ghost use Rattle.std.specs.Prelude.{◌<◌, IfSome, length};
+ghost use Rattle.std.specs.Prelude.{◌≡◌, ◌<◌, ◌++◌, [], ◌∷◌, IfSome, OnOk, length};
 
 use crate::words::{count_after, first_word, number_after, place_in, time_in};
 use chord_event::Memory;
@@ -78,6 +78,8 @@ pub struct Digest {
 }
 
 impl Digest {
+    ghost use Rattle.std.specs.Prelude.{◌≡◌, ◌++◌, [], ◌∷◌, OnOk};
+
     /// A digest of no text yet.
     pub fn new(alloc: Global, edges: Vec<u64>) -> Digest {
         Digest {
@@ -94,12 +96,16 @@ impl Digest {
     }
 
     /// The shorter text of what was taken since the last `clear`.
-    pub fn text(&self) -> &[u8] {
+    pub fn text(&self) -> &[u8]
+        ensures { result.now ≡ self.now.text.items }
+    {
         self.text.as_slice()
     }
 
     /// Drops the text so far, which was written.
-    pub fn clear(&mut self) {
+    pub fn clear(&mut self)
+        ensures { self.new.text.items ≡ [] }
+    {
         self.text.clear();
     }
 
@@ -161,10 +167,10 @@ impl Digest {
     }
 
     /// Keeps a line.
-    fn keep(&mut self, line: &[u8]) -> Result<(), Memory> {
-        self.text.extend_from_slice(line)?;
-        self.text.push(b'\n')?;
-        Ok(())
+    fn keep(&mut self, line: &[u8]) -> Result<(), Memory>
+        ensures { OnOk result (self.new.text.items ≡ self.old.text.items ++ line.now ++ 10 ∷ []) }
+    {
+        push_line(&mut self.text, line)
     }
 
     /// Passes the edges up to a time.
@@ -246,8 +252,7 @@ impl Digest {
             return Ok(());
         };
         if first_word(after_words(line.as_slice(), 4)).0 == silent {
-            self.text.extend_from_slice(line.as_slice())?;
-            self.text.push(b'\n')?;
+            push_line(&mut self.text, line.as_slice())?;
         }
         Ok(())
     }
@@ -393,6 +398,15 @@ fn place_of(lookups: &[Asked], key: &[u8], begun: u64) -> Option<usize>
         }
     }
     None
+}
+
+/// Adds a line, and the line feed that ends it.
+fn push_line(text: &mut Vec<u8>, line: &[u8]) -> Result<(), Memory>
+    ensures { OnOk result (text.new.items ≡ text.old.items ++ line.now ++ 10 ∷ []) }
+{
+    text.extend_from_slice(line)?;
+    text.push(b'\n')?;
+    Ok(())
 }
 
 /// Adds the line of a count since a time.

@@ -20,6 +20,8 @@ pub struct Digested<R, W> {
 }
 
 impl<R, W: Write> Digested<R, W> {
+    ghost use Rattle.std.specs.Prelude.{◌≡◌, Err, IfSome};
+
     /// A reader that has read nothing.
     pub fn new(inner: R, digest: Digest, writer: W) -> Digested<R, W> {
         Digested {
@@ -51,7 +53,9 @@ impl<R, W: Write> Digested<R, W> {
     }
 
     /// Writes the rest of the digest, and says why it could not be written, if it could not.
-    pub fn finish(&mut self) -> Result<(), TableFault> {
+    pub fn finish(&mut self) -> Result<(), TableFault>
+        ensures { IfSome self.old.fault (λ fault. result ≡ Err fault) }
+    {
         if let Some(fault) = self.fault {
             return Err(fault);
         }

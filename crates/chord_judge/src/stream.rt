@@ -1,6 +1,6 @@
 //! From the text of a trace to the table of its lookups.
 ghost use Rattle.std.specs.Prelude.{◌≡◌, ℕ, Err, OnOk, false, true};
-ghost use Rattle.chord_judge.specs.Faults.{is_write_fault};
+ghost use Rattle.chord_judge.specs.Faults.{is_read_fault, is_write_fault};
 ghost use Rattle.chord_judge.specs.Inside.{setup_of};
 ghost use Rattle.chord_judge.specs.Traces.{WasBegun, WasJudged, WasRefused};
 ghost use Rattle.des_output.specs.Watched.{has_failed, wrapped};
@@ -62,7 +62,7 @@ pub fn judge_trace<R: Read, W: Write>(
 ) -> Result<(), TableFault>
     requires { has_failed output.old ≡ false }
     ensures writer { has_failed output.new ≡ is_write_fault result }
-    ensures reader { has_failed trace.old ≡ false → has_failed trace.new ≡ true → result ≡ Err TableFault.Read }
+    ensures reader { has_failed trace.old ≡ false → has_failed trace.new ≡ is_read_fault result }
     ensures beginning { WasBegun scenario.now (R.remaining (wrapped trace.old)) (R.remaining (wrapped trace.new)) (W.contents (wrapped output.old)) (W.contents (wrapped output.new)) }
     ensures refused { (number : ℕ) → result ≡ Err (TableFault.Line number) → WasRefused scenario.now number (R.remaining (wrapped trace.old)) (R.remaining (wrapped trace.new)) }
     ensures whole { OnOk result (WasJudged scenario.now (R.remaining (wrapped trace.old)) (R.remaining (wrapped trace.new)) (W.contents (wrapped output.old)) (W.contents (wrapped output.new))) }
@@ -91,7 +91,7 @@ pub(crate) struct Stream<'a> {
 impl<'a> Stream<'a> {
     ghost use Rattle.std.specs.Prelude.{◌≡◌, ◌<◌, ◌++◌, [], ◌∷◌, ℕ, List, Err, OnOk, IfErr, IfOk, false, length, string_bytes, true};
     ghost use Rattle.std.specs.Io.KnownBytes.{Appends};
-    ghost use Rattle.chord_judge.specs.Faults.{is_write_fault};
+    ghost use Rattle.chord_judge.specs.Faults.{is_read_fault, is_write_fault};
     ghost use Rattle.chord_judge.specs.Inside.{setup_of};
     ghost use Rattle.chord_judge.specs.Taken.{HasTaken};
     ghost use Rattle.chord_judge.specs.Traces.{EndsRefused, HasRefused, WasBegun, WasJudged, WasRefused, table_text};
@@ -126,7 +126,7 @@ impl<'a> Stream<'a> {
         requires begun { HasTaken (setup_of self.old.judge) [] [] self.old }
         requires sound { has_failed output.old ≡ false }
         ensures writer { has_failed output.new ≡ is_write_fault result }
-        ensures reader { has_failed trace.old ≡ false → has_failed trace.new ≡ true → result ≡ Err TableFault.Read }
+        ensures reader { has_failed trace.old ≡ false → has_failed trace.new ≡ is_read_fault result }
         ensures beginning { WasBegun (setup_of self.old.judge) (R.remaining (wrapped trace.old)) (R.remaining (wrapped trace.new)) (W.contents (wrapped output.old)) (W.contents (wrapped output.new)) }
         ensures refused { (number : ℕ) → result ≡ Err (TableFault.Line number) → WasRefused (setup_of self.old.judge) number (R.remaining (wrapped trace.old)) (R.remaining (wrapped trace.new)) }
         ensures whole { OnOk result (WasJudged (setup_of self.old.judge) (R.remaining (wrapped trace.old)) (R.remaining (wrapped trace.new)) (W.contents (wrapped output.old)) (W.contents (wrapped output.new))) }
@@ -143,12 +143,13 @@ impl<'a> Stream<'a> {
             self.write(output)?;
         }
         // No reader gives this many pieces.
-        Err(TableFault::Read)
+        Err(TableFault::Memory)
     }
 
     /// Takes a piece of the trace.
     fn take(&mut self, piece: &[u8]) -> Result<(), TableFault>
         ensures unwritten { is_write_fault result ≡ false }
+        ensures unread { is_read_fault result ≡ false }
         ensures taken { OnOk result ((sc : Setup) (text written : List ℕ) → HasTaken sc text written self.old → HasTaken sc (text ++ piece.now) written self.new) }
         ensures refused { (number : ℕ) → result ≡ Err (TableFault.Line number) → (sc : Setup) (text written : List ℕ) → HasTaken sc text written self.old → HasRefused sc (text ++ piece.now) number }
     {
@@ -168,6 +169,7 @@ impl<'a> Stream<'a> {
     /// Takes the line feed that ends a line.
     fn end_line(&mut self) -> Result<(), TableFault>
         ensures unwritten { is_write_fault result ≡ false }
+        ensures unread { is_read_fault result ≡ false }
         ensures taken { OnOk result ((sc : Setup) (text written : List ℕ) → HasTaken sc text written self.old → HasTaken sc (text ++ 10 ∷ []) written self.new) }
         ensures refused { (number : ℕ) → result ≡ Err (TableFault.Line number) → (sc : Setup) (text written : List ℕ) → HasTaken sc text written self.old → EndsRefused sc text number }
     {

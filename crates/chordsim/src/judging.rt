@@ -47,6 +47,13 @@ impl From<TableFault> for JudgeFailure {
     }
 }
 
+/// The file for a digest, and the times at which its counts begin anew.
+#[derive(Drop)]
+struct DigestFile<'a> {
+    name: &'a str,
+    edges: Vec<u64>,
+}
+
 /// Opens the files, and writes the table of the lookups of the trace to the console.
 pub fn judge<T: FileSystem + AllocGlobal + Input, C: Print>(
     rt: &T,
@@ -54,28 +61,35 @@ pub fn judge<T: FileSystem + AllocGlobal + Input, C: Print>(
     files: &Files,
     judging: &Judging,
 ) -> Result<(), JudgeFailure> {
-    let edges = edges_of(rt.alloc(), judging)?;
+    let digest = digest_of(rt.alloc(), judging)?;
     let (mut scenario, mut latency) = open(rt, files)?;
     let scenario = load(rt.alloc(), &mut scenario, &mut latency)?;
-    let digest = judging.digest.as_ref();
     match &judging.trace {
         Some(name) => match fs::open(rt, name.as_str()) {
-            Ok(file) => judge_from(rt, console, &scenario, file, (digest, edges)),
+            Ok(file) => judge_from(rt, console, &scenario, file, digest),
             Err(_) => Err(JudgeFailure::Read),
         },
-        None => judge_from(rt, console, &scenario, rt.reader(), (digest, edges)),
+        None => judge_from(rt, console, &scenario, rt.reader(), digest),
     }
 }
 
-/// The times at which the counts of the digest begin anew.
-fn edges_of(alloc: Global, judging: &Judging) -> Result<Vec<u64>, JudgeFailure> {
-    let Some(text) = &judging.edges else {
-        return Ok(Vec::new(alloc));
+/// The digest that is asked for. Edges are read without one too.
+fn digest_of<'a>(
+    alloc: Global,
+    judging: &'a Judging,
+) -> Result<Option<DigestFile<'a>>, JudgeFailure> {
+    let edges = match &judging.edges {
+        Some(text) => edges_in(alloc, text.as_str()),
+        None => Ok(Some(Vec::new(alloc))),
     };
-    match edges_in(alloc, text.as_str()) {
-        Ok(Some(edges)) => Ok(edges),
-        Ok(None) => Err(JudgeFailure::Edges),
-        Err(_) => Err(JudgeFailure::from(TableFault::Memory)),
+    match (edges, &judging.digest) {
+        (Ok(Some(edges)), Some(name)) => Ok(Some(DigestFile {
+            name: name.as_str(),
+            edges,
+        })),
+        (Ok(Some(_)), None) => Ok(None),
+        (Ok(None), _) => Err(JudgeFailure::Edges),
+        (Err(_), _) => Err(JudgeFailure::from(TableFault::Memory)),
     }
 }
 
@@ -85,12 +99,12 @@ fn judge_from<T: FileSystem + AllocGlobal, C: Print, R: Read + Drop>(
     console: &C,
     scenario: &Scenario,
     trace: R,
-    (digest, edges): (Option<&String>, Vec<u64>),
+    digest: Option<DigestFile<'_>>,
 ) -> Result<(), JudgeFailure> {
-    let Some(name) = digest else {
+    let Some(DigestFile { name, edges }) = digest else {
         return judge_to(rt, console, scenario, &mut Watched::new(trace));
     };
-    let file = or_write_fault(fs::create(rt, name.as_str()))?;
+    let file = or_write_fault(fs::create(rt, name))?;
     let digest = Digest::new(rt.alloc(), edges);
     let mut trace = Watched::new(Digested::new(trace, digest, file));
     judge_to(rt, console, scenario, &mut trace)?;
