@@ -15,8 +15,8 @@ SCRIPTS = ["chordsim", "tools/program.sh", "tools/renew_release", "tools/check_r
 
 # The commands that the scripts use, beside rt.
 COMMANDS = (
-    "awk basename cat chmod cmp cp cut date dirname find flock mkdir mv readlink rm sh sha256sum sleep sort stat tee "
-    "uname xargs"
+    "awk basename cat chmod cmp cp cut date dirname find flock mkdir mktemp mv nproc readlink rm sh sha256sum sleep sort "
+    "stat tee uname wc xargs"
 ).split()
 
 CRATES = """# NAME: the libraries that it stands on
@@ -25,20 +25,21 @@ chordsim may_wait=5: low clap
 tests_alone: low chordsim
 """
 
-# Like rt: `lib` is refused in a program's folder, `run` builds the libraries below and runs the program. It notes each
-# call. What it builds prints its arguments, and the source that it is made of.
+# Like rt: `ci` proves the crates that it finds, and builds the program. It notes each call, and the files that it found.
+# The program prints its arguments, and the source that it is made of.
 STAND_IN = """#!/bin/sh
-echo "$* in $(basename "$PWD")" >> "$CALLS"
-case $1 in
-run)
-    [ -z "${RT_FAILS:-}" ] || { echo "no proof"; exit 1; }
-    while [ -n "${RT_WAITS_FOR:-}" ] && [ ! -e "$RT_WAITS_FOR" ]; do sleep 0.05; done
-    echo "crate low: modules loaded=0 checked=1"
-    mkdir -p out
-    { echo '#!/bin/sh'; echo "echo built of $(cat src/main.rt): \\"\\$@\\""; } > out/chordsim
-    chmod +x out/chordsim ;;
-*) echo "rt: this crate is a program: use rt run" >&2; exit 2 ;;
-esac
+echo "$*" >> "$CALLS"
+find . -type f | sort > "$CALLS.files"
+cat crates.txt > "$CALLS.crates"
+echo "$RT_JOBS" > "$CALLS.jobs"
+[ "$1" = ci ] || exit 2
+[ -z "${RT_FAILS:-}" ] || { echo "no proof"; exit 1; }
+while [ -n "${RT_WAITS_FOR:-}" ] && [ ! -e "$RT_WAITS_FOR" ]; do sleep 0.05; done
+echo "rt: low is kept: an earlier run proved the same files"
+cd crates/chordsim && mkdir -p out
+{ echo '#!/bin/sh'; echo "echo built of $(cat src/main.rt): \\"\\$@\\""; } > out/chordsim
+chmod +x out/chordsim
+echo "rt: chordsim proved"
 """
 
 
@@ -89,9 +90,13 @@ class Launcher(unittest.TestCase):
             (self.top / name).parent.mkdir(parents=True, exist_ok=True)
             shutil.copy(TOP / name, self.top / name)
         (self.top / "crates.txt").write_text(CRATES, encoding="utf-8")
+        (self.top / "HANDLES").write_text("Handles allowed: Threads, Wait.\n", encoding="utf-8")
         for crate, file in (("low", "lib"), ("chordsim", "main"), ("tests_alone", "main")):
             (self.top / "crates" / crate / "src").mkdir(parents=True)
             (self.top / "crates" / crate / "src" / f"{file}.rt").write_text("first\n", encoding="utf-8")
+            (self.top / "crates" / crate / "must-fail").mkdir()
+            (self.top / "crates" / crate / "must-fail" / "wrong.rt").touch()
+        (self.top / "crates" / "chordsim" / "stdout").write_text("built of first: ids\n", encoding="utf-8")
         self.calls = self.folder / "calls"
         self.tools = self.folder / "bin"
         self.tools.mkdir()
@@ -107,6 +112,11 @@ class Launcher(unittest.TestCase):
         environment = {"PATH": str(self.tools), "CALLS": str(self.calls), **more}
         command = [str(self.top / script), *arguments]
         return subprocess.run(command, env=environment, capture_output=True, text=True, check=False, timeout=60)
+
+    def gate(self) -> None:
+        """Calls rt in the repository, as the gate does. builds() does not count it."""
+        environment = {"PATH": str(self.tools), "CALLS": str(self.folder / "gate")}
+        subprocess.run([self.tools / "rt", "ci"], cwd=self.top, env=environment, stdout=subprocess.DEVNULL, check=True)
 
     def without_rt(self) -> None:
         """Takes rt away."""
@@ -149,10 +159,40 @@ class Launcher(unittest.TestCase):
         first = self.start("chordsim", "run", "two words")
         self.assertEqual((first.returncode, first.stdout), (0, "built of first: run two words\n"))
         self.assertIn("proving and building", first.stderr)
-        self.assertIn("low is proved", first.stderr)
+        self.assertIn("low is proved (1 of 2)", first.stderr)
+        self.assertIn("chordsim is proved (2 of 2)", first.stderr)
         second = self.start("chordsim", "check")
         self.assertEqual((second.returncode, second.stdout, second.stderr), (0, "built of first: check\n", ""))
         self.assertEqual(self.builds(), 1)
+
+    def test_what_is_built(self) -> None:
+        """rt is given the sources and the crates of the program alone, in a folder that goes afterwards."""
+        folder = self.folder / "temporary"
+        folder.mkdir()
+        self.assertEqual(self.start("chordsim", TMPDIR=str(folder)).returncode, 0)
+        listed = (self.folder / "calls.crates").read_text(encoding="utf-8")
+        self.assertEqual(listed, "".join(CRATES.splitlines(keepends=True)[1:3]))
+        files = (self.folder / "calls.files").read_text(encoding="utf-8").split()
+        sources = ["./crates/chordsim/src/main.rt", "./crates/chordsim/status", "./crates/low/src/lib.rt"]
+        self.assertEqual(files, ["./HANDLES", "./crates.txt", *sources])
+        self.assertEqual(list(folder.iterdir()), [])
+        self.assertFalse((self.top / "crates" / "chordsim" / "out").exists())
+
+    def test_crates_at_once(self) -> None:
+        """rt proves no more crates at once than there are processors, and as many as RT_JOBS says."""
+        jobs = self.folder / "calls.jobs"
+        self.start("chordsim")
+        self.assertIn(int(jobs.read_text(encoding="utf-8")), range(1, len(os.sched_getaffinity(0)) + 1))
+        self.change("low", "lib.rt", "second\n")
+        self.start("chordsim", RT_JOBS="7")
+        self.assertEqual(jobs.read_text(encoding="utf-8"), "7\n")
+
+    def test_no_folder_for_the_build(self) -> None:
+        """If no folder can be made for the build, the status is 125, and nothing is built."""
+        refused = self.start("chordsim", TMPDIR=str(self.folder / "absent"))
+        self.assertEqual((refused.returncode, refused.stdout), (125, ""))
+        self.assertIn("cannot make a folder", refused.stderr)
+        self.assertEqual(self.builds(), 0)
 
     def test_changed_source(self) -> None:
         """A change of a crate below builds again; one of a crate of tests does not."""
@@ -170,6 +210,7 @@ class Launcher(unittest.TestCase):
         """A release of these sources is started without rt; a stale one is not, but its --help is."""
         self.assertEqual(self.start("tools/renew_release").returncode, 0)
         shutil.rmtree(self.top / "out")
+        self.gate()
         self.assertEqual(self.start("tools/check_release").returncode, 0)
         self.without_rt()
         self.assertEqual(self.start("chordsim", "ids").stdout, "built of first: ids\n")
@@ -225,6 +266,7 @@ class Launcher(unittest.TestCase):
     def test_damaged_release_is_not_built_unasked(self) -> None:
         """If there is rt, a start of a damaged release names the remedies. --build builds, renew_release mends it."""
         self.start("tools/renew_release")
+        self.gate()
         shutil.rmtree(self.top / "out")
         program = self.top / "release" / "x86_64-linux" / "chordsim"
         program.write_bytes(b"")
@@ -254,11 +296,10 @@ class Launcher(unittest.TestCase):
         """A program that rt has made here is taken as it is, unless a source is newer or an argument is unknown."""
         renew = "tools/renew_release"
         self.assertIn("built no program", self.start(renew, "--from-gate").stderr)
-        self.start("chordsim", "--build")
-        shutil.rmtree(self.top / "out")
+        self.gate()
         self.assertEqual(self.start(renew, "--from-gate").returncode, 0)
         self.assertEqual(self.start("tools/check_release").returncode, 0)
-        self.assertEqual(self.builds(), 1)
+        self.assertEqual(self.builds(), 0)
         now, later = time.time(), time.time() + 10
         for file in ("crates/low/src/lib.rt", "crates.txt"):
             with self.subTest(file=file):
@@ -275,6 +316,7 @@ class Launcher(unittest.TestCase):
     def test_check_release(self) -> None:
         """The gate refuses another program, another digest and other sources."""
         self.start("tools/renew_release")
+        self.gate()
         release = self.top / "release" / "x86_64-linux"
         made = self.top / "crates" / "chordsim" / "out" / "chordsim"
         kept = made.read_bytes()
