@@ -1,4 +1,5 @@
 pub mod Found
+pub mod Joined
 pub mod FingerStarts
 pub mod LaterFingers
 pub mod NearFingers

@@ -5,7 +5,7 @@ ghost use Rattle.std.specs.List.Sorted.{IsNonDecreasingBy, IsPermutation};
 ghost use Rattle.chord_scenario.specs.Start.{initial_nodes, timers};
 ghost use Rattle.chord_scenario.specs.World.{ident_of, is_initial, node_count};
 ghost use Rattle.chord_node.specs.Places.{placed, ring, successor, two_rounds};
-ghost use Rattle.chord_node.specs.Ring.{clockwise, finger, first_member, first_via, initial_ring, initial_state, or_itself};
+ghost use Rattle.chord_node.specs.Ring.{clockwise, finger, first_member, first_via, initial_ring, never_up, or_itself};
 
 use crate::bootstraps::first_bootstrap;
 use crate::fingers::Fingers;
@@ -252,25 +252,38 @@ fn first_member(
     })
 }
 
-/// The state of a node at the start.
-#[tactic(auto, unfolding(crate::specs::Ring::initial_state))]
-fn initial_state(
+/// The states of nodes that are all down.
+fn all_down(alloc: Global, nodes: u32) -> Result<Vec<NodeState>, Memory>
+    ensures { IfOk result (λ states. states.items ≡ map never_up (range_with_len 0 nodes)) }
+{
+    let mut states = Vec::with_capacity(alloc, nodes as usize)?;
+    for node in 0..nodes {
+        states.push(NodeState::never_up(alloc, node))?;
+    }
+    Ok(states)
+}
+
+/// Puts the members at the start in the places of their numbers.
+fn put_members(
     alloc: Global,
     scenario: &Scenario,
     nodes: &[u32],
     rounds: &[Place],
-    node: u32,
-) -> Result<NodeState, Memory>
-    requires node { node < node_count scenario.now }
+    states: &mut Vec<NodeState>,
+) -> Result<(), Memory>
     requires nodes { nodes.now ≡ initial_nodes scenario.now }
     requires rounds { rounds.now ≡ two_rounds scenario.now }
-    ensures { IfOk result (λ state. state ≡ initial_state scenario.now node) }
+    requires down { states.old.items ≡ map never_up (range_with_len 0 (node_count scenario.now)) }
+    ensures { OnOk result (states.new.items ≡ initial_ring scenario.now) }
 {
-    if scenario.initial(node) {
-        first_member(alloc, scenario, nodes, rounds, node)
-    } else {
-        Ok(NodeState::never_up(alloc, node))
+    // In the order of the ring, not of the numbers: one member and the next look for their fingers
+    // at the same places, which the cache has then.
+    let ring = &rounds[..rounds.len() / 2];
+    for place in ring {
+        let node = place.node;
+        states[node as usize] = first_member(alloc, scenario, nodes, rounds, node)?;
     }
+    Ok(())
 }
 
 /// The states of all nodes at the start of a run, by their numbers: the members know the ring, all
@@ -280,10 +293,13 @@ pub fn initial_ring(alloc: Global, scenario: &Scenario) -> Result<Vec<NodeState>
 {
     let nodes = members_at_start(alloc, scenario)?;
     let rounds = rounds_of(alloc, scenario, nodes.as_slice())?;
-    let mut states = Vec::new(alloc);
-    for node in 0..scenario.nodes() {
-        let state = initial_state(alloc, scenario, nodes.as_slice(), rounds.as_slice(), node)?;
-        states.push(state)?;
-    }
+    let mut states = all_down(alloc, scenario.nodes())?;
+    put_members(
+        alloc,
+        scenario,
+        nodes.as_slice(),
+        rounds.as_slice(),
+        &mut states,
+    )?;
     Ok(states)
 }
