@@ -1,6 +1,7 @@
 pub mod Agreement
 pub mod Lists
 pub mod Places
+pub mod Order
 pub mod Powers
 pub mod Reaches
 pub mod Rings

@@ -33,6 +33,7 @@ use Rattle.chord_node.specs.declared.state.NodeState.{NodeState}
 use Rattle.chord_scenario.specs.Range.{IsInRange}
 use Rattle.chord_audit.specs.Audit.{after, is_member}
 use Rattle.chord_audit.specs.declared.arcs.Arcs.{Arcs}
+use Rattle.chord_audit.specs.declared.ranks.Placed.{Placed}
 use Rattle.chord_audit.specs.declared.tables.Tables.{Tables}
 
 -- the table marks node n; false if n is beyond the end of the table
@@ -89,6 +90,10 @@ is_passing ranks marks states k n = is_marked marks n && is_inside_list ranks k 
 -- rank k lies between the ranks of two neighbours in the list of some marked node, with the node itself at the front
 abbrev pub is_passed_rank : (ranks : List ℕ) → (marks : List Bool) → List NodeState → (k : ℕ) → Bool
 is_passed_rank ranks marks states k = list_any (is_passing ranks marks states k) (range_with_len 0 (length ranks))
+
+-- a node with its identifier
+abbrev pub placed : Setup → ℕ → Placed
+placed sc n = record { ident = ident_of sc n; node = n }
 
 -- a rank of each node, and they ascend as the identifiers do
 pub record AreRanks (sc : Setup) (ranks : List ℕ) : Type 0 where

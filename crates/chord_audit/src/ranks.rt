@@ -1,49 +1,53 @@
 //! The order of the nodes on the circle.
-ghost use Rattle.std.specs.Prelude.{◌≡◌, ◌<◌, IfOk, Contains, length, map, slice_index};
-ghost use Rattle.std.specs.List.Sorted.{IsNonDecreasing};
-ghost use Rattle.chord_scenario.specs.World.{ident_of};
+ghost use Rattle.std.specs.Prelude.{◌≡◌, IfOk, OnOk, map};
+ghost use Rattle.std.specs.List.Sorted.{IsNonDecreasingBy, IsPermutation};
 ghost use Rattle.chord_audit.specs.Audit.{nodes};
-ghost use Rattle.chord_audit.specs.Tables.{AreRanks};
+ghost use Rattle.chord_audit.specs.Tables.{AreRanks, placed};
 
 use chord_circle::Raw;
 use chord_event::Memory;
 use chord_scenario::Scenario;
 use std::alloc::Global;
 
+/// A node with its identifier.
+#[derive(Clone, Copy, Drop)]
+pub(crate) struct Placed {
+    pub ident: Raw,
+    pub node: u32,
+}
+
 /// The rank of each node in the order of the identifiers.
 pub(crate) fn ranks_of(alloc: Global, scenario: &Scenario) -> Result<Vec<usize>, Memory>
     ensures { IfOk result (λ ranks. AreRanks scenario.now ranks.items) }
 {
     scenario.recall_range();
-    let idents = idents_of(alloc, scenario)?;
-    let mut sorted = Vec::from_slice(alloc, idents.as_slice())?;
-    sorted.sort_unstable();
-    let mut ranks = Vec::new(alloc);
-    for ident in &idents {
-        ranks.push(rank_in(sorted.as_slice(), *ident))?;
+    let mut order = placed_nodes(alloc, scenario)?;
+    sort_by_ident(&mut order);
+    // A table by numbers, filled in the order of the ranks: a search for each node would look at
+    // memory that no cache has.
+    let mut ranks = vec![in alloc; 0; order.len()]?;
+    for (rank, placed) in order.iter().enumerate() {
+        ranks[placed.node as usize] = rank;
     }
     Ok(ranks)
 }
 
-/// The place of each node on the circle.
-fn idents_of(alloc: Global, scenario: &Scenario) -> Result<Vec<Raw>, Memory>
-    ensures { IfOk result (λ idents. idents.items ≡ map (ident_of scenario.now) (nodes scenario.now)) }
+/// Puts nodes in the order of their identifiers.
+fn sort_by_ident(order: &mut Vec<Placed>)
+    ensures moved { IsPermutation order.old.items order.new.items }
+    ensures sorted { IsNonDecreasingBy (λ p. p.ident) order.new.items }
 {
-    let mut idents = Vec::new(alloc);
-    for node in 0..scenario.nodes() {
-        idents.push(scenario.ident(node).raw())?;
-    }
-    Ok(idents)
+    order.sort_unstable_by_key(|placed| placed.ident);
 }
 
-fn rank_in(sorted: &[Raw], ident: Raw) -> usize
-    requires ascend { IsNonDecreasing sorted.now }
-    requires contains { Contains sorted.now ident }
-    ensures within { result < length sorted.now }
-    ensures found { slice_index sorted.now result ≡ ident }
+/// The nodes with their identifiers, by their numbers.
+fn placed_nodes(alloc: Global, scenario: &Scenario) -> Result<Vec<Placed>, Memory>
+    ensures { IfOk result (λ order. order.items ≡ map (placed scenario.now) (nodes scenario.now)) }
 {
-    match sorted.binary_search(&ident) {
-        Ok(rank) => rank,
-        Err(_) => unreachable!(),
+    let mut order = Vec::new(alloc);
+    for node in 0..scenario.nodes() {
+        let ident = scenario.ident(node).raw();
+        order.push(Placed { ident, node })?;
     }
+    Ok(order)
 }
