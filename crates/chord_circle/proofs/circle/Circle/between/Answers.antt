@@ -14,3 +14,6 @@ returns-then-lt-3 c = grind (arith, nat_tests, distance-ahead, distance-behind)
 
 pub returns-else-lt-3 : goal.returns-else-lt-3
 returns-else-lt-3 c = grind (arith, nat_tests, distance-ahead, distance-behind)
+
+pub returns-then-eq : goal.returns-then-eq
+returns-then-eq c = grind (arith, nat_tests, distance-ahead, distance-behind)
