@@ -13,9 +13,9 @@ from chordsim_tools.scenario.classes import expanded
 from chordsim_tools.scenario.reading import read_scenario
 from chordsim_tools.study.command import main as study
 from chordsim_tools.study.document import toml_text
-from chordsim_tools.trace.command import main as trace
 from tests.support.programs import ended
 from tests.support.rings import Left, ProgramTest
+from tests.support.tables import table_by_judge, table_by_python
 from tests.test_classes import ACCEPTED, FAULTS, LOW, PAIR, TOP, WORLDS, a_class, beside
 
 
@@ -64,11 +64,11 @@ class ClassesProgram(ProgramTest):
         """The table of lookups is that of tools/trace."""
         for text in WORLDS:
             self.left(text)
-            lines, table = self.folder / "trace", self.folder / "table.csv"
-            scenario = self.folder / "scenario.toml"
-            self.assertEqual(ended(trace, str(lines), str(scenario), "--lookups", str(table))[0], 0)
+            lines, scenario = self.folder / "trace", self.folder / "scenario.toml"
+            table = table_by_python(lines, scenario)
+            self.assertEqual(table_by_judge(lines, scenario), table)
             status, rows, _ = self.ended("judge", text.encode(), b"", "--trace", str(lines))
-            self.assertEqual((status, sorted(rows.splitlines())), (0, sorted(table.read_text().splitlines())))
+            self.assertEqual((status, sorted(rows.splitlines())), (0, sorted(table[0].decode().splitlines())))
 
     def test_study(self) -> None:
         """A study has the same numbers of both, and more nodes of a class are those of another base.

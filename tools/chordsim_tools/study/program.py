@@ -86,12 +86,12 @@ class Program:
         return Failure(3, f"{self.path} {command}: the output is not that of chordsim")
 
     @contextmanager
-    def output(self, *calls: Sequence[str]) -> Iterator[IO[bytes]]:
-        """What the last of these calls writes; each one reads what the one before it writes. Fails if a status is not
-        0; the program never outlives the block."""
+    def output(self, *calls: Sequence[str], source: IO[bytes] | None = None) -> Iterator[IO[bytes]]:
+        """What the last of these calls writes; each one reads what the one before it writes, and the first one the
+        source, if there is one. Fails if a status is not 0; the program never outlives the block."""
         wrong = False
         try:
-            with Pipe() as pipe:
+            with Pipe(source) as pipe:
                 for command, *arguments in calls:
                     pipe.start([str(self.path), command, *self.files, *arguments])
                 output = known(pipe.processes[-1].stdout)
@@ -110,8 +110,9 @@ class Program:
 class Pipe:
     """Processes each of which reads what the one before it writes."""
 
-    def __init__(self) -> None:
-        """No processes yet."""
+    def __init__(self, source: IO[bytes] | None = None) -> None:
+        """No processes yet. The first one reads the source, or what this process has as standard input."""
+        self.source = source
         self.processes: list[subprocess.Popen[bytes]] = []
         self.errors: list[IO[bytes]] = []
 
@@ -130,7 +131,7 @@ class Pipe:
 
     def start(self, command: list[str]) -> None:
         """One more process, whose standard output is to be read."""
-        before = self.processes[-1].stdout if self.processes else None
+        before = self.processes[-1].stdout if self.processes else self.source
         self.errors.append(tempfile.TemporaryFile())
         self.processes.append(subprocess.Popen(command, stdin=before, stdout=subprocess.PIPE, stderr=self.errors[-1]))
         if before is not None:

@@ -6,12 +6,13 @@ from argparse import ArgumentTypeError, Namespace
 
 from chordsim_tools.cli import Failure, Refused, ToolParser, run
 from chordsim_tools.explain.traps import warn
-from chordsim_tools.files import check_apart, check_output, read_input
+from chordsim_tools.files import check_apart, check_output, read_input, write_whole
 from chordsim_tools.place import tool
 from chordsim_tools.quantities import time_of
 from chordsim_tools.scenario.reading import Scenario, read_scenario
 from chordsim_tools.scenario.tables import GREATEST_SIZE, parse_toml
 from chordsim_tools.trace.detail import join_story, removal_story
+from chordsim_tools.trace.judge import Files, judged_table, table_doubts
 from chordsim_tools.trace.lookups import write_lookups
 from chordsim_tools.trace.messages import message_table
 from chordsim_tools.trace.reading import Run, read_report, read_run
@@ -117,7 +118,10 @@ def work(args: Namespace) -> None:
     check_apart("--lookups", args.lookups, "--html", args.html)
     if args.groups is not None and args.html is None:
         raise Failure(2, "--groups: only with --html")
-    one = read_run(args.trace, scenario_of(args))
+    scenario = scenario_of(args)
+    if wants_lookups_alone(args) and write_judged(args, scenario):
+        return
+    one = read_run(args.trace, scenario)
     if args.report is not None:
         read_report(args.report, one)
     warn(doubts(one))
@@ -134,6 +138,23 @@ def work(args: Namespace) -> None:
         show([json.dumps(in_json(one, args), indent=2)])
     elif asked or (args.html is None and args.lookups is None):
         show(in_text(one, args))
+
+
+def wants_lookups_alone(args: Namespace) -> bool:
+    """Whether the table of lookups is all that is asked for."""
+    given = {name for name, value in vars(args).items() if value not in (None, False)}
+    return "lookups" in given and given <= {"trace", "scenario", "latency", "lookups"}
+
+
+def write_judged(args: Namespace, scenario: Scenario) -> bool:
+    """Writes the table of lookups that the program makes. Returns False if Python has to make it."""
+    files = Files(args.trace, args.scenario, args.latency)
+    table = judged_table(files, scenario)
+    if table is None:
+        return False
+    warn(table_doubts(files, table))
+    write_whole(args.lookups, table)
+    return True
 
 
 def in_json(one: Run, args: Namespace) -> Facts:

@@ -57,16 +57,24 @@ def summary(run: Run) -> Facts:
 
 def doubts(run: Run) -> list[str]:
     """That trace and scenario are hardly of one run: most audits find a ring in order, and most answers are wrong."""
-    audits = run.history.lines.audits
-    ordered = sum(audit.is_ordered for audit in audits)
     answers = answer_facts(run.history.lines.lookups)
-    wrong = answers["wrong_strict"]
-    found = wrong + answers["right_strict"]
-    if found < FEWEST_ANSWERS or 2 * wrong <= found or 2 * ordered <= len(audits):
+    audits = [audit.is_ordered for audit in run.history.lines.audits]
+    return doubts_about(answers["wrong_strict"], answers["right_strict"], audits)
+
+
+def is_mostly_wrong(wrong: int, right: int) -> bool:
+    """Whether most answers are wrong, of so many that this is hardly chance."""
+    return wrong + right >= FEWEST_ANSWERS and wrong > right
+
+
+def doubts_about(wrong: int, right: int, audits: list[bool]) -> list[str]:
+    """The same, from the numbers of answers and from whether each audit finds a ring in order."""
+    ordered = sum(audits)
+    if not is_mostly_wrong(wrong, right) or 2 * ordered <= len(audits):
         return []
     return [
-        f"{share(ordered, len(audits))} of the audits find a ring in order, and {share(wrong, found)} of the answers "
-        "are wrong: are trace and scenario of one run?"
+        f"{share(ordered, len(audits))} of the audits find a ring in order, and {share(wrong, wrong + right)} of the "
+        "answers are wrong: are trace and scenario of one run?"
     ]
 
 
