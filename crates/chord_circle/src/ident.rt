@@ -16,6 +16,8 @@ pub type Raw = u128;
 const HALF: Raw = 1 << 64;
 
 /// An identifier: a place on a circle, which contracts see as its number.
+// In two halves, since a `u128` stands only at places of 16 bytes: an event would take 112 bytes in
+// the place of 96.
 #[derive(Clone, Copy, Debug, Drop)]
 pub struct Ident {
     high: u64,
