@@ -34,7 +34,7 @@ answer arrives. It is defensible if the node was that at some instant while the 
 nodes and those with a line `member`, until their line `crash`, `leave` or `stranded`. A trace that ends early, as that
 of a run that failed, is told as far as it goes, with a report of its lines: all numbers of the report but `events`. A
 trace with a line that cannot be of a run of the scenario is refused, and so is a report that is empty or of another
-run.
+run. If --lookups is all that is asked for, `chordsim judge` reads the trace, and refuses fewer lines (docs/trace.md).
 
 If the scenario has `detail = true`, the summary counts the messages of each kind, and the stories name each request."""
 EXAMPLES = """\
