@@ -40,7 +40,8 @@ class Judge(unittest.TestCase):
     """The program's table and that of the tool."""
 
     def setUp(self) -> None:
-        """A folder."""
+        """A folder. The tests are skipped if there is no program."""
+        program()
         folder = tempfile.TemporaryDirectory()
         self.addCleanup(folder.cleanup)
         self.folder = Path(folder.name)
