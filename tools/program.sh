@@ -1,7 +1,8 @@
 # What ./chordsim, tools/renew_release and tools/check_release share: what the program is made of, and where it is kept.
 # The script that reads this file has set `top` to the folder of the repository.
 
-# The folder of the program that the repository keeps, the folder of the one that ./chordsim has built, and what rt makes.
+# The folder of the program that the repository keeps, the folder of the one that ./chordsim has built, and the program
+# that rt ci makes in the repository.
 release=$top/release/x86_64-linux
 built=$top/out
 made=$top/crates/chordsim/out/chordsim
