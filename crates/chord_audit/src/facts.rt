@@ -12,6 +12,7 @@ use crate::tables::Tables;
 use chord_event::Memory;
 use chord_node::NodeState;
 use chord_scenario::Scenario;
+use des_machine::States;
 use std::alloc::Global;
 
 /// The facts of a ring at a time in microseconds. There is one state for each node of the scenario.
@@ -25,6 +26,20 @@ pub fn audit(
     requires each { length states.now ≡ node_count scenario.now }
     requires succ { All (λ state. AllNodes scenario.now state.succ) states.now }
     ensures { IfOk result (λ line. (state : ℕ → NodeState) → AreStates scenario.now states.now state → line ≡ audit_facts scenario.now state time) }
+{
+    audit_states(alloc, scenario, &states, time)
+}
+
+/// The same of states that lie wherever an engine keeps them.
+pub fn audit_states<V: States<NodeState>>(
+    alloc: Global,
+    scenario: &Scenario,
+    states: &V,
+    time: u64,
+) -> Result<AuditLine, Memory>
+    requires each { length (V.list states.now) ≡ node_count scenario.now }
+    requires succ { All (λ state. AllNodes scenario.now state.succ) (V.list states.now) }
+    ensures { IfOk result (λ line. (state : ℕ → NodeState) → AreStates scenario.now (V.list states.now) state → line ≡ audit_facts scenario.now state time) }
 {
     let tables = Tables::of(alloc, scenario, states)?;
     let dead = count_dead(&tables.members, &tables.best);

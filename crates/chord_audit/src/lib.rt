@@ -11,4 +11,4 @@ mod successors;
 mod tables;
 
 pub use audit_line::AuditLine;
-pub use facts::audit;
+pub use facts::{audit, audit_states};

@@ -1,11 +1,12 @@
 //! The ranks that successors and lists skip.
-ghost use Rattle.std.specs.Prelude.{◌≡◌, ℕ, ◌<◌, ◌||◌, IfOk, length};
+ghost use Rattle.std.specs.Prelude.{◌≡◌, ℕ, ◌<◌, ◌^◌, ◌||◌, IfOk, length};
 ghost use Rattle.std.specs.List.{All};
 ghost use Rattle.chord_audit.specs.Tables.{covers, is_inside_list, is_marked, is_passed_rank, is_skipped_rank, LeadBelow};
 
 use crate::arcs::Arcs;
 use chord_event::Memory;
 use chord_node::NodeState;
+use des_machine::States;
 use std::alloc::Global;
 
 /// Which ranks lie between a marked node and the node that it leads to.
@@ -35,23 +36,25 @@ pub(crate) fn skipped_ranks(
 
 /// Which ranks lie between two neighbours of the list of a marked node. The node itself is the
 /// first of the list.
-pub(crate) fn passed_ranks(
+pub(crate) fn passed_ranks<V: States<NodeState>>(
     alloc: Global,
     ranks: &[usize],
     marks: &[bool],
-    states: &[NodeState],
+    states: &V,
 ) -> Result<Vec<bool>, Memory>
+    requires few { length ranks.now < 2 ^ 32 }
     requires ranks { All (λ rank. rank < length ranks.now) ranks.now }
     requires marks { length marks.now ≡ length ranks.now }
-    requires states { length states.now ≡ length ranks.now }
-    requires succ { All (λ state. All (λ n. n < length ranks.now) state.succ) states.now }
+    requires states { length (V.list states.now) ≡ length ranks.now }
+    requires succ { All (λ state. All (λ n. n < length ranks.now) state.succ) (V.list states.now) }
     ensures length { IfOk result (λ passed. length passed.items ≡ length ranks.now) }
-    ensures passed { IfOk result (λ passed. (k : ℕ) → k < length ranks.now → is_marked passed.items k ≡ is_passed_rank ranks.now marks.now states.now k) }
+    ensures passed { IfOk result (λ passed. (k : ℕ) → k < length ranks.now → is_marked passed.items k ≡ is_passed_rank ranks.now marks.now (V.list states.now) k) }
 {
     let mut arcs = Arcs::new(alloc, ranks.len())?;
-    for (node, state) in states.iter().enumerate() {
+    for node in 0..ranks.len() {
         if marks[node] {
-            add_list(&mut arcs, ranks, node, state.succ.as_slice());
+            let list = states.of(node as u32).succ.as_slice();
+            add_list(&mut arcs, ranks, node, list);
         }
     }
     arcs.covered(alloc)

@@ -6,31 +6,39 @@ ghost use Rattle.chord_audit.specs.Tables.{is_marked};
 
 use chord_event::Memory;
 use chord_node::{NodeState, Status};
+use des_machine::States;
 use std::alloc::Global;
 
 /// Which nodes are members.
-pub(crate) fn members_of(alloc: Global, states: &[NodeState]) -> Result<Vec<bool>, Memory>
-    ensures { IfOk result (λ members. members.items ≡ map is_member states.now) }
+pub(crate) fn members_of<V: States<NodeState>>(
+    alloc: Global,
+    nodes: u32,
+    states: &V,
+) -> Result<Vec<bool>, Memory>
+    requires { length (V.list states.now) ≡ nodes }
+    ensures { IfOk result (λ members. members.items ≡ map is_member (V.list states.now)) }
 {
     let mut members = Vec::new(alloc);
-    for state in states {
-        members.push(state.status == Status::Member)?;
+    for node in 0..nodes {
+        members.push(states.of(node).status == Status::Member)?;
     }
     Ok(members)
 }
 
 /// The best successor of each node.
-pub(crate) fn best_successors(
+pub(crate) fn best_successors<V: States<NodeState>>(
     alloc: Global,
-    states: &[NodeState],
+    nodes: u32,
+    states: &V,
     members: &[bool],
 ) -> Result<Vec<Option<u32>>, Memory>
-    requires { All (λ state. All (λ n. n < length members.now) state.succ) states.now }
-    ensures { IfOk result (λ best. best.items ≡ map (λ state. find (is_marked members.now) state.succ) states.now) }
+    requires each { length (V.list states.now) ≡ nodes }
+    requires succ { All (λ state. All (λ n. n < length members.now) state.succ) (V.list states.now) }
+    ensures { IfOk result (λ best. best.items ≡ map (λ state. find (is_marked members.now) state.succ) (V.list states.now)) }
 {
     let mut best = Vec::new(alloc);
-    for state in states {
-        best.push(first_marked(state.succ.as_slice(), members))?;
+    for node in 0..nodes {
+        best.push(first_marked(states.of(node).succ.as_slice(), members))?;
     }
     Ok(best)
 }

@@ -12,6 +12,7 @@ use crate::successors::{best_successors, members_of};
 use chord_event::Memory;
 use chord_node::NodeState;
 use chord_scenario::Scenario;
+use des_machine::States;
 use std::alloc::Global;
 
 /// What an audit knows of each node: whether it is a member, its best successor, whether it is on a
@@ -28,14 +29,19 @@ pub(crate) struct Tables {
 }
 
 impl Tables {
-    pub fn of(alloc: Global, scenario: &Scenario, states: &[NodeState]) -> Result<Tables, Memory>
-        requires each { length states.now ≡ node_count scenario.now }
-        requires succ { All (λ state. AllNodes scenario.now state.succ) states.now }
-        ensures { IfOk result (HoldFacts scenario.now states.now) }
+    pub fn of<V: States<NodeState>>(
+        alloc: Global,
+        scenario: &Scenario,
+        states: &V,
+    ) -> Result<Tables, Memory>
+        requires each { length (V.list states.now) ≡ node_count scenario.now }
+        requires succ { All (λ state. AllNodes scenario.now state.succ) (V.list states.now) }
+        ensures { IfOk result (HoldFacts scenario.now (V.list states.now)) }
     {
         scenario.recall_range();
-        let members = members_of(alloc, states)?;
-        let best = best_successors(alloc, states, &members)?;
+        let nodes = scenario.nodes();
+        let members = members_of(alloc, nodes, states)?;
+        let best = best_successors(alloc, nodes, states, &members)?;
         let ring = ring_of(alloc, &best)?;
         let ranks = ranks_of(alloc, scenario)?;
         let skipped = skipped_ranks(alloc, &ranks, &ring, &best)?;

@@ -1,5 +1,5 @@
 //! Chord as a machine of the simulation kernel.
-use chord_audit::audit;
+use chord_audit::audit_states;
 use chord_event::{Body, Event, Memory};
 use chord_machine::audit_times;
 use chord_node::{NodeState, initial_ring};
@@ -7,7 +7,7 @@ use chord_ops::{Effect, Spare, act_with};
 use chord_scenario::Scenario;
 use chord_trace::Piece;
 use des_event::Listed;
-use des_machine::Machine;
+use des_machine::{Machine, States};
 use des_parts::CopiesStates;
 use std::alloc::Global;
 use std::mem;
@@ -77,10 +77,6 @@ impl<'s> Machine for ChordRing<'s> {
         self.scenario.start_events(alloc)
     }
 
-    fn blank(&self, alloc: Global) -> NodeState {
-        NodeState::never_up(alloc, 0)
-    }
-
     #[inline(always)]
     fn act(
         &self,
@@ -102,8 +98,13 @@ impl<'s> Machine for ChordRing<'s> {
         audit_times(alloc, self.scenario)
     }
 
-    fn audit(&self, alloc: Global, states: &[NodeState], time: u64) -> Result<Piece, Memory> {
-        let audit = audit(alloc, self.scenario, states, time)?;
+    fn audit<V: States<NodeState>>(
+        &self,
+        alloc: Global,
+        states: &V,
+        time: u64,
+    ) -> Result<Piece, Memory> {
+        let audit = audit_states(alloc, self.scenario, states, time)?;
         Ok(Piece::OfAudit { audit })
     }
 

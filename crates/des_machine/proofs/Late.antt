@@ -1,5 +1,5 @@
 -- Times in ascending order.
-use Rattle.std.proofs.Common.{◌≡◌, ◌∙◌, ℕ, zero, suc, ◌+◌, ◌<◌, ◌≤◌, Bool, true, false, cond, List, [], ◌∷◌, None, Some, drop, length, get_or, slice_get, nat_lt, lt-ltb, le-ltb, ap, sym, arith}
+use Rattle.std.proofs.Common.{◌≡◌, ◌∙◌, ℕ, zero, suc, ◌+◌, ◌<◌, ◌≤◌, true, false, cond, List, [], ◌∷◌, None, Some, drop, length, get_or, slice_get, nat_lt, lt-ltb, le-ltb, ap, sym, arith}
 use Rattle.std.proofs.lemmas.List.{drop_all, drop_more}
 use Rattle.std.specs.List.{AllByRecursion, filter}
 use Rattle.des_machine.specs.Times.{IsAscending}

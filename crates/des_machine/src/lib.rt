@@ -6,8 +6,10 @@ mod audit_clock;
 mod journal;
 mod machine;
 mod scribe;
+mod states;
 
 pub use audit_clock::AuditClock;
 pub use journal::Journal;
 pub use machine::Machine;
 pub use scribe::Scribe;
+pub use states::States;

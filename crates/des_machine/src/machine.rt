@@ -1,4 +1,5 @@
 //! A world that can be simulated.
+use crate::states::States;
 use des_event::{Event, Memory};
 use std::alloc::Global;
 
@@ -67,9 +68,6 @@ pub trait Machine {
     fn start_events(&self, alloc: Global) -> Result<Vec<Event<Self::Body>>, Memory>
         ensures { IfOk result (λ events. events.items ≡ (model self.now).start_events) };
 
-    /// A state that takes little memory. It stands where a state has been moved away.
-    fn blank(&self, alloc: Global) -> Self::State;
-
     /// Lets the target of an event act on it. The events that it makes go into `made`, which is empty
     /// and may have room. After an error the state is not read again.
     fn act(
@@ -94,9 +92,14 @@ pub trait Machine {
         ensures { IfOk result (λ times. times.items ≡ (model self.now).audit_times) };
 
     /// The audit of all nodes at a time.
-    fn audit(&self, alloc: Global, states: &[Self::State], time: u64) -> Result<Self::Piece, Memory>
-        requires sound { AreSound (model self.now) (Sound self.now) states.now }
-        ensures piece { IfOk result (λ piece. (account : ℕ → Self.State) → AreStates (model self.now) states.now account → piece ≡ (model self.now).audit time account) }
+    fn audit<V: States<Self::State>>(
+        &self,
+        alloc: Global,
+        states: &V,
+        time: u64,
+    ) -> Result<Self::Piece, Memory>
+        requires sound { AreSound (model self.now) (Sound self.now) (V.list states.now) }
+        ensures piece { IfOk result (λ piece. (account : ℕ → Self.State) → AreStates (model self.now) (V.list states.now) account → piece ≡ (model self.now).audit time account) }
         ensures known { IfOk result (Known self.now) };
 
     // The laws of runs hold for it.

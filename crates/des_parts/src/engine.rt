@@ -107,7 +107,7 @@ impl<M: Machine, S: Scribe<M> + Drop> WindowEngine<M, S> {
         self.journal.put_audits(
             alloc,
             machine,
-            self.world.states.as_slice(),
+            &self.world.states.as_slice(),
             machine.duration(),
             writer,
         )?;
@@ -152,7 +152,7 @@ impl<M: Machine, S: Scribe<M> + Drop> WindowEngine<M, S> {
         self.journal.put_audits(
             alloc,
             machine,
-            self.world.states.as_slice(),
+            &self.world.states.as_slice(),
             opening.time,
             writer,
         )?;

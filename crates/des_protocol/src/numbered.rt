@@ -5,7 +5,7 @@ ghost use Rattle.des_protocol.specs.Numbered.{uncounted};
 use crate::protocol::Protocol;
 use crate::teller::Teller;
 use des_event::{Event, Memory};
-use des_machine::Machine;
+use des_machine::{Machine, States};
 use std::alloc::Global;
 use std::mem;
 
@@ -88,13 +88,6 @@ impl<P: Protocol> Machine for Numbered<P> {
         Ok(teller.into_events())
     }
 
-    fn blank(&self, alloc: Global) -> Counted<P::State> {
-        Counted {
-            state: self.protocol.blank(alloc),
-            made: 0,
-        }
-    }
-
     #[inline(always)]
     fn act(
         &self,
@@ -123,10 +116,10 @@ impl<P: Protocol> Machine for Numbered<P> {
         self.protocol.audit_times(alloc)
     }
 
-    fn audit(
+    fn audit<V: States<Counted<P::State>>>(
         &self,
         alloc: Global,
-        states: &[Counted<P::State>],
+        states: &V,
         time: u64,
     ) -> Result<P::Piece, Memory> {
         self.protocol.audit(alloc, states, time)

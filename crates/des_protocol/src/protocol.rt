@@ -2,6 +2,7 @@
 use crate::numbered::Counted;
 use crate::teller::Teller;
 use des_event::Memory;
+use des_machine::States;
 use std::alloc::Global;
 
 /// A protocol of numbered nodes. Each node has a state, and acts on what it is told: it changes its
@@ -69,9 +70,6 @@ pub trait Protocol {
         requires none { teller.old.told ≡ [] }
         ensures { OnOk result (teller.new ≡ record teller.old { told = (rules self.now).start }) };
 
-    /// A state that takes little memory. It stands where a state has been moved away.
-    fn blank(&self, alloc: Global) -> Self::State;
-
     /// Lets a node act on what it is told, at the teller's time. After an error the state is not read
     /// again.
     fn act(
@@ -98,14 +96,14 @@ pub trait Protocol {
         ensures { IfOk result (λ times. times.items ≡ (rules self.now).audit_times) };
 
     /// The audit of all nodes at a time.
-    fn audit(
+    fn audit<V: States<Counted<Self::State>>>(
         &self,
         alloc: Global,
-        states: &[Counted<Self::State>],
+        states: &V,
         time: u64,
     ) -> Result<Self::Piece, Memory>
-        requires sound { AreSoundStates (rules self.now) (Sound self.now) states.now }
-        ensures piece { IfOk result (λ piece. (account : ℕ → Self.State) → AreAccounted (rules self.now) states.now account → piece ≡ (rules self.now).audit time account) }
+        requires sound { AreSoundStates (rules self.now) (Sound self.now) (V.list states.now) }
+        ensures piece { IfOk result (λ piece. (account : ℕ → Self.State) → AreAccounted (rules self.now) (V.list states.now) account → piece ≡ (rules self.now).audit time account) }
         ensures known { IfOk result (Known self.now) };
 
     // The laws of protocols hold for it.

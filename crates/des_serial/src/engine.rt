@@ -93,7 +93,7 @@ impl<M: Machine, S: Scribe<M> + Drop> SerialEngine<M, S> {
         self.journal.put_audits(
             alloc,
             machine,
-            self.states.as_slice(),
+            &self.states.as_slice(),
             event.key.time,
             writer,
         )?;
@@ -123,7 +123,7 @@ impl<M: Machine, S: Scribe<M> + Drop> SerialEngine<M, S> {
         self.journal.put_audits(
             alloc,
             machine,
-            self.states.as_slice(),
+            &self.states.as_slice(),
             machine.duration(),
             writer,
         )?;

@@ -10,6 +10,7 @@ pub mod PartHandling
 pub mod PartLists
 pub mod PartRunning
 pub mod PartSteps
+pub mod Placed
 pub mod PutBack
 pub mod Results
 pub mod RunCourse
@@ -17,7 +18,6 @@ pub mod Runs
 pub mod Sending
 pub mod Slots
 pub mod Starts
-pub mod Swaps
 pub mod TeamEnds
 pub mod TeamMail
 pub mod TeamOrders

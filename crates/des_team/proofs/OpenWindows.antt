@@ -23,8 +23,8 @@ use Rattle.des_team.proofs.TeamShares.{audited_more, audits_fewer}
 use Rattle.des_team.specs.declared.layout.Layout.{Layout}
 use Rattle.des_team.specs.declared.part.Parcel.{Parcel}
 use Rattle.des_team.specs.declared.team.Team.{Team}
-use Rattle.des_team.specs.Swaps.{HaveSwapped}
-use Rattle.des_team.proofs.Swaps.{whole_after}
+use Rattle.des_team.specs.Placed.{placed}
+use Rattle.des_team.proofs.Placed.{placed_after}
 
 -- The clock
 
@@ -89,41 +89,35 @@ module _ {M State Body Piece S : Type 0} (ch : Chronicle State Body Piece S) {So
     ok.few,
   )
 
-  -- the states of all nodes, put together
-  pub together_after : (mid : List (Option (Parcel M S State Body Piece))) (got : List State)
-      → HaveSwapped l (length t.whole.items) t.parcels.items t.whole.items mid got
-      → AreStatesAfter ch.machine past got
-  together_after mid got first = whole_after ch ok l at.layout past t.parcels.items at.here (length t.whole.items) at.whole_long t.whole.items mid got first
-      at.whole_long
+  -- the states of all nodes, in the parts
+  pub states_after : AreStatesAfter ch.machine past (placed l t.parcels.items)
+  states_after = placed_after ch l at.layout past t.parcels.items at.here
 
   some_here : (parcels : List (Option (Parcel M S State Body Piece))) → AreHere ch l past parcels → (p : ℕ) → p < l.division.parts
       → IfSome (get_or parcels p None) (IsHere ch l past p)
   some_here parcels here p k = let r = here p k in subst (λ z. IfSome z (IsHere ch l past p)) (sym r.1) r.2
 
-  module _ (w : Opening) (opens : opening_after ch.machine (history ch.machine t.count) ≡ Some w) (ps : Vec (Option (Parcel M S State Body Piece)) Global)
-      (journal : Journal S) (text : Vec ℕ Global) (whole : Vec State Global) where
+  module _ (w : Opening) (opens : opening_after ch.machine (history ch.machine t.count) ≡ Some w) (journal : Journal S) (text : Vec ℕ Global) where
     abbrev made : List Piece
     made = audits_at ch.machine (state ch.machine past) (due w.time t.journal.clock)
 
     same_made : made ≡ audits_due ch.machine (history ch.machine t.count) w.time
     same_made = ap (λ ts. audits_at ch.machine (state ch.machine past) (due w.time ts)) at.audits ∙ sym (open_see ch.machine (λ u. nat_le u w.time) past)
 
-    pub opened_at : AreHere ch l (history ch.machine t.count) ps.items → length ps.items ≡ l.division.parts → length whole.items ≡ ch.machine.nodes
-        → journal.clock ≡ filter (λ u. nat_lt w.time u) t.journal.clock
+    pub opened_at : journal.clock ≡ filter (λ u. nat_lt w.time u) t.journal.clock
         → text.items ≡ flat_map ch.text (audits_at ch.machine (state ch.machine (history ch.machine t.count)) (due w.time t.journal.clock))
         → ((earlier : List Piece) → ch.HasCounted earlier t.journal.scribe
         → ch.HasCounted (earlier ++ audits_at ch.machine (state ch.machine (history ch.machine t.count)) (due w.time t.journal.clock)) journal.scribe)
-        → IsOpened ch l old now (record t { parcels = ps; journal = journal; due = text; whole = whole; window = w })
-    opened_at here parcels_long whole_long left text_is counted = record {
+        → IsOpened ch l old now (record t { journal = journal; due = text; window = w })
+    opened_at left text_is counted = record {
       can_send = record {
         layout = at.layout;
         within = at.within;
         long = at.long;
         opens = opens;
-        parcels_long = parcels_long;
-        here = some_here ps.items here;
+        parcels_long = at.parcels_long;
+        here = some_here t.parcels.items at.here;
       };
-      whole_long = whole_long;
       due_is = text_is ∙ ap (flat_map ch.text) same_made;
       audits = left ∙ ap (filter (λ u. nat_lt w.time u)) at.audits;
       written = at.written;
@@ -136,7 +130,7 @@ module _ {M State Body Piece S : Type 0} (ch : Chronicle State Body Piece S) {So
   opened_without w opens text none late =
       let all = late_clock w.time late in
       let nothing : due w.time t.journal.clock ≡ [] = none-due w.time t.journal.clock all in
-      opened_at w opens t.parcels t.journal text t.whole at.here at.parcels_long at.whole_long (sym (all-left w.time t.journal.clock all))
+      opened_at w opens t.journal text (sym (all-left w.time t.journal.clock all))
       (none ∙ sym (ap (λ ts. flat_map ch.text (audits_at ch.machine (state ch.machine past) ts)) nothing))
       (λ earlier h. subst (λ z. ch.HasCounted z t.journal.scribe)
       (sym (ap (λ ts. earlier ++ audits_at ch.machine (state ch.machine past) ts) nothing ∙ append-nil earlier)) h)

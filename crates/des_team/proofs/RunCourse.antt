@@ -22,7 +22,6 @@ module _ {M State Body Piece S : Type 0} where
       → IsOpened ch l old now t → IsOpened ch l old now u
   opened_still ch l old now t u same can at = subst (IsOpened ch l old now) (sym same) (record {
     can_send = subst (CanSend ch l) same can;
-    whole_long = at.whole_long;
     due_is = at.due_is;
     audits = at.audits;
     written = at.written;

@@ -509,24 +509,22 @@ module _ {State Body Piece S : Type 0} (ch : Chronicle State Body Piece S) {Soun
         )
 
     pub team_at_start : (ps : Vec (Option (Parcel M S State Body Piece)) Global) (first : Option ℕ) (journal : Journal S) (text : Vec ℕ Global)
-        (whole : Vec State Global) (w : Opening) (now : Option (List ℕ)) → ps.items ≡ parcels → LeastTimeIs ch.machine.start_events first
-        → journal.clock ≡ ch.machine.audit_times → ch.HasCounted [] journal.scribe → length whole.items ≡ ch.machine.nodes
+        (w : Opening) (now : Option (List ℕ)) → ps.items ≡ parcels → LeastTimeIs ch.machine.start_events first
+        → journal.clock ≡ ch.machine.audit_times → ch.HasCounted [] journal.scribe
         → IsTeam ch l now now (record {
           count = 0;
           parcels = ps;
           next = first;
           journal = journal;
           due = text;
-          whole = whole;
           window = w;
         })
-    team_at_start ps first journal text whole w now parcels_are least clock_is tallied whole_long = record {
+    team_at_start ps first journal text w now parcels_are least clock_is tallied = record {
       layout = layout;
       within = omega arith;
       long = refl;
       parcels_long = ap length parcels_are ∙ parcels_long;
       here = subst (AreHere ch l (history ch.machine 0)) (sym parcels_are) here_at_start;
-      whole_long = whole_long;
       next_is = next_time ch (history ch.machine 0) ch.machine.start_events starts_are first least;
       audits = clock_is ∙ sym (audits_at_start ch.machine);
       written = Appends-nil now;

@@ -1,5 +1,5 @@
 -- The end of a run by a team.
-use Rattle.std.proofs.Common.{◌≡◌, ◌∙◌, ℕ, suc, ◌<◌, List, ◌∷◌, ◌++◌, Option, None, Some, length, get_or, sym, subst, arith, ◌≤◌, ◌^◌, append-nil, Ok, ap}
+use Rattle.std.proofs.Common.{◌≡◌, ℕ, suc, ◌<◌, List, ◌∷◌, ◌++◌, Option, None, Some, length, get_or, sym, subst, arith, ◌≤◌, ◌^◌, append-nil, Ok, ap}
 use Rattle.std.specs.List.{Contains}
 use Rattle.std.specs.List.Sorted.{IsPermutation}
 use Rattle.std.proofs.lemmas.List.Sorted.{IsPermutation-sym, length_permutation}
@@ -27,7 +27,6 @@ use Rattle.des_team.specs.declared.part.Parcel.{Parcel}
 use Rattle.des_team.specs.declared.team.Team.{Team}
 use Rattle.des_team.specs.Owned.{share_of}
 use Rattle.des_team.specs.Shares.{scribes_in}
-use Rattle.des_team.specs.Swaps.{HasOnlyStates, HaveSwapped}
 use Rattle.des_team.specs.Teams.{IsTeam}
 use Rattle.des_team.proofs.TeamShares.{all_shared, counted_by, scribes_are}
 
@@ -46,43 +45,33 @@ module _ {M State Body Piece S : Type 0} (ch : Chronicle State Body Piece S) {So
       (possible_from_legal ch.machine past (history_is_legal ch.machine t.count))).fit
       (legal_known ch.machine past (history_is_legal ch.machine t.count) e c)))
 
-  -- the parts have their scribes while the states of all nodes are put together, and the scribe of the audits has counted
-  -- these too
-  module _ (n : ℕ) (together : List State) (mid : List (Option (Parcel M S State Body Piece))) (got : List State)
-      (first : HaveSwapped l n t.parcels.items together mid got) (rest : List Piece) (scribe : S)
+  -- the scribe of the audits has counted the last ones, too
+  module _ (rest : List Piece) (scribe : S)
       (adds : (earlier : List Piece) → ch.HasCounted earlier t.journal.scribe → ch.HasCounted (earlier ++ rest) scribe) where
-    mid_counted : (p : ℕ) → p < l.division.parts → (parcel : Parcel M S State Body Piece) × (get_or mid p None ≡ Some parcel)
+    part_counted : (p : ℕ) → p < l.division.parts → (parcel : Parcel M S State Body Piece) × (get_or t.parcels.items p None ≡ Some parcel)
         × ch.HasCounted (share_of ch.machine l.division p past) parcel.part.value.scribe
-    mid_counted p k =
+    part_counted p k =
         let r = at.here p k in
-        let m = subst (λ z. HasOnlyStates z (get_or mid p None)) r.1 (first.same p) in (
-          m.0,
-          m.1,
-          subst (λ (z : Parcel M S State Body Piece). ch.HasCounted (share_of ch.machine l.division p past) z.part.value.scribe) (sym m.2)
-              (subst (λ q. ch.HasCounted (share_of ch.machine l.division q past) r.0.part.value.scribe) r.2.part_is r.2.owned.counted),
-        )
-
-    mid_long : length mid ≡ l.division.parts
-    mid_long = first.long ∙ at.parcels_long
+        (r.0, r.1, subst (λ q. ch.HasCounted (share_of ch.machine l.division q past) r.0.part.value.scribe) r.2.part_is r.2.owned.counted)
 
     abbrev shares : ℕ → List Piece
     shares = counted_by ch.machine l.division past (at.audited.audits ++ rest)
 
-    parts_counted : HaveCountedShares ch.HasCounted (λ p. shares (suc p)) (scribes_in mid) × (length (scribes_in mid) ≡ length mid)
-    parts_counted = scribes_are ch.HasCounted (λ p. shares (suc p)) mid (λ p k. mid_counted p (omega (arith, k, mid_long)))
+    parts_counted : HaveCountedShares ch.HasCounted (λ p. shares (suc p)) (scribes_in t.parcels.items) × (length (scribes_in t.parcels.items) ≡ length t.parcels.items)
+    parts_counted = scribes_are ch.HasCounted (λ p. shares (suc p)) t.parcels.items (λ p k. part_counted p (omega (arith, k, at.parcels_long)))
 
-    scribes_long : length (scribe ∷ scribes_in mid) ≡ suc l.division.parts
-    scribes_long = omega (arith, parts_counted.1, mid_long)
+    scribes_long : length (scribe ∷ scribes_in t.parcels.items) ≡ suc l.division.parts
+    scribes_long = omega (arith, parts_counted.1, at.parcels_long)
 
-    each_counted : HaveCountedShares ch.HasCounted shares (scribe ∷ scribes_in mid)
-    each_counted = first_counted ch.HasCounted shares scribe (scribes_in mid)
+    each_counted : HaveCountedShares ch.HasCounted shares (scribe ∷ scribes_in t.parcels.items)
+    each_counted = first_counted ch.HasCounted shares scribe (scribes_in t.parcels.items)
         (adds at.audited.audits (subst (λ ps. ch.HasCounted ps t.journal.scribe) (append-nil at.audited.audits) at.audited.counted)) parts_counted.0
 
-    all_counted : IsPermutation (output ch.machine past ++ rest) (shares_to shares (length (scribe ∷ scribes_in mid)))
+    all_counted : IsPermutation (output ch.machine past ++ rest) (shares_to shares (length (scribe ∷ scribes_in t.parcels.items)))
     all_counted = subst (λ k. IsPermutation (output ch.machine past ++ rest) (shares_to shares k)) (sym scribes_long)
         (all_shared ch.machine l.division l.division.parts past events_inside (output ch.machine past) at.audited.audits rest at.audited.rest)
 
-    module _ (scribes : List S) (same : scribes ≡ scribe ∷ scribes_in mid) where
+    module _ (scribes : List S) (same : scribes ≡ scribe ∷ scribes_in t.parcels.items) where
       -- the scribes can be joined
       pub can_join : length (output ch.machine past ++ rest) ≤ 2 ^ 40
           → (share : ℕ → List Piece) × HaveCountedShares ch.HasCounted share scribes × (length (shares_to share (length scribes)) ≤ 2 ^ 40)
@@ -91,7 +80,7 @@ module _ {M State Body Piece S : Type 0} (ch : Chronicle State Body Piece S) {So
         subst (HaveCountedShares ch.HasCounted shares) (sym same) each_counted,
         omega (
           arith,
-          length_permutation (output ch.machine past ++ rest) (shares_to shares (length (scribe ∷ scribes_in mid))) all_counted,
+          length_permutation (output ch.machine past ++ rest) (shares_to shares (length (scribe ∷ scribes_in t.parcels.items))) all_counted,
           ap (λ ss. length (shares_to shares (length ss))) same,
           few,
         ),
@@ -104,7 +93,7 @@ module _ {M State Body Piece S : Type 0} (ch : Chronicle State Body Piece S) {So
           → ((share : ℕ → List Piece) → HaveCountedShares ch.HasCounted share scribes → ch.HasCounted (shares_to share (length scribes)) joined)
           → ((pieces : List Piece) → ch.HasCounted pieces joined → IsReport pieces report) → IsReport (output ch.machine past ++ rest) report
       joined_report IsReport unordered joined report joins reports =
-          let all : List Piece = shares_to shares (length (scribe ∷ scribes_in mid)) in
+          let all : List Piece = shares_to shares (length (scribe ∷ scribes_in t.parcels.items)) in
           unordered all (output ch.machine past ++ rest) report (IsPermutation-sym (output ch.machine past ++ rest) all all_counted)
           (reports all (subst (λ (ss : List S). ch.HasCounted (shares_to shares (length ss)) joined) same
           (joins shares (subst (HaveCountedShares ch.HasCounted shares) (sym same) each_counted))))

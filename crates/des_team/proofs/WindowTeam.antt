@@ -172,8 +172,6 @@ module _ {M State Body Piece S : Type 0} (ch : Chronicle State Body Piece S) {So
         long = ap (λ k. length (history ch.machine k)) count ∙ after_long ch ok l t can fs results none ∙ sym count;
         parcels_long = long ∙ can.parcels_long;
         here = subst (λ k. AreHere ch l (history ch.machine k) u.parcels.items) (sym count) here;
-        whole_long = ap (λ (z : Team M S State Body Piece). length z.whole.items) then ∙ ap (λ (z : Team M S State Body Piece). length z.whole.items) same
-            ∙ opened.whole_long;
         next_is = ap (λ k. option_map (λ (e : Event Body). e.key.time) (next ch.machine (history ch.machine k))) count
             ∙ ap (λ h. option_map (λ (e : Event Body). e.key.time) (next ch.machine h)) (sym (after_is ch ok l t can fs results none))
             ∙ next_after ch ok l t can fs results none ∙ ap (before_end ch.machine.duration)

@@ -8,8 +8,8 @@ pub mod Mail
 pub mod Orders
 pub mod Outputs
 pub mod Owned
+pub mod Placed
 pub mod Running
 pub mod Shares
 pub mod Starts
-pub mod Swaps
 pub mod Teams

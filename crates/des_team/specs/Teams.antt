@@ -60,7 +60,6 @@ module _ {M State Body Piece S : Type 0} where
     pub long : length (history ch.machine t.count) ≡ t.count
     pub parcels_long : length t.parcels.items ≡ l.division.parts
     pub here : AreHere ch l (history ch.machine t.count) t.parcels.items
-    pub whole_long : length t.whole.items ≡ ch.machine.nodes
     pub next_is : option_map (λ (e : Event Body). e.key.time) (next ch.machine (history ch.machine t.count)) ≡ before_end ch.machine.duration t.next
     pub audits : t.journal.clock ≡ open_audits ch.machine (history ch.machine t.count)
     pub written : Writes ch.text old now (output ch.machine (history ch.machine t.count))
@@ -78,7 +77,6 @@ module _ {M State Body Piece S : Type 0} where
   -- the next window is open: the audits that are due by its first time are made, and not yet written
   pub record IsOpened (ch : Chronicle State Body Piece S) (l : Layout) (old now : Option (List ℕ)) (t : Team M S State Body Piece) : Type 0 where
     pub can_send : CanSend ch l t
-    pub whole_long : length t.whole.items ≡ ch.machine.nodes
     pub due_is : t.due.items ≡ flat_map ch.text (audits_due ch.machine (history ch.machine t.count) t.window.time)
     pub audits : t.journal.clock ≡ filter (λ a. nat_lt t.window.time a) (open_audits ch.machine (history ch.machine t.count))
     pub written : Writes ch.text old now (output ch.machine (history ch.machine t.count))

@@ -1,8 +1,8 @@
 //! The audits that are due when a window opens.
-ghost use Rattle.std.specs.Prelude.{◌≡◌, ℕ, ◌<◌, List, [], Option, Some, length, OnOk, IfErr, IfSome};
+ghost use Rattle.std.specs.Prelude.{◌≡◌, ℕ, List, [], Option, Some, OnOk, IfErr};
 ghost use Rattle.des_model.specs.Histories.{history};
 ghost use Rattle.des_team.specs.Chronicles.{chronicle};
-ghost use Rattle.des_team.specs.Swaps.{CanSwap, HaveSwapped, IsStateSwapped};
+ghost use Rattle.des_team.specs.Placed.{placed};
 ghost use Rattle.des_team.specs.Teams.{IsOpened, IsTeam};
 ghost use Rattle.des_window.specs.Openings.{opening_after};
 
@@ -11,38 +11,26 @@ use crate::layout::Layout;
 use crate::part::Parcel;
 use crate::team::Team;
 use des_event::RunError;
-use des_machine::{Machine, Scribe};
+use des_machine::{Machine, Scribe, States};
 use des_output::Watched;
 use des_window::Opening;
 use std::mem;
 
-/// Exchanges a state for that at a slot of a part, if the part is here.
-fn swap_state<M: Machine, S: Drop>(
-    place: &mut Option<Parcel<M, S>>,
-    slot: usize,
-    state: &mut M::State,
-)
-    requires { IfSome place.old (λ p. slot < length p.part.value.states.items) }
-    ensures { IsStateSwapped slot place.old state.old place.new state.new }
-{
-    if let Some(parcel) = place {
-        mem::swap(&mut parcel.part.states[slot], state);
-    }
+/// The states of all nodes, in the parts that have them.
+#[derive(Drop)]
+pub struct PlacedStates<'a, M: Machine, S> {
+    pub layout: &'a Layout,
+    pub parcels: &'a [Option<Parcel<M, S>>],
 }
 
-/// Exchanges the states of all nodes, which the parts have, for those in a list.
-pub fn swap_states<M: Machine, S: Drop>(
-    parcels: &mut Vec<Option<Parcel<M, S>>>,
-    layout: &Layout,
-    whole: &mut Vec<M::State>,
-)
-    requires { CanSwap layout.now (length whole.old.items) parcels.old.items }
-    ensures { HaveSwapped layout.now (length whole.old.items) parcels.old.items whole.old.items parcels.new.items whole.new.items }
-{
-    for node in 0..whole.len() {
-        let part = layout.division.part_of(node as u32) as usize;
-        let slot = layout.slots[node] as usize;
-        swap_state(&mut parcels[part], slot, &mut whole[node]);
+impl<'a, M: Machine, S> States<M::State> for PlacedStates<'a, M, S> {
+    ghost list = { λ states. placed states.layout.now states.parcels.now };
+
+    fn of(&self, node: u32) -> &M::State {
+        let part = self.layout.division.part_of(node) as usize;
+        let slot = self.layout.slots[node as usize] as usize;
+        let parcel = self.parcels[part].as_ref().unwrap();
+        &parcel.part.states[slot]
     }
 }
 
@@ -82,18 +70,16 @@ impl<M: Machine, S: Scribe<M> + Drop> Team<M, S> {
             ..
         } = course;
         machine.recall();
-        swap_states(&mut self.parcels, layout, &mut self.whole);
+        let states = PlacedStates {
+            layout,
+            parcels: self.parcels.as_slice(),
+        };
         let text = mem::replace(&mut self.due, Vec::new(alloc));
         let mut writer = Watched::new(text);
-        let made = self.journal.put_audits(
-            alloc,
-            machine,
-            self.whole.as_slice(),
-            self.window.time,
-            &mut writer,
-        );
+        let made = self
+            .journal
+            .put_audits(alloc, machine, &states, self.window.time, &mut writer);
         self.due = writer.into_inner();
-        swap_states(&mut self.parcels, layout, &mut self.whole);
         // Only memory can fail here: the text goes to a list.
         if let Err(_refused) = made {
             return Err(RunError::Memory);

@@ -9,7 +9,7 @@ ghost use Rattle.des_output.specs.Watched.{wrapped, has_failed};
 ghost use Rattle.des_output.specs.Writing.{is_write};
 ghost use Rattle.des_window.specs.Openings.{opening_after};
 
-use crate::audits::swap_states;
+use crate::audits::PlacedStates;
 use crate::course::Course;
 use crate::part::Parcel;
 use crate::team::Team;
@@ -72,14 +72,12 @@ impl<M: Machine, S: Scribe<M> + Drop> Team<M, S> {
             ..
         } = course;
         machine.recall();
-        swap_states(&mut self.parcels, layout, &mut self.whole);
-        self.journal.put_audits(
-            alloc,
-            machine,
-            self.whole.as_slice(),
-            machine.duration(),
-            writer,
-        )?;
+        let states = PlacedStates {
+            layout,
+            parcels: self.parcels.as_slice(),
+        };
+        self.journal
+            .put_audits(alloc, machine, &states, machine.duration(), writer)?;
         let scribes = self.take_scribes(alloc, machine)?;
         let joined = join_all(alloc, machine, scribes)?;
         Ok(joined.report(machine))

@@ -20,17 +20,6 @@ use des_queue::Pending;
 use des_window::{Opening, sooner};
 use std::alloc::Global;
 
-/// A blank state for each node.
-fn blank_states<M: Machine>(alloc: Global, machine: &M) -> Result<Vec<M::State>, Memory>
-    ensures { IfOk result (λ states. length states.items ≡ (M.model machine.now).nodes) }
-{
-    let mut states = Vec::new(alloc);
-    for _node in 0..machine.nodes() {
-        states.push(machine.blank(alloc))?;
-    }
-    Ok(states)
-}
-
 /// So many parts, without states and events.
 fn empty_parts<M: Machine, S: Scribe<M> + Drop>(
     alloc: Global,
@@ -155,7 +144,6 @@ impl<M: Machine, S: Scribe<M> + Drop> Team<M, S> {
         deal_states(&mut parts, layout, machine.start_states(alloc)?)?;
         let next = deal_events(&mut parts, layout, machine.start_events(alloc)?)?;
         let parcels = parcels_of(alloc, parts)?;
-        let whole = blank_states(alloc, machine)?;
         let clock = AuditClock::new(machine.audit_times(alloc)?);
         Ok(Team {
             count: 0,
@@ -166,7 +154,6 @@ impl<M: Machine, S: Scribe<M> + Drop> Team<M, S> {
                 clock,
             },
             due: Vec::new(alloc),
-            whole,
             window: Opening {
                 time: 0,
                 horizon: 0,

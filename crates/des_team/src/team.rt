@@ -25,8 +25,6 @@ pub struct Team<M: Machine, S> {
     pub journal: Journal<S>,
     /// The text of the audits that are due in the next window.
     pub due: Vec<u8>,
-    /// Where the states of all nodes are put together for an audit.
-    pub whole: Vec<M::State>,
     /// The last window that was opened.
     pub window: Opening,
 }

@@ -3,7 +3,7 @@ ghost use Rattle.std.specs.Prelude.{◌≡◌, None, IfSome};
 ghost use Rattle.phold_rules.specs.Range.{IsInRange};
 
 use des_event::{Event, Memory};
-use des_machine::Machine;
+use des_machine::{Machine, States};
 use phold_rules::{Hop, Job, Node, Settings, send_on, start_events, start_states};
 use std::alloc::Global;
 use std::marker::Model;
@@ -100,10 +100,6 @@ impl Machine for Phold {
         start_events(alloc, &self.settings())
     }
 
-    fn blank(&self, _alloc: Global) -> Node {
-        Node { made: 0 }
-    }
-
     fn act(
         &self,
         _alloc: Global,
@@ -119,7 +115,7 @@ impl Machine for Phold {
     }
 
     // PHOLD has no audits, so no engine asks for one.
-    fn audit(&self, _alloc: Global, _nodes: &[Node], time: u64) -> Result<Hop, Memory> {
+    fn audit<V: States<Node>>(&self, _alloc: Global, _nodes: &V, time: u64) -> Result<Hop, Memory> {
         Ok(Hop {
             time,
             node: 0,

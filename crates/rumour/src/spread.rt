@@ -100,10 +100,6 @@ impl Protocol for Spread {
         start(teller)
     }
 
-    fn blank(&self, _alloc: Global) -> Node {
-        Node { heard: false }
-    }
-
     fn act(
         &self,
         _alloc: Global,
@@ -120,7 +116,12 @@ impl Protocol for Spread {
     }
 
     // There are no audits, so no engine asks for one.
-    fn audit(&self, _alloc: Global, _states: &[Counted<Node>], time: u64) -> Result<Told, Memory> {
+    fn audit<V: States<Counted<Node>>>(
+        &self,
+        _alloc: Global,
+        _states: &V,
+        time: u64,
+    ) -> Result<Told, Memory> {
         Ok(Told {
             time,
             node: 0,

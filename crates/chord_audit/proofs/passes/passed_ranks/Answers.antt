@@ -1,6 +1,7 @@
 use Rattle.std.proofs.Common.{◌≡◌, ◌∙◌, ◌||◌, ◌&&◌, ◌<◌, Bool, ℕ, [], sym, ap, arith, length}
 use Rattle.std.specs.List.{list_any, range_with_len}
 use Rattle.std.proofs.lemmas.List.{get_or-map}
+use Rattle.std.proofs.lemmas.Option.{get_or_from_slice_get}
 use Rattle.chord_node.specs.declared.state.NodeState.{NodeState}
 use Rattle.chord_audit.specs.declared.arcs.Arcs.{Arcs}
 use Rattle.chord_audit.specs.Tables.{reaches, is_inside_list, is_passing, list_of}
@@ -10,8 +11,8 @@ use Rattle.chord_audit.proofs.passes.passed_ranks.Goals as goal
 use Rattle.chord_audit.proofs.passes.passed_ranks.Goals.{then-marks-node, else-marks-node}
 
 pub loop-node-preserved : goal.loop-node-preserved
-loop-node-preserved c =
-    let ranks = c.args.ranks.now in let marks = c.args.marks.now in let states = c.args.states.now in let n = c.loop-node.node in
+loop-node-preserved g c =
+    let ranks = c.args.ranks.now in let marks = c.args.marks.now in let states = (g.V.States.list c.args.states.now) in let n = c.loop-node.node in
     let old = c.loop-node.arcs in let each = c.loop-node.invariant.each in
     let step = λ (k : ℕ) (lt : k < length ranks) (now : Bool). one_more (is_passing ranks marks states k) n (reaches old.first old.far.items k) now
     (c.loop-node.invariant.covered k lt) in
@@ -19,12 +20,12 @@ loop-node-preserved c =
       | then-marks-node w ↦ record {
         each = ap (λ (a : Arcs). length a.far.items) w.arcs-is ∙ w.add_list.ensures.length ∙ each;
         covered = λ k lt.
-            let state = c.index-states-node.result in
+            let state = w.of.result.now in
             let list : list_of states n ≡ state.succ = get_or-map (λ (s : NodeState). s.succ) states n state [] (omega (arith, c.requires.states))
-            ∙ sym (ap (λ (s : NodeState). s.succ) c.index-states-node.is) in
+            ∙ ap (λ (s : NodeState). s.succ) (get_or_from_slice_get states n state state w.of.ensures) in
             let marked =
             ap (λ b. b && is_inside_list ranks k n (list_of states n)) w.if-marks-node.true
-            ∙ ap (is_inside_list ranks k n) (list ∙ sym w.as_slice.ensures) in
+            ∙ ap (is_inside_list ranks k n) (list ∙ sym w.as_slice-list.ensures) in
             step k lt (reaches c.if-marks-node.arcs.first c.if-marks-node.arcs.far.items k)
             (ap (λ (a : Arcs). reaches a.first a.far.items k) w.arcs-is ∙ w.add_list.ensures.covered k (omega (arith, each))
             ∙ ap (λ b. reaches old.first old.far.items k || b) (sym marked));
@@ -40,16 +41,16 @@ loop-node-preserved c =
     ]
 
 pub returns-clause-length : goal.returns-clause-length
-returns-clause-length c =
+returns-clause-length g c =
     let arcs = c.loop-node.arcs in
     ok_then c.covered.result _ _ c.covered.ensures (λ marks is. length-covered arcs.first (length c.args.ranks.now) arcs.far.items marks.items
     c.loop-node.invariant.each is)
 
 pub returns-clause-passed : goal.returns-clause-passed
-returns-clause-passed c =
+returns-clause-passed g c =
     let arcs = c.loop-node.arcs in let ranks = c.args.ranks.now in
     let all : c.loop-node.node ≡ length ranks = omega (arith, c.requires.states) in
     ok_then c.covered.result _ _ c.covered.ensures (λ marks is k lt.
     marked_covered arcs.first k (length ranks) arcs.far.items marks.items c.loop-node.invariant.each is lt
     ∙ c.loop-node.invariant.covered k lt
-    ∙ ap (λ n. list_any (is_passing ranks c.args.marks.now c.args.states.now k) (range_with_len 0 n)) all)
+    ∙ ap (λ n. list_any (is_passing ranks c.args.marks.now (g.V.States.list c.args.states.now) k) (range_with_len 0 n)) all)

@@ -7,73 +7,84 @@ use Rattle.chord_audit.specs.Tables.{is_marked, is_passed_rank, is_skipped_rank,
 use Rattle.chord_audit.proofs.Agreement.{best_leads, each_mapped, few_nodes, same_lead, ranks_below, succ_within}
 use Rattle.chord_audit.proofs.tables.Tables.of.Goals as goal
 
-pub best_successors-requires : goal.best_successors-requires
-best_successors-requires c =
-    let sc = c.args.scenario.now in let states = c.args.states.now in let members = c.deref.result.now in
+pub members_of-requires : goal.members_of-requires
+members_of-requires g c = c.requires.each ∙ sym c.nodes-nodes.ensures
+
+pub best_successors-requires-clause-each : goal.best_successors-requires-clause-each
+best_successors-requires-clause-each g c = c.requires.each ∙ sym c.nodes-nodes.ensures
+
+pub best_successors-requires-clause-succ : goal.best_successors-requires-clause-succ
+best_successors-requires-clause-succ g c =
+    let sc = c.args.scenario.now in let states = (g.V.States.list c.args.states.now) in let members = c.deref.result.now in
     succ_within sc states (length members) (each_mapped is_member sc states members c.requires.each (c.deref.ensures.value ∙ c.in_ok-members.ensures))
     c.requires.succ
 
+pub passed_ranks-requires-clause-few : goal.passed_ranks-requires-clause-few
+passed_ranks-requires-clause-few g c =
+    few_nodes c.args.scenario.now (length c.deref-6.result.now) c.recall_range.ensures
+    (ap (λ (l : List ℕ). length l) c.deref-6.ensures.value ∙ c.in_ok-ranks.ensures.each)
+
 pub ring_of-requires-clause-few : goal.ring_of-requires-clause-few
-ring_of-requires-clause-few c =
-    let sc = c.args.scenario.now in let states = c.args.states.now in let best = c.deref-2.result.now in
+ring_of-requires-clause-few g c =
+    let sc = c.args.scenario.now in let states = (g.V.States.list c.args.states.now) in let best = c.deref-2.result.now in
     few_nodes sc (length best) c.recall_range.ensures
     (each_mapped (λ s. find (is_marked c.deref.result.now) s.succ) sc states best c.requires.each (c.deref-2.ensures.value ∙ c.in_ok-best.ensures))
 
 pub ring_of-requires-clause-lead : goal.ring_of-requires-clause-lead
-ring_of-requires-clause-lead c =
-    let sc = c.args.scenario.now in let states = c.args.states.now in let best = c.deref-2.result.now in
+ring_of-requires-clause-lead g c =
+    let sc = c.args.scenario.now in let states = (g.V.States.list c.args.states.now) in let best = c.deref-2.result.now in
     let p = is_marked c.deref.result.now in let first = λ (s : NodeState). find p s.succ in
     let is : best ≡ map first states = c.deref-2.ensures.value ∙ c.in_ok-best.ensures in
     same_lead (length best) (node_count sc) best (map first states) (each_mapped first sc states best c.requires.each is) is
     (best_leads (node_count sc) p states c.requires.succ)
 
 pub skipped_ranks-requires-clause-ranks : goal.skipped_ranks-requires-clause-ranks
-skipped_ranks-requires-clause-ranks c =
+skipped_ranks-requires-clause-ranks g c =
     subst (λ (l : List ℕ). All (λ rank. rank < length l) l) (sym c.deref-3.ensures.value)
     (ranks_below c.args.scenario.now c.in_ok-ranks.ranks.items c.in_ok-ranks.ensures)
 
 pub skipped_ranks-requires-clause-marks : goal.skipped_ranks-requires-clause-marks
-skipped_ranks-requires-clause-marks c =
+skipped_ranks-requires-clause-marks g c =
     ap (λ (l : List Bool). length l) c.deref-4.ensures.value ∙ c.in_ok-ring.ensures.length
-    ∙ each_mapped (λ s. find (is_marked c.deref.result.now) s.succ) c.args.scenario.now c.args.states.now c.deref-2.result.now c.requires.each
+    ∙ each_mapped (λ s. find (is_marked c.deref.result.now) s.succ) c.args.scenario.now (g.V.States.list c.args.states.now) c.deref-2.result.now c.requires.each
     (c.deref-2.ensures.value ∙ c.in_ok-best.ensures)
     ∙ sym (ap (λ (l : List ℕ). length l) c.deref-3.ensures.value ∙ c.in_ok-ranks.ensures.each)
 
 pub skipped_ranks-requires-clause-best : goal.skipped_ranks-requires-clause-best
-skipped_ranks-requires-clause-best c =
-    each_mapped (λ s. find (is_marked c.deref.result.now) s.succ) c.args.scenario.now c.args.states.now c.deref-5.result.now c.requires.each
+skipped_ranks-requires-clause-best g c =
+    each_mapped (λ s. find (is_marked c.deref.result.now) s.succ) c.args.scenario.now (g.V.States.list c.args.states.now) c.deref-5.result.now c.requires.each
     (c.deref-5.ensures.value ∙ c.in_ok-best.ensures)
     ∙ sym (ap (λ (l : List ℕ). length l) c.deref-3.ensures.value ∙ c.in_ok-ranks.ensures.each)
 
 pub skipped_ranks-requires-clause-lead : goal.skipped_ranks-requires-clause-lead
-skipped_ranks-requires-clause-lead c =
-    let sc = c.args.scenario.now in let states = c.args.states.now in
+skipped_ranks-requires-clause-lead g c =
+    let sc = c.args.scenario.now in let states = (g.V.States.list c.args.states.now) in
     let p = is_marked c.deref.result.now in let first = λ (s : NodeState). find p s.succ in
     same_lead (length c.deref-3.result.now) (node_count sc) c.deref-5.result.now (map first states)
     (ap (λ (l : List ℕ). length l) c.deref-3.ensures.value ∙ c.in_ok-ranks.ensures.each) (c.deref-5.ensures.value ∙ c.in_ok-best.ensures)
     (best_leads (node_count sc) p states c.requires.succ)
 
 pub passed_ranks-requires-clause-ranks : goal.passed_ranks-requires-clause-ranks
-passed_ranks-requires-clause-ranks c =
+passed_ranks-requires-clause-ranks g c =
     subst (λ (l : List ℕ). All (λ rank. rank < length l) l) (sym c.deref-6.ensures.value)
     (ranks_below c.args.scenario.now c.in_ok-ranks.ranks.items c.in_ok-ranks.ensures)
 
 pub passed_ranks-requires-clause-marks : goal.passed_ranks-requires-clause-marks
-passed_ranks-requires-clause-marks c =
-    each_mapped is_member c.args.scenario.now c.args.states.now c.deref-7.result.now c.requires.each (c.deref-7.ensures.value ∙ c.in_ok-members.ensures)
+passed_ranks-requires-clause-marks g c =
+    each_mapped is_member c.args.scenario.now (g.V.States.list c.args.states.now) c.deref-7.result.now c.requires.each (c.deref-7.ensures.value ∙ c.in_ok-members.ensures)
     ∙ sym (ap (λ (l : List ℕ). length l) c.deref-6.ensures.value ∙ c.in_ok-ranks.ensures.each)
 
 pub passed_ranks-requires-clause-states : goal.passed_ranks-requires-clause-states
-passed_ranks-requires-clause-states c = c.requires.each ∙ sym (ap (λ (l : List ℕ). length l) c.deref-6.ensures.value ∙ c.in_ok-ranks.ensures.each)
+passed_ranks-requires-clause-states g c = c.requires.each ∙ sym (ap (λ (l : List ℕ). length l) c.deref-6.ensures.value ∙ c.in_ok-ranks.ensures.each)
 
 pub passed_ranks-requires-clause-succ : goal.passed_ranks-requires-clause-succ
-passed_ranks-requires-clause-succ c =
-    succ_within c.args.scenario.now c.args.states.now (length c.deref-6.result.now)
+passed_ranks-requires-clause-succ g c =
+    succ_within c.args.scenario.now (g.V.States.list c.args.states.now) (length c.deref-6.result.now)
     (ap (λ (l : List ℕ). length l) c.deref-6.ensures.value ∙ c.in_ok-ranks.ensures.each) c.requires.succ
 
 pub returns : goal.returns
-returns c =
-    let states = c.args.states.now in let members = c.in_ok-members.members.items in let best = c.in_ok-best.best.items in
+returns g c =
+    let states = (g.V.States.list c.args.states.now) in let members = c.in_ok-members.members.items in let best = c.in_ok-best.best.items in
     let ring = c.in_ok-ring.ring.items in let ranks = c.in_ok-ranks.ranks.items in
     record {
       range = c.recall_range.ensures;

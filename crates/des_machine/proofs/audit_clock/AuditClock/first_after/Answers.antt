@@ -1,4 +1,4 @@
-use Rattle.std.proofs.Common.{◌∙◌, ◌<◌, ◌+◌, refl, arith, ap, sym, length}
+use Rattle.std.proofs.Common.{◌∙◌, ◌<◌, refl, arith, ap, sym, length}
 use Rattle.std.specs.Prelude.{slice_get, nat_lt}
 use Rattle.std.specs.List.{filter}
 use Rattle.des_machine.proofs.Late.{none_after, one_after, skip_past}

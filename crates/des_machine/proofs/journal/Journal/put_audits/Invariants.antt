@@ -8,7 +8,7 @@ use Rattle.des_output.specs.Watched.{wrapped, has_failed}
 
 abbrev pub invariant-loop-at : goal.invariant-loop-at
 invariant-loop-at g l = record {
-  put : (account : ℕ → _) → AreStates (g.M.Machine.model l.machine) l.states account
+  put : (account : ℕ → _) → AreStates (g.M.Machine.model l.machine) (g.V.States.list l.states) account
       → HasPut (g.M.Machine.model l.machine) (g.S.Scribe.text l.machine) (g.S.Scribe.HasCounted l.machine) account l.time
       (g.W.Write.contents (wrapped l.initial.writer)) (g.W.Write.contents (wrapped l.writer)) l.initial.self.scribe l.self.scribe l.initial.self.clock l.self.clock;
   left : filter (λ t. nat_lt l.time t) l.self.clock ≡ filter (λ t. nat_lt l.time t) l.initial.self.clock;

@@ -44,9 +44,8 @@ returns-clause-at g c = λ now.
     c.in_ok-deal_states.ensures
     (subst (λ (es : List (Event _)). HaveEvents l.division es [] stated parts) c.in_ok-start_events.ensures c.in_ok-next.ensures.dealt)
     c.in_ok-parcels.ensures
-    c.in_ok-parcels.parcels c.in_ok-next.next (record { scribe = c.start.result; clock = c.new-clock.result }) c.new.result c.in_ok-whole.whole
+    c.in_ok-parcels.parcels c.in_ok-next.next (record { scribe = c.start.result; clock = c.new-clock.result }) c.new.result
     (record { time = 0; horizon = 0 }) now refl
     (subst (λ (es : List (Event _)). LeastTimeIs es c.in_ok-next.next) c.in_ok-start_events.ensures c.in_ok-next.ensures.first)
     (c.new-clock.ensures ∙ c.in_ok-audit_times.ensures)
     c.start.ensures
-    c.in_ok-whole.ensures

@@ -3,64 +3,64 @@ use Rattle.std.specs.List.{All, list_any, range_with_len}
 use Rattle.chord_audit.specs.Tables.{is_marked, is_marked_rank, node_at}
 use Rattle.chord_audit.proofs.Agreement.{few_nodes, many_best, many_members, many_ring, ranks_within, members_count, dead_are, ring_count, any_is, principals_are, line_is}
 use Rattle.chord_audit.proofs.Lists.{first_false}
-use Rattle.chord_audit.proofs.facts.audit.Goals as goal
-use Rattle.chord_audit.proofs.facts.audit.Goals.{then-list-principals, else-list-principals}
+use Rattle.chord_audit.proofs.facts.audit_states.Goals as goal
+use Rattle.chord_audit.proofs.facts.audit_states.Goals.{then-list-principals, else-list-principals}
 
 pub count_dead-dead-requires-clause-few : goal.count_dead-dead-requires-clause-few
-count_dead-dead-requires-clause-few c =
+count_dead-dead-requires-clause-few g c =
     let are = c.in_ok-tables.ensures in
     few_nodes c.args.scenario.now (length c.deref.result.now) are.range (ap (λ (l : List Bool). length l) c.deref.ensures.value ∙ many_members are)
 
 pub count_dead-dead-requires-clause-best : goal.count_dead-dead-requires-clause-best
-count_dead-dead-requires-clause-best c =
+count_dead-dead-requires-clause-best g c =
     let are = c.in_ok-tables.ensures in
     ap (λ (l : List (Option ℕ)). length l) c.deref-2.ensures.value ∙ many_best are
     ∙ sym (ap (λ (l : List Bool). length l) c.deref.ensures.value ∙ many_members are)
 
 pub count_principals-principals-requires-clause-few : goal.count_principals-principals-requires-clause-few
-count_principals-principals-requires-clause-few c =
+count_principals-principals-requires-clause-few g c =
     let are = c.in_ok-tables.ensures in
     few_nodes c.args.scenario.now (length c.deref-3.result.now) are.range (ap (λ (l : List Bool). length l) c.deref-3.ensures.value ∙ many_members are)
 
 pub count_principals-principals-requires-clause-ranks : goal.count_principals-principals-requires-clause-ranks
-count_principals-principals-requires-clause-ranks c =
+count_principals-principals-requires-clause-ranks g c =
     let are = c.in_ok-tables.ensures in
     ap (λ (l : List ℕ). length l) c.deref-4.ensures.value ∙ are.ranks_are.each
     ∙ sym (ap (λ (l : List Bool). length l) c.deref-3.ensures.value ∙ many_members are)
 
 pub count_principals-principals-requires-clause-within : goal.count_principals-principals-requires-clause-within
-count_principals-principals-requires-clause-within c =
+count_principals-principals-requires-clause-within g c =
     let are = c.in_ok-tables.ensures in
     subst (λ (l : List ℕ). All (λ rank. rank < length c.deref-5.result.now) l) (sym c.deref-4.ensures.value)
     (ranks_within c.args.scenario.now c.in_ok-tables.tables.ranks.items (length c.deref-5.result.now) are.ranks_are
     (ap (λ (l : List Bool). length l) c.deref-5.ensures.value ∙ are.passed_each))
 
 pub count_marked-requires : goal.count_marked-requires
-count_marked-requires c =
+count_marked-requires g c =
     let are = c.in_ok-tables.ensures in
     few_nodes c.args.scenario.now (length c.deref-6.result.now) are.range (ap (λ (l : List Bool). length l) c.deref-6.ensures.value ∙ many_members are)
 
 pub count_marked-requires-2 : goal.count_marked-requires-2
-count_marked-requires-2 c =
+count_marked-requires-2 g c =
     let are = c.in_ok-tables.ensures in
     few_nodes c.args.scenario.now (length c.deref-7.result.now) are.range (ap (λ (l : List Bool). length l) c.deref-7.ensures.value ∙ many_ring are)
 
 pub any_skipped-requires-clause-ranks : goal.any_skipped-requires-clause-ranks
-any_skipped-requires-clause-ranks c =
+any_skipped-requires-clause-ranks g c =
     let are = c.in_ok-tables.ensures in
     ap (λ (l : List ℕ). length l) c.deref-9.ensures.value ∙ are.ranks_are.each
     ∙ sym (ap (λ (l : List Bool). length l) c.deref-8.ensures.value ∙ many_ring are)
 
 pub any_skipped-requires-clause-within : goal.any_skipped-requires-clause-within
-any_skipped-requires-clause-within c =
+any_skipped-requires-clause-within g c =
     let are = c.in_ok-tables.ensures in
     subst (λ (l : List ℕ). All (λ rank. rank < length c.deref-10.result.now) l) (sym c.deref-9.ensures.value)
     (ranks_within c.args.scenario.now c.in_ok-tables.tables.ranks.items (length c.deref-10.result.now) are.ranks_are
     (ap (λ (l : List Bool). length l) c.deref-10.ensures.value ∙ are.skipped_each))
 
 pub returns : goal.returns
-returns c = λ state agree.
-    let sc = c.args.scenario.now in let states = c.args.states.now in let tables = c.in_ok-tables.tables in let are = c.in_ok-tables.ensures in
+returns g c = λ state agree.
+    let sc = c.args.scenario.now in let states = (g.V.States.list c.args.states.now) in let tables = c.in_ok-tables.tables in let are = c.in_ok-tables.ensures in
     let members = tables.members.items in let best = tables.best.items in let ring = tables.ring.items in let ranks = tables.ranks.items in
     let skipped = tables.skipped.items in let passed = tables.passed.items in
     line_is sc state c.args.time c.count_marked.result c.count_dead-dead.result c.count_marked-2.result (not c.any_skipped.result)
