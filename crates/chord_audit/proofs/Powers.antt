@@ -3,6 +3,7 @@ use Rattle.std.proofs.Common.{
   ◌≡◌,
   ◌↔◌,
   ℕ,
+  zero,
   suc,
   ◌+◌,
   ◌*◌,
@@ -35,7 +36,7 @@ use Rattle.std.proofs.lemmas.Bool.{eqb-true, eq-eqb}
 use Rattle.std.proofs.lemmas.List.{get_or-map, get_or_default, length-map}
 use Rattle.std.proofs.lemmas.List.FromFn.{fill_by_all, length-range_with_len}
 use Rattle.chord_audit.specs.Audit.{after, is_at}
-use Rattle.chord_audit.specs.Tables.{node_at, IsPower, LeadBelow}
+use Rattle.chord_audit.specs.Tables.{is_marked, node_at, AreLed, IsPower, LeadBelow}
 use Rattle.chord_audit.proofs.Lists.{any_found, any_at}
 use Rattle.chord_audit.proofs.Rings.{Leads, after_below, after_twice, comes_back_within, led_to}
 
@@ -88,35 +89,62 @@ any_map p f (x ∷ xs) = ap (λ b. p (f x) || b) (any_map p f xs)
 pub in_range : (n q : ℕ) → q < n → list_any (eqb q) (range_with_len 0 n) ≡ true
 in_range n q lt = any_at (eqb q) 0 n q (omega arith) (omega arith) (eq-eqb q q refl)
 
--- many steps lead just to the nodes that come back
-pub lands_back : (steps : ℕ) (best table : List (Option ℕ)) → LeadBelow (length best) best → IsPower steps best table → length best < steps → (n : ℕ)
-    → n < length best
-    → (list_any (λ way. is_at way n) table ≡ true) ↔ ((d : ℕ) × (1 ≤ d) × (after (node_at best) d n ≡ Some n))
-lands_back steps best table lead is many n lt = (back, lands)
-  where
-    next : ℕ → Option ℕ
-    next m = node_at best m
+marked_within : (marks : List Bool) (n : ℕ) → is_marked marks n ≡ true → n < length marks
+marked_within [] n h = absurd cc
+marked_within (b ∷ marks) zero h = omega arith
+marked_within (b ∷ marks) (suc n) h = omega (arith, marked_within marks n h)
 
-    leads : Leads (length best) (node_at best)
-    leads = leads_from (length best) best refl lead
+module _ (best : List (Option ℕ)) (lead : LeadBelow (length best) best) where
+  leads : Leads (length best) (node_at best)
+  leads = leads_from (length best) best refl lead
 
+  -- a node to which more steps lead than there are nodes comes back
+  comes_back : (steps from n : ℕ) → from < length best → length best < steps → after (node_at best) steps from ≡ Some n
+      → (d : ℕ) × (1 ≤ d) × (after (node_at best) d n ≡ Some n)
+  comes_back steps from n low many h =
+      let round = comes_back_within (node_at best) (range_with_len 0 (length best)) steps from n
+      (λ i q e. in_range (length best) q (after_below (length best) (node_at best) leads (suc i) from q low e))
+      (omega (arith, many, length-range_with_len 0 (length best))) h in
+      (round.0, round.1, round.3)
+
+  module _ (steps : ℕ) (table : List (Option ℕ)) (is : IsPower steps best table) (n : ℕ) (lt : n < length best) where
     ways : list_any (λ way. is_at way n) table ≡ list_any (λ y. is_at (after (node_at best) steps y) n) (range_with_len 0 (length best))
     ways =
         ap (list_any (λ way. is_at way n)) (fill_by_all (after (node_at best) steps) table (length best) None is.each is.leads)
         ∙ any_map (λ way. is_at way n) (after (node_at best) steps) (range_with_len 0 (length best))
 
-    back : list_any (λ way. is_at way n) table ≡ true → (d : ℕ) × (1 ≤ d) × (after (node_at best) d n ≡ Some n)
-    back h =
-        let from = any_found (λ y. is_at (after (node_at best) steps y) n) 0 (length best) (sym ways ∙ h) in
-        let low : from.0 < 0 + length best = from.2 in
-        let round = comes_back_within (node_at best) (range_with_len 0 (length best)) steps from.0 n
-        (λ i q e. in_range (length best) q (after_below (length best) (node_at best) leads (suc i) from.0 q (omega arith) e))
-        (omega (arith, length-range_with_len 0 (length best))) (is_at-true (after (node_at best) steps from.0) n from.3) in
-        (round.0, round.1, round.3)
-
+    -- so many steps as one likes lead to a node that comes back
     lands : (d : ℕ) × (1 ≤ d) × (after (node_at best) d n ≡ Some n) → list_any (λ way. is_at way n) table ≡ true
     lands (d, some, round) =
         let from = led_to (node_at best) d n steps some round in
         let low : from.0 < length best = after_below (length best) (node_at best) leads from.1 n from.0 lt from.2 in
         ways ∙ any_at (λ y. is_at (after (node_at best) steps y) n) 0 (length best) from.0 (omega arith) (omega arith)
         (at-is_at (after (node_at best) steps from.0) n from.3)
+
+    -- many steps lead just to the nodes that come back
+    pub lands_back : length best < steps
+        → (list_any (λ way. is_at way n) table ≡ true) ↔ ((d : ℕ) × (1 ≤ d) × (after (node_at best) d n ≡ Some n))
+    lands_back many = (
+      λ h.
+          let from = any_found (λ y. is_at (after (node_at best) steps y) n) 0 (length best) (sym ways ∙ h) in
+          comes_back steps from.0 n (omega (arith, from.2)) many (is_at-true (after (node_at best) steps from.0) n from.3),
+      lands,
+    )
+
+    -- and so do fewer, once a marked node leads to each of those to which they lead
+    pub led_back : (marks : List Bool) → length marks ≡ length best
+        → ((m : ℕ) → m < length best → is_marked marks m ≡ list_any (λ way. is_at way m) table) → AreLed best marks
+        → (is_marked marks n ≡ true) ↔ ((d : ℕ) × (1 ≤ d) × (after (node_at best) d n ≡ Some n))
+    led_back marks each are led = (
+      λ h.
+          let from = walk (suc (length best)) n h in
+          comes_back (suc (length best)) from.0 n (omega (arith, marked_within marks from.0 from.1, each)) (omega arith) from.2,
+      λ round. are n lt ∙ lands round,
+    )
+      where
+        walk : (k m : ℕ) → is_marked marks m ≡ true → (from : ℕ) × (is_marked marks from ≡ true) × (after (node_at best) k from ≡ Some m)
+        walk zero m h = (m, h, refl)
+        walk (suc k) m h =
+            let before = led m h in
+            let from = walk k before.0 before.1 in
+            (from.0, from.1, ap (option_and_then (node_at best)) from.2 ∙ before.2)

@@ -18,6 +18,7 @@ use Rattle.std.proofs.Common.{
   ◌∷◌,
   length,
   replicate,
+  drop,
   take,
   get_or,
   set,
@@ -32,11 +33,12 @@ use Rattle.std.proofs.Common.{
   lt-ltb,
 }
 use Rattle.std.proofs.lemmas.Grind.{get_or_default_zero}
+use Rattle.std.proofs.lemmas.List.{at_drop_more}
 use Rattle.std.proofs.lemmas.List.Folds.{list_any_more}
 use Rattle.std.specs.List.{list_any, range_with_len}
 use Rattle.std.proofs.lemmas.Bool.Decides.{nat_tests}
 use Rattle.std.proofs.lemmas.List.FromFn.{get_or-map-range_with_len, length-map-range_with_len}
-use Rattle.chord_audit.specs.Tables.{reaches, is_marked}
+use Rattle.chord_audit.specs.Tables.{reaches, is_inside, is_inside_list, is_marked}
 
 pub below_max : (k a b : ℕ) → nat_lt k (max a b) ≡ (nat_lt k a || nat_lt k b)
 below_max k a b = grind (arith, nat_tests)
@@ -105,3 +107,26 @@ marked_covered first k n far marks each is lt =
 pub length-covered : (first n : ℕ) (far : List ℕ) (marks : List Bool) → length far ≡ n
     → marks ≡ map (reaches first far) (range_with_len 0 (length far)) → length marks ≡ n
 length-covered first n far marks each is = ap length is ∙ length-map-range_with_len (reaches first far) 0 (length far) ∙ each
+
+-- whether rank k lies between rank a and that of the first node of a list, or between those of two of its neighbours
+abbrev pub is_inside_from : (ranks : List ℕ) → (k a : ℕ) → List ℕ → Bool
+is_inside_from ranks k a [] = false
+is_inside_from ranks k a (b ∷ rest) = is_inside a k (get_or ranks b 0) || is_inside_from ranks k (get_or ranks b 0) rest
+
+pub from_leader : (ranks : List ℕ) (k leader : ℕ) (list : List ℕ) → is_inside_from ranks k (get_or ranks leader 0) list ≡ is_inside_list ranks k leader list
+from_leader ranks k leader [] = refl
+from_leader ranks k leader (b ∷ rest) = ap (λ z. is_inside (get_or ranks leader 0) k (get_or ranks b 0) || z) (from_leader ranks k b rest)
+
+-- nothing lies between neighbours
+pub between_neighbours : (a k : ℕ) → is_inside a k (a + 1) ≡ false
+between_neighbours a k = grind (arith, nat_tests)
+
+-- the way to the next node of a list is added
+pub way_added : (ranks list : List ℕ) (i from k to : ℕ) (old now all : Bool) → i < length list → to ≡ get_or ranks (get_or list i 0) 0
+    → now ≡ (old || is_inside from k to) → (old || is_inside_from ranks k from (drop i list)) ≡ all
+    → (now || is_inside_from ranks k to (drop (i + 1) list)) ≡ all
+way_added ranks list i from k to old now all lt there added before =
+    let rest : Bool = is_inside_from ranks k to (drop (i + 1) list) in
+    ap (λ b. b || rest) added ∙ sym (or_assoc old (is_inside from k to) rest)
+    ∙ ap (λ r. old || (is_inside from k r || is_inside_from ranks k r (drop (i + 1) list))) there
+    ∙ ap (λ b. old || b) (sym (at_drop_more (is_inside_from ranks k from) list i 0 lt)) ∙ before

@@ -53,6 +53,14 @@ pub record IsPower (steps : ℕ) (best table : List (Option ℕ)) : Type 0 where
   pub each : length table ≡ length best
   pub leads : (n : ℕ) → n < length best → node_at table n ≡ after (node_at best) steps n
 
+-- a marked node leads to node n
+abbrev pub IsLedTo : (best : List (Option ℕ)) → (marks : List Bool) → ℕ → Type 0
+IsLedTo best marks n = (m : ℕ) × (is_marked marks m ≡ true) × (node_at best m ≡ Some n)
+
+-- a marked node leads to each marked node
+abbrev pub AreLed : (best : List (Option ℕ)) → (marks : List Bool) → Type 0
+AreLed best marks = (n : ℕ) → is_marked marks n ≡ true → IsLedTo best marks n
+
 -- whether k lies on the way from a up to b, which goes from the last rank on to the first
 abbrev pub is_inside : (a k b : ℕ) → Bool
 is_inside a k b = if nat_lt a b then nat_lt a k && nat_lt k b else nat_lt a k || nat_lt k b
@@ -100,6 +108,11 @@ pub record AreRanks (sc : Setup) (ranks : List ℕ) : Type 0 where
   pub each : length ranks ≡ node_count sc
   pub within : (n : ℕ) → n < node_count sc → slice_index ranks n < node_count sc
   pub order : (n m : ℕ) → n < node_count sc → m < node_count sc → nat_lt (slice_index ranks n) (slice_index ranks m) ≡ nat_lt (ident_of sc n) (ident_of sc m)
+
+-- the nodes at the ranks, each at its own
+pub record AreInOrder (ranks nodes : List ℕ) : Type 0 where
+  pub each : length nodes ≡ length ranks
+  pub own : (k : ℕ) → k < length nodes → slice_index ranks (slice_index nodes k) ≡ k
 
 -- whether ways cover rank k: those from the start end at `first`, and those from each rank on at its entry of `far`
 abbrev pub reaches : (first : ℕ) → (far : List ℕ) → (k : ℕ) → Bool

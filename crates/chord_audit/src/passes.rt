@@ -1,9 +1,10 @@
 //! The ranks that successors and lists skip.
 ghost use Rattle.std.specs.Prelude.{◌≡◌, ℕ, ◌<◌, ◌^◌, ◌||◌, IfOk, length};
 ghost use Rattle.std.specs.List.{All};
-ghost use Rattle.chord_audit.specs.Tables.{covers, is_inside_list, is_marked, is_passed_rank, is_skipped_rank, LeadBelow};
+ghost use Rattle.chord_audit.specs.Tables.{covers, is_inside_list, is_marked, is_passed_rank, is_skipped_rank, AreInOrder, LeadBelow};
 
 use crate::arcs::Arcs;
+use crate::ranks::Order;
 use chord_event::Memory;
 use chord_node::NodeState;
 use des_machine::States;
@@ -38,40 +39,49 @@ pub(crate) fn skipped_ranks(
 /// first of the list.
 pub(crate) fn passed_ranks<V: States<NodeState>>(
     alloc: Global,
-    ranks: &[usize],
+    order: &Order,
     marks: &[bool],
     states: &V,
 ) -> Result<Vec<bool>, Memory>
-    requires few { length ranks.now < 2 ^ 32 }
-    requires ranks { All (λ rank. rank < length ranks.now) ranks.now }
-    requires marks { length marks.now ≡ length ranks.now }
-    requires states { length (V.list states.now) ≡ length ranks.now }
-    requires succ { All (λ state. All (λ n. n < length ranks.now) state.succ) (V.list states.now) }
-    ensures length { IfOk result (λ passed. length passed.items ≡ length ranks.now) }
-    ensures passed { IfOk result (λ passed. (k : ℕ) → k < length ranks.now → is_marked passed.items k ≡ is_passed_rank ranks.now marks.now (V.list states.now) k) }
+    requires few { length order.now.ranks.items < 2 ^ 32 }
+    requires ranks { All (λ rank. rank < length order.now.ranks.items) order.now.ranks.items }
+    requires nodes { AreInOrder order.now.ranks.items order.now.nodes.items }
+    requires marks { length marks.now ≡ length order.now.ranks.items }
+    requires states { length (V.list states.now) ≡ length order.now.ranks.items }
+    requires succ { All (λ state. All (λ n. n < length order.now.ranks.items) state.succ) (V.list states.now) }
+    ensures length { IfOk result (λ passed. length passed.items ≡ length order.now.ranks.items) }
+    ensures passed { IfOk result (λ passed. (k : ℕ) → k < length order.now.ranks.items → is_marked passed.items k ≡ is_passed_rank order.now.ranks.items marks.now (V.list states.now) k) }
 {
-    let mut arcs = Arcs::new(alloc, ranks.len())?;
-    for node in 0..ranks.len() {
+    let mut arcs = Arcs::new(alloc, order.ranks.len())?;
+    for node in 0..order.ranks.len() {
         if marks[node] {
             let list = states.of(node as u32).succ.as_slice();
-            add_list(&mut arcs, ranks, node, list);
+            add_list(&mut arcs, order, node, list);
         }
     }
     arcs.covered(alloc)
 }
 
 /// Adds the ways between the neighbours of a list, with the leader as its first.
-fn add_list(arcs: &mut Arcs, ranks: &[usize], leader: usize, list: &[u32])
-    requires ranks { All (λ rank. rank < length arcs.old.far.items) ranks.now }
-    requires leader { leader < length ranks.now }
-    requires list { All (λ n. n < length ranks.now) list.now }
+fn add_list(arcs: &mut Arcs, order: &Order, leader: usize, list: &[u32])
+    requires ranks { All (λ rank. rank < length arcs.old.far.items) order.now.ranks.items }
+    requires nodes { AreInOrder order.now.ranks.items order.now.nodes.items }
+    requires leader { leader < length order.now.ranks.items }
+    requires list { All (λ n. n < length order.now.ranks.items) list.now }
     ensures length { length arcs.new.far.items ≡ length arcs.old.far.items }
-    ensures covered { (k : ℕ) → k < length arcs.old.far.items → covers arcs.new k ≡ (covers arcs.old k || is_inside_list ranks.now k leader list.now) }
+    ensures covered { (k : ℕ) → k < length arcs.old.far.items → covers arcs.new k ≡ (covers arcs.old k || is_inside_list order.now.ranks.items k leader list.now) }
 {
-    let mut from = leader;
+    let mut from = order.ranks[leader];
     for node in list {
-        let to = *node as usize;
-        arcs.add(ranks[from], ranks[to]);
-        from = to;
+        let next = from + 1;
+        // Most lists follow the circle. Nothing lies between neighbours on it, and a look at the
+        // rank of each would be one at memory that no cache has.
+        if next < order.nodes.len() && order.nodes[next] == *node {
+            from = next;
+        } else {
+            let to = order.ranks[*node as usize];
+            arcs.add(from, to);
+            from = to;
+        }
     }
 }

@@ -2,7 +2,7 @@
 ghost use Rattle.std.specs.Prelude.{◌≡◌, IfOk, OnOk, map};
 ghost use Rattle.std.specs.List.Sorted.{IsNonDecreasingBy, IsPermutation};
 ghost use Rattle.chord_audit.specs.Audit.{nodes};
-ghost use Rattle.chord_audit.specs.Tables.{AreRanks, placed};
+ghost use Rattle.chord_audit.specs.Tables.{AreInOrder, AreRanks, placed};
 
 use chord_circle::Raw;
 use chord_event::Memory;
@@ -16,20 +16,30 @@ pub(crate) struct Placed {
     pub node: u32,
 }
 
-/// The rank of each node in the order of the identifiers.
-pub(crate) fn ranks_of(alloc: Global, scenario: &Scenario) -> Result<Vec<usize>, Memory>
-    ensures { IfOk result (λ ranks. AreRanks scenario.now ranks.items) }
+/// The nodes in the order of their identifiers, and the rank of each node in it.
+#[derive(Drop)]
+pub(crate) struct Order {
+    pub nodes: Vec<u32>,
+    pub ranks: Vec<usize>,
+}
+
+/// The order of the nodes of a scenario.
+pub(crate) fn order_of(alloc: Global, scenario: &Scenario) -> Result<Order, Memory>
+    ensures ranks { IfOk result (λ order. AreRanks scenario.now order.ranks.items) }
+    ensures nodes { IfOk result (λ order. AreInOrder order.ranks.items order.nodes.items) }
 {
     scenario.recall_range();
     let mut order = placed_nodes(alloc, scenario)?;
     sort_by_ident(&mut order);
     // A table by numbers, filled in the order of the ranks: a search for each node would look at
     // memory that no cache has.
+    let mut nodes = Vec::new(alloc);
     let mut ranks = vec![in alloc; 0; order.len()]?;
     for (rank, placed) in order.iter().enumerate() {
+        nodes.push(placed.node)?;
         ranks[placed.node as usize] = rank;
     }
-    Ok(ranks)
+    Ok(Order { nodes, ranks })
 }
 
 /// Puts nodes in the order of their identifiers.

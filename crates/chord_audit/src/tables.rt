@@ -6,7 +6,7 @@ ghost use Rattle.chord_node.specs.Invariant.{AllNodes};
 ghost use Rattle.chord_audit.specs.Tables.{HoldFacts};
 
 use crate::passes::{passed_ranks, skipped_ranks};
-use crate::ranks::ranks_of;
+use crate::ranks::order_of;
 use crate::ring::ring_of;
 use crate::successors::{best_successors, members_of};
 use chord_event::Memory;
@@ -43,14 +43,14 @@ impl Tables {
         let members = members_of(alloc, nodes, states)?;
         let best = best_successors(alloc, nodes, states, &members)?;
         let ring = ring_of(alloc, &best)?;
-        let ranks = ranks_of(alloc, scenario)?;
-        let skipped = skipped_ranks(alloc, &ranks, &ring, &best)?;
-        let passed = passed_ranks(alloc, &ranks, &members, states)?;
+        let order = order_of(alloc, scenario)?;
+        let skipped = skipped_ranks(alloc, &order.ranks, &ring, &best)?;
+        let passed = passed_ranks(alloc, &order, &members, states)?;
         Ok(Tables {
             members,
             best,
             ring,
-            ranks,
+            ranks: order.ranks,
             skipped,
             passed,
         })

@@ -12,7 +12,7 @@ use Rattle.chord_audit.proofs.passes.passed_ranks.Goals.{then-marks-node, else-m
 
 pub loop-node-preserved : goal.loop-node-preserved
 loop-node-preserved g c =
-    let ranks = c.args.ranks.now in let marks = c.args.marks.now in let states = (g.V.States.list c.args.states.now) in let n = c.loop-node.node in
+    let ranks = c.args.order.now.ranks.items in let marks = c.args.marks.now in let states = (g.V.States.list c.args.states.now) in let n = c.loop-node.node in
     let old = c.loop-node.arcs in let each = c.loop-node.invariant.each in
     let step = λ (k : ℕ) (lt : k < length ranks) (now : Bool). one_more (is_passing ranks marks states k) n (reaches old.first old.far.items k) now
     (c.loop-node.invariant.covered k lt) in
@@ -43,12 +43,12 @@ loop-node-preserved g c =
 pub returns-clause-length : goal.returns-clause-length
 returns-clause-length g c =
     let arcs = c.loop-node.arcs in
-    ok_then c.covered.result _ _ c.covered.ensures (λ marks is. length-covered arcs.first (length c.args.ranks.now) arcs.far.items marks.items
+    ok_then c.covered.result _ _ c.covered.ensures (λ marks is. length-covered arcs.first (length c.args.order.now.ranks.items) arcs.far.items marks.items
     c.loop-node.invariant.each is)
 
 pub returns-clause-passed : goal.returns-clause-passed
 returns-clause-passed g c =
-    let arcs = c.loop-node.arcs in let ranks = c.args.ranks.now in
+    let arcs = c.loop-node.arcs in let ranks = c.args.order.now.ranks.items in
     let all : c.loop-node.node ≡ length ranks = omega (arith, c.requires.states) in
     ok_then c.covered.result _ _ c.covered.ensures (λ marks is k lt.
     marked_covered arcs.first k (length ranks) arcs.far.items marks.items c.loop-node.invariant.each is lt
