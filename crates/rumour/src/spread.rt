@@ -3,6 +3,7 @@ ghost use Rattle.std.specs.Prelude.{◌≡◌, None, IfSome};
 ghost use Rattle.rumour_rules.specs.Range.{IsInRange};
 
 use des_event::Memory;
+use des_machine::States;
 use des_protocol::{Counted, Protocol, Teller};
 use rumour_rules::{Node, Rumour, Settings, Told, hear, start, start_states};
 use std::alloc::Global;
