@@ -30,18 +30,6 @@ sources_of_program() {
         \( \( -name '*.rt' -o -name '*.antt' \) "$@" \) -print
 }
 
-# Makes the given folder a repository of the program alone: its sources, what crates.txt says of its crates, and HANDLES.
-copy_sources() {
-    mkdir -p "$1/crates/chordsim/src" && cp "$top/HANDLES" "$1" || return 1
-    crates_of_program | awk '
-        NR == FNR { of_program[$1]; next }
-        { split($0, line, ":"); split(line[1], name, " ") }
-        name[1] in of_program
-    ' - "$top/crates.txt" > "$1/crates.txt" || return 1
-    # rt ci also runs the program, with no argument. Then it only says how it is used, with status 2.
-    echo 2 > "$1/crates/chordsim/status" && cd "$top/crates" && sources_of_program | xargs cp --parents -t "$1/crates"
-}
-
 # Prints a sum of the sources of the program.
 sum_of_sources() {
     (

@@ -1,8 +1,9 @@
-"""The script ./chordsim, tools/renew_release and tools/check_release, with a stand-in for rt that proves nothing."""
+"""The script ./chordsim, tools/renew_release and tools/check_release, with a stand-in for the kit."""
 
 import os
 import shutil
 import subprocess
+import sys
 import tempfile
 import time
 import unittest
@@ -10,36 +11,21 @@ from collections.abc import Callable
 from concurrent.futures import ThreadPoolExecutor
 from pathlib import Path
 
-TOP = Path(__file__).resolve().parents[2]
-SCRIPTS = ["chordsim", "tools/program.sh", "tools/renew_release", "tools/check_release"]
+from tests.support.kit import copy_tool, make_crate, make_kit
 
-# The commands that the scripts use, beside rt.
+TOP = Path(__file__).resolve().parents[2]
+SCRIPTS = ["chordsim", "tools/renew_release", "tools/check_release"]
+
+# The commands that the scripts and the stand-in use, beside rt and python3.
 COMMANDS = (
-    "awk basename cat chmod cmp cp cut date dirname find flock mkdir mktemp mv nproc readlink rm sh sha256sum sleep sort "
-    "stat tee uname wc xargs"
+    "awk cat chmod cmp cp cut date dirname find flock mkdir mv nproc readlink rm sh sha256sum sleep sort stat tee "
+    "uname wc xargs"
 ).split()
 
 CRATES = """# NAME: the libraries that it stands on
 low: sha1
 chordsim may_wait=5: low clap
 tests_alone: low chordsim
-"""
-
-# Like rt: `ci` proves the crates that it finds, and builds the program. It notes each call, and the files that it found.
-# The program prints its arguments, and the source that it is made of.
-STAND_IN = """#!/bin/sh
-echo "$*" >> "$CALLS"
-find . -type f | sort > "$CALLS.files"
-cat crates.txt > "$CALLS.crates"
-echo "$RT_JOBS" > "$CALLS.jobs"
-[ "$1" = ci ] || exit 2
-[ -z "${RT_FAILS:-}" ] || { echo "no proof"; exit 1; }
-while [ -n "${RT_WAITS_FOR:-}" ] && [ ! -e "$RT_WAITS_FOR" ]; do sleep 0.05; done
-echo "rt: low is kept: an earlier run proved the same files"
-cd crates/chordsim && mkdir -p out
-{ echo '#!/bin/sh'; echo "echo built of $(cat src/main.rt): \\"\\$@\\""; } > out/chordsim
-chmod +x out/chordsim
-echo "rt: chordsim proved"
 """
 
 
@@ -81,7 +67,7 @@ class Launcher(unittest.TestCase):
     """A repository of one program and the library below it."""
 
     def setUp(self) -> None:
-        """No program is there, and rt is the stand-in. PATH has it and the commands, not the rt of this machine."""
+        """No program is there. PATH has the commands and the rt of the stand-in, not the rt of this machine."""
         folder = tempfile.TemporaryDirectory()
         self.addCleanup(folder.cleanup)
         self.folder = Path(folder.name)
@@ -89,19 +75,17 @@ class Launcher(unittest.TestCase):
         for name in SCRIPTS:
             (self.top / name).parent.mkdir(parents=True, exist_ok=True)
             shutil.copy(TOP / name, self.top / name)
+        copy_tool(self.top)
         (self.top / "crates.txt").write_text(CRATES, encoding="utf-8")
-        (self.top / "HANDLES").write_text("Handles allowed: Threads, Wait.\n", encoding="utf-8")
-        for crate, file in (("low", "lib"), ("chordsim", "main"), ("tests_alone", "main")):
-            (self.top / "crates" / crate / "src").mkdir(parents=True)
-            (self.top / "crates" / crate / "src" / f"{file}.rt").write_text("first\n", encoding="utf-8")
-            (self.top / "crates" / crate / "must-fail").mkdir()
-            (self.top / "crates" / crate / "must-fail" / "wrong.rt").touch()
+        for crate in ("low", "chordsim", "tests_alone"):
+            make_crate(self.top, crate, crate != "low")
         (self.top / "crates" / "chordsim" / "stdout").write_text("built of first: ids\n", encoding="utf-8")
         self.calls = self.folder / "calls"
         self.tools = self.folder / "bin"
         self.tools.mkdir()
-        (self.tools / "rt").write_text(STAND_IN, encoding="utf-8")
-        (self.tools / "rt").chmod(0o755)
+        make_kit(self.folder / "kit")
+        (self.tools / "rt").symlink_to(self.folder / "kit" / "bin" / "rt")
+        (self.tools / "python3").symlink_to(sys.executable)
         for command in COMMANDS:
             path = shutil.which(command)
             self.assertIsNotNone(path, command)
@@ -115,7 +99,7 @@ class Launcher(unittest.TestCase):
 
     def gate(self) -> None:
         """Calls rt in the repository, as the gate does. builds() does not count it."""
-        environment = {"PATH": str(self.tools), "CALLS": str(self.folder / "gate")}
+        environment = {"PATH": str(self.tools)}
         subprocess.run([self.tools / "rt", "ci"], cwd=self.top, env=environment, stdout=subprocess.DEVNULL, check=True)
 
     def without_rt(self) -> None:
@@ -123,8 +107,12 @@ class Launcher(unittest.TestCase):
         (self.tools / "rt").unlink()
 
     def builds(self) -> int:
-        """How often rt was called."""
-        return len(self.calls.read_text(encoding="utf-8").splitlines()) if self.calls.exists() else 0
+        """How often the program was begun to be built."""
+        return len([note for note in self.noted() if note.startswith("begin chordsim ")])
+
+    def noted(self) -> list[str]:
+        """What the kit has noted."""
+        return self.calls.read_text(encoding="utf-8").splitlines() if self.calls.exists() else []
 
     def change(self, crate: str, file: str, text: str) -> None:
         """Writes another source."""
@@ -166,33 +154,43 @@ class Launcher(unittest.TestCase):
         self.assertEqual(self.builds(), 1)
 
     def test_what_is_built(self) -> None:
-        """rt is given the sources and the crates of the program alone, in a folder that goes afterwards."""
+        """The crates of the program alone are built, in out/. Nothing is written beside the sources or to TMPDIR."""
         folder = self.folder / "temporary"
         folder.mkdir()
+        files = sorted((self.top / "crates").glob("**/*"))
         self.assertEqual(self.start("chordsim", TMPDIR=str(folder)).returncode, 0)
-        listed = (self.folder / "calls.crates").read_text(encoding="utf-8")
-        self.assertEqual(listed, "".join(CRATES.splitlines(keepends=True)[1:3]))
-        files = (self.folder / "calls.files").read_text(encoding="utf-8").split()
-        sources = ["./crates/chordsim/src/main.rt", "./crates/chordsim/status", "./crates/low/src/lib.rt"]
-        self.assertEqual(files, ["./HANDLES", "./crates.txt", *sources])
+        begun = [" ".join(note.split()[:4]) for note in self.noted() if note.startswith("begin ")]
+        self.assertEqual(begun, ["begin low in low:", "begin chordsim in chordsim:"])
+        self.assertTrue((self.top / "out" / "build" / "rlibs" / "low.rlib").exists())
+        self.assertEqual(sorted((self.top / "crates").glob("**/*")), files)
         self.assertEqual(list(folder.iterdir()), [])
-        self.assertFalse((self.top / "crates" / "chordsim" / "out").exists())
 
     def test_crates_at_once(self) -> None:
-        """rt proves no more crates at once than there are processors, and as many as RT_JOBS says."""
+        """No more crates are proved at once than there are processors, and as many as RT_JOBS says."""
         jobs = self.folder / "calls.jobs"
+        (self.top / "tools" / "build_program").write_text('#!/bin/sh\necho "$2" > "$CALLS.jobs"\n', encoding="utf-8")
         self.start("chordsim")
         self.assertIn(int(jobs.read_text(encoding="utf-8")), range(1, len(os.sched_getaffinity(0)) + 1))
-        self.change("low", "lib.rt", "second\n")
         self.start("chordsim", RT_JOBS="7")
         self.assertEqual(jobs.read_text(encoding="utf-8"), "7\n")
 
-    def test_no_folder_for_the_build(self) -> None:
-        """If no folder can be made for the build, the status is 125, and nothing is built."""
-        refused = self.start("chordsim", TMPDIR=str(self.folder / "absent"))
-        self.assertEqual((refused.returncode, refused.stdout), (125, ""))
-        self.assertIn("cannot make a folder", refused.stderr)
-        self.assertEqual(self.builds(), 0)
+    def test_no_place_for_the_build(self) -> None:
+        """If the folder or the log of the build cannot be made, the status is 125, and nothing is built."""
+        for name in ("out", "out/build.log"):
+            place = self.top / name
+            if name == "out":
+                place.touch()
+            else:
+                place.mkdir(parents=True)
+            with self.subTest(name):
+                refused = self.start("chordsim")
+                self.assertEqual((refused.returncode, refused.stdout), (125, ""))
+                self.assertIn("cannot write", refused.stderr)
+                self.assertEqual(self.builds(), 0)
+            if name == "out":
+                place.unlink()
+            else:
+                place.rmdir()
 
     def test_changed_source(self) -> None:
         """A change of a crate below builds again; one of a crate of tests does not."""
@@ -342,17 +340,18 @@ class Launcher(unittest.TestCase):
             self.assertIn("put the bin folder of the Rattle kit on PATH", refused.stderr)
 
     def test_failed_build(self) -> None:
-        """A build that fails names the log, which has what rt printed, and leaves nothing that is started."""
-        failed = self.start("chordsim", "check", RT_FAILS="1")
+        """A build that fails names the log, which has what rattle printed, and leaves nothing that is started."""
+        failed = self.start("chordsim", "check", UNPROVED="low")
         self.assertEqual((failed.returncode, failed.stdout), (125, ""))
+        self.assertIn("low is not proved", failed.stderr)
         self.assertIn(str(self.top / "out" / "build.log"), failed.stderr)
-        self.assertIn("no proof", (self.top / "out" / "build.log").read_text(encoding="utf-8"))
+        self.assertIn("low: no proof", (self.top / "out" / "build.log").read_text(encoding="utf-8"))
         self.assertEqual(self.start("chordsim", "check").returncode, 0)
 
     def test_two_starts(self) -> None:
         """Of two starts at once one builds, and the other waits for it."""
-        go = self.folder / "go"
-        environment = {"PATH": str(self.tools), "CALLS": str(self.calls), "RT_WAITS_FOR": str(go)}
+        go = self.folder / "calls.go"
+        environment = {"PATH": str(self.tools), "CALLS": str(self.calls), "WAITING": "chordsim"}
 
         def begin() -> subprocess.Popen[str]:
             """A start that has begun."""
