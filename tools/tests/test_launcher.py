@@ -175,8 +175,8 @@ class Launcher(unittest.TestCase):
         self.assertEqual(jobs.read_text(encoding="utf-8"), "7\n")
 
     def test_no_place_for_the_build(self) -> None:
-        """If the folder or the log of the build cannot be made, the status is 125, and nothing is built."""
-        for name in ("out", "out/build.log"):
+        """If the folder, the lock or the log of the build cannot be made, the status is 125, and nothing is built."""
+        for name in ("out", "out/build.lock", "out/build.log"):
             place = self.top / name
             if name == "out":
                 place.touch()
