@@ -161,7 +161,7 @@ class Launcher(unittest.TestCase):
         self.assertEqual(self.start("chordsim", TMPDIR=str(folder)).returncode, 0)
         begun = [" ".join(note.split()[:4]) for note in self.noted() if note.startswith("begin ")]
         self.assertEqual(begun, ["begin low in low:", "begin chordsim in chordsim:"])
-        self.assertTrue((self.top / "out" / "build" / "rlibs" / "low.rlib").exists())
+        self.assertTrue((self.top / "out" / "proved" / "rlibs" / "low.rlib").exists())
         self.assertEqual(sorted((self.top / "crates").glob("**/*")), files)
         self.assertEqual(list(folder.iterdir()), [])
 
