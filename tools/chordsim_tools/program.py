@@ -74,7 +74,7 @@ def packaged_program() -> Path:
 
 
 def refuse_damaged(told: str) -> None:
-    """Fails if that is what the launcher says. A proof takes half an hour, and is done if somebody asks for it."""
+    """Fails if that is what the launcher says. A proof takes long, and is done if somebody asks for it."""
     for line in told.splitlines():
         if DAMAGED in line:
             text = line.removeprefix("chordsim: ")
