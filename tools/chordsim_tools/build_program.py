@@ -22,7 +22,7 @@ PROG = tool("build_program")
 HELP = """\
 Proves and builds the program of these sources into FOLDER, by the Rattle kit whose rt is on PATH: the crates that
 chordsim stands on, each as soon as all below it are built. A crate of FOLDER that is of the same sources is kept.
-`./chordsim --build` calls this. It tries no wrong bodies and runs no tests: that is the gate's."""
+`./chordsim --build` calls this. Wrong bodies and tests are left to the gate."""
 EPILOG = """\
 in FOLDER:
   chordsim             the program
