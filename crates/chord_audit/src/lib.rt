@@ -4,6 +4,7 @@
 mod arcs;
 mod audit_line;
 mod facts;
+mod list_facts;
 mod passes;
 mod ranks;
 mod ring;

@@ -1,7 +1,7 @@
 //! The ranks that successors and lists skip.
-ghost use Rattle.std.specs.Prelude.{◌≡◌, ℕ, ◌<◌, ◌^◌, ◌||◌, IfOk, length};
-ghost use Rattle.std.specs.List.{All};
-ghost use Rattle.chord_audit.specs.Tables.{covers, is_inside_list, is_marked, is_passed_rank, is_skipped_rank, AreInOrder, LeadBelow};
+ghost use Rattle.std.specs.Prelude.{◌≡◌, ℕ, ◌<◌, ◌≤◌, ◌^◌, ◌||◌, IfOk, length};
+ghost use Rattle.std.specs.List.{All, list_any, range_with_len};
+ghost use Rattle.chord_audit.specs.Tables.{covers, is_inside_list, is_marked, is_passing, is_skipped_rank, AreInOrder, LeadBelow};
 
 use crate::arcs::Arcs;
 use crate::ranks::Order;
@@ -9,6 +9,7 @@ use chord_event::Memory;
 use chord_node::NodeState;
 use des_machine::States;
 use std::alloc::Global;
+use std::ops::Range;
 
 /// Which ranks lie between a marked node and the node that it leads to.
 pub(crate) fn skipped_ranks(
@@ -35,31 +36,33 @@ pub(crate) fn skipped_ranks(
     arcs.covered(alloc)
 }
 
-/// Which ranks lie between two neighbours of the list of a marked node. The node itself is the
-/// first of the list.
-pub(crate) fn passed_ranks<V: States<NodeState>>(
-    alloc: Global,
+/// Adds the ways between the neighbours of the lists of these nodes, those that are marked. The node itself
+/// is the first of its list. The lists of the nodes before these are added already.
+pub(crate) fn add_passed<V: States<NodeState>>(
+    arcs: &mut Arcs,
     order: &Order,
     marks: &[bool],
     states: &V,
-) -> Result<Vec<bool>, Memory>
+    block: Range<usize>,
+)
     requires few { length order.now.ranks.items < 2 ^ 32 }
     requires ranks { All (λ rank. rank < length order.now.ranks.items) order.now.ranks.items }
     requires nodes { AreInOrder order.now.ranks.items order.now.nodes.items }
     requires marks { length marks.now ≡ length order.now.ranks.items }
     requires states { length (V.list states.now) ≡ length order.now.ranks.items }
     requires succ { All (λ state. All (λ n. n < length order.now.ranks.items) state.succ) (V.list states.now) }
-    ensures length { IfOk result (λ passed. length passed.items ≡ length order.now.ranks.items) }
-    ensures passed { IfOk result (λ passed. (k : ℕ) → k < length order.now.ranks.items → is_marked passed.items k ≡ is_passed_rank order.now.ranks.items marks.now (V.list states.now) k) }
+    requires block { (block.start ≤ block.end) × (block.end ≤ length order.now.ranks.items) }
+    requires each { length arcs.old.far.items ≡ length order.now.ranks.items }
+    requires before { (k : ℕ) → k < length order.now.ranks.items → covers arcs.old k ≡ list_any (is_passing order.now.ranks.items marks.now (V.list states.now) k) (range_with_len 0 block.start) }
+    ensures each { length arcs.new.far.items ≡ length order.now.ranks.items }
+    ensures covered { (k : ℕ) → k < length order.now.ranks.items → covers arcs.new k ≡ list_any (is_passing order.now.ranks.items marks.now (V.list states.now) k) (range_with_len 0 block.end) }
 {
-    let mut arcs = Arcs::new(alloc, order.ranks.len())?;
-    for node in 0..order.ranks.len() {
+    for node in block.start..block.end {
         if marks[node] {
             let list = states.of(node as u32).succ.as_slice();
-            add_list(&mut arcs, order, node, list);
+            add_list(arcs, order, node, list);
         }
     }
-    arcs.covered(alloc)
 }
 
 /// Adds the ways between the neighbours of a list, with the leader as its first.

@@ -1,5 +1,5 @@
 //! The nodes that best successors lead back to themselves.
-ghost use Rattle.std.specs.Prelude.{◌≡◌, ℕ, ◌<◌, ◌≤◌, ◌^◌, ◌↔◌, Ok, Some, IfOk, length, true, map, option_and_then};
+ghost use Rattle.std.specs.Prelude.{◌≡◌, ℕ, ◌<◌, ◌≤◌, ◌^◌, ◌↔◌, Some, IfOk, length, true, map, option_and_then};
 ghost use Rattle.std.specs.List.{list_any};
 ghost use Rattle.chord_audit.specs.Audit.{after, is_at};
 ghost use Rattle.chord_audit.specs.Tables.{is_marked, node_at, AreLed, IsLedTo, LeadBelow};
@@ -32,7 +32,7 @@ pub(crate) fn ring_of(alloc: Global, best: &[Option<u32>]) -> Result<Vec<bool>, 
 fn are_led(alloc: Global, best: &[Option<u32>], marks: &[bool]) -> Result<bool, Memory>
     requires lead { LeadBelow (length best.now) best.now }
     requires marks { length marks.now ≡ length best.now }
-    ensures { result ≡ Ok true → AreLed best.now marks.now }
+    ensures { IfOk result (λ led. (led ≡ true) ↔ AreLed best.now marks.now) }
 {
     let led = led_from(alloc, best, marks)?;
     for node in 0..marks.len() {
@@ -48,7 +48,7 @@ fn led_from(alloc: Global, best: &[Option<u32>], marks: &[bool]) -> Result<Vec<b
     requires lead { LeadBelow (length best.now) best.now }
     requires marks { length marks.now ≡ length best.now }
     ensures length { IfOk result (λ led. length led.items ≡ length best.now) }
-    ensures led { IfOk result (λ led. (n : ℕ) → is_marked led.items n ≡ true → IsLedTo best.now marks.now n) }
+    ensures led { IfOk result (λ led. (n : ℕ) → (is_marked led.items n ≡ true) ↔ IsLedTo best.now marks.now n) }
 {
     let mut led = vec![in alloc; false; best.len()]?;
     for node in 0..best.len() {

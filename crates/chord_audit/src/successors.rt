@@ -1,5 +1,5 @@
 //! Members and their best successors.
-ghost use Rattle.std.specs.Prelude.{◌≡◌, ◌<◌, IfOk, length, map, find};
+ghost use Rattle.std.specs.Prelude.{◌≡◌, ◌<◌, ◌≤◌, ◌^◌, IfOk, OnOk, length, map, find, take};
 ghost use Rattle.std.specs.List.{All};
 ghost use Rattle.chord_audit.specs.Audit.{is_member};
 ghost use Rattle.chord_audit.specs.Tables.{is_marked};
@@ -25,24 +25,28 @@ pub(crate) fn members_of<V: States<NodeState>>(
     Ok(members)
 }
 
-/// The best successor of each node.
-pub(crate) fn best_successors<V: States<NodeState>>(
-    alloc: Global,
-    nodes: u32,
-    states: &V,
+/// Adds the best successors of the next nodes, up to the one before `end`.
+pub(crate) fn add_best<V: States<NodeState>>(
+    best: &mut Vec<Option<u32>>,
     members: &[bool],
-) -> Result<Vec<Option<u32>>, Memory>
-    requires each { length (V.list states.now) ≡ nodes }
+    states: &V,
+    end: usize,
+) -> Result<(), Memory>
+    requires next { length best.old.items ≤ end }
+    requires end { end ≤ length (V.list states.now) }
+    requires few { length (V.list states.now) < 2 ^ 32 }
     requires succ { All (λ state. All (λ n. n < length members.now) state.succ) (V.list states.now) }
-    ensures { IfOk result (λ best. best.items ≡ map (λ state. find (is_marked members.now) state.succ) (V.list states.now)) }
+    requires before { best.old.items ≡ map (λ state. find (is_marked members.now) state.succ) (take (length best.old.items) (V.list states.now)) }
+    ensures { OnOk result (best.new.items ≡ map (λ state. find (is_marked members.now) state.succ) (take end (V.list states.now))) }
 {
-    let mut best = Vec::new(alloc);
-    for node in 0..nodes {
-        best.push(first_marked(states.of(node).succ.as_slice(), members))?;
+    for node in best.len()..end {
+        let list = states.of(node as u32).succ.as_slice();
+        best.push(first_marked(list, members))?;
     }
-    Ok(best)
+    Ok(())
 }
 
+/// The first marked node of a list.
 fn first_marked(list: &[u32], marks: &[bool]) -> Option<u32>
     requires { All (λ n. n < length marks.now) list.now }
     ensures { result ≡ find (is_marked marks.now) list.now }

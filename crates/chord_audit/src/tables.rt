@@ -5,10 +5,11 @@ ghost use Rattle.chord_scenario.specs.World.{node_count};
 ghost use Rattle.chord_node.specs.Invariant.{AllNodes};
 ghost use Rattle.chord_audit.specs.Tables.{HoldFacts};
 
-use crate::passes::{passed_ranks, skipped_ranks};
+use crate::list_facts::{ListFacts, read_lists};
+use crate::passes::skipped_ranks;
 use crate::ranks::order_of;
 use crate::ring::ring_of;
-use crate::successors::{best_successors, members_of};
+use crate::successors::members_of;
 use chord_event::Memory;
 use chord_node::NodeState;
 use chord_scenario::Scenario;
@@ -39,13 +40,11 @@ impl Tables {
         ensures { IfOk result (HoldFacts scenario.now (V.list states.now)) }
     {
         scenario.recall_range();
-        let nodes = scenario.nodes();
-        let members = members_of(alloc, nodes, states)?;
-        let best = best_successors(alloc, nodes, states, &members)?;
-        let ring = ring_of(alloc, &best)?;
+        let members = members_of(alloc, scenario.nodes(), states)?;
         let order = order_of(alloc, scenario)?;
+        let ListFacts { best, passed } = read_lists(alloc, &order, &members, states)?;
+        let ring = ring_of(alloc, &best)?;
         let skipped = skipped_ranks(alloc, &order.ranks, &ring, &best)?;
-        let passed = passed_ranks(alloc, &order, &members, states)?;
         Ok(Tables {
             members,
             best,

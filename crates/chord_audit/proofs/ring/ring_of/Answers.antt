@@ -1,4 +1,4 @@
-use Rattle.std.proofs.Common.{◌≡◌, ◌∙◌, ℕ, ◌*◌, Ok, Option, List, ap, arith, length, map, option_and_then, subst, sym}
+use Rattle.std.proofs.Common.{◌≡◌, ◌∙◌, ℕ, ◌*◌, Option, List, ap, arith, length, map, option_and_then, subst, sym}
 use Rattle.std.specs.List.{list_any}
 use Rattle.chord_audit.specs.Audit.{is_at}
 use Rattle.chord_audit.specs.Tables.{AreLed, LeadBelow, node_at}
@@ -45,7 +45,7 @@ returns-clause-back c = λ n lt.
     elim c.loop-steps-test.branch [
       | then-loop-steps-test+in_ok-are_led+else-not-branch w ↦
           let led = subst (AreLed best) w.deref-in-loop-steps.ensures.value
-          (w.are_led.ensures (w.in_ok-are_led.was ∙ ap Ok w.if-not-branch.false)) in
+          (w.in_ok-are_led.ensures.0 w.if-not-branch.false) in
           led_back best c.requires.lead c.loop-steps.steps far at.power n lt ring at.each at.marks led
       | else-loop-steps-test w ↦
           let both = lands_back best c.requires.lead c.loop-steps.steps far at.power n lt (omega (arith, w.loop-steps-test.false)) in

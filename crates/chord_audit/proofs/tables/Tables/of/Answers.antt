@@ -1,35 +1,16 @@
-use Rattle.std.proofs.Common.{◌≡◌, ◌∙◌, ◌<◌, ◌≤◌, ◌↔◌, Bool, true, ℕ, List, Option, Some, find, length, map, sym, ap, subst}
+use Rattle.std.proofs.Common.{◌≡◌, ◌∙◌, ◌<◌, ℕ, List, find, length, map, sym, ap, subst}
 use Rattle.std.specs.List.{All}
 use Rattle.chord_scenario.specs.World.{node_count}
 use Rattle.chord_node.specs.declared.state.NodeState.{NodeState}
-use Rattle.chord_audit.specs.Audit.{after, is_member}
-use Rattle.chord_audit.specs.Tables.{is_marked, is_passed_rank, is_skipped_rank, node_at}
-use Rattle.chord_audit.proofs.Agreement.{best_leads, each_mapped, few_nodes, same_lead, ranks_below, succ_within}
+use Rattle.chord_audit.specs.Tables.{is_marked}
+use Rattle.chord_audit.proofs.Agreement.{best_leads, each_mapped, same_lead, ranks_below}
 use Rattle.chord_audit.proofs.tables.Tables.of.Goals as goal
-
-pub members_of-requires : goal.members_of-requires
-members_of-requires g c = c.requires.each ∙ sym c.nodes-nodes.ensures
-
-pub best_successors-requires-clause-each : goal.best_successors-requires-clause-each
-best_successors-requires-clause-each g c = c.requires.each ∙ sym c.nodes-nodes.ensures
-
-pub best_successors-requires-clause-succ : goal.best_successors-requires-clause-succ
-best_successors-requires-clause-succ g c =
-    let sc = c.args.scenario.now in let states = (g.V.States.list c.args.states.now) in let members = c.deref.result.now in
-    succ_within sc states (length members) (each_mapped is_member sc states members c.requires.each (c.deref.ensures.value ∙ c.in_ok-members.ensures))
-    c.requires.succ
-
-pub ring_of-requires-clause-few : goal.ring_of-requires-clause-few
-ring_of-requires-clause-few g c =
-    let sc = c.args.scenario.now in let states = (g.V.States.list c.args.states.now) in let best = c.deref-2.result.now in
-    few_nodes sc (length best) c.recall_range.ensures
-    (each_mapped (λ s. find (is_marked c.deref.result.now) s.succ) sc states best c.requires.each (c.deref-2.ensures.value ∙ c.in_ok-best.ensures))
 
 pub ring_of-requires-clause-lead : goal.ring_of-requires-clause-lead
 ring_of-requires-clause-lead g c =
     let sc = c.args.scenario.now in let states = (g.V.States.list c.args.states.now) in let best = c.deref-2.result.now in
     let p = is_marked c.deref.result.now in let first = λ (s : NodeState). find p s.succ in
-    let is : best ≡ map first states = c.deref-2.ensures.value ∙ c.in_ok-best.ensures in
+    let is : best ≡ map first states = c.deref-2.ensures.value ∙ c.in_ok-best.ensures.best in
     same_lead (length best) (node_count sc) best (map first states) (each_mapped first sc states best c.requires.each is) is
     (best_leads (node_count sc) p states c.requires.succ)
 
@@ -38,69 +19,10 @@ skipped_ranks-requires-clause-ranks g c =
     subst (λ (l : List ℕ). All (λ rank. rank < length l) l) (sym c.deref-3.ensures.value)
     (ranks_below c.args.scenario.now c.in_ok-order.order.ranks.items c.in_ok-order.ensures.ranks)
 
-pub skipped_ranks-requires-clause-marks : goal.skipped_ranks-requires-clause-marks
-skipped_ranks-requires-clause-marks g c =
-    ap (λ (l : List Bool). length l) c.deref-4.ensures.value ∙ c.in_ok-ring.ensures.length
-    ∙ each_mapped (λ s. find (is_marked c.deref.result.now) s.succ) c.args.scenario.now (g.V.States.list c.args.states.now) c.deref-2.result.now c.requires.each
-    (c.deref-2.ensures.value ∙ c.in_ok-best.ensures)
-    ∙ sym (ap (λ (l : List ℕ). length l) c.deref-3.ensures.value ∙ c.in_ok-order.ensures.ranks.each)
-
-pub skipped_ranks-requires-clause-best : goal.skipped_ranks-requires-clause-best
-skipped_ranks-requires-clause-best g c =
-    each_mapped (λ s. find (is_marked c.deref.result.now) s.succ) c.args.scenario.now (g.V.States.list c.args.states.now) c.deref-5.result.now c.requires.each
-    (c.deref-5.ensures.value ∙ c.in_ok-best.ensures)
-    ∙ sym (ap (λ (l : List ℕ). length l) c.deref-3.ensures.value ∙ c.in_ok-order.ensures.ranks.each)
-
 pub skipped_ranks-requires-clause-lead : goal.skipped_ranks-requires-clause-lead
 skipped_ranks-requires-clause-lead g c =
     let sc = c.args.scenario.now in let states = (g.V.States.list c.args.states.now) in
     let p = is_marked c.deref.result.now in let first = λ (s : NodeState). find p s.succ in
     same_lead (length c.deref-3.result.now) (node_count sc) c.deref-5.result.now (map first states)
-    (ap (λ (l : List ℕ). length l) c.deref-3.ensures.value ∙ c.in_ok-order.ensures.ranks.each) (c.deref-5.ensures.value ∙ c.in_ok-best.ensures)
+    (ap (λ (l : List ℕ). length l) c.deref-3.ensures.value ∙ c.in_ok-order.ensures.ranks.each) (c.deref-5.ensures.value ∙ c.in_ok-best.ensures.best)
     (best_leads (node_count sc) p states c.requires.succ)
-
-pub passed_ranks-requires-clause-few : goal.passed_ranks-requires-clause-few
-passed_ranks-requires-clause-few g c =
-    few_nodes c.args.scenario.now (length c.in_ok-order.order.ranks.items) c.recall_range.ensures c.in_ok-order.ensures.ranks.each
-
-pub passed_ranks-requires-clause-ranks : goal.passed_ranks-requires-clause-ranks
-passed_ranks-requires-clause-ranks g c = ranks_below c.args.scenario.now c.in_ok-order.order.ranks.items c.in_ok-order.ensures.ranks
-
-pub passed_ranks-requires-clause-marks : goal.passed_ranks-requires-clause-marks
-passed_ranks-requires-clause-marks g c =
-    each_mapped is_member c.args.scenario.now (g.V.States.list c.args.states.now) c.deref-6.result.now c.requires.each
-    (c.deref-6.ensures.value ∙ c.in_ok-members.ensures) ∙ sym c.in_ok-order.ensures.ranks.each
-
-pub passed_ranks-requires-clause-states : goal.passed_ranks-requires-clause-states
-passed_ranks-requires-clause-states g c = c.requires.each ∙ sym c.in_ok-order.ensures.ranks.each
-
-pub passed_ranks-requires-clause-succ : goal.passed_ranks-requires-clause-succ
-passed_ranks-requires-clause-succ g c =
-    succ_within c.args.scenario.now (g.V.States.list c.args.states.now) (length c.in_ok-order.order.ranks.items) c.in_ok-order.ensures.ranks.each
-    c.requires.succ
-
-pub returns : goal.returns
-returns g c =
-    let states = (g.V.States.list c.args.states.now) in let members = c.in_ok-members.members.items in let best = c.in_ok-best.best.items in
-    let ring = c.in_ok-ring.ring.items in let ranks = c.in_ok-order.order.ranks.items in
-    record {
-      range = c.recall_range.ensures;
-      each = c.requires.each;
-      succ = c.requires.succ;
-      members_are = c.in_ok-members.ensures;
-      best_are = c.in_ok-best.ensures ∙ ap (λ (l : List Bool). map (λ (s : NodeState). find (is_marked l) s.succ) states) c.deref.ensures.value;
-      ring_each = c.in_ok-ring.ensures.length ∙ ap (λ (l : List (Option ℕ)). length l) c.deref-2.ensures.value;
-      ring_are =
-          subst (λ (l : List (Option ℕ)). (n : ℕ) → n < length l
-          → (is_marked ring n ≡ true) ↔ ((steps : ℕ) × (1 ≤ steps) × (after (node_at l) steps n ≡ Some n)))
-          c.deref-2.ensures.value c.in_ok-ring.ensures.back;
-      ranks_are = c.in_ok-order.ensures.ranks;
-      skipped_are = λ k lt.
-          c.in_ok-skipped.ensures.skipped k (subst (λ (l : List ℕ). k < length l) (sym c.deref-3.ensures.value) lt)
-          ∙ ap (λ (l : List ℕ). is_skipped_rank l c.deref-4.result.now c.deref-5.result.now k) c.deref-3.ensures.value
-          ∙ ap (λ (l : List Bool). is_skipped_rank ranks l c.deref-5.result.now k) c.deref-4.ensures.value
-          ∙ ap (λ (l : List (Option ℕ)). is_skipped_rank ranks ring l k) c.deref-5.ensures.value;
-      skipped_each = c.in_ok-skipped.ensures.length ∙ ap (λ (l : List ℕ). length l) c.deref-3.ensures.value;
-      passed_each = c.in_ok-passed.ensures.length;
-      passed_are = λ k lt. c.in_ok-passed.ensures.passed k lt ∙ ap (λ (l : List Bool). is_passed_rank ranks l states k) c.deref-6.ensures.value;
-    }

@@ -1,7 +1,7 @@
 use Rattle.std.proofs.Common.{◌≡◌, ℕ, ◌<◌, length}
 use Rattle.std.specs.List.{list_any, range_with_len}
 use Rattle.chord_audit.specs.Tables.{covers, is_passing}
-use Rattle.chord_audit.proofs.passes.passed_ranks.Given as goal
+use Rattle.chord_audit.proofs.passes.add_passed.Given as goal
 
 abbrev pub invariant-loop-node : goal.invariant-loop-node
 invariant-loop-node g l = record {

@@ -1,14 +1,12 @@
 use Rattle.std.proofs.Common.{◌≡◌, ◌∙◌, ◌||◌, ◌&&◌, ◌<◌, Bool, ℕ, [], sym, ap, arith, length}
-use Rattle.std.specs.List.{list_any, range_with_len}
 use Rattle.std.proofs.lemmas.List.{get_or-map}
 use Rattle.std.proofs.lemmas.Option.{get_or_from_slice_get}
 use Rattle.chord_node.specs.declared.state.NodeState.{NodeState}
 use Rattle.chord_audit.specs.declared.arcs.Arcs.{Arcs}
 use Rattle.chord_audit.specs.Tables.{reaches, is_inside_list, is_passing, list_of}
-use Rattle.chord_audit.proofs.Lists.{ok_then, one_more, or_none}
-use Rattle.chord_audit.proofs.Reaches.{marked_covered, length-covered}
-use Rattle.chord_audit.proofs.passes.passed_ranks.Goals as goal
-use Rattle.chord_audit.proofs.passes.passed_ranks.Goals.{then-marks-node, else-marks-node}
+use Rattle.chord_audit.proofs.Lists.{one_more, or_none}
+use Rattle.chord_audit.proofs.passes.add_passed.Goals as goal
+use Rattle.chord_audit.proofs.passes.add_passed.Goals.{then-marks-node, else-marks-node}
 
 pub loop-node-preserved : goal.loop-node-preserved
 loop-node-preserved g c =
@@ -40,17 +38,8 @@ loop-node-preserved g c =
       }
     ]
 
-pub returns-clause-length : goal.returns-clause-length
-returns-clause-length g c =
-    let arcs = c.loop-node.arcs in
-    ok_then c.covered.result _ _ c.covered.ensures (λ marks is. length-covered arcs.first (length c.args.order.now.ranks.items) arcs.far.items marks.items
-    c.loop-node.invariant.each is)
-
-pub returns-clause-passed : goal.returns-clause-passed
-returns-clause-passed g c =
-    let arcs = c.loop-node.arcs in let ranks = c.args.order.now.ranks.items in
-    let all : c.loop-node.node ≡ length ranks = omega (arith, c.requires.states) in
-    ok_then c.covered.result _ _ c.covered.ensures (λ marks is k lt.
-    marked_covered arcs.first k (length ranks) arcs.far.items marks.items c.loop-node.invariant.each is lt
-    ∙ c.loop-node.invariant.covered k lt
-    ∙ ap (λ n. list_any (is_passing ranks c.args.marks.now (g.V.States.list c.args.states.now) k) (range_with_len 0 n)) all)
+pub loop-node-init : goal.loop-node-init
+loop-node-init g c = record {
+  each = c.requires.each;
+  covered = c.requires.before;
+}

@@ -1,0 +1,54 @@
+//! What the successor lists say of all nodes.
+ghost use Rattle.std.specs.Prelude.{◌≡◌, ℕ, ◌<◌, ◌^◌, IfOk, find, length, map};
+ghost use Rattle.std.specs.List.{All};
+ghost use Rattle.chord_audit.specs.Tables.{is_marked, is_passed_rank, AreInOrder};
+
+use crate::arcs::Arcs;
+use crate::passes::add_passed;
+use crate::ranks::Order;
+use crate::successors::add_best;
+use chord_event::Memory;
+use chord_node::NodeState;
+use des_machine::States;
+use std::alloc::Global;
+
+/// How many lists are read before anything else is done with them. They lie anywhere in memory, and
+/// reads that follow each other wait for it together.
+const BLOCK: usize = 128;
+
+/// The best successor of each node, and which ranks lie between two neighbours of a member's list.
+#[derive(Drop)]
+pub(crate) struct ListFacts {
+    pub best: Vec<Option<u32>>,
+    pub passed: Vec<bool>,
+}
+
+/// What the lists of all nodes say. A member is the first of its list for `passed`.
+pub(crate) fn read_lists<V: States<NodeState>>(
+    alloc: Global,
+    order: &Order,
+    members: &[bool],
+    states: &V,
+) -> Result<ListFacts, Memory>
+    requires few { length order.now.ranks.items < 2 ^ 32 }
+    requires ranks { All (λ rank. rank < length order.now.ranks.items) order.now.ranks.items }
+    requires nodes { AreInOrder order.now.ranks.items order.now.nodes.items }
+    requires members { length members.now ≡ length order.now.ranks.items }
+    requires states { length (V.list states.now) ≡ length order.now.ranks.items }
+    requires succ { All (λ state. All (λ n. n < length order.now.ranks.items) state.succ) (V.list states.now) }
+    ensures best { IfOk result (λ facts. facts.best.items ≡ map (λ state. find (is_marked members.now) state.succ) (V.list states.now)) }
+    ensures each { IfOk result (λ facts. length facts.passed.items ≡ length order.now.ranks.items) }
+    ensures passed { IfOk result (λ facts. (k : ℕ) → k < length order.now.ranks.items → is_marked facts.passed.items k ≡ is_passed_rank order.now.ranks.items members.now (V.list states.now) k) }
+{
+    let nodes = order.ranks.len();
+    let mut best = Vec::new(alloc);
+    let mut arcs = Arcs::new(alloc, nodes)?;
+    while best.len() < nodes {
+        let first = best.len();
+        let end = nodes.min(first + BLOCK);
+        add_best(&mut best, members, states, end)?;
+        add_passed(&mut arcs, order, members, states, first..end);
+    }
+    let passed = arcs.covered(alloc)?;
+    Ok(ListFacts { best, passed })
+}
