@@ -244,9 +244,7 @@ fn first_member(
         fingers: fingers(alloc, scenario, rounds, node)?,
         next_finger: first_looked_up(scenario, node, Some(first_node(met, node))),
         calls: Listed::new(alloc),
-        // Room for two lookups, a user's and that of a finger: few nodes ever have more, and a list
-        // that has to grow has room for four.
-        lookups: Listed::from_vec(Vec::with_capacity(alloc, 2)?),
+        lookups: Listed::new(alloc),
         join: None,
         place: timers,
         count: timers,
