@@ -78,8 +78,8 @@ class BuildProgramTest(TestCase):
             time.sleep(0.01)
 
     def sums(self) -> set[str]:
-        """The crates that have a sum."""
-        return {file.stem for file in self.out.glob("**/*.sum")}
+        """The crates that have a sum. It looks into no library: a build that runs may just remove it."""
+        return {file.stem for pattern in ("*.sum", "rlibs/*.sum") for file in self.out.glob(pattern)}
 
     def source(self, name: str) -> Path:
         """The source of a library."""
