@@ -13,6 +13,7 @@ from pathlib import Path
 from unittest import TestCase
 
 from tests.support.kit import copy_tool, make_crate, make_kit
+from tests.support.programs import heed_interrupts
 
 CRATES = """# NAME: the libraries that it stands on
 left: low
@@ -47,9 +48,10 @@ class BuildProgramTest(TestCase):
         """A build that has begun. It is ended if the test fails."""
         self.calls.write_text("", encoding="utf-8")
         path = f"{self.folder / 'bin'}:{os.environ['PATH']}"
-        with subprocess.Popen(
+        with subprocess.Popen(  # pylint: disable=subprocess-popen-preexec-fn
             [self.top / "tools" / "build_program", "--jobs", str(jobs), self.out], stdout=subprocess.PIPE,
             stderr=subprocess.PIPE, text=True, env=os.environ | {"PATH": path, "CALLS": str(self.calls)} | more,
+            preexec_fn=heed_interrupts,
         ) as build:
             try:
                 yield build

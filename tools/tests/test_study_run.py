@@ -19,7 +19,7 @@ from unittest.mock import patch
 
 from chordsim_tools.scenario.reading import read_scenario
 from chordsim_tools.study.command import main
-from tests.support.programs import ended, program
+from tests.support.programs import ended, heed_interrupts, program
 
 TOP = Path(__file__).resolve().parents[2]
 TOOL = TOP / "tools" / "study"
@@ -130,11 +130,6 @@ def table(folder: Path, name: str) -> list[dict[str, str]]:
 def left_overs(folder: Path) -> list[str]:
     """Files that are half written."""
     return [str(path) for path in folder.rglob("*.part")]
-
-
-def heed_interrupts() -> None:
-    """Undoes that whoever started the tests ignores SIGINT, as a shell does for what runs in the background."""
-    signal.signal(signal.SIGINT, signal.SIG_DFL)
 
 
 def said(word: str, folder: Path) -> tuple[int, str]:

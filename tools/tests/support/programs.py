@@ -3,6 +3,7 @@
 import functools
 import io
 import os
+import signal
 import subprocess
 from collections.abc import Callable
 from contextlib import redirect_stderr, redirect_stdout
@@ -25,6 +26,11 @@ def ended(main: Callable[[list[str]], int], *arguments: str) -> tuple[int, str, 
             assert isinstance(end.code, int)
             status = end.code
     return status, out.getvalue(), err.getvalue()
+
+
+def heed_interrupts() -> None:
+    """Undoes that whoever started the tests ignores SIGINT, as a shell does for what runs in the background."""
+    signal.signal(signal.SIGINT, signal.SIG_DFL)
 
 
 @functools.cache
