@@ -12,8 +12,8 @@ use chord_node::NodeState;
 use des_machine::States;
 use std::alloc::Global;
 
-/// How many lists are read before anything else is done with them. They lie anywhere in memory, and
-/// reads that follow each other wait for it together.
+/// How many lists are read in a row. Each lies elsewhere in memory. The processor fetches several
+/// of them at once if no other work stands between their reads.
 const BLOCK: usize = 128;
 
 /// The best successor of each node, and which ranks lie between two neighbours of a member's list.
@@ -23,7 +23,7 @@ pub(crate) struct ListFacts {
     pub passed: Vec<bool>,
 }
 
-/// What the lists of all nodes say. A member is the first of its list for `passed`.
+/// What the lists of all nodes say. `passed` takes each member for the first entry of its own list.
 pub(crate) fn read_lists<V: States<NodeState>>(
     alloc: Global,
     order: &Order,

@@ -36,8 +36,8 @@ pub(crate) fn skipped_ranks(
     arcs.covered(alloc)
 }
 
-/// Adds the ways between the neighbours of the lists of these nodes, those that are marked. The node itself
-/// is the first of its list. The lists of the nodes before these are added already.
+/// Adds the ways between neighbours in the lists of the marked nodes of a block. Each node is the
+/// first of its own list. The lists of the nodes before the block are added already.
 pub(crate) fn add_passed<V: States<NodeState>>(
     arcs: &mut Arcs,
     order: &Order,

@@ -1,5 +1,5 @@
 //! Lists that contracts see as plain lists.
-ghost use Rattle.std.specs.Prelude.{◌≡◌, ◌==◌, ℕ, ◌+◌, ◌-◌, ◌<◌, ◌≤◌, [], ◌∷◌, ◌++◌, drop, length, map, replicate, take, IsSome, IfOk, OnOk, is_ok, insert, remove, slice_get, slice_index_or, slice_set, if◌then◌else◌};
+ghost use Rattle.std.specs.Prelude.{◌≡◌, ◌<◌, ◌≤◌, [], ◌∷◌, ◌++◌, drop, length, take, IfOk, OnOk, insert, remove, slice_get, slice_set};
 ghost use Rattle.std.specs.Fn.{CalledAt};
 ghost use Rattle.std.specs.List.Retain.{IsFiltered};
 
@@ -126,6 +126,15 @@ impl<T> Listed<T> {
     {
         self.items.clear();
     }
+
+    /// Drops all items and gives back their room.
+    pub fn free(&mut self)
+    where
+        T: Drop,
+        ensures { self.new ≡ [] }
+    {
+        self.items = Vec::new(*self.items.allocator());
+    }
 }
 
 impl<T: Copy> Listed<T> {
@@ -142,33 +151,5 @@ impl<T: Copy> Listed<T> {
     {
         self.items.extend_from_slice(items)?;
         Ok(())
-    }
-}
-
-/// The number, or the new one in the place of the old.
-fn put_for(number: u32, old: u32, new: u32) -> u32
-    ensures { result ≡ (if number == old then new else number) }
-{
-    if number == old { new } else { number }
-}
-
-impl Listed<u32> {
-    /// Puts a number in the place of another one, wherever that stands.
-    pub fn replace(&mut self, old: u32, new: u32)
-        ensures { self.new ≡ map (λ n. if n == old then new else n) self.old }
-    {
-        for item in self.items.iter_mut() {
-            *item = put_for(*item, old, new);
-        }
-    }
-
-    /// Puts a number in each of the first `count` places.
-    pub fn fill_first(&mut self, count: usize, item: u32)
-        requires { count ≤ length self.old }
-        ensures { self.new ≡ replicate count item ++ drop count self.old }
-    {
-        for place in 0..count {
-            self.items[place] = item;
-        }
     }
 }
