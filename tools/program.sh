@@ -41,9 +41,18 @@ sum_of_sources() {
     )
 }
 
-# Whether a source of the program, or what crates.txt says, was changed after rt made the program.
+# Whether a source of the program, or what crates.txt says, was changed after rt made the program. A change gives a file
+# another ctime, which nobody can set back. A source that is added or removed changes its folder. The folder of a crate
+# itself is not looked at: rt makes others in it.
 has_changed_since() {
-    [ -n "$(cd "$top/crates" && sources_of_program -newer "$made" && find ../crates.txt -newer "$made")" ]
+    changed=$(
+        cd "$top/crates" || exit 1
+        sources_of_program -cnewer "$made"
+        find $(crates_of_program) -mindepth 1 \( -name out -o -name must-fail \) -prune -o \
+            -type d -cnewer "$made" -print
+        find ../crates.txt -cnewer "$made"
+    )
+    [ -n "$changed" ]
 }
 
 # Whether the folder has a program of the sources with this sum.

@@ -8,15 +8,14 @@ import signal
 import subprocess
 import sys
 import time
-from argparse import ArgumentTypeError
 from dataclasses import dataclass, field
 from pathlib import Path
 from typing import BinaryIO, NamedTuple
 
 from chordsim_tools.cli import Failure, ToolParser, ended, run, say, write_out
 from chordsim_tools.files import make_folder, read_input, reason, sum_of, write_whole
+from chordsim_tools.options import whole
 from chordsim_tools.place import FOLDER, tool
-from chordsim_tools.quantities import whole_of
 
 PROG = tool("build_program")
 HELP = """\
@@ -344,18 +343,10 @@ def build_program(folder: Path, jobs: int) -> int:
     return 0
 
 
-def jobs_of(text: str) -> int:
-    """A number of crates."""
-    number = whole_of(text)
-    if number is None or not 1 <= number <= 1024:
-        raise ArgumentTypeError("1 to 1024 is wanted")
-    return number
-
-
 def parser_of() -> ToolParser:
     """The parser of the arguments."""
     parser = ToolParser(PROG, HELP, EPILOG)
-    parser.add_argument("--jobs", metavar="N", type=jobs_of, default=1, help="N crates at once (default: 1)")
+    parser.add_argument("--jobs", metavar="N", type=whole(1, 1024), default="1", help="N crates at once (default: 1)")
     parser.add_argument("folder", metavar="FOLDER", type=Path, help="the folder to build into")
     return parser
 
@@ -363,7 +354,7 @@ def parser_of() -> ToolParser:
 def main(arguments: list[str]) -> int:
     """Builds the program. Returns the status."""
     parsed = parser_of().parse_args(arguments)
-    return run(PROG, lambda: build_program(parsed.folder.resolve(), parsed.jobs))
+    return run(PROG, lambda: build_program(parsed.folder.resolve(), parsed.jobs.value))
 
 
 if __name__ == "__main__":
