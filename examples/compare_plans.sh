@@ -11,6 +11,10 @@ top=$(CDPATH='' cd -- "$(dirname -- "$0")/.." && pwd)
 program=${CHORDSIM:-$top/chordsim}
 work=$(mktemp -d)
 trap 'rm -rf "$work"' EXIT
+# Not every sh does the above when a signal ends it.
+trap 'exit 129' HUP
+trap 'exit 130' INT
+trap 'exit 143' TERM
 
 # Runs the scenario $scenario, with the latency file $links if there is one. The trace goes to the file $1, and the report
 # and the status to $1.report. A random scenario may have more events than it allows (status 3).
@@ -47,10 +51,15 @@ compare() {
     echo "$scenario: the same by 80 plans, $(wc -c < "$work/serial") bytes of trace"
 }
 
-if [ $# -eq 0 ] || { [ "$1" = -r ] && [ $# -ne 2 ]; }; then
+usage() {
     echo "usage: examples/compare_plans.sh FILE.. | -r N" >&2
     exit 2
-elif [ "$1" = -r ]; then
+}
+
+[ $# -gt 0 ] || usage
+if [ "$1" = -r ]; then
+    # N is a number of one to four digits, and not 0: otherwise nothing would be compared.
+    [ $# -eq 2 ] && echo "$2" | grep -qx '[1-9][0-9]\{0,3\}' || usage
     seed=1
     while [ "$seed" -le "$2" ]; do
         "$top/tools/generate" --random "$seed" --links "$work/links.csv" -o "$work/random$seed.toml"

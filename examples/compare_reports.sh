@@ -11,6 +11,10 @@ top=$(CDPATH='' cd -- "$(dirname -- "$0")/.." && pwd)
 program=${CHORDSIM:-$top/chordsim}
 work=$(mktemp -d)
 trap 'rm -rf "$work"' EXIT
+# Not every sh does the above when a signal ends it.
+trap 'exit 129' HUP
+trap 'exit 130' INT
+trap 'exit 143' TERM
 
 failed=0
 for file in "$top"/examples/*.toml; do

@@ -38,7 +38,7 @@ show() {
     best=$(sort -n "$1" | head -n 1 | cut -d ' ' -f 1)
     seconds=$(cut -d ' ' -f 1 "$1" | tr '\n' ' ')
     processors=$(cut -d ' ' -f 2 "$1" | tr '\n' ' ')
-    ratio=$(echo "$best $2" | awk '{ printf "%.2f", $1 / $2 }')
+    ratio=$(echo "$best $2" | awk '{ if ($2 > 0) printf "%.2f", $1 / $2; else printf "-" }')
     printf '    %-8s %s  processors: %s  ratio: %s\n' "$(basename "$1")" "$seconds" "$processors" "$ratio"
 }
 
