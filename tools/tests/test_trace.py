@@ -119,7 +119,8 @@ class Percentiles(TestCase):
         lines = [f"{time} a lookup 5" for time in range(100)]
         lines += [f"{1_000_000 + time} a found 5 a hops=2 timeouts=0 us=1000000" for time in range(95)]
         lines += [f"{1_000_000 + time} a lost 5 hops=2 timeouts=9 us=1000000" for time in range(95, 100)]
-        facts = facts_of(*lines)
+        long = SCENARIO.replace("duration_us = 1000", "duration_us = 2000000")
+        facts = summary(run_of_text("\n".join(lines) + "\n", long))
         self.assertEqual(facts["times_us"]["all"], {"p50": 1_000_000, "p90": 1_000_000, "p99": "never"})
         self.assertEqual(facts["times_us"]["found"]["p99"], 1_000_000)
         self.assertEqual(facts["hops"], {"p50": 2, "p90": 2, "p99": 2})
@@ -280,14 +281,16 @@ audits                  4
             return [f"{time} a lookup 15", f"{time} a found 15 {owner} hops=0 timeouts=0 us=0"]
 
         audits = (audit(100, 3), audit(200, 3), audit(300, 3, "dead=0 ring=3 ordered=no"))
+        torn = audit(200, 3, "dead=1 ring=2 ordered=yes")
         for right, wrong, there, doubted in ((9, 11, audits, 1), (10, 10, audits, 0), (8, 11, audits, 0),
-                                             (9, 11, audits[1:], 0), (0, 20, audits[2:], 0)):
+                                             (9, 11, audits[1:], 0), (0, 20, audits[2:], 0),
+                                             (9, 11, (audits[0], torn), 0)):
             with self.subTest(right=right, wrong=wrong, audits=len(there)):
                 owners = ["b"] * right + ["c"] * wrong
                 lines = [line for at, owner in enumerate(owners) for line in answer(at, owner)]
                 self.assertEqual(len(doubts(run_of(*lines, *there))), doubted)
         self.assertEqual(doubts(run_of(*(line for at in range(20) for line in answer(at, "c")), audits[0])), [
-            "100.00 % of the audits find a ring in order, and 100.00 % of the answers are wrong: "
+            "100.00 % of the audits find no torn ring, but 100.00 % of the answers are wrong: "
             "are trace and scenario of one run?"
         ])
 
@@ -339,7 +342,7 @@ class Files(TestCase):
         self.assertRaises(Refused, run_of_text, whole + "audits 3\n")
         with tempfile.TemporaryDirectory() as folder:
             report = Path(folder) / "report"
-            for text in ("lookups 1\n", "lookups many\n", ""):
+            for text in ("lookups 1\n", "lookups many\n", "events " + "9" * 5000, ""):
                 report.write_text(text)
                 self.assertRaises(Refused, read_report, str(report), run_of_text(whole))
         with self.assertRaises(Refused) as caught:
@@ -360,6 +363,8 @@ class Files(TestCase):
             ("1O a crash", "number"), ("10 a audit b", "more words"), ("10 a lookup 5 b", "4 words"),
             ("10 a lookup 64", "not below 64"), ("10 a busy 64", "not below 64"),
             ("30 a found 5 a is hops=1 timeouts=0 us=25", "other words"),
+            ("1000 a lookup 5", "(its time is not within the run)"), (audit(1001, 3), "not within the run"),
+            ("99999999999999999999 a crash", "not within the run"),
         ):
             with self.subTest(line=line), self.assertRaises(Refused) as caught:
                 run_of("5 a lookup 5", line)

@@ -168,7 +168,7 @@ class Commands(TestCase):
         """1 for files, 2 for arguments, one line each."""
         trace, scenario = str(self.folder / "a.trace"), str(self.folder / "a.toml")
         long = self.write("long.toml", SCENARIO.replace("duration_us = 1000", "duration_us = 1000000"))
-        self.write("a.trace", "".join(line + "\n" for line in [*LINES, audit(1_000_000, 3)]))
+        late = self.write("long.trace", "".join(line + "\n" for line in [*LINES, audit(1_000_000, 3)]))
         for arguments, status, word in (
             (["none", scenario], 1, "refused: cannot read none: No such file"),
             ([trace, "none"], 1, "refused: cannot read none"),
@@ -185,7 +185,7 @@ class Commands(TestCase):
             ([trace, scenario, "--removed", "a"], 2, "has no `detail = true`"),
             ([trace, scenario, "--join", "a"], 2, "a never joins"),
             ([trace, scenario, "--over-time", "0s"], 2, "no time above 0"),
-            ([trace, long, "--over-time", "5"], 2, "--over-time: 200000 steps of 5us; 100000 at most"),
+            ([late, long, "--over-time", "5"], 2, "--over-time: 200000 steps of 5us; 100000 at most"),
             ([trace, scenario, "--over-time", "-5s"], 2, "--over-time: '-5s' is no time above 0"),
             ([trace, scenario, "--worst", "0"], 2, "no integer from 1 up"),
             ([trace, scenario, "--html", trace], 2, "is a file that is read"),

@@ -104,6 +104,7 @@ class Lines(TestCase):
             ("10 a ask step b", "6 words"), ("10 a ask ping b call=3 key=1 since=5", "6 words"),
             ("10 a ask step b call=3 key=64 since=5", "not below 64"),
             ("10 a ask step b call=3 key=1 since=11", "not below 11"),
+            ("10 a ask step b call=99999999999999999999", "99999999999999999999 is not below 9223372036854775808"),
             ("10 a ask notify b call=3", "(no line ask notify)"), ("10 a ask step x call=3", "(no node x)"),
             ("10 a ask step b calls=3", "no call="), ("10 a ask step b call=3 since=5 key=1", "no key="),
             ("10 a send step b", "(no line send step)"), ("10 a send pong", "5 words"),

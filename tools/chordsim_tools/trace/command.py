@@ -1,12 +1,12 @@
 """The command tools/trace."""
 
 import json
-import re
 from argparse import ArgumentTypeError, Namespace
 
 from chordsim_tools.cli import Failure, Refused, ToolParser, run
 from chordsim_tools.explain.traps import warn
 from chordsim_tools.files import check_apart, check_output, read_input, write_whole
+from chordsim_tools.options import count
 from chordsim_tools.place import tool
 from chordsim_tools.quantities import time_of
 from chordsim_tools.scenario.reading import Scenario, read_scenario
@@ -80,13 +80,6 @@ def step(text: str) -> int:
     if not found:
         raise ArgumentTypeError(f"{text!r} is no time above 0, such as 10s or 500ms")
     return found
-
-
-def count(text: str) -> int:
-    """A number of 1 or more."""
-    if not re.fullmatch("[0-9]{1,9}", text) or int(text) < 1:
-        raise ArgumentTypeError(f"{text!r} is no integer from 1 up")
-    return int(text)
 
 
 def scenario_of(args: Namespace) -> Scenario:

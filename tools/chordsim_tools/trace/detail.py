@@ -181,7 +181,7 @@ def removal_story(run: Run, name: str) -> list[str]:
 
 def is_of_member(run: Run, call: Call) -> bool:
     """Whether a node is a member when it makes a call. One that joins asks the first successor that it gets."""
-    change = last_change(run, call.node, call.sendings[0].at)
+    change = run.history.last_change(call.node, call.sendings[0].at)
     return change is None or run.history.lines.kinds[change] in COMES_IN
 
 
@@ -203,17 +203,10 @@ def what_follows(run: Run, timeout: int) -> list[int]:
 
 def status_then(run: Run, node: int, before: int) -> str:
     """What a node was before a line, and since when."""
-    lines, at = run.history.lines, last_change(run, node, before)
+    lines, at = run.history.lines, run.history.last_change(node, before)
     if at is None:
         return f"{'a member' if run.history.scenario.nodes[node].initial else 'down'} then, as at the start"
     is_joining = lines.kinds[at] in (JOIN, STRANDED) or (
         lines.kinds[at] == JOIN_FAILED and run.history.scenario.join_forever)
     word = "a member" if lines.kinds[at] in COMES_IN else "joining" if is_joining else "down"
     return f"{word} then ({timed(lines.text(at)).strip()})"
-
-
-def last_change(run: Run, node: int, before: int) -> int | None:
-    """The place of the last line before this one that changed what a node is, if there is one."""
-    lines = run.history.lines
-    places = range(before - 1, -1, -1)
-    return next((at for at in places if lines.nodes[at] == node and lines.kinds[at] in CHANGES), None)

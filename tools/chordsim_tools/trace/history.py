@@ -5,6 +5,7 @@ from dataclasses import dataclass
 
 from chordsim_tools.members import Members
 from chordsim_tools.scenario.reading import Scenario
+from chordsim_tools.scenario.tables import GREATEST_INTEGER
 from chordsim_tools.trace.lines import CHANGES, CODES, GOES, NOBODY, Audit, Lines, Lookup
 
 DOWN, JOINING, MEMBER, STRANDED = range(4)
@@ -50,16 +51,16 @@ class History:
         self.lives = [[Life(0)] if node.initial else [] for node in scenario.nodes]
         self.joins: list[Join] = []
         self.joining: dict[int, Join] = {}
+        # Of each node its last join, and the places of the lines that changed what it is.
+        self.last_join: dict[int, Join] = {}
+        self.changes: list[list[int]] = [[] for _ in names]
         self.open: list[dict[tuple[int, int], list[Lookup]]] = [{} for _ in names]
         self.at = 0
 
     def read(self, line: str) -> None:
         """Takes one line, without its line feed."""
         fields = line.split(" ")
-        time = whole(fields[0])
-        if time < self.at:
-            raise ValueError("its time is below that of the line before")
-        self.at = time
+        time = self.at = self.time_of(fields)
         if fields[1] == "audit":
             self.audit(time, line, fields)
             return
@@ -72,26 +73,35 @@ class History:
                 if self.lines.text(len(self.lines.times) - 1) != line:
                     raise ValueError("it has other words than such a line")
             case "timeout" | "forget" | "rescue":
-                self.keep(time, node, kind, fields, 4)
+                self.lines.append(time, node, CODES[kind], self.named(fields, 4))
             case "ask" | "send" if not self.scenario.detail:
                 raise ValueError("the scenario has no `detail = true`")
             case "ask":
                 self.ask(time, node, fields)
             case "drop" | "late" | "lose" | "again" | "send":
-                self.keep(time, node, f"{kind} {fields[3]}", fields, 5)
+                self.lines.append(time, node, CODES[f"{kind} {fields[3]}"], self.named(fields, 5))
             case "busy":
                 self.lines.append(time, node, CODES[kind], len(self.lines.busy_keys))
                 self.lines.busy_keys.append(self.key(fields[3]))
             case "ignored":
-                self.keep(time, node, f"{kind} {fields[3]}", fields, 4, NOBODY)
+                check_words(fields, 4)
+                self.lines.append(time, node, CODES[f"{kind} {fields[3]}"], NOBODY)
             case _:
                 self.change(time, node, kind, fields)
 
-    def keep(self, time: int, node: int, kind: str, fields: list[str], count: int, other: int | None = None) -> None:
-        """Keeps a line of so many fields. The last one names another node, if none is given."""
-        if len(fields) != count:
-            raise ValueError(f"{count} words are wanted")
-        self.lines.append(time, node, CODES[kind], self.numbers[fields[-1]] if other is None else other)
+    def time_of(self, fields: list[str]) -> int:
+        """The time of a line, which is not below that of the line before. Only an audit has the time of the end."""
+        time, end = whole(fields[0]), self.scenario.duration_us
+        if time < self.at:
+            raise ValueError("its time is below that of the line before")
+        if time > end or (time == end and fields[1] != "audit"):
+            raise ValueError("its time is not within the run")
+        return time
+
+    def named(self, fields: list[str], count: int) -> int:
+        """The node that is named by the last of so many words."""
+        check_words(fields, count)
+        return self.numbers[fields[-1]]
 
     def ask(self, time: int, node: int, fields: list[str]) -> None:
         """A request: TIME NODE ask KIND Q call=C, and if it is one of a lookup also key=K since=T."""
@@ -100,15 +110,21 @@ class History:
             key, start = self.key(value_of("key", fields[6])), below(time + 1, value_of("since", fields[7]))
         elif len(fields) != 6:
             raise ValueError("6 words are wanted, or 8 of a step or get-state")
-        self.lines.asks.append(len(self.lines.times), whole(value_of("call", fields[5])), key, start)
+        call = below(GREATEST_INTEGER + 1, value_of("call", fields[5]))
+        self.lines.asks.append(len(self.lines.times), call, key, start)
         self.lines.append(time, node, CODES[f"ask {fields[3]}"], self.numbers[fields[4]])
 
     def change(self, time: int, node: int, kind: str, fields: list[str]) -> None:
         """A line that changes what a node is."""
         if CODES[kind] not in CHANGES:
             raise ValueError(f"{kind} needs more words")
-        alone = kind in ("crash", "leave", "join-failed", "create")
-        self.keep(time, node, kind, fields, 3 if alone else 4, NOBODY if alone else None)
+        other = NOBODY
+        if kind in ("crash", "leave", "join-failed", "create"):
+            check_words(fields, 3)
+        else:
+            other = self.named(fields, 4)
+        self.changes[node].append(len(self.lines.times))
+        self.lines.append(time, node, CODES[kind], other)
         name = self.names[node]
         match kind:
             case "join":
@@ -131,13 +147,19 @@ class History:
                 self.lives[node][-1].end = time
                 self.asker_goes(time, node, kind)
 
+    def last_change(self, node: int, before: int) -> int | None:
+        """The place of the last line before this one that changed what a node is, if there is one."""
+        places = self.changes[node]
+        earlier = bisect_left(places, before)
+        return places[earlier - 1] if earlier else None
+
     def begins_to_join(self, time: int, node: int, status: int) -> None:
         """A node joins, or joins again."""
         wanted = DOWN if status == JOINING else MEMBER
         if self.status[node] != wanted:
             raise ValueError("the node was not " + ("down" if status == JOINING else "a member"))
         self.status[node] = status
-        self.joining[node] = Join(node, time, status == STRANDED)
+        self.joining[node] = self.last_join[node] = Join(node, time, status == STRANDED)
         self.joins.append(self.joining[node])
 
     def ends_to_join(self, time: int, node: int, outcome: str, status: int) -> None:
@@ -160,7 +182,7 @@ class History:
 
     def creates(self, time: int, node: int) -> None:
         """A node makes a ring: it joins through itself, or has just failed for the eighth time, which ends no join."""
-        last = next((join for join in reversed(self.joins) if join.node == node), None)
+        last = self.last_join.get(node)
         if self.status[node] == DOWN and last is not None and (last.end, last.outcome) == (time, "failed"):
             self.status[node], self.joining[node] = JOINING, last
             self.lives[node][-1].end = None
@@ -175,8 +197,7 @@ class History:
 
     def lookup(self, time: int, node: int, fields: list[str]) -> None:
         """A lookup begins: TIME NODE lookup KEY."""
-        if len(fields) != 4:
-            raise ValueError("4 words are wanted")
+        check_words(fields, 4)
         one = Lookup(len(self.lines.lookups), node, self.key(fields[3]), time)
         self.lines.append(time, node, CODES["lookup"], one.number)
         self.lines.lookups.append(one)
@@ -245,6 +266,12 @@ def audit_of(time: int, fields: list[str]) -> Audit | None:
         )
     except (LookupError, ValueError):
         return None
+
+
+def check_words(fields: list[str], count: int) -> None:
+    """Refuses a line that has not so many words."""
+    if len(fields) != count:
+        raise ValueError(f"{count} words are wanted")
 
 
 def value_of(name: str, word: str) -> str:

@@ -123,6 +123,11 @@ class Ranks:
         return int(head[2]) * self.most + place
 
 
+def is_torn(audit: bytes) -> bool:
+    """Whether the line of an audit is of a torn ring, as `Audit.is_torn` of chordsim_tools.trace.lines has it."""
+    return b" ordered=yes " not in audit or b" ring=0 " in audit or b" dead=0 " not in audit
+
+
 def table_doubts(files: Files, table: bytes) -> list[str]:
     """What Python would doubt of the run. Only a trace that can be read again is looked at."""
     wrong = table.count(b",wrong,right\n") + table.count(b",wrong,wrong\n")
@@ -131,5 +136,5 @@ def table_doubts(files: Files, table: bytes) -> list[str]:
         return []
     with opened(files.trace) as trace:
         lines = (line for line in trace if line.split(b" ", 2)[1:2] == [b"audit"] and line.endswith(b"\n"))
-        audits = [b" ordered=yes " in line for line in lines]
+        audits = [not is_torn(line) for line in lines]
     return doubts_about(wrong, right, audits)

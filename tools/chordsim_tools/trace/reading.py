@@ -1,12 +1,13 @@
 """Reads a trace file, to its end or as far as it goes, and the report."""
 
+import re
 from collections import Counter
 from collections.abc import Iterator
 from dataclasses import dataclass, field
 
 from chordsim_tools.cli import Progress, Refused
 from chordsim_tools.files import read_input, reason
-from chordsim_tools.reference.report import Report
+from chordsim_tools.reference.report import EXTENDED_LINES, LINES, Report
 from chordsim_tools.scenario.reading import Scenario
 from chordsim_tools.trace.history import History
 from chordsim_tools.trace.lines import KINDS
@@ -78,9 +79,9 @@ def read_line(run: Run, number: int, line: str) -> None:
 
 
 def take_number(run: Run, line: str) -> None:
-    """Takes a line of the report after a trace."""
+    """Takes a line of the report, which may be after a trace."""
     word, _, count = line.partition(" ")
-    if not count.isdecimal():
+    if not re.fullmatch("[0-9]{1,40}", count):
         raise ValueError("a line of the report has WORD NUMBER" if run.report else "a line has TIME NAME WORD")
     run.report[word] = int(count)
 
@@ -102,19 +103,14 @@ def read_report(name: str, run: Run) -> None:
     if not lines:
         raise Refused(f"{name} has no report")
     for number, line in enumerate(lines, start=1):
-        word, _, count = line.partition(" ")
-        if not count.isdecimal():
-            raise Refused(f"{name} line {number} is no line of a report: {line[:120]!r}")
-        run.report[word] = int(count)
+        try:
+            take_number(run, line)
+        except ValueError:
+            raise Refused(f"{name} line {number} is no line of a report: {line[:120]!r}") from None
     check_report(name, run)
 
 
-REPORT_WORDS = {
-    "members": "member", "join-failed": "join-failed", "crashes": "crash", "stranded": "stranded", "drops": "drop",
-    "late": "late", "timeouts": "timeout", "lookups": "lookup", "found": "found", "lost": "lost", "busy": "busy",
-    "ignored": "ignored", "audits": "audit", "losses": "lose",
-    "again": "again", "forgotten": "forget", "leaves": "leave", "rescues": "rescue", "creates": "create",
-}
+REPORT_WORDS = dict((*LINES, ("audits", "audit"), ("losses", "lose"), *EXTENDED_LINES))
 """The numbers of the report that count lines, with the first word of these."""
 
 

@@ -1,6 +1,7 @@
 """The story of a node, and that of a lookup."""
 
 import re
+from bisect import bisect_right
 from collections.abc import Iterator
 
 from chordsim_tools.cli import Failure
@@ -117,12 +118,7 @@ def answer_story(run: Run, one: Lookup) -> Iterator[str]:
 def last_change(run: Run, node: int, until: int) -> str:
     """The last line that changed a node, until some time."""
     lines = run.history.lines
-    found = None
-    for at, one in enumerate(lines.nodes):
-        if lines.times[at] > until:
-            break
-        if one == node and lines.kinds[at] in CHANGES:
-            found = at
+    found = run.history.last_change(node, bisect_right(lines.times, until))
     if found is None:
         return "as it was at the start"
     return f"{timed(lines.text(found)).strip()} ({seconds(until - lines.times[found])} before)"

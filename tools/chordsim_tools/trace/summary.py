@@ -56,9 +56,9 @@ def summary(run: Run) -> Facts:
 
 
 def doubts(run: Run) -> list[str]:
-    """That trace and scenario are hardly of one run: most audits find a ring in order, and most answers are wrong."""
+    """That trace and scenario are hardly of one run: most audits find no torn ring, but most answers are wrong."""
     answers = answer_facts(run.history.lines.lookups)
-    audits = [audit.is_ordered for audit in run.history.lines.audits]
+    audits = [not audit.is_torn for audit in run.history.lines.audits]
     return doubts_about(answers["wrong_strict"], answers["right_strict"], audits)
 
 
@@ -68,12 +68,12 @@ def is_mostly_wrong(wrong: int, right: int) -> bool:
 
 
 def doubts_about(wrong: int, right: int, audits: list[bool]) -> list[str]:
-    """The same, from the numbers of answers and from whether each audit finds a ring in order."""
-    ordered = sum(audits)
-    if not is_mostly_wrong(wrong, right) or 2 * ordered <= len(audits):
+    """The same, from the numbers of answers and from whether each audit finds no torn ring."""
+    sound = sum(audits)
+    if not is_mostly_wrong(wrong, right) or 2 * sound <= len(audits):
         return []
     return [
-        f"{share(ordered, len(audits))} of the audits find a ring in order, and {share(wrong, wrong + right)} of the "
+        f"{share(sound, len(audits))} of the audits find no torn ring, but {share(wrong, wrong + right)} of the "
         "answers are wrong: are trace and scenario of one run?"
     ]
 

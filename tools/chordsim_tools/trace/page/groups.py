@@ -1,11 +1,8 @@
 """The groups of nodes that a page has colours for: by a file, or by the nodes' names."""
 
-import csv
-import io
-
 from chordsim_tools.cli import Refused
 from chordsim_tools.files import read_input
-from chordsim_tools.scenario.tables import GREATEST_SIZE
+from chordsim_tools.scenario.tables import GREATEST_SIZE, rows_of
 
 
 MOST_GROUPS = 12
@@ -20,14 +17,12 @@ def groups_by_name(names: list[str]) -> list[str]:
 
 def read_groups(file: str, names: list[str]) -> list[str]:
     """The group of each node by the rows NODE,GROUP of a file. A node that has no row is in no group."""
-    text = read_input(file, GREATEST_SIZE).decode("utf-8", "replace").removeprefix("\ufeff")
     groups: dict[str, str] = dict.fromkeys(names, "")
-    for number, row in enumerate(csv.reader(io.StringIO(text, newline="")), start=1):
-        if not row:
-            continue
-        if len(row) != 2:
-            raise Refused(f"{file}: line {number} is not NODE,GROUP")
-        if row[0] not in groups:
-            raise Refused(f"{file}: line {number}: the scenario has no node {row[0]!r}")
-        groups[row[0]] = row[1].strip()
+    for row in rows_of(read_input(file, GREATEST_SIZE)):
+        if len(row.fields) != 2:
+            raise Refused(f"{file}: line {row.line} is not NODE,GROUP")
+        name, group = row.fields
+        if name not in groups:
+            raise Refused(f"{file}: line {row.line}: the scenario has no node {name[:120]!r}")
+        groups[name] = group.strip()
     return list(groups.values())
