@@ -85,12 +85,16 @@ def buffer_output() -> None:
 
 
 def write_out(text: str) -> None:
-    """Writes a whole text to standard output, and what is in its buffer."""
-    if sys.stdout is None:
+    """Writes a whole text to standard output, and what is in its buffer. What its encoding lacks is escaped."""
+    out = sys.stdout
+    if out is None:
         raise OSError(errno.EBADF, os.strerror(errno.EBADF))
     try:
-        sys.stdout.write(text)
-        sys.stdout.flush()
+        if isinstance(out, io.TextIOWrapper) and out.errors == "strict":
+            # A file's name may be no text.
+            out.reconfigure(errors="backslashreplace")
+        out.write(text)
+        out.flush()
     except OSError:
         close_quietly(1)
         raise

@@ -36,8 +36,8 @@ def put(text: str, name: str | None) -> None:
 def write_whole(name: str | Path, content: str | bytes, told: str = "cannot write ") -> None:
     """Writes a whole file or none: to NAME.part, which is then renamed. Devices and pipes are written as they are.
 
-    The text of a failure begins with what is told."""
-    data = content.encode() if isinstance(content, str) else content
+    What is no text, as a file's name may be, is escaped. The text of a failure begins with what is told."""
+    data = content.encode(errors="backslashreplace") if isinstance(content, str) else content
     try:
         if is_stream(str(name)):
             Path(name).write_bytes(data)

@@ -55,6 +55,14 @@ def whole(least: int, greatest: int) -> Reader[int]:
     return value(within(whole_of, least, greatest), f"{least} to {greatest}")
 
 
+def count(text: str) -> int:
+    """A number of 1 or more, without its text."""
+    number = whole_of(text)
+    if not number:
+        raise ArgumentTypeError(f"{text!r} is no integer from 1 up")
+    return number
+
+
 def one_of(*numbers: int) -> Reader[int]:
     """One of a few numbers, in ascending order."""
     *others, last = numbers

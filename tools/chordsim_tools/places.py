@@ -12,7 +12,7 @@ from chordsim_tools.files import read_input
 from chordsim_tools.quantities import span_of, time_of, whole_of
 from chordsim_tools.regions import placed, read_regions
 from chordsim_tools.scenario.coordinates import Coordinates
-from chordsim_tools.scenario.tables import COORDINATES, GREATEST_SIZE
+from chordsim_tools.scenario.tables import COORDINATES, GREATEST_SIZE, rows_of
 
 GREATEST_SIDE, _, GREATEST_HEIGHT = (key.greatest for key in COORDINATES)
 LAWS = (
@@ -159,16 +159,16 @@ def places_in(file: str, names: list[str]) -> tuple[Coordinates, ...]:
 
 def read_places(file: str) -> dict[str, Coordinates]:
     """The rows NAME,X,Y,HEIGHT of a file."""
-    text = read_input(file, GREATEST_SIZE).decode("utf-8", "replace").removeprefix("\ufeff")
     places: dict[str, Coordinates] = {}
-    for number, fields in enumerate(filter(None, csv.reader(io.StringIO(text, newline=""))), start=1):
-        place = place_in(fields[1:])
+    for row in rows_of(read_input(file, GREATEST_SIZE)):
+        name, *fields = row.fields
+        place = place_in(fields)
         if place is None:
-            raise Refused(f"{file}: row {number} is not NAME,X,Y,HEIGHT in whole microseconds (X and Y at most "
+            raise Refused(f"{file}: row {row.number} is not NAME,X,Y,HEIGHT in whole microseconds (X and Y at most "
                           f"{GREATEST_SIDE}, HEIGHT at most {GREATEST_HEIGHT})")
-        if fields[0] in places:
-            raise Refused(f"{file}: row {number} names {fields[0]} again")
-        places[fields[0]] = place
+        if name in places:
+            raise Refused(f"{file}: row {row.number} names {name} again")
+        places[name] = place
     return places
 
 

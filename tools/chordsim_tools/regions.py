@@ -1,7 +1,5 @@
 """Latencies between regions: the file that has them, and the coordinates that come nearest to them."""
 
-import csv
-import io
 from collections.abc import Sequence
 from dataclasses import dataclass
 from functools import lru_cache
@@ -14,7 +12,7 @@ from chordsim_tools.files import read_input
 from chordsim_tools.place import tool
 from chordsim_tools.quantities import time_of, time_text
 from chordsim_tools.scenario.coordinates import Coordinates
-from chordsim_tools.scenario.tables import GREATEST_SIZE
+from chordsim_tools.scenario.tables import GREATEST_SIZE, rows_of
 
 HALVES = {"round-trip": 2, "one-way": 1}
 """What the first field of the file says of its times, and how many latencies such a time has."""
@@ -50,8 +48,8 @@ class Regions:
 
 def read_regions(file: str) -> Regions:
     """A matrix: its first line has `round-trip` or `one-way` and the regions, each other one a region and its times."""
-    text = read_input(file, GREATEST_SIZE).decode("utf-8", "replace").removeprefix("\ufeff")
-    rows = [[field.strip() for field in row] for row in csv.reader(io.StringIO(text, newline="")) if any(row)]
+    found = rows_of(read_input(file, GREATEST_SIZE))
+    rows = [[field.strip() for field in row.fields] for row in found if any(row.fields)]
     if not rows or rows[0][0] not in HALVES:
         raise Refused(f"{file}: its first field has to be round-trip or one-way, and then the regions follow")
     names = rows[0][1:]
@@ -73,7 +71,7 @@ def time_in(file: str, names: list[str], a: int, b: int, rows: list[list[str]]) 
     time = None if text.isdecimal() else time_of(text)
     if time is None or not 1 <= time <= GREATEST:
         raise Refused(f"{file}: {names[a]} to {names[b]}: a time with a unit is wanted, as 40ms, of at most "
-                      f"{time_text(GREATEST)}, not {text!r}")
+                      f"{time_text(GREATEST)}, not {text[:120]!r}")
     return time
 
 

@@ -1,13 +1,22 @@
 """Churn traces that tools/generate reads, and latencies between regions."""
 
+import csv
+import io
+import os
 import tempfile
+from collections.abc import Callable
+from contextlib import redirect_stdout
 from pathlib import Path
 from unittest import TestCase
 
+from chordsim_tools.cli import Refused
 from chordsim_tools.generate.command import main
+from chordsim_tools.generate.sessions import read_sessions
 from chordsim_tools.latency.command import main as latency
+from chordsim_tools.places import read_places
 from chordsim_tools.regions import placed, read_regions
 from chordsim_tools.scenario.reading import Scenario, read_scenario
+from chordsim_tools.trace.page.groups import read_groups
 from tests.support.programs import ended
 
 TRACE = """host,up,down
@@ -30,6 +39,15 @@ WRONG = [
     ("a,0,\na,20,40\nb,0,\n", "line 2: a is up until the end, and so cannot come up at 20s"),
     ("a,0,30\n", "1 hosts, and a scenario has 2 or more"),
 ]
+LONG = "b" * 131_073
+"""One character more than Python takes for a field by itself."""
+READERS: list[tuple[Callable[[str], object], str, str]] = [
+    (read_sessions, f"a,0,30\n{LONG},0,3\n", "line 2 is not HOST,UP,DOWN"),
+    (read_regions, f"one-way,{LONG}\n{LONG},2\n", "a time with a unit is wanted"),
+    (read_places, f"a,0,0,1\nb,0,{LONG},1\n", "row 2 is not NAME,X,Y,HEIGHT"),
+    (lambda file: read_groups(file, ["a"]), f"a,x\n\n{LONG},y\n", "line 3: the scenario has no node 'b{120}'"),
+]
+"""What reads rows, a file with a long field, and how that is refused."""
 SQUARE = "round-trip,eu,us,asia\neu,2ms,60ms,80ms\nus,,2ms,100ms\nasia,80ms,104ms,2ms\n"
 """One-way: 1 ms within; 30, 40 and 51 ms between."""
 RIGHT = "one-way,eu,us,asia\neu,2ms,32ms,42ms\nus,32ms,2ms,52ms\nasia,42ms,52ms,2ms\n"
@@ -104,6 +122,30 @@ class ChurnTraceTest(TestCase):
             assert "are up at 0s, and a ring begins with 2 or more" in err
             status, _, err = ended(main, "--churn-trace", file, "-o", file)
             assert status == 2 and "is a file that is read" in err
+
+    def test_name_that_is_no_text(self) -> None:
+        """Of a file whose name is no UTF-8 the comment of the scenario has an escape, in a file and on the output."""
+        out = io.TextIOWrapper(io.BytesIO(), "utf-8", "strict")
+        with tempfile.TemporaryDirectory() as folder, redirect_stdout(out):
+            words = ["--churn-trace", written(folder, TRACE, os.fsdecode(b"x\xff.csv"))]
+            assert main(words) == 0
+            assert main([*words, "-o", f"{folder}/x.toml"]) == 0
+            text = Path(f"{folder}/x.toml").read_text("utf-8")
+        assert f"{folder}/x\\udcff.csv" in text
+        out.seek(0)
+        assert out.read() == text
+
+
+class ReadersTest(TestCase):
+    """All that read rows."""
+
+    def test_long_fields(self) -> None:
+        """A field of any length is refused as another one."""
+        self.addCleanup(csv.field_size_limit, csv.field_size_limit())
+        for read, text, told in READERS:
+            with self.subTest(told=told), tempfile.TemporaryDirectory() as folder:
+                csv.field_size_limit(131_072)
+                self.assertRaisesRegex(Refused, told, read, written(folder, text))
 
 
 class RegionsTest(TestCase):

@@ -11,6 +11,7 @@ from unittest.mock import patch
 
 from chordsim_tools.explain.command import explanations, main
 from chordsim_tools.explain.files import Explanation
+from chordsim_tools.explain.wording import explained
 
 # Lines 1 to 11 are the top, 12 to 16 [churn]; the nodes n0, n1 and n3 begin at 17, 21 and 25, the command at 29.
 TOP = """profile = 1
@@ -36,6 +37,11 @@ WORLD = TOP + NODES + '[[command]]\nat_us = 100\ndo = "lookup"\nnode = "n0"\nkey
 FAULTS = [
     ("seed = 1", "seed = 1,000", "S1 NotToml", 4, 9, "without separators or with underscores: 1000"),
     ("seed = 1", "seed = 0x8000_0000_0000_0000", "S1 NotToml", 4, 8, None),
+    ("seed = 1", f"seed = -{'9' * 5000}", "S1 NotToml", 4, 8, None),
+    ("seed = 1", f"seed = 0x{'f' * 5000}", "S1 NotToml", 4, 8, None),
+    ("seed = 1", f"seed{'.a' * 3000} = 1", "S1 NotToml", 33, None, None),
+    ("seed = 1", f"seed = 00{'1' * 5000}", "S1 NotToml", 4, 9, f"without leading zeros: {'1' * 57}..."),
+    ("seed = 1", "seed = 00", "S1 NotToml", 4, 9, "without leading zeros: 0"),
     ("[[node]]", "[[nod", "S1 NotToml", 17, 6, None),
     ("seed = 1", "bits = 4", "S1 NotToml", 4, 9, "`bits` stands twice in one table: at line 2 and line 4"),
     ('name = "n1"', 'nam = "n1"', "S2 UnknownKey node 2", 22, 1, "did you mean `name`?"),
@@ -70,6 +76,7 @@ ROWS = [
     ("n0;n1;10", "S12 BadLatencyRow row 1", 1, "the fields are parted by semicolons, not by commas: write n0,n1,10"),
     ("n0\tn1\t10", "S12 BadLatencyRow row 1", 1, "the fields are parted by tabs, not by commas: write n0,n1,10"),
     ("n0,n1,12.5", "S12 BadLatencyRow row 1", 1, "whole microseconds, without a point: 12"),
+    (f"n0,n1,{'9' * 400}.5", "S12 BadLatencyRow row 1", 1, None),
     ("n0,n1,10ms", "S12 BadLatencyRow row 1", 1, "in microseconds: 10000"),
     ("n0,n0,10", "S13 SelfLink row 1", 1, None),
     ("n0,n3,10\r\nn3,n0,10", "S14 SameLinkTwice row 2", 2, "a row holds in both directions"),
@@ -309,6 +316,13 @@ class ExplainTest(TestCase):
         assert lines[5:7] == ['   there:   "3"', "   allowed: an integer from 3 to 64"]
         assert lines[7] == "   hint:    without quotes: bits = 3"
         assert lines[-1] == "and 1 more of S12 BadLatencyRow"
+
+    def test_faults_that_are_left_out(self) -> None:
+        """They are counted and not put into words: of five unknown names two are."""
+        rows = "".join(f"n0,x{number},10\n" for number in range(5))
+        with patch("chordsim_tools.explain.command.explained", wraps=explained) as worded:
+            out = told(WORLD, rows, "--most", "2")[1]
+        assert worded.call_count == 2 and out.endswith("\nand 3 more of S9 UnknownNode\n")
 
     def test_json(self) -> None:
         """The same for other programs."""

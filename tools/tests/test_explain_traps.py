@@ -58,6 +58,20 @@ class ExplainTrapsTest(TestCase):
         assert len(lines) == 1 and "duration_us = 200 (200us) is below stabilize_us = 1000 (no node" in lines[0]
         assert "finger_us = 1000" in lines[0] and "audit_us" not in lines[0]
 
+    def test_duration_below_lives_and_gaps(self) -> None:
+        """No life ends and no gap passes. If first timers are drawn, some nodes look up a key all the same."""
+        gaps = "[lookups]\ngap_min_us = 9002\ngap_max_us = 9003\n[[node]]"
+        long = SOUND.replace("life_min_us = 5\nlife_max_us = 5", "life_min_us = 9001\nlife_max_us = 9001")
+        long = long.replace("[[node]]", gaps, 1)
+        drawn = long.replace("profile = 1", "profile = 4")
+        for scenario, missing in ((long, "no node looks up a random key"), (drawn, "some nodes look up no random key")):
+            (line,) = spoken(scenario)
+            assert line.startswith(
+                "duration_us = 9000 (9ms) is below churn.life_min_us = 9001 (no life ends), "
+                f"lookups.gap_min_us = 9002 ({missing})"
+            ), line
+        assert spoken(long.replace("9001", "9000").replace("9002", "9000")) == []
+
     def test_json_and_refused_files(self) -> None:
         """JSON has the list; files that are refused have no traps."""
         assert '"traps": [\n    "duration_us = 200' in told(WORLD, "", "--json")[1]

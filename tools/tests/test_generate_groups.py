@@ -29,6 +29,8 @@ REFUSED = [
     ("--arrivals 100/s", "--arrivals: more than 448 nodes arrive in 120s beside the 64 of the start, and there is room "
      "for 512 nodes"),
     ("--group eu:9:arrivals=100/s", "--group: more than 503 nodes arrive in 120s beside the 9 of the start"),
+    # These are 1.2 * 10^10 arrivals, of which 449 are enough to tell.
+    ("--arrivals 100000000/s", "--arrivals: more than 448 nodes arrive in 120s beside the 64 of the start"),
     ("--arrivals 1/s --churn-uniform 1s..2s 1s..2s", "--arrivals: no arrivals with --churn-uniform"),
     ("--crash 25%", "--crash: SHARE%@TIME, GROUP@TIME or GROUP:SHARE%@TIME"),
     ("--crash 0%@1s", "--crash: SHARE%@TIME"),

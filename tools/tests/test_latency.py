@@ -166,7 +166,7 @@ class LatencyTest(TestCase):
         ]:
             with self.subTest(text=text[:20], form=form):
                 assert written(text, "--form", form, "--nodes", "3") == (1, "", f"refused: {reason}\n")
-        assert ended(main, "/nowhere/x") == (1, "", "refused: cannot read /nowhere/x\n")
+        assert ended(main, "/nowhere/x") == (1, "", "refused: cannot read /nowhere/x: No such file or directory\n")
 
     def test_hosts_that_are_taken(self) -> None:
         """Without --nodes 64 of more hosts are taken, and it says so; fewer hosts are refused with the remedy."""

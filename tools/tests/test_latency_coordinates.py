@@ -127,7 +127,7 @@ class FitTest(Folder):
         ):
             name = self.file("links.csv", text)
             assert ended(main, "--fit", name) == (1, "", f"refused: {name}: {reason}\n")
-        assert ended(main, "--fit", "/nowhere/x") == (1, "", "refused: cannot read /nowhere/x\n")
+        assert ended(main, "--fit", "/nowhere/x") == (1, "", "refused: cannot read /nowhere/x: No such file or directory\n")
 
 
 class KingTest(Folder):

@@ -1,7 +1,7 @@
 """The command tools/explain."""
 
 import json
-from argparse import ArgumentTypeError, Namespace
+from argparse import Namespace
 from collections import Counter
 from collections.abc import Iterator
 from dataclasses import asdict, dataclass
@@ -15,9 +15,10 @@ from chordsim_tools.explain.traps import events_trap, greatest_latency, traps_of
 from chordsim_tools.explain.wording import explained
 from chordsim_tools.explain.world_traps import round_told
 from chordsim_tools.files import put, read_input
+from chordsim_tools.options import count
 from chordsim_tools.place import tool
 from chordsim_tools.program import find_program
-from chordsim_tools.scenario.faults import Document, faults_of
+from chordsim_tools.scenario.faults import Document, Fault, faults_of
 from chordsim_tools.scenario.tables import GREATEST_SIZE, NotToml, parse_toml, rows_of
 
 PROG = tool("explain")
@@ -91,15 +92,30 @@ def parser_of() -> ToolParser:
     return parser
 
 
-def count(text: str) -> int:
-    """A number of 1 or more."""
-    if not text.isdecimal() or int(text) < 1:
-        raise ArgumentTypeError(f"{text!r} is no integer from 1 up")
-    return int(text)
+class Limit:
+    """At most so many faults of each kind are put into words. The others are counted."""
+
+    def __init__(self, most: int | None = None) -> None:
+        """All faults, if no number is given."""
+        self.most = most
+        self.counts: Counter[str] = Counter()
+
+    def takes(self, fault: Fault) -> bool:
+        """Whether one more fault is put into words."""
+        self.counts[fault.kind] += 1
+        return self.most is None or self.counts[fault.kind] <= self.most
+
+    def left_out(self) -> dict[str, int]:
+        """How many faults of each kind were not."""
+        most = self.most
+        return {} if most is None else {kind: found - most for kind, found in self.counts.items() if found > most}
 
 
-def explanations(scenario: bytes, latency: bytes, names: tuple[str, str]) -> tuple[Document, Iterator[Explanation]]:
+def explanations(
+    scenario: bytes, latency: bytes, names: tuple[str, str], limit: Limit | None = None
+) -> tuple[Document, Iterator[Explanation]]:
     """The two files as far as they can be read, and their faults in words, in order."""
+    limit = Limit() if limit is None else limit
     rows = rows_of(latency)
     try:
         document = Document(parse_toml(scenario), rows)
@@ -107,16 +123,17 @@ def explanations(scenario: bytes, latency: bytes, names: tuple[str, str]) -> tup
         first = explained_toml(fault, names[0], scenario)
         document = Document(None, rows)
         files = Files(*names, document, Positions(""))
-        return document, (one for part in ([first], in_words(document, files)) for one in part)
+        return document, (one for part in ([first], in_words(document, files, limit)) for one in part)
     files = Files(*names, document, Positions(scenario.decode("utf-8")))
-    return document, in_words(document, files)
+    return document, in_words(document, files, limit)
 
 
-def in_words(document: Document, files: Files) -> Iterator[Explanation]:
+def in_words(document: Document, files: Files, limit: Limit) -> Iterator[Explanation]:
     """The faults in words. On a long list a terminal sees how far it is."""
     with Progress("faults ...") as progress:
         for fault in faults_of(document):
-            yield explained(fault, files)
+            if limit.takes(fault):
+                yield explained(fault, files)
             progress.one_more()
 
 
@@ -126,20 +143,12 @@ def look(args: Namespace) -> Findings:
     latency = read_input(args.latency, GREATEST_SIZE) if args.latency is not None else b""
     program = None if args.alone else find_program(build=False)
     said = None if program is None else answer_of(program, scenario, latency)
-    document, found = explanations(scenario, latency, (args.scenario, args.latency or "the latency file"))
-    kept: list[Explanation] = []
-    counts: Counter[str] = Counter()
-    left_out: Counter[str] = Counter()
-    for one in found:
-        kind = " ".join(one.fault.split()[:2])
-        counts[kind] += 1
-        if args.most is None or counts[kind] <= args.most:
-            kept.append(one)
-        else:
-            left_out[kind] += 1
+    limit = Limit(args.most)
+    document, found = explanations(scenario, latency, (args.scenario, args.latency or "the latency file"), limit)
+    kept = list(found)
     accepted = f"accepted: {len(document.nodes)} nodes, {len(document.commands)} commands"
     answer = f"refused: {kept[0].fault}" if kept else accepted
-    findings = Findings(answer, said, kept, dict(left_out), [], [])
+    findings = Findings(answer, said, kept, limit.left_out(), [], [])
     if findings.agrees and not kept:
         findings.told = [round_told(document.top.table)]
         findings.traps = traps_of(document.top.table, greatest_latency(document.top.table, latency))

@@ -4,7 +4,7 @@ from dataclasses import dataclass, field
 from functools import cached_property
 from typing import Any
 
-from chordsim_tools.explain.hints import shown
+from chordsim_tools.explain.hints import of_unknown_name, shown
 from chordsim_tools.explain.positions import Path, Position, Positions
 from chordsim_tools.scenario.faults import Document
 from chordsim_tools.scenario.tables import GREATEST_INTEGER, MOST_OF_PREFIX, Key, Place, Row
@@ -35,6 +35,8 @@ class Files:
     latency: str
     document: Document
     positions: Positions
+    meant: dict[str, list[str]] = field(default_factory=dict)
+    """Of names of no node, what each was likely meant to be."""
 
     @cached_property
     def places(self) -> dict[str, Place]:
@@ -44,6 +46,12 @@ class Files:
     def place(self, name: str) -> Place:
         """The table of this name."""
         return self.places[name]
+
+    def meant_by(self, name: str) -> list[str]:
+        """What a name of no node was likely meant to be. It is looked for once, since there can be many nodes."""
+        if name not in self.meant:
+            self.meant[name] = of_unknown_name(name, self.document.numbers)
+        return self.meant[name]
 
     def row(self, name: str) -> Row:
         """The row of this name."""

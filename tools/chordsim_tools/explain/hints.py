@@ -255,10 +255,12 @@ def of_unknown_name(name: str, names: Iterable[str]) -> list[str]:
 
 def is_heading(row: Row, names: Iterable[str]) -> bool:
     """Whether a row is likely a heading: the first one, without a node's name in it, and no number at its end."""
+    if row.number != 1:
+        return False
     known = set(names)
     parts = re.split(r"[,;|\t]", ",".join(row.fields))
     digits = re.search("[0-9]", parts[-1] if known else "".join(parts))
-    return row.number == 1 and len(parts) > 1 and digits is None and not any(part.strip() in known for part in parts)
+    return len(parts) > 1 and digits is None and not any(part.strip() in known for part in parts)
 
 
 def of_bad_row(row: Row, names: Iterable[str]) -> list[str]:
@@ -291,7 +293,7 @@ def of_bad_number(field: str) -> list[str]:
         return [f"without the blanks: {word}"]
     if re.fullmatch(r"\+[0-9]{1,10}", word):
         return [f"without the sign: {word[1:]}"]
-    if re.fullmatch(r"[0-9]*\.[0-9]+", word):
+    if re.fullmatch(r"[0-9]{0,12}\.[0-9]{1,12}", word):
         return [f"whole microseconds, without a point: {max(1, round(float(word)))}"]
     if re.fullmatch(r"[0-9]{1,3}([_' ][0-9]{3})+", word):
         return [f"digits alone: {re.sub('[^0-9]', '', word)}"]

@@ -5,6 +5,8 @@ import tomllib
 from bisect import bisect_right
 from dataclasses import dataclass
 
+from chordsim_tools.scenario.tables import literal_of
+
 Path = tuple[str | int, ...]
 
 BLANK = re.compile(r"[ \t]*")
@@ -73,7 +75,7 @@ class Positions:
         for path, (begin, end) in self.values.items():
             written = self.text[begin:end].strip()
             try:
-                if written == literal or str(int(written, 0)) == literal:
+                if written == literal or literal_of(int(written, 0)) == literal:
                     return path
             except ValueError:
                 continue

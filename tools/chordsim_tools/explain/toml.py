@@ -17,7 +17,8 @@ def explained_toml(fault: NotToml, file: str, content: bytes) -> Explanation:
     positions = Positions(text)
     reason, position = place_of(fault, content, positions)
     line = line_of(text, position.line)
-    likely = [] if fault.literal or fault.offset is not None else meant(reason, line, positions)
+    # Only a complaint with a place of the parser's own is about what stands there.
+    likely = [] if AT.search(fault.reason) is None else meant(reason, line, positions)
     return Explanation(
         str(fault), file, position.line, position.column, position.near, "", "", reason, shown(line.strip(), 100),
         allowed(fault), likely,
@@ -97,8 +98,8 @@ def of_value(text: str) -> list[str]:
         return [f"write {'true' if value.lower() in ('yes', 'on') else 'false'}"]
     if re.fullmatch(r"\d{1,3}([,' .]\d{3})+", value):
         return [f"without separators or with underscores: {re.sub('[^0-9]', '', value)}"]
-    if re.fullmatch(r"0\d+", value):
-        return [f"without leading zeros: {int(value)}"]
+    if re.fullmatch(r"0[0-9]+", value):
+        return [f"without leading zeros: {shown(value.lstrip('0') or '0')}"]
     if of_measure(value):
         return [f"{hint}, without a unit" for hint in of_measure(value)]
     if re.fullmatch(r"0*[0-9a-fA-F]{1,32}", value):

@@ -30,9 +30,11 @@ PERIODS = (
     ("stabilize_us", "no node stabilizes"), ("finger_us", "no finger is refreshed"), ("audit_us", "there is no audit"),
     ("check_us", "no predecessor is checked"), ("join_pause_us", "no join is tried again"),
 )
+WAITS = (("churn", "life_min_us", "no life ends"), ("lookups", "gap_min_us", "no node looks up a random key"))
+"""Tables and their keys: how long it takes at least until something happens for the first time."""
 DRAWN = {
     "stabilize_us": "some nodes never stabilize", "finger_us": "some nodes refresh no finger",
-    "check_us": "some nodes never check their predecessor",
+    "check_us": "some nodes never check their predecessor", "gap_min_us": "some nodes look up no random key",
 }
 """What is so instead if the first timers of nodes come at any time of their period."""
 
@@ -73,13 +75,17 @@ def timeout_trap(timeout: int, greatest: int, retries: int = 0) -> list[str]:
 
 
 def duration_traps(top: dict[str, Any]) -> list[str]:
-    """A duration that is below the periods."""
+    """A duration that is below the periods, or below the least lives and gaps."""
     duration = top["duration_us"]
     drawn = DRAWN if is_extended(top) and top.get("random_start") is not False else {}
-    short = [(key, drawn.get(key, what)) for key, what in PERIODS if duration < top.get(key, 0)]
+    periods = [(key, key, top.get(key, 0), what) for key, what in PERIODS]
+    waits = [(f"{table}.{key}", key, top.get(table, {}).get(key, 0), what) for table, key, what in WAITS]
+    short = [
+        f"{name} = {value} ({drawn.get(key, what)})" for name, key, value, what in (*periods, *waits) if duration < value
+    ]
     if not short:
         return []
-    said = ", ".join(f"{key} = {top[key]} ({what})" for key, what in short)
+    said = ", ".join(short)
     return [f"duration_us = {duration} ({time_text(duration)}) is below {said}; all times are in microseconds"]
 
 

@@ -18,10 +18,9 @@ Parts = tuple[str, str, str, list[str]]
 
 def explained(fault: Fault, files: Files) -> Explanation:
     """A fault in words."""
-    what, found, allowed, likely = PARTS[fault.kind.split()[0]](fault, files)
+    parts = PARTS[fault.kind.split()[0]](fault, files)
     if fault.place.startswith("row "):
-        position = Position(files.row(fault.place).line)
-        return explanation(fault, files.latency, position, what, found, allowed, likely)
+        return explanation(fault, files.latency, Position(files.row(fault.place).line), parts)
     path = path_of(fault.place)
     position = files.positions.of_key(path)
     if fault.kind == "S3 MissingKey" and fault.place == "top":
@@ -30,17 +29,13 @@ def explained(fault: Fault, files: Files) -> Explanation:
         position = files.positions.of_key((*path, fault.key))
     elif fault.key and fault.kind != "S3 MissingKey":
         position = files.positions.of_value((*path, fault.key))
-    return explanation(fault, files.scenario, position, what, found, allowed, likely)
+    return explanation(fault, files.scenario, position, parts)
 
 
-def explanation(
-    fault: Fault, file: str, position: Position, what: str, found: str, allowed: str, likely: list[str]
-) -> Explanation:
+def explanation(fault: Fault, file: str, position: Position, parts: Parts) -> Explanation:
     """The parts of an explanation together."""
-    return Explanation(
-        fault.text, file, position.line, position.column, position.near, fault.place, fault.key, what, found, allowed,
-        likely,
-    )
+    where = position.line, position.column, position.near
+    return Explanation(fault.text, file, *where, fault.place, fault.key, *parts)
 
 
 def value_and_key(fault: Fault, files: Files) -> tuple[Any, Key, str, str]:
@@ -157,18 +152,17 @@ def same_id(fault: Fault, files: Files) -> Parts:
 
 def unknown_node(fault: Fault, files: Files) -> Parts:
     """S9."""
-    names = list(files.document.numbers)
     if fault.place.startswith("row "):
         row = files.row(fault.place)
         name = row.fields[int(fault.key.removeprefix("field ")) - 1]
         what = f"{fault.key} of the row is no node's name"
-        likely = hints.of_unknown_name(name, names)
-        if not likely and hints.is_heading(row, names):
-            likely = hints.of_bad_row(row, names)
+        likely = files.meant_by(name)
+        if not likely and hints.is_heading(row, files.document.numbers):
+            likely = hints.of_bad_row(row, files.document.numbers)
     else:
         name = files.place(fault.place).table[fault.key]
         what = f"`{fault.key}` is no node's name"
-        likely = hints.of_unknown_name(name, names)
+        likely = files.meant_by(name)
     return what, in_words(name), "the name of a node", likely
 
 

@@ -1,7 +1,7 @@
 """The commands that tools/generate draws: crashes, leaves, joins and lookups."""
 
-from bisect import bisect_right
-from collections.abc import Iterator
+from bisect import bisect_left, bisect_right
+from collections.abc import Iterable, Iterator
 from decimal import Decimal
 from itertools import takewhile
 from typing import NamedTuple
@@ -159,7 +159,11 @@ class Doors:
         """The doors at the start, which are among the initial nodes."""
         self.plan = plan
         self.draws = draws
-        self.settled = [node for node in sorted(initial) if self.is_known(node)]
+        self.settled: list[int] = []
+        # Numbers that rise, one for each of the settled, by which a node is found among them.
+        self.serials: list[int] = []
+        self.serial_of: dict[int, int] = {}
+        self.admit(node for node in sorted(initial) if self.is_known(node))
         self.fresh: dict[int, int] = {}
 
     def is_known(self, node: int) -> bool:
@@ -170,21 +174,33 @@ class Doors:
         """The command with its door, if it is a join; and what it changes of the doors."""
         self.settle(move.at_us - self.plan.top["timeout_us"])
         if move.do != JOIN:
-            if move.node in self.settled:
-                self.settled.remove(move.node)
-            self.fresh.pop(move.node, None)
+            self.close(move.node)
             return move
         door = self.choose(move.node)
         if self.is_known(move.node):
             self.fresh[move.node] = move.at_us
         return move._replace(rest=door)
 
+    def close(self, node: int) -> None:
+        """A node that goes is no door."""
+        if node in self.serial_of:
+            place = bisect_left(self.serials, self.serial_of.pop(node))
+            del self.settled[place], self.serials[place]
+        self.fresh.pop(node, None)
+
     def settle(self, since: int) -> None:
         """Those that have joined by this time are taken for members."""
         old = list(takewhile(lambda node: self.fresh[node] <= since, self.fresh))
         for node in old:
             del self.fresh[node]
-        self.settled += old
+        self.admit(old)
+
+    def admit(self, nodes: Iterable[int]) -> None:
+        """These nodes are settled from now on."""
+        for serial, node in enumerate(nodes, self.serials[-1] + 1 if self.serials else 0):
+            self.settled.append(node)
+            self.serials.append(serial)
+            self.serial_of[node] = serial
 
     def choose(self, node: int) -> int:
         """The door for a node: the first other node of the file, if none is to be drawn or none is up."""

@@ -4,7 +4,8 @@ import re
 from collections.abc import Iterator, Sequence
 from dataclasses import dataclass
 from decimal import Decimal
-from itertools import takewhile
+from heapq import merge
+from itertools import repeat, takewhile
 from typing import NamedTuple
 
 from chordsim_tools.draws import TWENTY_DIGITS, Distribution, Draws, Exponential, distribution_of
@@ -92,15 +93,18 @@ def hosts_of(common: Group, groups: Sequence[Group]) -> list[Host]:
 
 
 def arriving(common: Group, groups: Sequence[Group], seed: int, duration: int) -> Iterator[Host]:
-    """The nodes that arrive, in the order of their times. Each group has a stream of its own."""
-    streams = Draws(seed).split(STREAM)[-1].split(1 + len(groups))
-    times: list[tuple[int, int]] = []
-    for place, (group, draws) in enumerate(zip((common, *groups), streams, strict=True)):
-        if group.arrivals is not None:
-            times += [(time, place) for time in times_of(group.arrivals, duration, draws)]
-    numbers = [group.nodes for group in (common, *groups)]
-    for time, place in sorted(times):
-        yield (common, *groups)[place].host(numbers[place], common, time)
+    """The nodes that arrive, in the order of their times. Each group has a stream of its own.
+
+    A time is drawn when its node is asked for: there may be far more of them than nodes that a scenario has room for."""
+    kinds = (common, *groups)
+    streams = Draws(seed).split(STREAM)[-1].split(len(kinds))
+    times = [
+        zip(times_of(group.arrivals, duration, draws), repeat(place))
+        for place, (group, draws) in enumerate(zip(kinds, streams, strict=True)) if group.arrivals is not None
+    ]
+    numbers = [group.nodes for group in kinds]
+    for time, place in merge(*times):
+        yield kinds[place].host(numbers[place], common, time)
         numbers[place] += 1
 
 

@@ -1,6 +1,7 @@
 """Random scenarios and latency files, the same for the same seed."""
 
 import re
+from dataclasses import dataclass
 from random import Random
 
 WIDE = [3, 4, 5, 6, 8, 32, 33, 64, 65, 96, 97, 127, 128]
@@ -17,6 +18,17 @@ WAYS = (
 A later one is drawn after the earlier ones, so that these stay as they were."""
 JOINS = (("clean_lists", *FALSE), ("join_asks", *FALSE), ("create_alone", "false", ("true",)))
 """Those of joins, which are drawn after all else."""
+
+
+@dataclass(frozen=True)
+class Size:
+    """The numbers of a scenario that others are drawn by."""
+
+    bits: int
+    entries: int
+    window: int
+    latency: int
+    duration: int
 
 
 def scenario_files(seed: int) -> tuple[str, str]:
@@ -38,7 +50,7 @@ def scenario_files(seed: int) -> tuple[str, str]:
     network = network_of(dice, latency, profile) if profile >= 2 else {}
     reach = latency + network.get("spread_us", 0)
     top: dict[str, int | str] = {"profile": profile}
-    top |= settings(dice, bits, entries, window, latency, reach, duration) | network
+    top |= settings(dice, Size(bits, entries, window, latency, duration), reach) | network
     rest = tables(dice, is_churning)
     node_tables = [node_table(dice, i, ident, i in initial, is_churning) for i, ident in enumerate(idents)]
     commands = "".join(command_table(dice, nodes, duration, 2**bits) for _ in range(dice.choice([0, 5, 20, 60])))
@@ -67,18 +79,16 @@ def distinct(dice: Random, size: int, count: int) -> list[int]:
     return list(numbers)
 
 
-def settings(
-    dice: Random, bits: int, entries: int, window: int, latency: int, reach: int, duration: int
-) -> dict[str, int]:
+def settings(dice: Random, size: Size, reach: int) -> dict[str, int]:
     """The keys of the top table that all profiles have. The reach is the latency with the spread."""
     timeout = dice.choice([dice.randint(1, 40), 2 * reach + dice.randint(1, 100)])
     return {
-        "bits": bits,
-        "list": entries,
+        "bits": size.bits,
+        "list": size.entries,
         "seed": dice.choice([0, 1, dice.getrandbits(31), dice.getrandbits(63)]),
-        "duration_us": duration,
-        "window_us": window,
-        "latency_us": latency,
+        "duration_us": size.duration,
+        "window_us": size.window,
+        "latency_us": size.latency,
         "timeout_us": timeout,
         "audit_us": dice.randint(50, 700),
         "stabilize_us": dice.randint(30, 500),

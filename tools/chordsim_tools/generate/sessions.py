@@ -1,7 +1,5 @@
 """A churn trace: a file that says when each host was up."""
 
-import csv
-import io
 import re
 from collections.abc import Iterable
 
@@ -9,7 +7,7 @@ from chordsim_tools.cli import Refused
 from chordsim_tools.files import read_input
 from chordsim_tools.generate.hosts import Host, Span, name_of_group
 from chordsim_tools.quantities import decimal_of, time_of, time_text
-from chordsim_tools.scenario.tables import GREATEST_SIZE
+from chordsim_tools.scenario.tables import GREATEST_SIZE, rows_of
 
 SECOND = 1_000_000
 HEADING = ("host", "up", "down")
@@ -23,13 +21,12 @@ MOST = 10**12
 
 def read_sessions(file: str) -> list[Host]:
     """The hosts of a churn trace, in the order in which it first names them, each with its sessions in order."""
-    text = read_input(file, GREATEST_SIZE).decode("utf-8", "replace").removeprefix("\ufeff")
     sessions: dict[str, list[tuple[Span, int]]] = {}
-    for number, fields in enumerate(csv.reader(io.StringIO(text, newline="")), start=1):
-        fields = [field.strip() for field in fields]
-        if not any(fields) or fields[0].startswith("#") or (number == 1 and tuple(fields) == HEADING):
+    for row in rows_of(read_input(file, GREATEST_SIZE)):
+        fields = [field.strip() for field in row.fields]
+        if not any(fields) or fields[0].startswith("#") or (row.line == 1 and tuple(fields) == HEADING):
             continue
-        sessions.setdefault(fields[0], []).append((session_of(file, number, fields), number))
+        sessions.setdefault(fields[0], []).append((session_of(file, row.line, fields), row.line))
     if len(sessions) < 2:
         raise Refused(f"{file}: {len(sessions)} hosts, and a scenario has 2 or more")
     return [host_of(file, name, found) for name, found in sessions.items()]

@@ -134,7 +134,7 @@ def check(args: Namespace, parser: Parser) -> Options:
 
 def names_of(file: str) -> list[str]:
     """The names of a scenario's nodes."""
-    content = read_input(file, GREATEST_SIZE, reasons=False)
+    content = read_input(file, GREATEST_SIZE)
     try:
         nodes = Document(parse_toml(content), []).nodes
     except Refused as fault:
@@ -282,7 +282,7 @@ def timeout_traps(options: Options, greatest: int) -> list[str]:
     """That the scenario of --names has too short a timeout for latencies up to this greatest one."""
     if options.args.names is None:
         return []
-    top = parse_toml(read_input(options.args.names, GREATEST_SIZE, reasons=False))
+    top = parse_toml(read_input(options.args.names, GREATEST_SIZE))
     timeout, spread, retries = (top.get(key, 0) for key in ("timeout_us", "spread_us", "retries"))
     if not all(isinstance(value, int) for value in (timeout, spread, retries)) or timeout <= 0 or retries < 0:
         return []

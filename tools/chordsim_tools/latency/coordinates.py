@@ -35,7 +35,7 @@ class Placed:
 
 def read_pairs(file: str) -> tuple[list[str], list[Pair]]:
     """The nodes of a latency file, in the order in which they are first named, and its rows."""
-    rows = rows_of(read_input(file, GREATEST_SIZE, reasons=False))
+    rows = rows_of(read_input(file, GREATEST_SIZE))
     for fault in faults_of(Document(None, rows)):
         raise Refused(f"{file}: {fault.text}")
     if not rows:

@@ -10,6 +10,7 @@ from statistics import median_low
 
 from chordsim_tools.cli import Progress, Refused
 from chordsim_tools.draws import Draws
+from chordsim_tools.files import reason
 
 GREATEST_HOSTS = 5000
 GREATEST_TRIP = 2_000_000_000_000
@@ -40,8 +41,8 @@ def lines_of(file: str) -> Iterator[tuple[int, list[str]]]:
             for number, line in enumerate(lines, start=1):
                 if line.strip() and not line.startswith("#"):
                     yield number, [value.strip() for value in line.split(",")] if "," in line else line.split()
-    except OSError:
-        raise Refused(f"cannot read {file}") from None
+    except OSError as fault:
+        raise Refused(f"cannot read {file}: {reason(fault)}") from None
     except UnicodeDecodeError:
         raise Refused(f"{file}: no UTF-8 text") from None
 

@@ -73,7 +73,7 @@ class Place:
 
 @dataclass
 class Row:
-    """A row of the latency file: its number, the line where it begins, its fields."""
+    """A row of a CSV file: its number, the line where it begins, its fields."""
 
     number: int
     line: int
@@ -236,16 +236,25 @@ def parse_toml(file: bytes) -> dict[str, Any]:
     """S1. (tomllib reads TOML 1.0: what TOML 1.1 adds is refused here. Depth is not looked at: chordsim refuses 81.)"""
     try:
         top = tomllib.loads(file.decode("utf-8").removeprefix("\ufeff"), parse_float=float_of)
+        great = great_integer(top)
     except UnicodeDecodeError as error:
         raise NotToml(f"the byte {file[error.start]:#04x} is no UTF-8", offset=error.start) from None
     except tomllib.TOMLDecodeError as error:
         raise NotToml(str(error)) from None
+    except ValueError:
+        # Python reads no integer of more than 4300 decimal digits.
+        longest = max(re.findall(rb"[+-]?[0-9_]+", file), key=len)
+        raise NotToml("an integer is beyond 64 bits", longest.decode()) from None
     except RecursionError:
         raise NotToml("values are nested too deeply") from None
-    great = great_integer(top)
     if great is not None:
-        raise NotToml("an integer is beyond 64 bits", str(great))
+        raise NotToml("an integer is beyond 64 bits", literal_of(great))
     return top
+
+
+def literal_of(number: int) -> str:
+    """How an integer can be written: in hexadecimal if Python may refuse to write so many decimal digits."""
+    return str(number) if abs(number) < 1 << 2000 else hex(number)
 
 
 def float_of(text: str) -> float:
@@ -318,7 +327,7 @@ def value_of_id(value: int | str) -> int:
 
 
 def rows_of(file: bytes) -> list[Row]:
-    """The rows of the latency file. Empty lines are no rows."""
+    """The rows of the latency file, or of another CSV file. Empty lines are no rows."""
     csv.field_size_limit(GREATEST_SIZE)
     text = file.decode("utf-8", "replace").removeprefix("\ufeff")
     reader = csv.reader(io.StringIO(text, newline=""))
