@@ -119,7 +119,7 @@ class StudyTest(TestCase):
         calls: list[tuple[Callable[[], object], str]] = [
             (lambda: Study.read(self.folder / "two.toml"), f"cannot read {self.folder}/two.toml"),
             (lambda: Study.read(EXAMPLES / "ring.toml"), "no key of a study: profile"),
-            (lambda: StudyResult.read(self.folder), f"cannot read {self.folder}/manifest.json"),
+            (lambda: StudyResult.read(self.folder), f"{self.folder} has no manifest.json"),
             (lambda: Study.read(self.file).run(jobs=0), "jobs: 1 to 1024, not 0"),
             (lambda: Study.read(""), "path: '' is no name of a file"),
         ]

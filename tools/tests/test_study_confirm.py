@@ -5,7 +5,8 @@ from dataclasses import replace
 from typing import Any
 from unittest import TestCase
 
-from chordsim_tools.study.confirm import BEYOND, fresh_of, fresh_seeds, winners, winning_settings
+from chordsim_tools.study.confirm import fresh_of, fresh_seeds, winners, winning_settings
+from chordsim_tools.study.keys import BEYOND
 from chordsim_tools.study.layout import is_world
 from chordsim_tools.study.outcome import outcome
 from chordsim_tools.study.page import page

@@ -22,6 +22,26 @@ class StudyGoalTest(TestCase):
             wanted = "[goal] p99_ms_max has to be a number of milliseconds, or a time such as \"800ms\""
             assert wanted in in_folder(GOAL + f"p99_ms_max = {value}\n")
 
+    def test_numbers_that_are_none(self) -> None:
+        """TOML has floats that are no numbers, or without an end: no limit is one."""
+        span = HEAD + SEEDS + '[span.a]\nfrom = "0us"\nto = "9us"\n[span.a.goal]\n'
+        for text, wanted in (
+            (GOAL + "served_min = {}", "[goal] served_min has to be a number, not {}"),
+            (GOAL + "messages_max = {}", "[goal] messages_max has to be a number, not {}"),
+            (GOAL + "p99_ms_max = {}", "[goal] p99_ms_max has to be a number of milliseconds"),
+            (GOAL + "lost_max = {}", "[goal] lost_max has to be a number of rings lost an hour, above 0"),
+            (span + "hops_max = {}", "[span.a.goal] hops_max has to be a number, not {}"),
+        ):
+            for value in ("nan", "inf", "-inf"):
+                with self.subTest(study=text, value=value):
+                    answer = in_folder(text.format(value) + "\n")
+                    assert isinstance(answer, str) and wanted.format(value) in answer, answer
+
+    def test_limits_below_0(self) -> None:
+        """No number can be below 0, so no limit is."""
+        for key in ("p99_ms_max", "messages_max", "served_min"):
+            assert in_folder(GOAL + f"{key} = -1\n") == f"study.toml: [goal] {key} has to be 0 or more, not -1"
+
     def test_what_was_meant(self) -> None:
         """A misspelt limit is told with the right one."""
         for text, meant in (

@@ -4,9 +4,12 @@ from pathlib import Path
 from typing import Any
 from unittest import TestCase
 
+from chordsim_tools.files import sum_of
+from chordsim_tools.study.network import input_sums
 from chordsim_tools.study.page import page
 from chordsim_tools.study.plan import read_study
 from chordsim_tools.study.tables import manifest_of
+from chordsim_tools.study.worlds import latency_of
 from tests.support.programs import program
 from tests.support.studies import tables_of, unwrapped
 from tests.test_study_page import setting, told
@@ -18,6 +21,8 @@ GENERATED = (
     '"--coordinates", "{law}"]\nseeds = 2\n[vary]\nlist = [1, 2]\n'
 )
 PLACED = "coordinates of the nodes, which give the latencies"
+NAMES = '[[node]]\nname = "n3"\n[[node]]\nname = "n1"\n'
+TRIPS = STUDY.replace("seeds", 'latency = ["trips.txt", "--names", "names.toml"]\nseeds')
 
 
 def sentence(text: str) -> str:
@@ -101,6 +106,34 @@ class CoordinateFilesTest(TestCase):
                 (folder / "base.toml").write_text(base)
                 manifest = manifest_of(read_study(folder / "study.toml"), Path("/x"), "f00")
                 assert (manifest["placed_base"], manifest["drawn_base"]) == placed
+
+    def test_measured_latencies(self) -> None:
+        """The round trips, and the scenario whose names are taken, are beside the study. Both have a digest."""
+        with study_folder(TRIPS) as folder:
+            (folder / "trips.txt").write_text("0 30000\n30000 0\n")
+            (folder / "names.toml").write_text(NAMES)
+            study = read_study(folder / "study.toml")
+            # A latency is half a round trip.
+            assert latency_of(study, study.settings()[0], 1) == b"n3,n1,15000\n"
+            sums = input_sums(study)
+            assert sums == {"trips.txt": sum_of("0 30000\n30000 0\n"), "names.toml": sum_of(NAMES)}
+            assert manifest_of(study, Path("/x"), "f00")["sha256"].items() >= sums.items()
+
+    def test_files_that_change_between_two_studies(self) -> None:
+        """Each file is read again, also in the same process."""
+        trips = ("0 30000\n30000 0\n", "0 50000\n50000 0\n")
+        places = (PLACES, PLACES.replace("5000", "6000"))
+        for text, name, contents, made, marks in (
+            (TRIPS, "trips.txt", trips, "list=1,seed=1.csv", ("n3,n1,15000\n", "n3,n1,25000\n")),
+            (GENERATED.format(law="file:places.csv"), "places.csv", places, "list=1,seed=1.toml",
+             ("height_us = 5000\n", "height_us = 6000\n")),
+        ):
+            with study_folder(text) as folder, self.subTest(file=name):
+                (folder / "names.toml").write_text(NAMES)
+                for content, mark in zip(contents, marks, strict=True):
+                    (folder / name).write_text(content)
+                    assert call(folder, chordsim=program()) == (0, "")
+                    assert mark in (folder / "study" / "done" / made).read_text()
 
     def test_changed_file(self) -> None:
         """After a change of the file the report says so, on the page too; the runs are those of the old file."""

@@ -61,6 +61,11 @@ class StudyNumbersTest(TestCase):
         """Two against none: 0.5; six against none: one in 32; one against one, and none at all: 1."""
         assert [mcnemar(2, 0), mcnemar(0, 6), mcnemar(1, 1), mcnemar(0, 0)] == [0.5, 1 / 32, 1, 1]
 
+    def test_mcnemar_of_many_pairs(self) -> None:
+        """Of 1,030 pairs none, or one, against all others: 2 and 2 * 1,031 in 2 ** 1030; of 3,000 it is nearly 0."""
+        assert mcnemar(0, 1030) == 2.0**-1029 and mcnemar(1029, 1) == 1031 * 2.0**-1029
+        assert mcnemar(600, 600) == 1 and mcnemar(3000, 0) == 0
+
     def test_interval(self) -> None:
         """1 to 5: mean 3, standard deviation 1.5811, half 2.776 times this by the root of 5."""
         found = interval([1, 3, 2, 5, 4])
@@ -69,18 +74,17 @@ class StudyNumbersTest(TestCase):
         assert interval([1, inf]).mean == inf
 
     def test_told(self) -> None:
-        """Two digits of the half; the number of seeds if some are missing; a share stays a share."""
-        for one, share, wanted in (
-            (Interval(4478, 212, 10, 10), False, "4480 ± 210"),
-            (Interval(0.01234, 0.00051, 10, 10), False, "0.01234 ± 0.00051"),
-            (Interval(19.96, 0.996, 10, 10), False, "19.96 ± 1.00"),
-            (Interval(98.5, 3.0, 9, 10), True, "98.5 (95.5..100.0) (9 of 10)"),
-            (Interval(20.0, 101.6, 10, 10), True, "20 (0..100)"),
-            (Interval(35.06, None, 3, 3), False, "35.06"),
-            (Interval(None, None, 0, 3), False, "-"),
-            (Interval(inf, None, 3, 3), False, "never"),
+        """Two digits of the half; the number of seeds if some are missing."""
+        for one, wanted in (
+            (Interval(4478, 212, 10, 10), "4480 ± 210"),
+            (Interval(0.01234, 0.00051, 10, 10), "0.01234 ± 0.00051"),
+            (Interval(19.96, 0.996, 10, 10), "19.96 ± 1.00"),
+            (Interval(98.5, 3.0, 9, 10), "98.5 ± 3.0 (9 of 10)"),
+            (Interval(35.06, None, 3, 3), "35.06"),
+            (Interval(None, None, 0, 3), "-"),
+            (Interval(inf, None, 3, 3), "never"),
         ):
-            assert one.told(1, share) == wanted, one.told(1, share)
+            assert one.told() == wanted, one.told()
 
     def test_missing_seed_is_told(self) -> None:
         """Of three seeds one has no number, since its ring was dead."""

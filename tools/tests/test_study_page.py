@@ -167,6 +167,12 @@ class StudyPageTest(TestCase):
         made = told(setting(4, 900, 5000), generate=["--nodes", "4"], latency_arguments=["--plane", "1s"], base=None)
         assert "New in each: timers and random keys, identifiers, latencies." in made and "The same in all" not in made
         assert "- `tools/generate --nodes 4`, for each seed" in made
+        assert "Rings count as kept" not in made
+        hollow = [one | {"right": "499"} for one in setting(2, 900, 5000, seeds=5)]
+        assert (
+            "of the wanted lookups. Audits still find a ring there, if only of a few members: list=2 (2 of 5 seeds)."
+            in " ".join(told(hollow[:2] + setting(2, 900, 5000, seeds=5)[2:]).split())
+        )
         cut = told([row(list=4, seed=1, **{"cut-by-end": 9})])
         assert "The end cut off 0.9 % of the judged lookups, which are left out: set cooldown_us." in cut
 

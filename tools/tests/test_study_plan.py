@@ -242,6 +242,32 @@ class StudyPlanTest(TestCase):
         assert [trap.startswith(wanted) for trap in traps] == [True]
         assert not argument_traps(in_folder(MADE + PLANE + SEEDS)) and not argument_traps(in_folder(HEAD + SEEDS))
 
+    def test_faults_of_the_base(self) -> None:
+        """Wrong types, also of keys that its profile lacks, and keys that a node or a command lacks."""
+        tables = BASE[BASE.index("[[node]]") :]
+        nodes = tables.partition("[[command]]")[0]
+        for old, new, told in (
+            ("finger_us = ", "finger_us = '250ms' # ", "S4 WrongType top finger_us"),
+            ("bits = ", "bits = 'x' # ", "S4 WrongType top bits"),
+            ("profile = ", "profile = 'x' # ", "S4 WrongType top profile"),
+            ("profile = ", "nodes = 5\nprofile = ", "S4 WrongType top nodes"),
+            ("[[node]]", "retries = '1'\n[[node]]", "S4 WrongType top retries"),
+            (CHURN, "churn = 5\n", "S4 WrongType top churn"),
+            (tables, "node = 5\n", "S4 WrongType top node"),
+            (tables, f"command = 5\n{nodes}", "S4 WrongType top command"),
+            (tables, "", "S3 MissingKey top node"),
+            ("audit_us = ", "# ", "S3 MissingKey top audit_us"),
+            ('name = "n1"\n', "", "S3 MissingKey node 2 name"),
+            ('do = "lookup"\n', "", "S3 MissingKey command 1 do"),
+            ("[[node]]", "[[nodes]]\ncount = 2\n[[node]]", "S3 MissingKey nodes 1 prefix"),
+        ):
+            with self.subTest(new=new):
+                assert BASE.count(old) > 0
+                answer = in_folder(HEAD + SEEDS, BASE.replace(old, new, 1))
+                assert answer == f"base.toml: {told}", answer
+        varied = in_folder(HEAD + SEEDS + "[vary]\nchurn.life_max_us = [9]\n", BASE.replace("life_max_us = 6, ", ""))
+        assert "life_max_us = 9\n" in scenario_of(varied, varied.settings()[0], 1)
+
     def test_faults(self) -> None:
         """Each fault is told with the file and the key."""
         vary = HEAD + SEEDS + "[vary]\n"
@@ -255,10 +281,16 @@ class StudyPlanTest(TestCase):
             (MADE + SEEDS + 'latency = "--plane 60ms"',
              'latency has arguments, so that it has to be a list: latency = ["--plane", "60ms"]'),
             (HEAD + SEEDS + "warmup_us = 200", "study.toml: warmup_us leaves nothing of 200 us"),
-            (HEAD, "study.toml: seeds has to be"),
+            (HEAD, "study.toml: seeds or [precision] is required"),
             (HEAD + "seeds = [1, 1]", "study.toml: seeds has to be"),
             (HEAD + 'seeds = "3-2"', "study.toml: seeds has to be"),
             (HEAD + "seeds = [-1]", "study.toml: seeds has to be"),
+            (HEAD + "seeds = [1, 1000000000]", "study.toml: seeds has 1000000000: a seed is below 1000000000"),
+            (HEAD + "seeds = 10001", "study.toml: seeds has 10001 of them, and a study has at most 10000"),
+            (HEAD + 'seeds = "1-999999999"', "seeds has 999999999 of them, and a study has at most 10000"),
+            (HEAD + "seeds = 9223372036854775808", "no TOML 1.0: an integer is beyond 64 bits: 9223372036854775808"),
+            (HEAD + f"seeds = 1{'0' * 5000}", "study.toml: no TOML 1.0: an integer is beyond 64 bits: 1000"),
+            (HEAD + SEEDS + f"[goal]\nmessages_max = 1{'0' * 400}", "no TOML 1.0: an integer is beyond 64 bits: 1000"),
             (HEAD + SEEDS + "x = 1", "study.toml: no key of a study: x"),
             (HEAD + SEEDS + "window_us = 0", "study.toml: window_us has to be an integer, 1 or more"),
             (HEAD + SEEDS + "warmup_us = true", "study.toml: warmup_us has to be an integer, 0 or more"),
@@ -294,6 +326,9 @@ class StudyPlanTest(TestCase):
             (HEAD + "[precision]\nserved = 0.1\nleast_seeds = 4", "study.toml: [precision] least_seeds"),
             (HEAD + SEEDS + "[sizes]\nstep = 4", "study.toml: [sizes] has to give the bytes"),
             (HEAD + SEEDS + 'world = ["list"]', "study.toml: world has to be a list of keys of [vary]"),
+            (vary.replace("[vary]", 'world = [["list"]]\n[vary]') + "list = [1]", "world has to be a list of keys of"),
+            (HEAD + "[precision]\nserved = inf", "study.toml: [precision] has to name one number"),
+            (HEAD + "[precision]\nbytes = 1.0", "study.toml: [precision] bytes needs [sizes]: the bytes of a message"),
             (HEAD + SEEDS + "note = 1", "study.toml: note has to be a text"),
         ):
             with self.subTest(study=text):

@@ -4,10 +4,11 @@ from pathlib import Path
 from unittest import TestCase
 
 from chordsim_tools.study.command import main
+from chordsim_tools.study.sizes import NEEDED
 from tests.support.programs import ended
 from tests.support.studies import unwrapped
 from tests.test_study_parts import merged, same_tables
-from tests.test_study_run import FAKE, call, said, study_folder
+from tests.test_study_run import FAKE, call, said, study_folder, table
 
 # Every odd seed has a wrong answer, so that no interval is narrow. There are 5 seeds, then two more, then most_seeds.
 STUDY = """\
@@ -41,6 +42,14 @@ class PrecisionTest(TestCase):
         assert "Stopped at most_seeds, 8: [precision] wants right_of_begun" in page_of(folder)
         (folder / "study" / "manifest.json").unlink()
         return {path.name: path.read_text() for path in (folder / "study" / "done").glob("*.json")}
+
+    def test_bytes(self) -> None:
+        """Every run has them, by [sizes], so that no line says that none has."""
+        sizes = "".join(f"{kind} = 40\n" for kind in NEEDED)
+        study = STUDY.replace("right_of_begun = 0.0001", "bytes = 1000000.0").replace("= 8", "= 5")
+        with study_folder(f"{study}[sizes]\n{sizes}") as folder:
+            assert call(folder) == (0, "")
+            assert all(int(row["bytes"]) > 0 for row in table(folder, "runs.csv"))
 
     def test_page(self) -> None:
         """It counts the runs that the results so far ask for, and does not say that the study has stopped."""

@@ -59,10 +59,10 @@ class ProgramTest(TestCase):
 
     def test_run_that_fails(self) -> None:
         """Its failure is told, whatever the other one says."""
+        # As the program does, it goes on if nobody reads what it writes.
+        run = "run) trap '' PIPE; echo 10 a loo 2> /dev/null; echo failed: 3 TooManyEvents >&2; exit 3 ;;\n"
         for judge in ("judge) cat > /dev/null; echo refused: line 1 >&2; exit 1 ;;\n", "judge) exit 0 ;;\n"):
-            assert told("run) echo 10 a loo; echo failed: 3 TooManyEvents >&2; exit 3 ;;\n" + judge) == (
-                3, "the program says: failed: 3 TooManyEvents"
-            )
+            assert (answer := told(run + judge)) == (3, "the program says: failed: 3 TooManyEvents"), answer
         assert told("run) echo refused: S1 NotToml >&2; exit 1 ;;\njudge) cat ;;\n")[0] == 1
         assert told("run) kill -9 $$ ;;\njudge) cat ;;\n") == (3, "the program was ended by SIGKILL")
 

@@ -11,7 +11,7 @@ import subprocess
 import sys
 import tempfile
 import time
-from collections.abc import Iterator
+from collections.abc import Callable, Iterator
 from contextlib import contextmanager, redirect_stderr
 from pathlib import Path
 from unittest import TestCase
@@ -19,7 +19,8 @@ from unittest.mock import patch
 
 from chordsim_tools.scenario.reading import read_scenario
 from chordsim_tools.study.command import main
-from tests.support.programs import ended, heed_interrupts, program
+from chordsim_tools.study.stops import STOPS
+from tests.support.programs import ended, program
 
 TOP = Path(__file__).resolve().parents[2]
 TOOL = TOP / "tools" / "study"
@@ -105,6 +106,28 @@ def called(folder: Path, *words: str, chordsim: Path | None = None) -> tuple[int
     """The status of `tools/study run`, and what it writes to its two streams."""
     with patch.dict(os.environ, CHORDSIM=str(chordsim or folder / "fake")):
         return ended(main, *words_of(folder, *words)[2:])
+
+
+def stopped(folder: Path, number: signal.Signals, kill: Callable[[int, int], None]) -> tuple[int, str]:
+    """The status of `tools/study run` and what it says, if it is sent a signal in this way once a run sleeps."""
+    environment = os.environ | {"CHORDSIM": str(folder / "fake"), "TMPDIR": str(folder / "tmp")}
+    tool = subprocess.Popen(  # pylint: disable=subprocess-popen-preexec-fn
+        words_of(folder), env=environment, stderr=subprocess.PIPE, text=True, start_new_session=True,
+        preexec_fn=heed_signals,
+    )
+    for _ in range(3000):
+        if (folder / "pid").exists() and (folder / "pid").read_text():
+            break
+        time.sleep(0.02)
+    kill(tool.pid, number)
+    _, told = tool.communicate(timeout=60)
+    return tool.returncode, told
+
+
+def heed_signals() -> None:
+    """Undoes that whoever started the tests ignores these signals, as nohup does, and a shell in the background."""
+    for number in STOPS:
+        signal.signal(number, signal.SIG_DFL)
 
 
 def call_with_limit(folder: Path, limit: int) -> tuple[int, str]:
@@ -241,6 +264,17 @@ class StudyRunTest(TestCase):
             page = (folder / "study" / "report.md").read_text()
             assert sum(f"FOLDER/done/{name}.toml" in page for name in names) == 1
 
+    def test_varied_options_that_are_no_numbers(self) -> None:
+        """They are refused before anything is computed from them, here those of the second setting."""
+        made = 'generate = ["--nodes", "16", "--duration", "20s"]'
+        for option, value in (("--nodes", "x"), ("--bits", "1e3")):
+            varied = f'"{option}" = ["16", "{value}"]'
+            study = STUDY.replace('base = "base.toml"', made).replace("list = [1, 2]", varied)
+            with study_folder(study) as folder, self.subTest(option=option):
+                status, told = call(folder)
+                assert status == 1 and told.startswith(f"refused: {folder}/study.toml: generate: "), told
+                assert f"{option}: " in told and f"not '{value}'" in told, told
+
     def test_what_failed_is_told_and_what_was_done_is_kept(self) -> None:
         """The third run fails; the next call runs what is left, and the one after it nothing."""
         with study_folder() as folder:
@@ -266,28 +300,45 @@ class StudyRunTest(TestCase):
             assert call(folder) == (0, "") and runs_called(folder) == 13
 
     def test_interrupted_and_gone_on(self) -> None:
-        """SIGINT in the third run, at the tool alone: one line, status 130, no process is left; then it goes on."""
-        with study_folder() as folder:
-            (folder / "sleep").write_text("list = 2")
-            environment = os.environ | {"CHORDSIM": str(folder / "fake")}
-            tool = subprocess.Popen(  # pylint: disable=subprocess-popen-preexec-fn
-                words_of(folder),
-                env=environment,
-                stderr=subprocess.PIPE,
-                text=True,
-                preexec_fn=heed_interrupts,
-            )
-            for _ in range(3000):
-                if (folder / "pid").exists() and (folder / "pid").read_text():
-                    break
-                time.sleep(0.02)
-            tool.send_signal(signal.SIGINT)
-            _, told = tool.communicate(timeout=60)
-            assert (tool.returncode, told) == (130, "interrupted: run the same command again to continue\n")
-            assert not Path("/proc", (folder / "pid").read_text().strip()).exists()
-            assert not (folder / "study" / "runs.csv").exists() and not left_overs(folder)
-            (folder / "sleep").write_text("nothing")
-            assert call(folder) == (0, "") and runs_called(folder) == 5
+        """In the third run, by signals at the tool alone and at all of its processes: none of these is left, nor is a
+        temporary folder, and the same command goes on."""
+        interrupted = (130, "interrupted: run the same command again to continue\n")
+        for number, kill, wanted in (
+            (signal.SIGINT, os.kill, interrupted), (signal.SIGINT, os.killpg, interrupted),
+            (signal.SIGTERM, os.kill, (143, "")), (signal.SIGTERM, os.killpg, (143, "")),
+            (signal.SIGHUP, os.kill, (129, "")), (signal.SIGHUP, os.killpg, (129, "")),
+        ):
+            with study_folder() as folder, self.subTest(signal=number, by=kill.__name__):
+                (folder / "sleep").write_text("list = 2")
+                (folder / "tmp").mkdir()
+                found = stopped(folder, number, kill)
+                assert found == wanted, found
+                assert not Path("/proc", (folder / "pid").read_text().strip()).exists()
+                assert not list((folder / "tmp").iterdir())
+                assert not (folder / "study" / "runs.csv").exists() and not left_overs(folder)
+                (folder / "sleep").write_text("nothing")
+                assert call(folder) == (0, "") and runs_called(folder) == 5
+
+    def test_failures_of_the_system_in_a_run(self) -> None:
+        """They are told in one line, as those of the tool itself."""
+        for fault, told in (
+            (OSError(28, "No space left on device", "/tmp/x"), "/tmp/x: No space left on device"),
+            (MemoryError(), "no memory is left"),
+        ):
+            with study_folder() as folder, patch("chordsim_tools.study.runs.result_of", side_effect=fault):
+                assert call(folder) == (3, f"failed: list=1, seed=1: {told}")
+
+    def test_files_that_change_while_a_study_runs(self) -> None:
+        """The latency file, or the program: no result is kept, since its digest would be of what was there before."""
+        for change, name in (("echo n0,n1,30000 >> $here/rows.csv", "rows.csv"), ("touch $here/fake", "fake")):
+            with study_folder('latency = "rows.csv"\n' + STUDY) as folder, self.subTest(file=name):
+                (folder / "rows.csv").write_text("n0,n2,40000\n")
+                (folder / "fake").write_text(FAKE.replace("\nrun)", f"\nrun)\n    {change}"))
+                told = f"failed: list=1, seed=1: {folder}/{name} has changed since the study began: start again"
+                assert call(folder) == (3, told)
+                assert not list((folder / "study" / "done").glob("*.json"))
+                (folder / "fake").write_text(FAKE)
+                assert call(folder) == (0, "")
 
     def test_missing_program(self) -> None:
         """No file, one that cannot be run, and one that is no program of this kind."""
@@ -338,7 +389,7 @@ class StudyRunTest(TestCase):
             call(folder)
             runs = folder / "study" / "runs.csv"
             for word in ("plot", "report"):
-                missing = f"refused: cannot read {folder}/manifest.json: No such file or directory"
+                missing = f"refused: {folder} has no manifest.json: tools/study run writes it with the tables"
                 assert said(word, folder) == (1, missing)
             assert said("report", folder / "study") == (0, "") and (folder / "study" / "report.md").is_file()
             runs.write_text(runs.read_text().replace("\n1,1,4,", "\n1,1,5,"))
@@ -418,9 +469,18 @@ class StudyRunTest(TestCase):
             status, told = call(folder, chordsim=program())
             assert status == 1 and told == (
                 f"refused: {folder}/study.toml: the setting list=17 is refused: S5 OutOfRange top list: `list` is out "
-                "of range: 17; allowed: an integer from 1 to 16"
+                "of range: 17; allowed: an integer from 1 to 16; profile 4 allows up to 32: write profile = 4"
             ), told
             assert not list((folder / "study" / "done").glob("*.json"))
+
+    def test_another_study_in_the_folder(self) -> None:
+        """Its results are replaced, and a warning says so. A run of the same study has none."""
+        with study_folder() as folder:
+            assert call(folder)[0] == 0 and "are replaced" not in call(folder)[1]
+            (folder / "study.toml").rename(folder / "other.toml")
+            (folder / "study.toml").symlink_to("other.toml")
+            told = f"warning: {folder / 'study'} has results of ../study.toml, which are replaced: -o takes another"
+            assert told in call(folder)[1] and told not in call(folder)[1]
 
     def test_refusals_of_settings_in_words(self) -> None:
         """A list of 9 needs ten nodes; latencies and coordinates exclude each other. Both name the setting."""
@@ -430,12 +490,13 @@ class StudyRunTest(TestCase):
         both = f'generate = [{king}]\nlatency = ["--plane", "60ms"]\n'
         for text, told in (
             (lists, "the setting list=9 is refused: S10 TooFewInitial: too few nodes are members at the start: list = "
-                    "9, and 8 nodes are initial; allowed: list + 1 = 10 initial nodes or more"),
+                    "9, and 8 nodes are initial; allowed: list + 1 = 10 initial nodes or more; there are only 8 nodes: "
+                    "write more; or list = 7; profile 4 allows any number of initial nodes: write profile = 4"),
             (both, "the setting base is refused: the nodes have coordinates and there are latencies: drop `latency`, "
                    "or --coordinates of `generate`"),
         ):
             with study_folder('question = "How?"\nseeds = 1\n' + text) as folder:
-                assert call(folder, chordsim=program()) == (1, f"refused: {folder}/study.toml: {told}")
+                assert (answer := call(folder, chordsim=program())) == (1, f"refused: {folder}/study.toml: {told}"), answer
 
     def test_same_bytes_by_any_number_of_jobs(self) -> None:
         """The tables and the manifest."""

@@ -116,7 +116,7 @@ class StudySearchTest(TestCase):
             assert "round 1: stabilize_us=4s misses the goal" in text
             assert "round 1: best so far stabilize_us=500ms (the least messages" in text
             assert "round 2: stabilize_us=841ms reaches the goal" in text
-            assert text.endswith(f"done after 2 rounds: most_rounds; page: {out}/report.md\n")
+            assert text.endswith(f"done after 2 rounds: that is most_rounds; page: {out}/report.md\n")
             periods = list(dict.fromkeys(row["stabilize_us"] for row in read_tables(out).runs))
             assert periods == ["500000", "841000", "1410000", "4000000"]
             page = (out / "report.md").read_text()

@@ -69,6 +69,24 @@ class SteadyTest(TestCase):
         assert ((20_000_000, 40_000_000), 0.048) in told and not [piece for piece, _ in told if piece is None], told
         assert "members +4.8" in sentence(tables) and "from 20s to 40s, against the rest (list=1)" in sentence(tables)
 
+    def test_eleven_steps(self) -> None:
+        """The pieces have one step and five times two, so that a change in the last two is seen."""
+        tables = study_of(
+            lambda _, seed, step: 0.8 + 0.002 * (seed % 3) + (0.06 if step > 8 else 0.0), cooldown_us=10_000_000,
+        )
+        told = [(one.piece, round(one.found.mean or 0, 3)) for one in look(tables, summaries(tables)).changes]
+        assert ((90_000_000, 110_000_000), 0.06) in told, told
+
+    def test_pieces_of_lookups(self) -> None:
+        """Numbers of lookups are of six equal pieces: the last one of 110 s begins at 550 / 6 s."""
+        goal = {"limits": [{"number": "hops", "is_least": False, "value": 9.0}], "lost_max": None, "least": "messages"}
+        tables = study_of(lambda *_: 0.9, goal=goal, cooldown_us=10_000_000)
+        for cells in tables.runs:
+            found = {"ended-hops": "20 20 20 20 20 26", "judged-found": "9 9 9 9 9 9", "judged-lost": "1 1 1 1 1 1"}
+            cells.update({f"pieces-{word}": values for word, values in found.items()})
+        pieces = [one for one in look(tables, summaries(tables), {"hops"}).changes if one.piece is not None]
+        assert max(pieces, key=lambda one: one.found.mean or 0.0).piece == (91_666_667, 110_000_000)
+
     def test_steady(self) -> None:
         """The page says how far each number may have moved, and which number of the goal it did not look at."""
         limits = [{"number": "p99_ms", "is_least": False, "value": 3000.0}]

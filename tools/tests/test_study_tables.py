@@ -3,11 +3,15 @@
 import re
 from typing import Any
 from unittest import TestCase
+from unittest.mock import patch
 
+from chordsim_tools.study.answer import chosen
 from chordsim_tools.study.compare import settings_of
 from chordsim_tools.study.goal import NUMBERS
 from chordsim_tools.study.names import NAMES, difference_header, in_words
+from chordsim_tools.study.numbers import summaries
 from chordsim_tools.study.page import page
+from chordsim_tools.study.settings_tables import differences
 from chordsim_tools.study.wrap import WIDTH, note, wrapped
 from tests.support.studies import row, table_of, tables_of, unwrapped
 
@@ -52,6 +56,15 @@ def notes(text: str, heading: str) -> list[str]:
 
 class StudyTablesTest(TestCase):
     """The columns of both tables of settings, their notes, and their lines."""
+
+    def test_best_setting_is_sought_once(self) -> None:
+        """Once in each of two worlds, however many settings these have."""
+        vary = {"latency_us": [1, 2], "list": [1, 2, 3, 4]}
+        rows = [row(latency_us=time, list=size, seed=1) for time in (1, 2) for size in range(1, 5)]
+        tables = tables_of(rows, vary=vary)
+        with patch("chordsim_tools.study.settings_tables.chosen", wraps=chosen) as sought:
+            differences(tables, summaries(tables))
+        assert sought.call_count == 2
 
     def test_columns(self) -> None:
         """Without a goal, and with one that names what is in the first table anyway."""

@@ -4,12 +4,13 @@ import tomllib
 from pathlib import Path
 from unittest import TestCase
 
+from chordsim_tools.known import known
 from chordsim_tools.scenario.classes import node_count
 from chordsim_tools.study.comparison import named
 from chordsim_tools.study.numbers import summaries
 from chordsim_tools.study.plan import label
 from chordsim_tools.study.starts import longest_round, nodes_in
-from chordsim_tools.study.worlds import scenario_of
+from chordsim_tools.study.worlds import latency_of, scenario_of
 from tests.support.studies import row, tables_of
 from tests.test_study_plan import BASE, HEAD, MADE, SEEDS, in_folder
 
@@ -59,6 +60,13 @@ class StudyVaryTest(TestCase):
         assert in_folder(VARY + "nodes.count = [2]\n", twice) == f"study.toml: {needs} 2"
         assert "a study with `generate` has --nodes" in in_folder(MADE_VARY + '"nodes.count" = [2]\n')
 
+    def test_latencies_of_a_class(self) -> None:
+        """They are between all nodes of the setting: three, and two or four of the class. The base needs no count."""
+        base = BASE.replace("profile = 1", "profile = 4").replace("seed = 1\n", "") + '[[nodes]]\nprefix = "m"\n'
+        study = in_folder('latency = ["--plane", "60ms"]\n' + VARY + '"nodes.count" = [2, 4]\n', base)
+        rows = [known(latency_of(study, setting, 1)) for setting in study.settings()]
+        assert [one.count(b"\n") for one in rows] == [5 * 4 / 2, 7 * 6 / 2] and b"\nm2,m3," in rows[1]
+
     def test_ranges(self) -> None:
         """The end is a value if a step reaches it; counts go up by 1; options take times as texts."""
         ranges = {"1s..2s step 500ms": ("1s", "1500ms", "2s"), "0..25ms step 10ms": ("0us", "10ms", "20ms")}
@@ -84,6 +92,7 @@ class StudyVaryTest(TestCase):
             ('"list, jitter_us" = [[1, "2 s"]]', "jitter_us cannot be '2 s': an integer is wanted"),
             ('"list, jiter_us" = [[1, 2]]', "did you mean `jitter_us`?"),
             ('list = [1]\n"list, jitter_us" = [[1, 2]]', "[vary] list is there twice"),
+            ('"churn.life_min_us" = [1]\n[vary.churn]\nlife_min_us = [2]', "[vary] churn.life_min_us is there twice"),
             ('"--nodes" = [5]', "generate.--nodes is of a study with `generate`, and this one has a base"),
             ('"join_forever, list" = [[1, 1]]', "join_forever has to be a list of different booleans"),
         ):

@@ -134,8 +134,8 @@ def rest_told(more: int, settings: int) -> str:
 
 def not_apart(best: Summary, reaching: list[Summary], goal: Goal, settings: int) -> str:
     """Which of those that reach the goal may be as good."""
-    level = guarded_level(settings)
-    others = [one for one in reaching if one is not best and one not in same_runs(best, reaching)]
+    level, same = guarded_level(settings), same_runs(best, reaching)
+    others = [one for one in reaching if one is not best and one not in same]
     verdicts = {one.label: Pair(best, one, level).verdict(goal.least) for one in others}
     alike, unknown = ([label for label, verdict in verdicts.items() if verdict == word] for word in UNDECIDED)
     text = f" Not told apart from it: {'; '.join(alike)}." if alike else ""
@@ -202,7 +202,7 @@ def unit_of(one: Summary, number: str) -> str:
 
 def number_told(one: Summary, number: str) -> str:
     """A number of a setting with its name."""
-    value = one.numbers[number].told(100 if is_percent(number) else 1, is_percent(number))
+    value = one.numbers[number].told(100 if is_percent(number) else 1)
     return f"{in_words(number)} {value}{unit_of(one, number)}{estimate_told(one, number)}"
 
 

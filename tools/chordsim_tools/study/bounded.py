@@ -11,6 +11,7 @@ may be among those that were not run. No interval that is right for all laws is 
 import math
 from collections.abc import Sequence
 from dataclasses import dataclass
+from functools import lru_cache
 
 from chordsim_tools.study.interval import LEAST_SEEDS, Interval, interval, of_there, outward, significant
 
@@ -32,7 +33,9 @@ def wealth(shares: Sequence[float], mean: float) -> float:
     return sum(stake * math.exp(min(700.0, grown(part))) for part, stake in STAKES)
 
 
-def least_mean(shares: Sequence[float], risk: float) -> float:
+# A page asks for the same bound of a setting several times.
+@lru_cache(maxsize=4096)
+def least_mean(shares: tuple[float, ...], risk: float) -> float:
     """The greatest mean up to which all are refuted at this risk, by bisection: what is won falls with the mean."""
     low, high = 0.0, max(shares)
     for _ in range(HALVINGS):
@@ -59,10 +62,10 @@ class Bounded(Interval):
         if self.mean is None or self.count < LEAST_SEEDS:
             return sign * math.inf
         width = 1 - self.floor
-        shares = [(value - self.floor) / width for value in self.values]
+        shares = tuple((value - self.floor) / width for value in self.values)
         if sign < 0:
             return self.floor + width * least_mean(shares, 1 - level)
-        return 1 - width * least_mean([1 - share for share in shares], 1 - level)
+        return 1 - width * least_mean(tuple(1 - share for share in shares), 1 - level)
 
     def ends(self) -> tuple[float, float] | None:
         """Both ends of the interval, each at half the risk."""
@@ -76,11 +79,11 @@ class Bounded(Interval):
         ends = self.ends()
         return None if ends is None or self.mean is None else max(self.mean - ends[0], ends[1] - self.mean)
 
-    def number(self, scale: float, share: bool) -> str:
+    def number(self, scale: float) -> str:
         """As `mean (low..high)`, both ends rounded outward."""
         ends = self.ends()
         if self.mean is None or ends is None:
-            return super().number(scale, share)
+            return super().number(scale)
         low, high = (outward(end * scale, 3, sign) for end, sign in zip(ends, (-1, 1), strict=True))
         return f"{significant(self.mean * scale, 4)} ({low:g}..{high:g})"
 

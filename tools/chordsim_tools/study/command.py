@@ -18,6 +18,7 @@ from chordsim_tools.study.plot import Wish, write_plots
 from chordsim_tools.study.runs import Share, run_study
 from chordsim_tools.study.search_runs import run_search
 from chordsim_tools.study.so_far import write_report
+from chordsim_tools.study.stops import stopped_cleanly
 
 PROG = tool("study")
 COMMANDS = {
@@ -161,4 +162,5 @@ def run_told(folder: Path, part: Share = (1, 1)) -> str:
 def main(arguments: list[str]) -> int:
     """The command."""
     args = parsed(arguments)
-    return run(PROG, lambda: work(args), interrupted="interrupted: run the same command again to continue")
+    with stopped_cleanly():
+        return run(PROG, lambda: work(args), interrupted="interrupted: run the same command again to continue")

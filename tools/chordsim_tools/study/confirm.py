@@ -9,18 +9,16 @@ from dataclasses import replace
 from pathlib import Path
 
 from chordsim_tools.files import read_input, sum_of, write_whole
-from chordsim_tools.known import known
-from chordsim_tools.program import find_program
 from chordsim_tools.study.answer import least_of, those_that_reach
 from chordsim_tools.study.goal import goal_again
+from chordsim_tools.study.keys import BEYOND
 from chordsim_tools.study.layout import of_each_world
 from chordsim_tools.study.numbers import Summary, summaries
 from chordsim_tools.study.plan import Setting, Study
+from chordsim_tools.study.runner import runner_of
 from chordsim_tools.study.runs import Run, do_left, runs_of, whole_result
 from chordsim_tools.study.tables import FRESH, Tables, read_tables, runs_text
 
-BEYOND = 1_000_000_000
-"""Fresh seeds are the study's own and this number, so that no study with more seeds has them."""
 Work = Callable[[list[Run]], None]
 
 
@@ -64,9 +62,8 @@ def confirm(study: Study, folder: Path, program_sum: str, work: Work) -> None:
 
 def confirm_here(study: Study, folder: Path, jobs: int, dask: str | None = None) -> None:
     """The same with the program, on this machine or by the workers of a Dask cluster."""
-    program = known(find_program(build=False))
-    program_sum = sum_of(read_input(program))
-    confirm(study, folder, program_sum, lambda runs: do_left(runs, program, program_sum, jobs, dask, set()))
+    runner = runner_of(jobs, dask)
+    confirm(study, folder, runner.digest, lambda runs: do_left(runs, runner))
 
 
 def fresh_of(tables: Tables) -> dict[str, Summary]:

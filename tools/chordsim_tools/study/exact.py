@@ -70,7 +70,9 @@ def student(degrees: int, level: float = 0.95) -> float:
 def mcnemar(first: int, second: int) -> float:
     """The exact two-sided p-value of McNemar: so many pairs in which only the first, or only the second, failed."""
     count = first + second
-    if count == 0:
-        return 1.0
-    below = sum(math.comb(count, k) for k in range(min(first, second) + 1))
-    return min(1.0, 2 * below / float(2**count))
+    below, term = 0, 1
+    for k in range(min(first, second) + 1):
+        below += term
+        term = term * (count - k) // (k + 1)
+    # As a float the divisor would be too large from 1,024 pairs on. The quotient of two integers is not.
+    return min(1.0, 2 * below / (1 << count))

@@ -71,8 +71,7 @@ def line_handles(pyplot: Any, layout: Layout, line: str | None) -> list[Any]:
     if not layout.by:
         return []
     handles = []
-    for part in layout.parts(layout.by):
-        look = layout.look(next(one for one in layout.settings if layout.part(one, layout.by) == part))
+    for part, look in layout.looks.items():
         style = {"color": look.colour, "marker": look.marker, "markersize": 5, "linewidth": 1.4}
         own = look.line if line is None else line
         handles += [pyplot.Line2D([], [], linestyle=own, label=legend_words(layout.by, part), **style)]

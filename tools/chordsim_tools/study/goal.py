@@ -1,5 +1,6 @@
 """What a study is for: [goal] names what a setting has to reach, [precision] how narrow an interval has to be."""
 
+import math
 from dataclasses import dataclass
 from pathlib import Path
 from typing import Any
@@ -13,6 +14,7 @@ OF_SPANS = (*SHARES, "members", "p50_ms", "p90_ms", "p99_ms", "p999_ms", "mean_m
 """The numbers of a setting that a goal of a span may name."""
 NUMBERS = (*OF_SPANS, "messages", "upkeep", "events", "bytes")
 """The numbers of a setting that a goal or a comparison may name."""
+NEEDS_SIZES = "needs [sizes]: the bytes of a message of each kind"
 
 
 @dataclass(frozen=True)
@@ -44,8 +46,8 @@ class Precision:
 
 
 def is_number(value: Any) -> bool:
-    """Whether a value is a number."""
-    return isinstance(value, int | float) and not isinstance(value, bool)
+    """Whether a value is a number. `nan` and `inf`, which TOML has too, are none."""
+    return isinstance(value, int | float) and not isinstance(value, bool) and math.isfinite(value)
 
 
 def goal_of(path: Path, table: Any, has_sizes: bool = False) -> Goal | None:
@@ -60,7 +62,7 @@ def goal_of(path: Path, table: Any, has_sizes: bool = False) -> Goal | None:
     if least not in NUMBERS:
         raise Refused(f"{path}: [goal] least has to be one of {', '.join(NUMBERS)}")
     if "bytes" in (least, *(limit.number for limit in limits)) and not has_sizes:
-        raise Refused(f"{path}: [goal] bytes needs [sizes]: the bytes of a message of each kind")
+        raise Refused(f"{path}: [goal] bytes {NEEDS_SIZES}")
     if lost is not None and (not is_number(lost) or lost <= 0):
         raise Refused(f"{path}: [goal] lost_max has to be a number of rings lost an hour, above 0")
     return Goal(limits, lost, least)
@@ -80,6 +82,8 @@ def limit_of(place: str, key: str, value: Any, numbers: tuple[str, ...] = NUMBER
         meant = meant_by(key, numbers)
         hint = "" if meant is None else f"; did you mean `{meant}`?"
         raise Refused(f"{place} {key}: NUMBER_min or NUMBER_max and a number, of {', '.join(numbers)}{hint}")
+    if is_number(value) and value < 0:
+        raise Refused(f"{place} {key} has to be 0 or more, not {value!r}")
     if number.endswith("_ms"):
         return Limit(number, end == "min", milliseconds_of(place, key, value))
     if not is_number(value):
@@ -111,7 +115,7 @@ def milliseconds_of(place: str, key: str, value: Any) -> float:
     return micros / 1000
 
 
-def precision_of(path: Path, table: Any) -> Precision | None:
+def precision_of(path: Path, table: Any, has_sizes: bool = False) -> Precision | None:
     """The table [precision]: one number and its half width, least_seeds and most_seeds."""
     if table is None:
         return None
@@ -122,6 +126,8 @@ def precision_of(path: Path, table: Any) -> Precision | None:
     are_above_0 = all(is_number(half) and half > 0 for half in rest.values())
     if len(rest) != 1 or not set(rest) <= set(NUMBERS) or not are_above_0:
         raise Refused(f"{path}: [precision] has to name one number and half the width of its interval, above 0")
+    if "bytes" in rest and not has_sizes:
+        raise Refused(f"{path}: [precision] bytes {NEEDS_SIZES}")
     if not all(isinstance(count, int) for count in (least, most)) or not 5 <= least <= most <= 10_000:
         raise Refused(f"{path}: [precision] least_seeds and most_seeds have to be integers, 5 or more")
     [(number, half)] = rest.items()

@@ -8,7 +8,7 @@ from chordsim_tools.quantities import time_text
 from chordsim_tools.study.goal import precision_again
 from chordsim_tools.study.interval import LEAST_SEEDS, outward
 from chordsim_tools.study.network import latencies_told, made_told
-from chordsim_tools.study.numbers import LEAST_FOR_P99, Summary, error_share
+from chordsim_tools.study.numbers import LEAST_FOR_P99, TAKES, Cells, Summary, error_share, is_kept
 from chordsim_tools.study.precise import stopped
 from chordsim_tools.study.starts import churn_trap, round_traps
 from chordsim_tools.study.steady import manifest_numbers, steadiness
@@ -17,6 +17,10 @@ from chordsim_tools.study.wrap import note, paragraph
 
 MUCH = 0.001
 """Of more lookups than this share cut off by the end the page warns."""
+LITTLE = 0.5
+"""Of rings that are kept and serve less than this share of the wanted lookups the page warns."""
+MOST_SETTINGS = 5
+"""So many settings a warning names."""
 
 
 def listed(words: list[str]) -> str:
@@ -77,6 +81,25 @@ def bytes_told(found: list[Summary]) -> str:
     return ", and bytes have no bound" if math.isinf(most) else f", and bytes to within {outward(most, 2, 1):g} %"
 
 
+def is_hollow(cells: Cells) -> bool:
+    """Whether a ring counts as kept and serves little."""
+    served = TAKES["served"](cells)
+    return is_kept(cells) and served is not None and served < LITTLE
+
+
+def hollow_rings(found: list[Summary]) -> list[str]:
+    """The settings with such rings, and in how many of their seeds."""
+    counts = [(one, sum(map(is_hollow, one.rows))) for one in found]
+    named = [f"{one.label} ({count} of {one.seeds} seeds)" for one, count in counts if count]
+    if not named:
+        return []
+    more = f"; and {len(named) - MOST_SETTINGS} more" if len(named) > MOST_SETTINGS else ""
+    return [
+        f"Rings count as kept that serve less than {100 * LITTLE:g} % of the wanted lookups. Audits still find a ring "
+        f"there, if only of a few members: {'; '.join(named[:MOST_SETTINGS])}{more}."
+    ]
+
+
 def warnings(manifest: dict[str, Any], found: list[Summary]) -> list[str]:
     """What a reader has to know before the table."""
     told = []
@@ -92,6 +115,7 @@ def warnings(manifest: dict[str, Any], found: list[Summary]) -> list[str]:
     if cut > MUCH * all_of_them:
         share = 100 * cut / all_of_them
         told.append(f"The end cut off {share:.2g} % of the judged lookups, which are left out: set cooldown_us.")
+    told += hollow_rings(found)
     if not all(one.is_counted for one in found):
         told.append(estimated(found))
     told += [*churn_trap(manifest["generate"], manifest["vary"]), *round_traps(manifest)]

@@ -72,7 +72,8 @@ EXAMPLES = {
 """The examples of each command."""
 STATUS = """\
 status: 0 all was done; 1 a file is refused, or the program refuses a setting; 2 the arguments are wrong;
-3 something failed: a run, the disk, the program or the Python packages for plots are missing; 130 interrupted"""
+3 something failed: a run, the disk, the program or the Python packages for plots are missing; 129, 130 or 143 stopped
+by a signal"""
 RUN_HELP = """\
 Runs `chordsim run --serial` for each setting and seed and writes into FOLDER:
 

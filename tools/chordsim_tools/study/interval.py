@@ -36,15 +36,15 @@ class Interval:
     high: float = 0.0
     error: float = 0.0
 
-    def told(self, scale: float = 1.0, share: bool = False) -> str:
-        """As `mean ± half` with two significant digits of the half; a share is cut to 0 to 100, as `99.9 (99.1..100)`.
+    def told(self, scale: float = 1.0) -> str:
+        """As `mean ± half` with two significant digits of the half.
 
         If values are missing their number is told, as `(9 of 10)`."""
         if self.mean is None:
             return "-"
-        return self.number(scale, share) + (f" ({self.count} of {self.of})" if self.count < self.of else "")
+        return self.number(scale) + (f" ({self.count} of {self.of})" if self.count < self.of else "")
 
-    def number(self, scale: float, share: bool) -> str:
+    def number(self, scale: float) -> str:
         """The mean and the half."""
         if self.mean is None or math.isinf(self.mean):
             return "never"
@@ -52,9 +52,6 @@ class Interval:
         if not half:
             return significant(mean, 4)
         digits = digits_of(half)
-        if share and (mean - half < 0 or mean + half > 100):
-            low, high = max(0.0, mean - half), min(100.0, mean + half)
-            return f"{rounded(mean, digits)} ({rounded(low, digits)}..{rounded(high, digits)})"
         return f"{rounded(mean, digits)} ± {rounded(half, digits)}"
 
     def ends(self) -> tuple[float, float] | None:

@@ -1,22 +1,23 @@
 """The values of a study file, read and refused key by key."""
 
 import re
-import tomllib
 from pathlib import Path
 from typing import Any
 
 from chordsim_tools.cli import Refused
-from chordsim_tools.explain.hints import close_to
+from chordsim_tools.explain.hints import close_to, shown
 from chordsim_tools.generate.arguments import OPTIONS
 from chordsim_tools.place import tool
 from chordsim_tools.quantities import UNITS, time_of
-from chordsim_tools.scenario.tables import EXTENDED, GREATEST_INTEGER, Key
+from chordsim_tools.scenario.tables import EXTENDED, GREATEST_INTEGER, Key, NotToml, parse_toml
 
 Value = int | str
 """A value that is varied: an integer, or a text: of an option of tools/generate, or `true` or `false`."""
 BOOLEANS = {key.name for key in EXTENDED.tables["top"] if key.kind == "boolean"}
 """The keys of a scenario that can be varied and are booleans."""
 MOST_SEEDS = 10_000
+BEYOND = 1_000_000_000
+"""Fresh seeds are the study's own and this number. A study has only seeds below it, so that none is there twice."""
 OF_GENERATE = "generate."
 COUNT = "nodes.count"
 """The key of [vary] that is how many nodes the only class of a base has."""
@@ -36,9 +37,10 @@ def varied_keys() -> set[str]:
 def parsed(path: Path, content: bytes) -> dict[str, Any]:
     """The document of a TOML file."""
     try:
-        return tomllib.loads(content.decode().removeprefix("\ufeff"))
-    except (UnicodeDecodeError, tomllib.TOMLDecodeError, RecursionError) as fault:
-        raise Refused(f"{path}: no TOML 1.0: {' '.join(str(fault).split())}") from None
+        return parse_toml(content)
+    except NotToml as fault:
+        literal = f": {shown(fault.literal)}" if fault.literal else ""
+        raise Refused(f"{path}: no TOML 1.0: {' '.join(fault.reason.split())}{literal}") from None
 
 
 def is_integer(value: Any) -> bool:
@@ -98,14 +100,20 @@ def seeds_of(path: Path, value: Any, is_precise: bool = False) -> list[int]:
     """The seeds: a list, a number of them, or a text as "1-10"; a study with [precision] needs none."""
     if is_precise and value is None:
         return [1]
-    if is_integer(value) and 1 <= value <= MOST_SEEDS:
-        value = list(range(1, value + 1))
+    if value is None:
+        raise Refused(f"{path}: seeds or [precision] is required: how many worlds are tried")
+    if is_integer(value) and value > 0:
+        value = range(1, value + 1)
     if isinstance(value, str) and (match := re.fullmatch(r"([0-9]{1,9})-([0-9]{1,9})", value)):
-        value = list(range(int(match[1]), int(match[2]) + 1))
-    in_range = isinstance(value, list) and all(is_integer(seed) and 0 <= seed <= GREATEST_INTEGER for seed in value)
-    if not in_range or not value or len(set(value)) < len(value):
+        value = range(int(match[1]), int(match[2]) + 1)
+    if isinstance(value, list | range) and len(value) > MOST_SEEDS:
+        raise Refused(f"{path}: seeds has {len(value)} of them, and a study has at most {MOST_SEEDS}")
+    well = isinstance(value, list | range) and all(is_integer(seed) and seed >= 0 for seed in value)
+    if not well or not value or len(set(value)) < len(value):
         wanted = 'a list of different integers, 0 or more, or a text as "1-10", or a number of seeds'
         raise Refused(f"{path}: seeds has to be {wanted}")
+    if max(value) >= BEYOND:
+        raise Refused(f"{path}: seeds has {max(value)}: a seed is below {BEYOND}, where fresh seeds begin")
     if is_precise:
         raise Refused(f"{path}: seeds and [precision] exclude each other")
     return list(value)
@@ -141,6 +149,8 @@ def booleans_of(path: Path, key: str, values: Any) -> list[Value]:
 
 def world_of(path: Path, value: Any, vary: dict[str, list[Value]]) -> list[str] | None:
     """The varied keys that make the world, which nobody chooses, if the study names them."""
-    if value is not None and (not isinstance(value, list) or not all(key in vary for key in value)):
+    if value is None:
+        return None
+    if not isinstance(value, list) or not all(isinstance(key, str) and key in vary for key in value):
         raise Refused(f"{path}: world has to be a list of keys of [vary]")
     return value

@@ -77,13 +77,12 @@ def draw_panel(
     is_first: bool
 ) -> None:
     """One panel: a line for each value of the keys that lines are by."""
-    here = layout.of_panel(panel)
+    lines = layout.grouped(layout.of_panel(panel), layout.by)
     axis = Axis(layout.x, [value for part in layout.parts(layout.x_keys) for value in part] or [""])
     scale, label = column.scale(greatest)
     parts = layout.parts(layout.by)
     for number, part in enumerate(parts):
-        line = [one for one in here if layout.part(one, layout.by) == part]
-        draw_line(axes, axis, layout, line, column, rows, scale, number - (len(parts) - 1) / 2)
+        draw_line(axes, axis, layout, lines.get(part, []), column, rows, scale, number - (len(parts) - 1) / 2)
     axis.dress(axes)
     axes.set_ylabel(label if is_first else "")
     if layout.panels:

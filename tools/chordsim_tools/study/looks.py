@@ -2,6 +2,7 @@
 
 from collections.abc import Sequence
 from dataclasses import dataclass, field
+from functools import cached_property
 from itertools import product
 from typing import Any
 
@@ -128,22 +129,36 @@ class Layout:
         seen = dict.fromkeys(self.part(values, keys) for values in self.settings)
         return sorted(seen, key=lambda part: [order(value) for value in part])
 
+    def grouped(self, settings: list[Values], keys: list[str]) -> dict[Values, list[Values]]:
+        """Settings by their values of some keys."""
+        groups: dict[Values, list[Values]] = {}
+        for one in settings:
+            groups.setdefault(self.part(one, keys), []).append(one)
+        return groups
+
+    @cached_property
+    def looks(self) -> dict[Values, Look]:
+        """The look of each line: of the values of the keys that lines are by."""
+        return {part: look_of(number) for number, part in enumerate(self.parts(self.by))}
+
     def look(self, values: Values) -> Look:
-        """The look of a setting: that of the keys that lines are by."""
-        return look_of(self.parts(self.by).index(self.part(values, self.by)))
+        """The look of a setting: that of its line."""
+        return self.looks[self.part(values, self.by)]
 
     def cells(self) -> list[list[Values]]:
         """The settings of each panel and value of the axis, in order: what one small plot shows."""
-        pairs = product(self.parts(self.panels), self.parts(self.x_keys))
-        made = [
-            [one for one in self.settings if (self.part(one, self.panels), self.part(one, self.x_keys)) == pair]
-            for pair in pairs
-        ]
-        return [cell for cell in made if cell]
+        groups = self.grouped(self.settings, [*self.panels, *self.x_keys])
+        places = product(self.parts(self.panels), self.parts(self.x_keys))
+        return [groups[panel + value] for panel, value in places if panel + value in groups]
+
+    @cached_property
+    def by_panel(self) -> dict[Values, list[Values]]:
+        """The settings of each panel."""
+        return self.grouped(self.settings, self.panels)
 
     def of_panel(self, panel: Values) -> list[Values]:
         """The settings of a panel."""
-        return [one for one in self.settings if self.part(one, self.panels) == panel]
+        return self.by_panel[panel]
 
     @property
     def x_keys(self) -> list[str]:

@@ -4,13 +4,15 @@ from collections.abc import Mapping
 from typing import Any
 
 from chordsim_tools.files import read_input, sum_of
+from chordsim_tools.latency import command as latency
 from chordsim_tools.scenario.classes import node_sections
 from chordsim_tools.study.keys import OF_GENERATE
 from chordsim_tools.study.plan import Study
+from chordsim_tools.study.worlds import FILES, parsed_by
 
 OPTION = "--coordinates"
 TRACE = "--churn-trace"
-FILES = ("file:", "regions:")
+LAWS = ("file:", "regions:")
 """What is before the name of a file that coordinates come from."""
 DRAWN_PLACES = "coordinates of the nodes, which give the latencies"
 """What is new in each seed if places are drawn."""
@@ -34,7 +36,7 @@ def given_to(option: str, words: list[str]) -> list[str]:
 
 def is_file(law: str) -> bool:
     """Whether coordinates come from a file."""
-    return law.startswith(FILES)
+    return law.startswith(LAWS)
 
 
 def file_of(law: str) -> str:
@@ -43,11 +45,19 @@ def file_of(law: str) -> str:
 
 
 def input_files(study: Study) -> list[str]:
-    """The files that tools/generate and tools/latency read for a study: coordinates, regions and churn traces."""
+    """The files that tools/generate and tools/latency read for a study: coordinates and churn traces, and of latencies
+    regions, round trips and the scenario whose names are taken."""
     laws = values_of(OPTION, study.generate, study.vary)
     traces = values_of(TRACE, study.generate, study.vary)
-    regions = given_to("--regions", study.latency_arguments or [])
-    return [file_of(law) for law in laws if is_file(law)] + traces + regions
+    return [file_of(law) for law in laws if is_file(law)] + traces + latency_files(study)
+
+
+def latency_files(study: Study) -> list[str]:
+    """The files that the arguments of tools/latency name."""
+    if study.latency_arguments is None:
+        return []
+    args = parsed_by(latency.parser_of(), study, study.latency_arguments)
+    return [name for name in (getattr(args, word) for word in FILES) if name is not None]
 
 
 def input_sums(study: Study) -> dict[str, str]:

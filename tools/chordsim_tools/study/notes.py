@@ -8,8 +8,8 @@ ERROR, OLDER = (f"{100 * error:g} %" for error in (MOST_ERROR, OLDER_ERROR))
 FIRST = (
     "**±** is half of a 95 % interval, for each cell by itself: Student's t over the seeds. **(low..high)** is one "
     "that holds whatever the worlds are like (by betting, Waudby-Smith and Ramdas 2024). Served and members have it, "
-    "and shares that are 0 or 100 % in nearly all seeds: of ten worlds that were run, none shows that all others are "
-    f"like them. With fewer than {LEAST_SEEDS} seeds there is no interval.",
+    f"and shares that fewer than {LEAST_SEEDS} seeds have strictly between 0 and 100 %: of ten worlds that were run, "
+    f"none shows that all others are like them. With fewer than {LEAST_SEEDS} seeds there is no interval.",
     "**(m of n)**: the mean is of m of the n seeds. A seed is left out if its ring was lost, or if it has no such "
     "number. `-`: all seeds are left out.",
     "**rings kept**: seeds whose ring was not lost. It is lost if audits find none from some time to the end, which is "

@@ -1,5 +1,7 @@
 """The settings of a study over their seeds: rings kept and lost, shares, times and costs."""
 
+import csv
+import io
 import math
 from collections.abc import Callable, Iterable
 from dataclasses import dataclass, field
@@ -13,10 +15,10 @@ from chordsim_tools.study.exact import count_interval, share_interval
 from chordsim_tools.study.goal import OF_SPANS
 from chordsim_tools.study.interval import Interval, interval
 from chordsim_tools.study.names import base_of, is_percent, is_wild, span_of
-from chordsim_tools.study.plan import told
+from chordsim_tools.study.plan import Study, told
 from chordsim_tools.study.sizes import bytes_error, bytes_of
 from chordsim_tools.study.survival import NEVER
-from chordsim_tools.study.tables import Tables
+from chordsim_tools.study.tables import Row, Tables, runs_text
 
 Cells = dict[str, str]
 LEAST_FOR_P99 = 1000
@@ -239,6 +241,12 @@ def summaries(tables: Tables) -> list[Summary]:
     spans, sizes = list(tables.manifest.get("spans") or {}), tables.manifest.get("sizes") or {}
     runs = [with_bytes(cells, sizes) if sizes else cells for cells in tables.runs]
     return [summary(keys, values, rows, spans) for values, rows in groups(runs, keys).items()]
+
+
+def summaries_of(study: Study, rows: list[Row]) -> list[Summary]:
+    """All settings of a study that has these results so far."""
+    table = list(csv.DictReader(io.StringIO(runs_text(rows, study.sizes))))
+    return summaries(Tables({"vary": study.vary, "spans": study.spans, "sizes": study.sizes}, table, []))
 
 
 def with_bytes(cells: Cells, sizes: dict[str, Any]) -> Cells:

@@ -9,6 +9,7 @@ from chordsim_tools.cli import Refused
 from chordsim_tools.explain.hints import close_to
 from chordsim_tools.files import read_input, sum_of
 from chordsim_tools.quantities import time_of, time_text
+from chordsim_tools.scenario.faults import Document, Fault, missing_keys, wrong_types
 from chordsim_tools.scenario.tables import PROFILES, has_type
 from chordsim_tools.study.goal import Goal, Precision, goal_of, precision_of
 from chordsim_tools.study.keys import (
@@ -122,7 +123,7 @@ def read_study(path: Path) -> Study:
         warmup_us=number_of(path, top, "warmup_us", 0, 0),
         cooldown_us=number_of(path, top, "cooldown_us", 0, 0),
         groups=vary_of(path, top.get("vary", {}), "generate" in top),
-        precision=precision_of(path, top.get("precision")),
+        precision=precision_of(path, top.get("precision"), "sizes" in top),
         goal=goal_of(path, top.get("goal"), "sizes" in top),
         sizes=sizes_of(path, top.get("sizes", {})),
         spans=spans_of(path, top.get("span", {})),
@@ -164,6 +165,7 @@ def read_files(study: Study, top: dict[str, Any]) -> None:
     if study.base is not None:
         study.base_content = read_input(study.beside(study.base))
         study.scenario = parsed(study.beside(study.base), study.base_content)
+        check_base(study, study.beside(study.base))
     else:
         study.scenario = parsed(study.path, first_world(study).encode())
     if study.latency is not None:
@@ -173,6 +175,27 @@ def read_files(study: Study, top: dict[str, Any]) -> None:
         check_times(study, duration_of(study, setting))
         check_profile(study, setting)
         check_class(study, setting)
+
+
+def check_base(study: Study, path: Path) -> None:
+    """Fails if a key of the base has a wrong type, if there are no nodes or audits, or if a node or a command lacks a
+    key that is not varied. What else is wrong with a setting is said by the program."""
+    # The last profile has the keys of all others, and the profile may be varied.
+    whole = Document({**study.scenario, "profile": max(PROFILES)}, [])
+    faults = [*wrong_types(Document(study.scenario, [])), *wrong_types(whole)]
+    faults += [fault for fault in missing_keys(whole) if is_needed(fault, study)]
+    if faults:
+        raise Refused(f"{path}: {faults[0].text}")
+
+
+def is_needed(missing: Fault, study: Study) -> bool:
+    """Whether a study cannot begin if the base lacks a key."""
+    if missing.key == "count" and COUNT in study.vary:
+        return False
+    if missing.place.startswith(("node", "command")):
+        return True
+    # The step of numbers over time is `audit_us`, if the study does not say another.
+    return missing.key in ("node", "audit_us") and missing.key not in study.vary
 
 
 def first_world(study: Study) -> str:

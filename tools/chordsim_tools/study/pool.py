@@ -12,6 +12,7 @@ from multiprocessing.process import BaseProcess
 from chordsim_tools.cli import Failure
 from chordsim_tools.files import reason
 from chordsim_tools.study.progress import RunProgress
+from chordsim_tools.study.stops import heed, stop
 
 Work = tuple[str, Callable[[], None]]
 """A piece of work, by the name that messages give it."""
@@ -45,13 +46,20 @@ def work_all(works: list[Work], jobs: int, progress: RunProgress) -> None:
 
 def in_process(work: Callable[[], None], pipe: connection.Connection) -> None:
     """A process of its own does the work; what stops it goes through the pipe."""
-    signal.signal(signal.SIGINT, signal.SIG_DFL)
-    signal.signal(signal.SIGTERM, lambda *_: sys.exit(143))
+    heed(signal.SIGHUP, signal.SIGINT)
+    # The tool ends its processes by this one, also if it ignores it itself.
+    signal.signal(signal.SIGTERM, stop)
     try:
         work()
+        return
     except Failure as fault:
-        pipe.send((fault.status, fault.text))
-        sys.exit(fault.status)
+        told = fault.status, fault.text
+    except OSError as fault:
+        told = 3, f"{fault.filename or 'a stream'}: {reason(fault)}"
+    except MemoryError:
+        told = 3, "no memory is left"
+    pipe.send(told)
+    sys.exit(told[0])
 
 
 def start(work: Work, going: Going) -> None:

@@ -1,13 +1,11 @@
 """How many seeds a study with [precision] runs: until intervals are narrow enough, the same seeds for all settings."""
 
-import csv
-import io
 import math
 
 from chordsim_tools.study.goal import SHARES, Precision
-from chordsim_tools.study.numbers import OF_MESSAGES, Summary, summaries
+from chordsim_tools.study.numbers import OF_MESSAGES, Summary, summaries_of
 from chordsim_tools.study.plan import Study
-from chordsim_tools.study.tables import Row, Tables, runs_text
+from chordsim_tools.study.tables import Row
 
 
 def more_seeds(study: Study, rows: list[Row]) -> list[int]:
@@ -15,9 +13,7 @@ def more_seeds(study: Study, rows: list[Row]) -> list[int]:
     wanted = study.precision
     if wanted is None or len(study.seeds) >= wanted.most_seeds:
         return []
-    table = list(csv.DictReader(io.StringIO(runs_text(rows, study.sizes))))
-    found = summaries(Tables({"vary": study.vary}, table, []))
-    if all(is_narrow(one, wanted) for one in found):
+    if all(is_narrow(one, wanted) for one in summaries_of(study, rows)):
         return []
     count = min(max(2, math.ceil(len(study.seeds) / 5)), wanted.most_seeds - len(study.seeds))
     return list(range(study.seeds[-1] + 1, study.seeds[-1] + 1 + count))
@@ -35,10 +31,8 @@ def numberless(study: Study, rows: list[Row]) -> list[str]:
     """That no run so far has the number of [precision], for which more seeds may be run in vain."""
     if study.precision is None:
         return []
-    table = list(csv.DictReader(io.StringIO(runs_text(rows))))
-    found = summaries(Tables({"vary": study.vary}, table, []))
     number = study.precision.number
-    without = [one.label for one in found if one.kept and one.numbers[number].count == 0]
+    without = [one.label for one in summaries_of(study, rows) if one.kept and one.numbers[number].count == 0]
     return [f"[precision] {number}: no run has it so far, of {'; '.join(without)}"] if without else []
 
 

@@ -8,11 +8,13 @@ from dataclasses import asdict, dataclass
 from pathlib import Path
 
 from chordsim_tools.cli import Failure, Refused
+from chordsim_tools.explain.traps import warn
 from chordsim_tools.files import read_input, reason, sum_of
 from chordsim_tools.place import tool
 from chordsim_tools.program import TOP
 from chordsim_tools.study.plan import Study, read_study
 from chordsim_tools.study.tables import manifest_of
+from chordsim_tools.study.worlds import forget_worlds
 
 NAME = "runs.json"
 
@@ -59,7 +61,19 @@ def write_record(study: Study, folder: Path, program: Path, program_sum: str, re
     with contextlib.suppress(OSError):
         if path.read_text(encoding="utf-8") == text:
             return
+    warn(replaced(record, folder))
     write_shared(path, text)
+
+
+def replaced(record: Record, folder: Path) -> list[str]:
+    """That a folder has results of another study file, if so."""
+    try:
+        before = read_record(folder)
+    except (Refused, Failure):
+        return []
+    if before.study == record.study:
+        return []
+    return [f"{folder} has results of {before.study}, which are replaced: -o takes another folder"]
 
 
 def write_shared(path: Path, text: str) -> None:
@@ -86,6 +100,7 @@ def read_record(folder: Path) -> Record:
 def study_of(folder: Path, record: Record, named: Path | None = None) -> Study:
     """The study of a folder: the file that is named, else where it was seen from the folder, else its whole path."""
     seen = [named] if named is not None else [folder / record.study, Path(record.whole_path)]
+    forget_worlds()
     for path in seen:
         with contextlib.suppress(Refused):
             study = read_study(Path(os.path.normpath(path)))

@@ -23,7 +23,9 @@ def coordinates_of(study: Study) -> str:
 
 
 def explained(task: Task) -> str:
-    """The first fault of a scenario, as tools/explain words it; nothing if it finds none."""
+    """The first fault of a scenario and what was likely meant, as tools/explain words them; nothing if it finds none."""
     _, found = explanations(task.scenario.encode(), task.latency or b"", ("the scenario", "the latency file"))
     first = next(iter(found), None)
-    return "" if first is None else f"{first.fault}: {first.what}: {first.found}; allowed: {first.allowed}"
+    if first is None:
+        return ""
+    return "; ".join([f"{first.fault}: {first.what}: {first.found}", f"allowed: {first.allowed}", *first.hints])

@@ -10,9 +10,8 @@ from typing import Any
 
 from chordsim_tools.cli import Failure, Refused
 from chordsim_tools.explain.traps import timer_events, warn
-from chordsim_tools.files import make_folder, read_input, sum_of, write_whole
+from chordsim_tools.files import make_folder, sum_of, write_whole
 from chordsim_tools.place import tool
-from chordsim_tools.program import find_program
 from chordsim_tools.study.curves import write_results
 from chordsim_tools.study.dask_runs import run_by_dask
 from chordsim_tools.study.interval import LEAST_SEEDS
@@ -24,11 +23,12 @@ from chordsim_tools.study.program import Program
 from chordsim_tools.study.progress import RunProgress
 from chordsim_tools.study.record import write_record
 from chordsim_tools.study.refused import refusal
+from chordsim_tools.study.runner import Runner, check_content, runner_of
 from chordsim_tools.study.setting_traps import tell_traps
 from chordsim_tools.study.sizes import check_leaves, check_not_negative
 from chordsim_tools.study.starts import start_traps
 from chordsim_tools.study.task import Task, result_of
-from chordsim_tools.study.worlds import argument_traps, latency_of, scenario_of
+from chordsim_tools.study.worlds import argument_traps, forget_worlds, latency_of, scenario_of
 
 READING = 12
 """Goes up if a trace is read in another way, so that no older result is taken for a new one."""
@@ -111,20 +111,19 @@ def run_study(study: Study, folder: Path, jobs: int, share: Share = (1, 1), dask
     """Does the runs of a share that are not done yet, and writes the tables if the share is the whole study."""
     if study.search is not None:
         raise Refused(f"{study.path} has [search]: `{tool('study')} search` does this study")
-    program = find_program(build=True)
-    if program is None:
-        raise Failure(3, "the program is missing")
-    program_sum = sum_of(read_input(program))
     if study.precision is not None and share[1] > 1:
         raise Refused(f"{study.path}: [precision] looks at all runs, so that there are no parts")
+    runner = runner_of(jobs, dask)
+    forget_worlds()
     make_folder(folder / "done")
-    warn([*few_seeds(study), *start_traps(study), *argument_traps(study)])
-    told: set[str] = set()
+    # Arguments that are refused come first: the others are computed from them.
+    bare_times = argument_traps(study)
+    warn([*few_seeds(study), *start_traps(study), *bare_times])
     told_precision = False
     while True:
-        runs = runs_of(study, folder / "done", program_sum)[share[0] - 1 :: share[1]]
-        write_record(study, folder, program, program_sum, READING)
-        do_left(runs, program, program_sum, jobs, dask, told)
+        runs = runs_of(study, folder / "done", runner.digest)[share[0] - 1 :: share[1]]
+        write_record(study, folder, runner.program, runner.digest, READING)
+        do_left(runs, runner)
         if share[1] > 1:
             return
         rows = [(run.setting, run.seed, whole_result(run)) for run in runs]
@@ -133,7 +132,7 @@ def run_study(study: Study, folder: Path, jobs: int, share: Share = (1, 1), dask
             warn(numberless(study, rows))
             told_precision = True
         if not more:
-            write_results(study, folder, program, program_sum, rows)
+            write_results(study, folder, runner.program, runner.digest, rows)
             return
         study.seeds += more
 
@@ -145,20 +144,18 @@ def few_seeds(study: Study) -> list[str]:
     return [f"[goal] will have no answer: it needs {LEAST_SEEDS} seeds or more, and seeds has {len(study.seeds)}"]
 
 
-def do_left(
-    runs: list[Run], program: Path, program_sum: str, jobs: int, dask: str | None, told: set[str]
-) -> None:
+def do_left(runs: list[Run], runner: Runner) -> None:
     """Does those of the runs that are not done yet, and warns of traps that were not told before."""
     remove_parts(runs)
     left = look_at(runs)
-    check_settings(left, program)
+    check_settings(left, runner.program)
     firsts: dict[Setting, Task] = {}
     for run in left:
         firsts.setdefault(run.setting, run.task)
-    tell_traps(firsts.values(), program, told)
+    tell_traps(firsts.values(), runner.program, runner.told)
     try:
         with RunProgress(len(runs), len(runs) - len(left), load=load_of(left, firsts)) as progress:
-            do_runs(left, program, program_sum, jobs, dask, progress)
+            do_runs(left, runner, progress)
     finally:
         remove_parts(runs)
 
@@ -184,27 +181,30 @@ def look_at(runs: list[Run]) -> list[Run]:
     return left
 
 
-def do_runs(
-    runs: list[Run], program: Path, program_sum: str, jobs: int, dask: str | None, progress: RunProgress
-) -> None:
+def do_runs(runs: list[Run], runner: Runner, progress: RunProgress) -> None:
     """Does these runs here, or by the workers of a Dask cluster."""
-    if dask is None:
-        work_all([(run.task.name, partial(do_run, run, program)) for run in runs], jobs, progress)
+    if runner.dask is None:
+        work_all([(run.task.name, partial(do_run, run, runner)) for run in runs], runner.jobs, progress)
         return
-    run_by_dask([(run.task, run.write_result) for run in runs], dask, program_sum, progress)
+    run_by_dask([(run.task, run.write_result) for run in runs], runner.dask, runner.digest, progress)
 
 
-def do_run(run: Run, program: Path) -> None:
-    """Does one run here and keeps its result."""
+def do_run(run: Run, runner: Runner) -> None:
+    """Does one run here. Its result is kept if the latencies and the program are still those of its digest."""
     run.write_files()
-    run.write_result(result_of(run.task, program, run.scenario(), run.latency()))
+    latency = run.latency()
+    result = result_of(run.task, runner.program, run.scenario(), latency)
+    if latency is not None:
+        check_content(latency, run.task.latency)
+    runner.check_program()
+    run.write_result(result)
 
 
 def whole_result(run: Run) -> dict[str, Any]:
     """The result of a run that was done."""
     result = run.read_result()
     if result is None:
-        raise Failure(3, f"{run.result()} is not there any more")
+        raise Failure(3, f"{run.result()} is not there any more: does another study use this folder? -o takes another one")
     return result
 
 

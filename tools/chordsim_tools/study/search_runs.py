@@ -1,29 +1,27 @@
 """`tools/study search`: rounds of runs around the best setting so far, with the same seeds in all."""
 
-import csv
-import io
 from pathlib import Path
 
-from chordsim_tools.cli import Failure, Refused, write_out
-from chordsim_tools.files import make_folder, read_input, sum_of
+from chordsim_tools.cli import Refused, write_out
+from chordsim_tools.files import make_folder
 from chordsim_tools.explain.traps import warn
 from chordsim_tools.known import known
 from chordsim_tools.place import tool
-from chordsim_tools.program import find_program
 from chordsim_tools.study.answer import cost, cost_told, least_of, nearest_of
 from chordsim_tools.study.bounds import misses, missing_level, reaches
 from chordsim_tools.study.curves import write_results
 from chordsim_tools.study.goal import Goal
 from chordsim_tools.study.interval import LEAST_SEEDS
 from chordsim_tools.study.names import in_words
-from chordsim_tools.study.numbers import Summary, summaries
+from chordsim_tools.study.numbers import Summary, summaries_of
 from chordsim_tools.study.plan import Setting, Study, label
 from chordsim_tools.study.record import write_record
+from chordsim_tools.study.runner import Runner, runner_of
 from chordsim_tools.study.runs import READING, do_left, runs_of, whole_result
 from chordsim_tools.study.search import Search
 from chordsim_tools.study.so_far import write_report
-from chordsim_tools.study.tables import Row, Tables, runs_text
-from chordsim_tools.study.worlds import argument_traps
+from chordsim_tools.study.tables import Row
+from chordsim_tools.study.worlds import argument_traps, forget_worlds
 
 NEGLIGIBLE = 0.01
 """A setting that costs less by this share or a smaller one is not worth a smaller step."""
@@ -36,21 +34,20 @@ def run_search(study: Study, folder: Path, jobs: int) -> None:
         raise Refused(f"{study.path}: no [search]: `{tool('study')} run` does this study")
     if len(study.seeds) < LEAST_SEEDS:
         raise Refused(f"{study.path}: [search] needs {LEAST_SEEDS} seeds or more, and seeds has {len(study.seeds)}")
-    program = find_program(build=True)
-    if program is None:
-        raise Failure(3, "the program is missing")
+    runner = runner_of(jobs)
+    forget_worlds()
     make_folder(folder / "done")
     warn(argument_traps(study))
-    new, told, why, count = search.first(), set[str](), "", 0
+    new, why, count = search.first(), "", 0
     while not why:
         count += 1
         study.tried, study.groups = search.sorted(), search.groups()
-        best = one_round(study, folder, program, jobs, told)
+        best = one_round(study, folder, runner)
         write_out(round_told(count, new, best, goal))
         write_report(folder)
         why = "nothing beside the best one costs less" if is_decided(search, best) else ""
         new = search.next(best.setting())
-        why = why or ("" if new else "the step is small") or ("most_rounds" if count == search.most_rounds else "")
+        why = why or ("" if new else "the step is small") or ("that is most_rounds" if count == search.most_rounds else "")
     rounds = f"{count} round{'' if count == 1 else 's'}"
     last = [*at_an_end(search, best), *no_answer(study, best)]
     write_out(f"done after {rounds}: {why}; page: {folder / 'report.md'}\n{''.join(last)}")
@@ -86,10 +83,8 @@ class Best:
 
     def __init__(self, study: Study, rows: list[Row], goal: Goal) -> None:
         """Of all runs so far."""
-        table = list(csv.DictReader(io.StringIO(runs_text(rows, study.sizes))))
-        manifest = {"vary": study.vary, "spans": study.spans, "sizes": study.sizes}
         self.settings = study.settings()
-        self.found = summaries(Tables(manifest, table, []))
+        self.found = summaries_of(study, rows)
         self.goal = goal
         # As many settings as may come share the risk from the start, so that a setting that reaches the goal stays so.
         self.level = 1 - 0.05 / known(study.search).most_settings()
@@ -115,14 +110,13 @@ class Best:
         return f"{one.label} {shown}, {in_words(self.goal.least)} {cost_told(one, self.goal)}"
 
 
-def one_round(study: Study, folder: Path, program: Path, jobs: int, told: set[str]) -> Best:
+def one_round(study: Study, folder: Path, runner: Runner) -> Best:
     """Does the runs of the settings that were not tried before, and looks at all."""
-    program_sum = sum_of(read_input(program))
-    runs = runs_of(study, folder / "done", program_sum)
-    write_record(study, folder, program, program_sum, READING)
-    do_left(runs, program, program_sum, jobs, None, told)
+    runs = runs_of(study, folder / "done", runner.digest)
+    write_record(study, folder, runner.program, runner.digest, READING)
+    do_left(runs, runner)
     rows = [(run.setting, run.seed, whole_result(run)) for run in runs]
-    write_results(study, folder, program, program_sum, rows)
+    write_results(study, folder, runner.program, runner.digest, rows)
     return Best(study, rows, known(study.goal))
 
 

@@ -52,7 +52,7 @@ def first_numbers(manifest: dict[str, Any]) -> list[str]:
 
 
 def other_numbers(tables: Tables, cells: Cells) -> tuple[list[str], list[str]]:
-    """The numbers of the second and of the third table: all others that the tables have."""
+    """The numbers that are not among those that decide: all others that the tables have."""
     first = first_numbers(tables.manifest)
     rest = [number for number in NAMES if number not in first and has_number(number, cells)]
     lookups = [number for number in rest if number in OF_LOOKUPS]
@@ -77,7 +77,7 @@ def cell_of(one: Summary, number: str) -> str:
     if number == "rings_lost":
         return one.rate_told()
     found = one.of(cut_off, number) if number == "cut_off" else one.numbers[number]
-    return found.told(100, share=True) if is_percent(number) else found.told()
+    return found.told(100 if is_percent(number) else 1)
 
 
 def compared_number(worlds: Worlds, goal: Goal | None) -> str:
@@ -128,7 +128,8 @@ def differences(tables: Tables, found: list[Summary]) -> tuple[list[Column], lis
     number = compared_number(worlds, goal)
     sizes = [len(settings) for settings in worlds.values()]
     level = guarded_level(*sizes)
-    bests = {one.label: chosen(settings, goal) for settings in worlds.values() for one in settings}
+    of_worlds = [(settings, chosen(settings, goal)) for settings in worlds.values()]
+    bests = {one.label: best for settings, best in of_worlds for one in settings}
 
     def cell(one: Summary) -> str:
         """The cell of a setting."""

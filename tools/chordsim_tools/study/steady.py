@@ -8,6 +8,7 @@ They are asked of the mean of all settings, which have the same seeds, and of ea
 
 from collections.abc import Set
 from dataclasses import dataclass
+from itertools import pairwise
 from statistics import fmean
 from typing import Any
 
@@ -17,7 +18,7 @@ from chordsim_tools.study.interval import LEAST_SEEDS, Interval, interval
 from chordsim_tools.study.names import name_of, span_of
 from chordsim_tools.study.numbers import OF_MESSAGES, TAKES, Cells, Summary, groups, is_kept
 from chordsim_tools.study.pieces import COLUMN
-from chordsim_tools.study.served import PIECES
+from chordsim_tools.study.served import PIECES, Scope
 from chordsim_tools.study.sizes import bytes_of
 from chordsim_tools.study.tables import Tables
 
@@ -63,14 +64,14 @@ class Change:
 
 
 def steps_of(tables: Tables, cells: Cells, lines: list[Cells]) -> list[list[Cells]]:
-    """The steps of a run that lie in the judged span, in pieces of as many steps; none if there are too few."""
+    """The steps of a run that lie in the judged span, in pieces of nearly as many steps; none if there are too few."""
     begin = int(tables.manifest["warmup_us"])
     end = int(cells["duration-us"]) - int(tables.manifest["cooldown_us"])
     window = int(tables.manifest["window_us"])
     steps = [line for line in lines if begin <= int(line["from_us"]) and int(line["from_us"]) + window <= end]
-    size = max(1, len(steps) // PIECES)
-    pieces = [steps[place : place + size] for place in range(0, size * PIECES, size)]
-    return [piece for piece in pieces if piece] if len(steps) >= 2 else []
+    count = min(PIECES, len(steps))
+    edges = [len(steps) * place // count for place in range(count + 1)] if count > 1 else []
+    return [steps[first:end] for first, end in pairwise(edges)]
 
 
 def number_in(number: str, piece: list[Cells], nodes: int) -> float | None:
@@ -116,6 +117,9 @@ class Pieces:
         self.rows = rows = {tuple(cells[key] for key in keys): cells for cells in tables.runs}
         self.nodes = int(tables.manifest["nodes"])
         self.sizes = tables.manifest.get("sizes") or {}
+        self.window, self.warmup, self.cooldown = (
+            int(tables.manifest[key]) for key in ("window_us", "warmup_us", "cooldown_us")
+        )
         self.runs = {run: steps_of(tables, cells, lines.get(run, [])) for run, cells in rows.items() if is_kept(cells)}
 
     def values(self, one: Summary, number: str) -> dict[str, list[float]]:
@@ -131,11 +135,13 @@ class Pieces:
         there = [value for value in values if value is not None]
         return there if len(there) == len(values) else []
 
-    def spans(self, one: Summary, window: int) -> list[tuple[int, int]]:
-        """The begin and the end of each piece."""
-        runs = [(*one.values, seed) for seed in one.by_seed]
-        pieces = [self.runs[run] for run in runs if run in self.runs][0]
-        return [(int(piece[0]["from_us"]), int(piece[-1]["from_us"]) + window) for piece in pieces]
+    def spans(self, one: Summary, number: str) -> list[tuple[int, int]]:
+        """The begin and the end of each piece. Only the numbers that are always looked at are made of steps."""
+        run = next(run for seed in one.by_seed if (run := (*one.values, seed)) in self.runs)
+        if number in NAMED:
+            scope = Scope(int(self.rows[run]["duration-us"]), self.window, self.warmup, self.cooldown)
+            return list(pairwise(scope.edges()))
+        return [(int(piece[0]["from_us"]), int(piece[-1]["from_us"]) + self.window) for piece in self.runs[run]]
 
 
 def trend(values: Values, level: float) -> Interval:
@@ -187,8 +193,7 @@ def looked_at(named: Set[str], found: list[Summary]) -> list[str]:
 
 def look(tables: Tables, found: list[Summary], named: Set[str] = frozenset()) -> Looked:
     """Looks at all settings that kept their rings in five seeds or more."""
-    pieces, window = Pieces(tables), int(tables.manifest["window_us"])
-    numbers = looked_at(named, found)
+    pieces, numbers = Pieces(tables), looked_at(named, found)
     values = {(one.label, number): pieces.values(one, number) for one in found for number in numbers}
     whole = [one for one in found if len(values[one.label, "members"]) >= LEAST_SEEDS]
     risk = 0.05 / len(numbers) / (2 if len(whole) > 1 else 1)
@@ -202,7 +207,7 @@ def look(tables: Tables, found: list[Summary], named: Set[str] = frozenset()) ->
         if tests and tests[0][1]:
             trends[number] = tests[0][1][0][1]
         told += [
-            Change(number, where, None if place is None else pieces.spans(one, window)[place], change)
+            Change(number, where, None if place is None else pieces.spans(one, number)[place], change)
             for where, tested, one in tests for place, change in tested if change.excludes(0.0)
         ]
     return Looked(told, trends, len(found) - len(whole))
@@ -215,8 +220,10 @@ def strongest(told: list[Change]) -> list[Change]:
         """The order of changes."""
         return one.piece is None, abs(one.found.mean or 0.0)
 
-    places = dict.fromkeys((one.number, one.where) for one in told)
-    return [max((one for one in told if (one.number, one.where) == place), key=size) for place in places]
+    places: dict[tuple[str, str], list[Change]] = {}
+    for one in told:
+        places.setdefault((one.number, one.where), []).append(one)
+    return [max(there, key=size) for there in places.values()]
 
 
 def steadiness(tables: Tables, found: list[Summary], named: set[str]) -> str:

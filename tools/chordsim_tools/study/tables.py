@@ -151,6 +151,8 @@ class Tables:
 
 def read_tables(folder: Path) -> Tables:
     """Reads the three files, and refuses tables that are not those of the manifest."""
+    if folder.is_dir() and not (folder / "manifest.json").exists():
+        raise Refused(f"{folder} has no manifest.json: {tool('study')} run writes it with the tables")
     try:
         manifest = json.loads(read_input(folder / "manifest.json"))
         sums = manifest["sha256"]

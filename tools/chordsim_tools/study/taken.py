@@ -1,4 +1,4 @@
-"""The page's third table: who was taken for dead, and what came of it."""
+"""The table of who was taken for dead, and what came of it."""
 
 from collections.abc import Callable
 from functools import partial

@@ -24,13 +24,18 @@ def vary_of(path: Path, table: Any, is_generated: bool) -> list[Group]:
     flat: dict[str, Any] = {}
     for key, value in table.items():
         inner = {f"{key}.{name}": item for name, item in value.items()} if isinstance(value, dict) else {key: value}
+        check_once(path, [*flat, *inner])
         flat.update(inner)
     groups = [group_of(path, key, values, is_generated) for key, values in flat.items()]
-    keys = [key for group, _ in groups for key in group]
+    check_once(path, [key for group, _ in groups for key in group])
+    return groups
+
+
+def check_once(path: Path, keys: list[str]) -> None:
+    """Fails if a key is there twice."""
     twice = next((key for key in keys if keys.count(key) > 1), None)
     if twice is not None:
         raise Refused(f"{path}: [vary] {twice} is there twice")
-    return groups
 
 
 def flat_of(groups: list[Group]) -> dict[str, list[Value]]:

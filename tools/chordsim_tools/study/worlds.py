@@ -1,6 +1,7 @@
 """The world of a setting and a seed: its scenario and its latencies, fixed or made for this seed."""
 
 import io
+from argparse import Namespace
 from collections.abc import Callable, Mapping, Sequence
 from contextlib import redirect_stderr
 from functools import lru_cache
@@ -18,13 +19,23 @@ from chordsim_tools.study.document import toml_text
 from chordsim_tools.study.keys import BOOLEANS, COUNT, OF_GENERATE, parsed
 from chordsim_tools.study.plan import Setting, Study
 
+FILES = ("regions", "measured", "names")
+"""The arguments of tools/latency that are files."""
 T = TypeVar("T")
 COUNTED = 4
 """The profile whose runs have lines for each message, which a study counts."""
 
 
 def scenario_of(study: Study, setting: Setting, seed: int) -> str:
-    """The scenario of a setting and a seed: the base but for these keys."""
+    """The scenario of a setting and a seed."""
+    try:
+        return toml_text(changed_top(study, setting, seed))
+    except TypeError as fault:
+        raise Refused(f"{study.path if study.base is None else study.beside(study.base)}: {fault}") from None
+
+
+def changed_top(study: Study, setting: Setting, seed: int) -> dict[str, Any]:
+    """The top table of a setting and a seed: that of the base, or of the made world, but for these keys."""
     top = top_of(study, setting, seed)
     for key, value in setting:
         table, dot, name = key.partition(".")
@@ -37,10 +48,7 @@ def scenario_of(study: Study, setting: Setting, seed: int) -> str:
     top["seed"] = seed
     if top.get("profile") == COUNTED:
         top["detail"] = True
-    try:
-        return toml_text(top)
-    except TypeError as fault:
-        raise Refused(f"{study.path if study.base is None else study.beside(study.base)}: {fault}") from None
+    return top
 
 
 def top_of(study: Study, setting: Setting, seed: int) -> dict[str, Any]:
@@ -81,6 +89,12 @@ def made(path: Any, arguments: tuple[str, ...]) -> dict[str, Any]:
     return top
 
 
+def forget_worlds() -> None:
+    """Forgets the worlds that were made, since the files that they were made of may have changed."""
+    made.cache_clear()
+    rows_text.cache_clear()
+
+
 def text_of(path: str, arguments: tuple[str, ...]) -> str:
     """What tools/generate writes for these arguments."""
     # A file is named relative to the study file.
@@ -103,9 +117,17 @@ def argument_traps(study: Study) -> list[str]:
 
 def bare_times(study: Study, parser: Parser, arguments: Sequence[str], limits: Mapping[str, int]) -> list[str]:
     """What a tool warns of that has these arguments."""
-    name = parser.prog.removeprefix("tools/")
-    args = called(f"{study.path}: {name}", lambda: parser.parse_args(list(arguments)))
-    return [f"{name}: {trap}" for trap in bare_traps(args, limits)]
+    return [f"{name_of(parser)}: {trap}" for trap in bare_traps(parsed_by(parser, study, arguments), limits)]
+
+
+def name_of(parser: Parser) -> str:
+    """A tool as messages name it."""
+    return parser.prog.removeprefix("tools/")
+
+
+def parsed_by(parser: Parser, study: Study, arguments: Sequence[str]) -> Namespace:
+    """The arguments of a study as a tool reads them."""
+    return called(f"{study.path}: {name_of(parser)}", lambda: parser.parse_args(list(arguments)))
 
 
 def called(name: str, work: Callable[[], T]) -> T:
@@ -124,7 +146,7 @@ def latency_of(study: Study, setting: Setting, seed: int) -> bytes | None:
     """The latency file of a setting and a seed, if the study has one: the same for all, or made for the seed."""
     if study.latency_arguments is None:
         return study.latency_content
-    names = tuple(node["name"] for node in expanded(top_of(study, setting, seed))["node"])
+    names = tuple(node["name"] for node in expanded(changed_top(study, setting, seed), is_drawn=False)["node"])
     return rows_of(study, tuple(study.latency_arguments), names, seed)
 
 
@@ -141,8 +163,9 @@ def rows_text(path: str, folder: str, arguments: tuple[str, ...], names: tuple[s
         if args.king or args.fit is not None:
             raise Refused(f"{path}: latency has --{'king' if args.king else 'fit'}, which makes coordinates; give them "
                           f"to {tool('generate')} by --coordinates")
-        args.measured = None if args.measured is None else f"{folder}/{args.measured}"
-        args.regions = None if args.regions is None else f"{folder}/{args.regions}"
+        for word in FILES:
+            name = getattr(args, word)
+            setattr(args, word, None if name is None else str(Path(folder) / name))
         options = latency.check(args, parser)
         nodes = list(names) or latency.nodes_of(options)
         return latency.rows_text(nodes, latency.latencies(options, nodes)).encode()
