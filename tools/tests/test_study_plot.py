@@ -24,7 +24,7 @@ from chordsim_tools.study.judged import Judged
 from chordsim_tools.study.layout import layout_of
 from chordsim_tools.study.looks import Axis, look_of, setting_words, value_words
 from chordsim_tools.study.numbers import groups
-from chordsim_tools.study.overtime import network_of, percent, pieces, points_of
+from chordsim_tools.study.overtime import Quantity, network_of, percent, pieces, points_of
 from chordsim_tools.study.served import Scope
 from chordsim_tools.study.tables import Tables
 from tests.support.judging import read_digest, table_of
@@ -215,7 +215,7 @@ class OverTimeTest(TestCase):
 
     def test_steps_with_few_seeds(self) -> None:
         """A step with one or two seeds is dashed, and has no interval; the band is cut at 100%."""
-        points = points_of(self.lines(6, 6, 2, 1, 0, 6), percent("right", "found"), 100)
+        points = points_of(self.lines(6, 6, 2, 1, 0, 6), Quantity("right, %", percent("right", "found"), 100), {})
         assert [point[4] for point in points] == [6, 6, 2, 1, 6]
         found: list[tuple[bool, list[float]]] = [(few, [point[0] for point in part]) for few, part in pieces(points)]
         assert found == [(False, [0, 1]), (True, [1, 2, 3, 5]), (False, [5])]

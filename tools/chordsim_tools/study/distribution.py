@@ -2,14 +2,13 @@
 
 from typing import Any
 
-from chordsim_tools.study.columns import ring_lost
-from chordsim_tools.study.figures import finish, legend_head, line_handles
+from chordsim_tools.study.figures import Plotter
 from chordsim_tools.study.interval import interval
 from chordsim_tools.study.limits import STYLE, handle, time_limits
-from chordsim_tools.study.looks import Layout, Look, time_words
+from chordsim_tools.study.looks import Layout, Look, Values, time_words
 from chordsim_tools.study.numbers import Cells, groups
-from chordsim_tools.study.overtime import cell_words, hide_spare, small_plots
-from chordsim_tools.study.so_far import Drawn
+from chordsim_tools.study.overtime import kept_lines
+from chordsim_tools.study.small_plots import SmallPlot, small_plots
 
 CDF_NOTE = (
     "thin: each seed; a line that ends below 100% has lookups that found nothing or were cut off by their asker's end"
@@ -20,29 +19,33 @@ TAIL_NOTE = (
 )
 
 
-def cdf_figure(pyplot: Any, drawn: Drawn, layout: Layout) -> Any:
+def cdf_figure(plotter: Plotter) -> Any:
     """The share of lookups begun that had found an owner within a time, and within so many hops."""
-    cells = layout.cells()
-    figure, axes, across = small_plots(pyplot, layout, 2, "row")
-    times = [float(line["value"]) for line in drawn.cdf if line["number"] == "us"]
+    lines, layout = plotter.drawn.cdf, plotter.layout
+    figure, plots = small_plots(plotter.pyplot, layout, 2, "row")
+    times = [float(line["value"]) for line in lines if line["number"] == "us"]
     least, greatest = min((time for time in times if time > 0), default=1), max(times, default=1)
-    by_setting = groups(drawn.cdf, ["number", *layout.keys])
-    for number, cell in enumerate(cells):
-        top, column = number // across * 2, number % across
-        for row, word in enumerate(("us", "hops")):
-            place = axes[top + row][column]
-            for one in cell:
-                draw_cdf(place, by_setting.get((word, *one), []), layout.look(one), word == "hops")
-            place.set_ylim(0, 100)
-            place.set_xlabel("lookup time" if word == "us" else "hops")
-            if column == 0:
-                place.set_ylabel("found, %\nof lookups begun")
-        time_axis(axes[top][column], least, greatest)
-        axes[top][column].set_title(cell_words(layout, cell[0]))
-    hide_spare(axes, len(cells), across, 2)
-    return finish(
-        figure, "How long lookups take", CDF_NOTE, drawn.mark, line_handles(pyplot, layout, "-"), legend_head(layout.by)
-    )
+    by_setting = groups(lines, ["number", *layout.keys])
+    for plot in plots:
+        draw_cell(plot, by_setting, layout)
+        time_axis(plot.axes[0], least, greatest)
+    return plotter.finish(figure, "How long lookups take", CDF_NOTE, plotter.line_handles("-"))
+
+
+def draw_cell(plot: SmallPlot, by_setting: dict[Values, list[Cells]], layout: Layout) -> None:
+    """The plots of one cell: of times and, below it, of hops."""
+    for axes, word in zip(plot.axes, ("us", "hops"), strict=True):
+        draw_curves(axes, {one: by_setting.get((word, *one), []) for one in plot.settings}, layout, word == "hops")
+        axes.set_ylim(0, 100)
+        axes.set_xlabel("lookup time" if word == "us" else "hops")
+        if plot.is_first:
+            axes.set_ylabel("found, %\nof lookups begun")
+
+
+def draw_curves(axes: Any, of_settings: dict[Values, list[Cells]], layout: Layout, steps: bool) -> None:
+    """The curves of the settings in one plot."""
+    for one, lines in of_settings.items():
+        draw_cdf(axes, lines, layout.look(one), steps)
 
 
 def time_axis(axes: Any, least: float, greatest: float) -> None:
@@ -72,35 +75,26 @@ def draw_cdf(axes: Any, lines: list[Cells], look: Look, steps: bool) -> None:
         )
 
 
-def tail_figure(pyplot: Any, drawn: Drawn, layout: Layout) -> Any:
+def tail_figure(plotter: Plotter) -> Any:
     """The share of lookups that take longer than a time, on a logarithmic axis."""
-    cells, limits = layout.cells(), time_limits(drawn.tables.manifest)
-    figure, axes, across = small_plots(pyplot, layout, 1)
-    by_setting = groups(kept_lines(drawn, layout.keys), layout.keys)
+    drawn, layout = plotter.drawn, plotter.layout
+    limits = time_limits(drawn.tables.manifest)
+    figure, plots = small_plots(plotter.pyplot, layout, 1)
+    by_setting = groups(kept_lines(drawn, drawn.tail, layout.keys), layout.keys)
     times = [float(line["us"]) for lines in by_setting.values() for line in lines] + [time for _, time in limits]
-    for number, cell in enumerate(cells):
-        place = axes[number // across][number % across]
-        for one in cell:
-            draw_tail(place, by_setting.get(one, []), layout.look(one))
-        for share, time in limits:
-            draw_limit(place, share, time)
-        place.set_yscale("log")
-        place.yaxis.set_major_formatter(lambda value, _: f"{value:g}")
-        place.set_title(cell_words(layout, cell[0]))
-        place.set_xlabel("lookup time")
-        if number % across == 0:
-            place.set_ylabel("lookups that take\nlonger, %")
-        time_axis(place, min((time for time in times if time > 0), default=1), 1.05 * max(times, default=1))
-    hide_spare(axes, len(cells), across, 1)
-    handles = line_handles(pyplot, layout, "-") + ([handle(pyplot)] if limits else [])
-    return finish(figure, "The slowest lookups", TAIL_NOTE, drawn.mark, handles, legend_head(layout.by))
-
-
-def kept_lines(drawn: Drawn, keys: list[str]) -> list[Cells]:
-    """The lines of the tail whose run kept its ring."""
-    names = [*keys, "seed"]
-    lost = {tuple(cells[name] for name in names) for cells in drawn.tables.runs if ring_lost([cells])}
-    return [line for line in drawn.tail if tuple(line[name] for name in names) not in lost]
+    least, greatest = min((time for time in times if time > 0), default=1), 1.05 * max(times, default=1)
+    for plot in plots:
+        axes = plot.axes[0]
+        draw_tails(axes, {one: by_setting.get(one, []) for one in plot.settings}, layout)
+        draw_limits(axes, limits)
+        axes.set_yscale("log")
+        axes.yaxis.set_major_formatter(lambda value, _: f"{value:g}")
+        axes.set_xlabel("lookup time")
+        if plot.is_first:
+            axes.set_ylabel("lookups that take\nlonger, %")
+        time_axis(axes, least, greatest)
+    handles = plotter.line_handles("-") + ([handle(plotter.pyplot)] if limits else [])
+    return plotter.finish(figure, "The slowest lookups", TAIL_NOTE, handles)
 
 
 def tail_points(lines: list[Cells]) -> list[tuple[float, float, float, float]]:
@@ -116,6 +110,12 @@ def tail_points(lines: list[Cells]) -> list[tuple[float, float, float, float]]:
     return sorted(points, reverse=True)
 
 
+def draw_tails(axes: Any, of_settings: dict[Values, list[Cells]], layout: Layout) -> None:
+    """The lines of the settings in one plot."""
+    for one, lines in of_settings.items():
+        draw_tail(axes, lines, layout.look(one))
+
+
 def draw_tail(axes: Any, lines: list[Cells], look: Look) -> None:
     """The line of a setting with its band."""
     points = tail_points(lines)
@@ -127,7 +127,8 @@ def draw_tail(axes: Any, lines: list[Cells], look: Look) -> None:
     )
 
 
-def draw_limit(axes: Any, share: float, time: float) -> None:
-    """A limit of a percentile: lines have to be below and to the left of this corner."""
-    left = 100 * (1 - share)
-    axes.plot([0, time, time], [left, left, left / 10], **STYLE)
+def draw_limits(axes: Any, limits: list[tuple[float, float]]) -> None:
+    """The limits of percentiles: lines have to be below and to the left of each corner."""
+    for share, time in limits:
+        left = 100 * (1 - share)
+        axes.plot([0, time, time], [left, left, left / 10], **STYLE)

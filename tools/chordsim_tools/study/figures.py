@@ -2,11 +2,14 @@
 
 import io
 import textwrap
+from collections.abc import Iterable
+from dataclasses import dataclass
 from typing import Any
 
 from chordsim_tools.cli import Failure
 from chordsim_tools.place import remedy
 from chordsim_tools.study.looks import Layout, Values, key_words, value_words
+from chordsim_tools.study.so_far import Drawn
 
 MISSING = (
     f"plots need numpy and matplotlib: {remedy('python3-numpy python3-matplotlib', 'numpy matplotlib', 'plot')}"
@@ -49,33 +52,48 @@ def grid(pyplot: Any, rows: int, columns: int, size: tuple[float, float], **shar
     return figure, axes
 
 
-def finish(figure: Any, title: str, note: str, mark: str, handles: list[Any], head: str) -> Any:
-    """The title and, below it, how to read the figure; the legend to the right; the mark of what is not done."""
-    width, height = figure.get_size_inches()
-    lines = textwrap.wrap(note, int(max(width, 5) * 16))
-    top = 1 + (0.1 + 0.14 * len(lines)) / height
-    figure.text(0.01, top + 0.04 / height, title, fontsize=11, weight="bold", va="bottom")
-    figure.text(0.01, 1 + 0.06 / height, "\n".join(lines), fontsize=8, color="0.3", va="bottom")
-    if mark:
-        style = {"boxstyle": "round", "facecolor": "#FFF3CD", "edgecolor": "#D55E00"}
-        figure.text(1, top + 0.06 / height, f"so far {mark}", fontsize=9, ha="right", va="bottom", bbox=style)
-    if handles:
-        where = {"loc": "upper left", "bbox_to_anchor": (1 + 0.1 / width, 1)}
-        columns = 1 if len(handles) <= 24 else 2
-        figure.legend(handles=handles, title=head or None, alignment="left", ncols=columns, **where)
-    return figure
+def hide(places: Iterable[Any]) -> None:
+    """Hides axes that nothing is drawn in."""
+    for axes in places:
+        axes.set_axis_off()
 
 
-def line_handles(pyplot: Any, layout: Layout, line: str | None) -> list[Any]:
-    """The entries of the legend: one for each value that lines are by; with its own line if none is given."""
-    if not layout.by:
-        return []
-    handles = []
-    for part, look in layout.looks.items():
-        style = {"color": look.colour, "marker": look.marker, "markersize": 5, "linewidth": 1.4}
-        own = look.line if line is None else line
-        handles += [pyplot.Line2D([], [], linestyle=own, label=legend_words(layout.by, part), **style)]
-    return handles
+@dataclass(frozen=True)
+class Plotter:
+    """What all figures of a study are drawn with: matplotlib, the tables, and the layout."""
+
+    pyplot: Any
+    drawn: Drawn
+    layout: Layout
+
+    def finish(self, figure: Any, title: str, note: str, handles: list[Any]) -> Any:
+        """The title and, below it, how to read the figure; the legend to the right; the mark of what is not done."""
+        width, height = figure.get_size_inches()
+        lines = textwrap.wrap(note, int(max(width, 5) * 16))
+        top = 1 + (0.1 + 0.14 * len(lines)) / height
+        figure.text(0.01, top + 0.04 / height, title, fontsize=11, weight="bold", va="bottom")
+        figure.text(0.01, 1 + 0.06 / height, "\n".join(lines), fontsize=8, color="0.3", va="bottom")
+        mark = self.drawn.mark
+        if mark:
+            style = {"boxstyle": "round", "facecolor": "#FFF3CD", "edgecolor": "#D55E00"}
+            figure.text(1, top + 0.06 / height, f"so far {mark}", fontsize=9, ha="right", va="bottom", bbox=style)
+        if handles:
+            where = {"loc": "upper left", "bbox_to_anchor": (1 + 0.1 / width, 1)}
+            columns = 1 if len(handles) <= 24 else 2
+            head = legend_head(self.layout.by)
+            figure.legend(handles=handles, title=head or None, alignment="left", ncols=columns, **where)
+        return figure
+
+    def line_handles(self, line: str | None) -> list[Any]:
+        """The entries of the legend: one for each value that lines are by; with its own line if none is given."""
+        if not self.layout.by:
+            return []
+        handles = []
+        for part, look in self.layout.looks.items():
+            style = {"color": look.colour, "marker": look.marker, "markersize": 5, "linewidth": 1.4}
+            own = look.line if line is None else line
+            handles += [self.pyplot.Line2D([], [], linestyle=own, label=legend_words(self.layout.by, part), **style)]
+        return handles
 
 
 def legend_head(keys: list[str]) -> str:

@@ -1,22 +1,23 @@
 """Numbers over time: small plots for each value of a key, with a line for each value of others."""
 
-from collections.abc import Callable, Iterable
+from collections.abc import Callable, Iterable, Sequence
 from dataclasses import dataclass
+from itertools import groupby
 from typing import Any
 
 from chordsim_tools.study.columns import ring_lost
-from chordsim_tools.study.figures import finish, grid, legend_head, line_handles
+from chordsim_tools.study.figures import Plotter
 from chordsim_tools.study.interval import LEAST_SEEDS, interval
 from chordsim_tools.study.limits import draw_across, draw_in_spans, handle, limits_of, span_limits
-from chordsim_tools.study.looks import FEW, Layout, Look, Values, setting_words
+from chordsim_tools.study.looks import FEW, Layout, Look, Values
 from chordsim_tools.study.numbers import Cells, groups
+from chordsim_tools.study.small_plots import SmallPlot, small_plots
 from chordsim_tools.study.so_far import Drawn
 
 LEAST_SOLID = 3
 """Below this many seeds in a step the line is dashed."""
 NODES = -1.0
 """Stands for the number of nodes, which bands of members are cut at."""
-MOST_ACROSS = 6
 Take = Callable[[Cells], float | None]
 SERVED = "wanted"
 """The column of series.csv that older tables do not have."""
@@ -37,6 +38,14 @@ class Quantity:
     is_at_end: bool = False
     is_by_begin: bool = False
     is_range: bool = False
+
+    def greatest(self, manifest: dict[str, Any]) -> float:
+        """The greatest value that it may have in a study."""
+        return float(manifest["nodes"]) if self.most == NODES else self.most
+
+    def later(self, manifest: dict[str, Any]) -> int:
+        """How much later than the begin of its step it is drawn, in us. What is at the end of a step is drawn there."""
+        return int(manifest["window_us"]) if self.is_at_end else 0
 
 
 Point = tuple[float, float, float, float, int]
@@ -94,15 +103,15 @@ def network_of(lines: list[Cells]) -> tuple[str, list[Quantity]]:
 
 
 def points_of(
-    lines: list[Cells], take: Take, most: float, later: int = 0, has_bands: bool = True, is_range: bool = False
+    lines: list[Cells], quantity: Quantity, manifest: dict[str, Any], has_bands: bool = True
 ) -> list[Point]:
-    """The points of a line over time, each so much later than its step begins. Bands are cut at 0 and the most."""
+    """The points of a quantity over time. Bands are cut at 0 and at its greatest value."""
+    most, later = quantity.greatest(manifest), quantity.later(manifest)
     points = []
     for (place,), cells in groups(lines, ["from_us"]).items():
-        values = [take(one) for one in cells]
-        found = interval(values)
+        found = interval([quantity.take(one) for one in cells])
         if found.mean is not None:
-            ends = (found.low, found.high) if is_range else found.ends()
+            ends = (found.low, found.high) if quantity.is_range else found.ends()
             low, high = ends if has_bands and ends is not None else (found.mean, found.mean)
             band = max(0.0, low), min(most, high)
             points.append(((int(place) + later) / 1e6, found.mean, *band, found.count))
@@ -129,35 +138,25 @@ def draw_points(axes: Any, points: list[Point], look: Look, turn: int) -> None:
 
 def pieces(points: list[Point]) -> Iterable[tuple[bool, list[Point]]]:
     """The line in pieces of few and of enough seeds; a piece of few begins and ends at the next points."""
-    start = 0
-    while start < len(points):
-        few = points[start][4] < LEAST_SOLID
-        end = start
-        while end < len(points) and (points[end][4] < LEAST_SOLID) == few:
-            end += 1
+    for few, group in groupby(range(len(points)), key=lambda place: points[place][4] < LEAST_SOLID):
+        places = list(group)
+        start, end = places[0], places[-1] + 1
         # The way to a point with few seeds, and from it, is dashed.
         yield few, points[max(0, start - 1) : end + 1] if few else points[start:end]
-        start = end
 
 
-def time_figure(pyplot: Any, drawn: Drawn, layout: Layout, quantities: Any, lines: list[Cells], title: str) -> Any:
+def time_figure(plotter: Plotter, quantities: Sequence[Quantity], lines: list[Cells], title: str) -> Any:
     """The quantities over time, one below the other, for each panel and value of the axis."""
+    drawn, layout = plotter.drawn, plotter.layout
     by_setting = lines_of(drawn, lines, layout.keys)
-    high = len(quantities)
-    figure, axes, across = small_plots(pyplot, layout, high)
-    for number, cell in enumerate(layout.cells()):
-        places = [axes[number // across * high + row][number % across] for row in range(high)]
-        draw_cell(places, cell, by_setting, layout, quantities)
-        if number % across == 0:
-            for place, quantity in zip(places, quantities, strict=True):
-                place.set_ylabel(quantity.label)
-    for row, quantity in enumerate(quantities):
-        row_limits([axes[place][0] for place in range(row, len(axes), high)], quantity.most)
-    hide_spare(axes, len(layout.cells()), across, high)
-    handles = line_handles(pyplot, layout, "-")
+    figure, plots = small_plots(plotter.pyplot, layout, len(quantities))
+    for plot in plots:
+        draw_cell(plot, by_setting, layout, quantities)
+    limit_rows(plots, quantities)
+    handles = plotter.line_handles("-")
     if any(has_limits(drawn.tables.manifest, quantity.column) for quantity in quantities):
-        handles.append(handle(pyplot))
-    return finish(figure, title, note_of(drawn, quantities), drawn.mark, handles, legend_head(layout.by))
+        handles.append(handle(plotter.pyplot))
+    return plotter.finish(figure, title, note_of(drawn, quantities), handles)
 
 
 def has_limits(manifest: dict[str, Any], column: str) -> bool:
@@ -165,7 +164,7 @@ def has_limits(manifest: dict[str, Any], column: str) -> bool:
     return bool(limits_of(manifest, column) or span_limits(manifest, column))
 
 
-def note_of(drawn: Drawn, quantities: Any) -> str:
+def note_of(drawn: Drawn, quantities: Sequence[Quantity]) -> str:
     """How to read the figure."""
     seeds = len({cells["seed"] for cells in drawn.tables.runs})
     note = f"means over those of {seeds} seeds that have the number; bands: pointwise 95% intervals, from "
@@ -191,64 +190,57 @@ class Lines:
         return 0 < len(self.kept) < len(self.every)
 
 
-def lines_of(drawn: Drawn, lines: list[Cells], keys: list[str]) -> dict[tuple[str, ...], Lines]:
+OfSettings = dict[Values, Lines]
+
+
+def lines_of(drawn: Drawn, lines: list[Cells], keys: list[str]) -> OfSettings:
     """The lines of each setting."""
+    kept = groups(kept_lines(drawn, lines, keys), keys)
+    return {setting: Lines(group, kept.get(setting, [])) for setting, group in groups(lines, keys).items()}
+
+
+def kept_lines(drawn: Drawn, lines: list[Cells], keys: list[str]) -> list[Cells]:
+    """The lines whose run kept its ring."""
     names = [*keys, "seed"]
     lost = {tuple(cells[name] for name in names) for cells in drawn.tables.runs if ring_lost([cells])}
-    return {
-        setting: Lines(group, [line for line in group if tuple(line[name] for name in names) not in lost])
-        for setting, group in groups(lines, keys).items()
-    }
+    return [line for line in lines if tuple(line[name] for name in names) not in lost]
 
 
-def draw_cell(
-    places: list[Any], cell: list[Values], by_setting: dict[tuple[str, ...], Lines], layout: Layout, quantities: Any
-) -> None:
+def draw_cell(plot: SmallPlot, by_setting: OfSettings, layout: Layout, quantities: Sequence[Quantity]) -> None:
     """The plots of one cell, from top to bottom."""
     manifest = layout.manifest
-    for place, quantity in zip(places, quantities, strict=True):
-        for turn, one in enumerate(cell):
-            found = quantity_points(by_setting.get(one, Lines([], [])), quantity, manifest)
-            draw_points(place, found, layout.look(one), turn)
-        draw_across(place, limits_of(manifest, quantity.column), 100.0)
-        draw_in_spans(place, span_limits(manifest, quantity.column), 100.0)
+    for axes, quantity in zip(plot.axes, quantities, strict=True):
+        draw_quantity(axes, quantity, {one: by_setting.get(one, Lines([], [])) for one in plot.settings}, layout)
+        draw_across(axes, limits_of(manifest, quantity.column), 100.0)
+        draw_in_spans(axes, span_limits(manifest, quantity.column), 100.0)
         if manifest["warmup_us"]:
-            place.axvline(manifest["warmup_us"] / 1e6, color="0.5", linestyle=":", linewidth=1)
-    places[0].set_title(cell_words(layout, cell[0]))
-    places[-1].set_xlabel("time, s")
+            axes.axvline(manifest["warmup_us"] / 1e6, color="0.5", linestyle=":", linewidth=1)
+        if plot.is_first:
+            axes.set_ylabel(quantity.label)
+    plot.axes[-1].set_xlabel("time, s")
+
+
+def draw_quantity(axes: Any, quantity: Quantity, of_settings: OfSettings, layout: Layout) -> None:
+    """The lines of a quantity in one plot."""
+    for turn, (one, lines) in enumerate(of_settings.items()):
+        draw_points(axes, quantity_points(lines, quantity, layout.manifest), layout.look(one), turn)
 
 
 def quantity_points(lines: Lines, quantity: Quantity, manifest: dict[str, Any]) -> list[Point]:
-    """The points of a quantity in a setting. What is counted at the end of a step is drawn there."""
-    greatest = float(manifest["nodes"]) if quantity.most == NODES else quantity.most
+    """The points of a quantity in a setting."""
     shown = lines.kept if quantity.is_of_kept else lines.every
     if quantity.is_by_begin:
         # Lookups that begin in the cool-down may be cut off by the end.
         end = max((int(line["from_us"]) for line in shown), default=0) + int(manifest["window_us"])
         last = end - int(manifest["cooldown_us"])
         shown = [line for line in shown if int(line["from_us"]) + int(manifest["window_us"]) <= last]
-    later = int(manifest["window_us"]) if quantity.is_at_end else 0
-    has_bands = quantity.is_of_kept or not lines.is_mixed
-    return points_of(shown, quantity.take, greatest, later, has_bands, quantity.is_range)
+    return points_of(shown, quantity, manifest, quantity.is_of_kept or not lines.is_mixed)
 
 
-def small_plots(pyplot: Any, layout: Layout, high: int, sharex: str = "all") -> tuple[Any, Any, int]:
-    """The axes for the cells, of so many plots one below the other, and how many cells are side by side."""
-    cells = layout.cells()
-    across = len(layout.parts(layout.x_keys))
-    across = min(len(cells), MOST_ACROSS if not 1 < across <= MOST_ACROSS else across)
-    down = -(-len(cells) // across)
-    width = max(2.0, min(6.5, 11 / across))
-    height = 2.4 if down == 1 else 1.6
-    figure, axes = grid(pyplot, down * high, across, (width, height), sharex=sharex, sharey="row")
-    return figure, axes, across
-
-
-def hide_spare(axes: Any, used: int, across: int, high: int) -> None:
-    """Takes away the axes that no cell has."""
-    for number in range(used, len(axes) // high * across):
-        for row in range(high):
-            axes[number // across * high + row][number % across].set_axis_off()
+def limit_rows(plots: list[SmallPlot], quantities: Sequence[Quantity]) -> None:
+    """The same scale for a quantity in all cells."""
+    for row, quantity in enumerate(quantities):
+        row_limits([plot.axes[row] for plot in plots if plot.is_first], quantity.most)
 
 
 def row_limits(rows: list[Any], most: float) -> None:
@@ -258,10 +250,3 @@ def row_limits(rows: list[Any], most: float) -> None:
     high = high if most != 100 else 100.0
     for axes in rows:
         axes.set_ylim(low, max(high, low + 1))
-
-
-def cell_words(layout: Layout, one: Values) -> str:
-    """What a small plot is of: in two lines if there are two things to say."""
-    across = setting_words(layout.x_keys, layout.part(one, layout.x_keys))
-    panel = setting_words(layout.panels, layout.part(one, layout.panels))
-    return "\n".join(text for text in (panel, across) if text)

@@ -10,12 +10,11 @@ from chordsim_tools.explain.traps import warn
 from chordsim_tools.files import write_whole
 from chordsim_tools.place import tool
 from chordsim_tools.study.columns import COST, Column, SpanColumn
-from chordsim_tools.study.figures import drawing, rendered
+from chordsim_tools.study.figures import Plotter, drawing, rendered
 from chordsim_tools.study.front import Plane, front_figure
 from chordsim_tools.study.layout import layout_of
 from chordsim_tools.study.limits import span_numbers
 from chordsim_tools.study.lines import Rows, lines_figure
-from chordsim_tools.study.looks import Layout
 from chordsim_tools.study.numbers import groups
 from chordsim_tools.study.curves import TAIL
 from chordsim_tools.study.distribution import cdf_figure, tail_figure
@@ -47,8 +46,8 @@ def write_plots(folder: Path, named: Path | None = None, wish: Wish | None = Non
     wish = wish or Wish()
     layout = layout_of(drawn.tables, wish.x, wish.by, wish.panels)
     columns = [Column(name, drawn.tables) for name in wish.y or []]
-    pyplot = drawing()
-    figures = asked(pyplot, drawn, layout, columns) if columns else all_figures(pyplot, drawn, layout, wish.most_lost)
+    plotter = Plotter(drawing(), drawn, layout)
+    figures = asked(plotter, columns) if columns else all_figures(plotter, wish.most_lost)
     if not columns:
         warn(left_out(drawn))
     origin = origin_of(drawn.tables.manifest, drawn.mark)
@@ -56,11 +55,16 @@ def write_plots(folder: Path, named: Path | None = None, wish: Wish | None = Non
         for name, figure in figures:
             # Both are drawn first, so that there is little time to interrupt between a file and its origin.
             contents = {form: rendered(figure, form) for form in FORMS}
-            pyplot.close(figure)
-            for form, content in contents.items():
-                write_whole(folder / f"{name}.{form}", content)
-                progress.one_more()
+            plotter.pyplot.close(figure)
+            write_forms(folder, name, contents, progress)
             write_origins(folder, [name], origin)
+
+
+def write_forms(folder: Path, name: str, contents: dict[str, bytes], progress: Progress) -> None:
+    """Writes the files of a plot."""
+    for form, content in contents.items():
+        write_whole(folder / f"{name}.{form}", content)
+        progress.one_more()
 
 
 def left_out(drawn: Drawn) -> list[str]:
@@ -73,34 +77,34 @@ def left_out(drawn: Drawn) -> list[str]:
     return told
 
 
-def rows_of(drawn: Drawn, layout: Layout) -> Rows:
+def rows_of(plotter: Plotter) -> Rows:
     """The runs of each setting."""
-    return groups(drawn.tables.runs, layout.keys)
+    return groups(plotter.drawn.tables.runs, plotter.layout.keys)
 
 
-def asked(pyplot: Any, drawn: Drawn, layout: Layout, columns: list[Column]) -> Figures:
+def asked(plotter: Plotter, columns: list[Column]) -> Figures:
     """One plot of the columns that were named: its name is theirs."""
     name = "_".join(column.name.replace("/", "-of-") for column in columns)
     title = ", ".join(column.name for column in columns)
-    yield name, lines_figure(pyplot, drawn, layout, columns, rows_of(drawn, layout), title)
+    yield name, lines_figure(plotter, columns, rows_of(plotter), title)
 
 
-def all_figures(pyplot: Any, drawn: Drawn, layout: Layout, most_lost: float) -> Figures:
+def all_figures(plotter: Plotter, most_lost: float) -> Figures:
     """All plots that the study has the numbers for."""
-    rows = rows_of(drawn, layout)
+    drawn, rows = plotter.drawn, rows_of(plotter)
     times = [Column(name, drawn.tables) for name in TIMES]
     cost, gain = Column(COST, drawn.tables), Column(GAIN, drawn.tables)
-    yield "times", lines_figure(pyplot, drawn, layout, [gain, *times], rows, "Right answers, and lookup time")
+    yield "times", lines_figure(plotter, [gain, *times], rows, "Right answers, and lookup time")
     spans: list[Column] = [SpanColumn(number, drawn.tables) for number in span_numbers(drawn.tables.manifest)]
     if spans:
-        yield "spans", lines_figure(pyplot, drawn, layout, spans, rows, "The goal's numbers of spans")
+        yield "spans", lines_figure(plotter, spans, rows, "The goal's numbers of spans")
     title, quantities = right_of(drawn.tables.series)
-    yield "right", time_figure(pyplot, drawn, layout, quantities, drawn.tables.series, title)
-    yield "cost", front_figure(pyplot, drawn, layout, [Plane(cost, gain), Plane(cost, times[1])], rows, most_lost)
+    yield "right", time_figure(plotter, quantities, drawn.tables.series, title)
+    yield "cost", front_figure(plotter, [Plane(cost, gain), Plane(cost, times[1])], rows, most_lost)
     if drawn.steps:
         title, counts = network_of(drawn.steps)
-        yield "network", time_figure(pyplot, drawn, layout, counts, drawn.steps, title)
+        yield "network", time_figure(plotter, counts, drawn.steps, title)
     if drawn.cdf:
-        yield "cdf", cdf_figure(pyplot, drawn, layout)
+        yield "cdf", cdf_figure(plotter)
     if TAIL in drawn.tables.manifest["sha256"]:
-        yield "tail", tail_figure(pyplot, drawn, layout)
+        yield "tail", tail_figure(plotter)
