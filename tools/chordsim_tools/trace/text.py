@@ -8,6 +8,23 @@ from chordsim_tools.trace.wording import counted, seconds, share
 
 WIDTH = 24
 MOST_NAMES = 40
+ENDS = (
+    ("found", "  found"), ("lost", "  lost"), ("cut_by_crash", "  cut off by a crash"),
+    ("cut_by_leave", "  cut off by a leave"), ("cut_by_end", "  cut off by the end"),
+)
+"""The ends of lookups."""
+REFUSED = (("busy", "refused as busy"), ("ignored_commands", "commands ignored"))
+"""What commands do not begin."""
+RIGHT = (
+    ("right_strict", "  right, strict", "names the owner at the time of the answer"),
+    ("right_defensible", "  right, defensible", "names the owner of some instant of the lookup"),
+)
+"""The right answers, and what they are."""
+WRONG = (
+    ("wrong_names_no_member", "name a node that was no member"),
+    ("wrong_misses_a_member", "miss a member nearer to the key"),
+)
+"""The kinds of wrong answers."""
 JOINED = {
     "done": "done", "failed": "failed", "cut_by_crash": "cut off by a crash", "cut_by_leave": "cut off by a leave",
     "open_at_end": "open at the end",
@@ -17,6 +34,11 @@ JOINED = {
 def line(head: str, *told: str) -> str:
     """A line of the summary."""
     return f"{head:{WIDTH}}" + "; ".join(told)
+
+
+def part_of(number: int, of: int) -> str:
+    """A number, and which share of another one it is."""
+    return f"{counted(number)} ({share(number, of)})"
 
 
 def summary_text(facts: Facts) -> Iterator[str]:
@@ -30,7 +52,8 @@ def summary_text(facts: Facts) -> Iterator[str]:
         yield line("events", counted(facts["report"]["events"]))
     at_end = f"{counted(nodes['members_at_end'])} at its end"
     yield line("nodes", counted(nodes["all"]), f"members: {counted(nodes['initial'])} at the start, {at_end}")
-    yield from lookup_text(facts)
+    yield from lookup_text(facts["lookups"])
+    yield from answer_text(facts["answers"], facts["lookups"]["found"])
     yield from time_text(facts)
     yield from join_text(facts)
     yield from audit_text(facts)
@@ -46,33 +69,22 @@ def early_end(facts: Facts) -> Iterator[str]:
     yield line("THE TRACE ENDS EARLY", f"it reaches {seconds(facts['reached_us'])}, and has no audit at the end{half}")
 
 
-def lookup_text(facts: Facts) -> Iterator[str]:
-    """Lookups, and answers."""
-    lookups, answers = facts["lookups"], facts["answers"]
-    begun, found, wrong = lookups["begun"], lookups["found"], answers["wrong_strict"]
+def lookup_text(lookups: Facts) -> Iterator[str]:
+    """Lookups, and what became of them."""
+    ends = [(key, head) for key, head in ENDS if lookups[key] or key != "cut_by_leave"]
     yield ""
-    yield line("lookups begun", counted(begun))
-    for key, head in (
-        ("found", "  found"), ("lost", "  lost"), ("cut_by_crash", "  cut off by a crash"),
-        ("cut_by_leave", "  cut off by a leave"), ("cut_by_end", "  cut off by the end"),
-    ):
-        if lookups[key] or key != "cut_by_leave":
-            yield line(head, f"{counted(lookups[key])} ({share(lookups[key], begun)})")
-    for key, head in (("busy", "refused as busy"), ("ignored_commands", "commands ignored")):
-        if lookups[key]:
-            yield line(head, counted(lookups[key]))
+    yield line("lookups begun", counted(lookups["begun"]))
+    yield from (line(head, part_of(lookups[key], lookups["begun"])) for key, head in ends)
+    yield from (line(head, counted(lookups[key])) for key, head in REFUSED if lookups[key])
+
+
+def answer_text(answers: Facts, found: int) -> Iterator[str]:
+    """Answers, right and wrong."""
+    wrong = answers["wrong_strict"]
     yield line("answers", counted(found))
-    for key, head, meaning in (
-        ("right_strict", "  right, strict", "names the owner at the time of the answer"),
-        ("right_defensible", "  right, defensible", "names the owner of some instant of the lookup"),
-    ):
-        yield line(head, f"{counted(answers[key])} ({share(answers[key], found)})", meaning)
-    yield line("  wrong, strict", f"{counted(wrong)} ({share(wrong, found)})", "of these")
-    for key, head in (
-        ("wrong_names_no_member", "name a node that was no member"),
-        ("wrong_misses_a_member", "miss a member nearer to the key"),
-    ):
-        yield line("", f"{counted(answers[key])} ({share(answers[key], wrong)}) {head}")
+    yield from (line(head, part_of(answers[key], found), meaning) for key, head, meaning in RIGHT)
+    yield line("  wrong, strict", part_of(wrong, found), "of these")
+    yield from (line("", f"{part_of(answers[key], wrong)} {head}") for key, head in WRONG)
 
 
 def time_text(facts: Facts) -> Iterator[str]:
@@ -125,7 +137,7 @@ def audit_text(facts: Facts) -> Iterator[str]:
         ("torn", "  ring torn"),
         ("lost", "    ring lost"),
     ):
-        yield line(head, f"{counted(audits[key])} ({share(audits[key], audits['all'])})", *meaning)
+        yield line(head, part_of(audits[key], audits["all"]), *meaning)
     torn, lost = audits["first_torn"], audits["first_lost"]
     if torn is not None:
         head = "first torn, and lost" if torn == lost else "first torn"
