@@ -48,18 +48,15 @@ def parser_of() -> ToolParser:
         name: of_all.add_parser(name, help=short, description=long, epilog=epilog_of(name))
         for name, (short, long) in COMMANDS.items()
     }
-    for name in ("run", "search"):
-        add_runs(commands[name])
+    add_runs(commands["run"])
     add_parts(commands["run"])
-    both = commands["merge"]
-    both.add_argument("folders", metavar="FOLDER", nargs="+", type=Path, help="a folder of runs")
-    both.add_argument("-o", dest="out", metavar="OUT", type=Path, required=True, help="the folder for all")
-    for name in ("plot", "report", "compare"):
-        commands[name].add_argument("folder", metavar="FOLDER", type=Path, help="the folder of a study that was run")
+    add_runs(commands["search"])
+    add_folders(commands["merge"])
+    add_folder(commands["plot"])
     add_plot(commands["plot"])
-    for name in ("A", "B"):
-        meaning = "a setting: its label on the page, or its number, from 1"
-        commands["compare"].add_argument(name.lower(), metavar=name, help=meaning)
+    add_folder(commands["report"])
+    add_folder(commands["compare"])
+    add_settings(commands["compare"])
     for name in ("merge", "plot", "report", "compare"):
         moved = "the study file, if it is no longer in its place"
         commands[name].add_argument("--study", metavar="STUDY", type=Path, help=moved)
@@ -84,6 +81,24 @@ def add_parts(parser: ArgumentParser) -> None:
     part = "the Kth of N shares of the runs, without tables"
     parser.add_argument("--part", metavar="K/N", type=share_of, default=(1, 1), help=part)
     parser.add_argument("--dask", metavar="ADDRESS", help="the scheduler of a Dask cluster, as tcp://host:8786")
+
+
+def add_folders(parser: ArgumentParser) -> None:
+    """The folders of `tools/study merge`."""
+    parser.add_argument("folders", metavar="FOLDER", nargs="+", type=Path, help="a folder of runs")
+    parser.add_argument("-o", dest="out", metavar="OUT", type=Path, required=True, help="the folder for all")
+
+
+def add_folder(parser: ArgumentParser) -> None:
+    """The folder that `tools/study plot`, `report` and `compare` read."""
+    parser.add_argument("folder", metavar="FOLDER", type=Path, help="the folder of a study that was run")
+
+
+def add_settings(parser: ArgumentParser) -> None:
+    """The settings of `tools/study compare`."""
+    for name in ("A", "B"):
+        meaning = "a setting: its label on the page, or its number, from 1"
+        parser.add_argument(name.lower(), metavar=name, help=meaning)
 
 
 def add_plot(parser: ArgumentParser) -> None:
