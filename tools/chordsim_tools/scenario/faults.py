@@ -5,7 +5,7 @@ import re
 from collections.abc import Iterable, Iterator
 from dataclasses import dataclass
 from functools import cached_property
-from itertools import combinations
+from itertools import combinations, count
 from typing import Any
 
 from chordsim_tools.known import known
@@ -83,18 +83,28 @@ class Document:
     def each_node(self) -> Iterator[Node]:
         """The nodes of tables, and then those of classes: of these as far as they can be counted and named."""
         tables = self.top.table.get("node")
-        number = len(tables) if isinstance(tables, list) else 0
+        numbers = count(1 + (len(tables) if isinstance(tables, list) else 0))
         for place in self.sections:
             if place.kind == "node":
                 yield Node(place.usable("name"), place)
-                continue
-            for name in class_names(place.table) if self.is_counted(place) else ():
-                number += 1
-                yield Node(name, place, number)
+            elif self.is_counted(place):
+                yield from (Node(name, place, next(numbers)) for name in class_names(place.table))
 
     def is_counted(self, section: Place) -> bool:
         """Whether one can say which nodes a class has."""
         return None not in (self.top.usable("nodes"), section.usable("count"), section.usable("prefix"))
+
+    def each_key(self) -> Iterator[tuple[Place, Key]]:
+        """Each table with each of the keys that are listed for it."""
+        return ((place, key) for place in self.places for key in place.keys)
+
+    def present_keys(self) -> Iterator[tuple[Place, Key]]:
+        """Each table with each of its keys that are listed for it."""
+        return ((place, key) for place, key in self.each_key() if key.name in place.table)
+
+    def whole_rows(self) -> list[Row]:
+        """The rows that have three fields."""
+        return [row for row in self.rows if len(row.fields) == 3]
 
     @cached_property
     def numbers(self) -> dict[str, int]:
@@ -113,6 +123,11 @@ class Document:
     def is_placed(self, section: Place) -> bool:
         """Whether a node or a class has a key of coordinates that is listed for it."""
         return any(key in section.keys for key in PLACED if key.name in section.table)
+
+    @cached_property
+    def has_churn(self) -> bool:
+        """Whether a node or a class has churn."""
+        return any(section.table.get("churn") is True for section in self.sections)
 
     @property
     def has_nodes(self) -> bool:
@@ -158,47 +173,60 @@ def faults_of(document: Document) -> Iterator[Fault]:
     yield from rows_and_coordinates(document)
 
 
+def key_fault(kind: str, place: Place, key: Key) -> Fault:
+    """A fault of a key of a table."""
+    return Fault(kind, f"{place.name} {key.name}", place.name, key.name)
+
+
+def command_fault(kind: str, command: Place, key: str) -> Fault:
+    """A fault of a value of a command."""
+    return Fault(kind, command.name, command.name, key)
+
+
+def row_fault(kind: str, row: Row, key: str, other: str = "") -> Fault:
+    """A fault of a row, or of a field of it."""
+    return Fault(kind, f"row {row.number}", f"row {row.number}", key, other)
+
+
 def unknown_keys(document: Document) -> Iterator[Fault]:
     """S2."""
     for place in document.places:
         listed = {key.name for key in place.keys}
-        for name in place.table:
-            if name not in listed:
-                yield Fault("S2 UnknownKey", place.name, place.name, name)
+        unknown = (name for name in place.table if name not in listed)
+        yield from (Fault("S2 UnknownKey", place.name, place.name, name) for name in unknown)
 
 
 def missing_keys(document: Document) -> Iterator[Fault]:
     """S3."""
-    node_churns = any(section.table.get("churn") is True for section in document.sections)
-    for place in document.places:
-        for key in place.keys:
-            do = place.table.get("do") if place.kind == "command" else None
-            wanted = (
-                (key.required and not (key.unless and key.unless in place.table))
-                or (key.name == "churn" and place.kind == "top" and node_churns)
-                or (key.name == "via" and do == "join")
-                or (key.name == "key" and do == "lookup")
-                or (key.name in ("x_us", "y_us") and document.has_coordinates)
-            )
-            if wanted and key.name not in place.table:
-                yield Fault("S3 MissingKey", f"{place.name} {key.name}", place.name, key.name)
+    for place, key in document.each_key():
+        if key.name not in place.table and is_wanted(document, place, key):
+            yield key_fault("S3 MissingKey", place, key)
+
+
+def is_wanted(document: Document, place: Place, key: Key) -> bool:
+    """Whether a table has to have a key."""
+    do = place.table.get("do") if place.kind == "command" else None
+    return bool(
+        (key.required and not (key.unless and key.unless in place.table))
+        or (key.name == "churn" and place.kind == "top" and document.has_churn)
+        or (key.name == "via" and do == "join")
+        or (key.name == "key" and do == "lookup")
+        or (key.name in ("x_us", "y_us") and document.has_coordinates)
+    )
 
 
 def wrong_types(document: Document) -> Iterator[Fault]:
     """S4."""
-    for place in document.places:
-        for key in place.keys:
-            if key.name in place.table and not has_type(place.table[key.name], key.kind):
-                yield Fault("S4 WrongType", f"{place.name} {key.name}", place.name, key.name)
+    for place, key in document.present_keys():
+        if not has_type(place.table[key.name], key.kind):
+            yield key_fault("S4 WrongType", place, key)
 
 
 def out_of_range(document: Document) -> Iterator[Fault]:
     """S5."""
-    for place in document.places:
-        for key in place.keys:
-            value = place.table.get(key.name)
-            if key.name in place.table and has_type(value, key.kind) and not is_in_range(document, place, key):
-                yield Fault("S5 OutOfRange", f"{place.name} {key.name}", place.name, key.name)
+    for place, key in document.present_keys():
+        if has_type(place.table[key.name], key.kind) and not is_in_range(document, place, key):
+            yield key_fault("S5 OutOfRange", place, key)
 
 
 def is_in_range(document: Document, place: Place, key: Key) -> bool:
@@ -276,17 +304,24 @@ def together(faults: Iterable[Fault]) -> list[Fault]:
 
 def unknown_nodes(document: Document) -> Iterator[Fault]:
     """S9."""
-    if not document.has_nodes:
-        return
+    if document.has_nodes:
+        yield from unknown_in_commands(document)
+        yield from unknown_in_rows(document)
+
+
+def unknown_in_commands(document: Document) -> Iterator[Fault]:
+    """S9 of commands."""
     for command in document.commands:
-        for key in ("node", "via"):
-            name = command.usable(key)
-            if name is not None and name not in document.numbers:
-                yield Fault("S9 UnknownNode", command.name, command.name, key)
-    for row in document.rows:
-        for i, name in enumerate(row.fields[:2] if len(row.fields) == 3 else [], start=1):
-            if name not in document.numbers:
-                yield Fault("S9 UnknownNode", f"row {row.number}", f"row {row.number}", f"field {i}")
+        named = ((key, command.usable(key)) for key in ("node", "via"))
+        unknown = (key for key, name in named if name is not None and name not in document.numbers)
+        yield from (command_fault("S9 UnknownNode", command, key) for key in unknown)
+
+
+def unknown_in_rows(document: Document) -> Iterator[Fault]:
+    """S9 of rows."""
+    for row in document.whole_rows():
+        unknown = (i for i, name in enumerate(row.fields[:2], start=1) if name not in document.numbers)
+        yield from (row_fault("S9 UnknownNode", row, f"field {i}") for i in unknown)
 
 
 def too_few_initial(document: Document) -> Iterator[Fault]:
@@ -306,7 +341,7 @@ def times_after_end(document: Document) -> Iterator[Fault]:
     for command in document.commands:
         time = command.usable("at_us")
         if time is not None and duration is not None and time >= duration:
-            yield Fault("S11 TimeAfterEnd", command.name, command.name, "at_us")
+            yield command_fault("S11 TimeAfterEnd", command, "at_us")
 
 
 def micros_of(row: Row) -> int | None:
@@ -321,29 +356,31 @@ def bad_rows(document: Document) -> Iterator[Fault]:
     """S12."""
     for row in document.rows:
         if micros_of(row) is None:
-            key = "field 3" if len(row.fields) == 3 else ""
-            yield Fault("S12 BadLatencyRow", f"row {row.number}", f"row {row.number}", key)
+            yield row_fault("S12 BadLatencyRow", row, "field 3" if len(row.fields) == 3 else "")
 
 
 def self_links(document: Document) -> Iterator[Fault]:
     """S13. In the extended profile a node may join through itself."""
-    for command in document.commands if document.profile is not EXTENDED else []:
-        via = command.usable("via")
-        if command.table.get("do") == "join" and via is not None and via == command.usable("node"):
-            yield Fault("S13 SelfLink", command.name, command.name, "via")
-    for row in document.rows:
-        if len(row.fields) == 3 and row.fields[0] == row.fields[1]:
-            yield Fault("S13 SelfLink", f"row {row.number}", f"row {row.number}", "field 2")
+    if document.profile is not EXTENDED:
+        own = (command for command in document.commands if joins_itself(command))
+        yield from (command_fault("S13 SelfLink", command, "via") for command in own)
+    rows = (row for row in document.whole_rows() if row.fields[0] == row.fields[1])
+    yield from (row_fault("S13 SelfLink", row, "field 2") for row in rows)
+
+
+def joins_itself(command: Place) -> bool:
+    """Whether a node is to join through itself."""
+    via = command.usable("via")
+    return bool(command.table.get("do") == "join" and via is not None and via == command.usable("node"))
 
 
 def same_links(document: Document) -> Iterator[Fault]:
     """S14. Rows of one node twice have S13 alone."""
     first_of: dict[frozenset[str], Row] = {}
-    for row in document.rows:
-        if len(row.fields) == 3 and row.fields[0] != row.fields[1]:
-            first = first_of.setdefault(frozenset(row.fields[:2]), row)
-            if first is not row:
-                yield Fault("S14 SameLinkTwice", f"row {row.number}", f"row {row.number}", "", f"row {first.number}")
+    for row in document.whole_rows():
+        first = first_of.setdefault(frozenset(row.fields[:2]), row)
+        if row.fields[0] != row.fields[1] and first is not row:
+            yield row_fault("S14 SameLinkTwice", row, "", f"row {first.number}")
 
 
 def below_window(document: Document) -> Iterator[Fault]:
