@@ -5,6 +5,12 @@ from struct import pack, unpack
 
 MASK = 0xFFFFFFFF
 CONSTANTS = (0x61707865, 0x3320646E, 0x79622D32, 0x6B206574)  # "expand 32-byte k"
+Places = tuple[int, int, int, int]
+DOUBLE_ROUND: tuple[Places, ...] = (
+    (0, 4, 8, 12), (1, 5, 9, 13), (2, 6, 10, 14), (3, 7, 11, 15),
+    (0, 5, 10, 15), (1, 6, 11, 12), (2, 7, 8, 13), (3, 4, 9, 14),
+)
+"""The words of the state that each quarter round of two rounds takes: first the columns, then the diagonals."""
 
 
 def rotate(word: int, places: int, mask: int) -> int:
@@ -12,8 +18,9 @@ def rotate(word: int, places: int, mask: int) -> int:
     return ((word << places) | (word >> (32 - places))) & mask
 
 
-def quarter_round(s: list[int], a: int, b: int, c: int, d: int, mask: int) -> None:
+def quarter_round(s: list[int], places: Places, mask: int) -> None:
     """The quarter round of ChaCha on four words of the state."""
+    a, b, c, d = places
     s[a] = (s[a] + s[b]) & mask
     s[d] = rotate(s[d] ^ s[a], 16, mask)
     s[c] = (s[c] + s[d]) & mask
@@ -29,15 +36,8 @@ def block(start: list[int], rounds: int, mask: int = MASK) -> list[int]:
 
     With a mask of many lanes each number is a word of as many blocks, which are computed at once: see `groups`."""
     s = list(start)
-    for _ in range(rounds // 2):
-        quarter_round(s, 0, 4, 8, 12, mask)
-        quarter_round(s, 1, 5, 9, 13, mask)
-        quarter_round(s, 2, 6, 10, 14, mask)
-        quarter_round(s, 3, 7, 11, 15, mask)
-        quarter_round(s, 0, 5, 10, 15, mask)
-        quarter_round(s, 1, 6, 11, 12, mask)
-        quarter_round(s, 2, 7, 8, 13, mask)
-        quarter_round(s, 3, 4, 9, 14, mask)
+    for places in DOUBLE_ROUND * (rounds // 2):
+        quarter_round(s, places, mask)
     return [(word + first) & mask for word, first in zip(s, start)]
 
 
