@@ -67,12 +67,12 @@ class Procedures(Turn):
     def ask(self, lookup: Lookup, x: int) -> None:
         """Asks x."""
         if self.may_step(lookup):
-            lookup.call = self.call(Step, x, Purpose.LOOKUP, lookup.key, list(lookup.avoid))
+            lookup.call = self.call(Step, x, Purpose.LOOKUP, lookup.key, list(lookup.avoid)).number
 
     def ask_owner(self, lookup: Lookup, s: int) -> None:
         """Asks the owner s."""
         if self.may_step(lookup):
-            lookup.call = self.call(GetState, s, Purpose.OWNER)
+            lookup.call = self.call(GetState, s, Purpose.OWNER).number
 
     def may_step(self, lookup: Lookup) -> bool:
         """Whether the lookup may make one more step, which is counted here. Otherwise it fails."""
@@ -237,7 +237,7 @@ class Procedures(Turn):
         if not entries or not self.world.between(p, self.n.me, entries[0]):
             self.join_failure()
         elif self.ways.join_asks:
-            self.call(GetState, entries[0], Purpose.JOIN_HEAD, behind=p)
+            self.call(GetState, entries[0], Purpose.JOIN_HEAD).behind = p
         else:
             self.become_member(p, entries)
 

@@ -214,7 +214,7 @@ class Rules(Procedures):
         if prdc is None or self.world.between(prdc, q, self.n.me):
             self.n.prdc = q
         elif q != prdc and not self.has_call(Purpose.PING, Purpose.CHECK):
-            self.call(Ping, prdc, Purpose.PING, because=q)
+            self.call(Ping, prdc, Purpose.PING).because = q
 
     def left(self, body: Leave, q: int) -> None:
         """Leave, with a predecessor or none, and a list."""

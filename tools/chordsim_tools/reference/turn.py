@@ -127,16 +127,13 @@ class Turn:
 
     # 8.1 Call
 
-    def call(
-        self, request: type, p: int, purpose: Purpose, *rest: object, because: int | None = None,
-        behind: int | None = None,
-    ) -> int:
-        """Calls a request to p for a purpose; gives the number of the call: that of the request, lost or not."""
+    def call(self, request: type, p: int, purpose: Purpose, *rest: object) -> Call:
+        """Calls a request to p for a purpose; gives the call, whose number is that of the request, lost or not."""
         number = self.n.count + 1
         self.send(p, request(number, *rest))
         self.set_timer(self.world.scenario.timeout_us, Timeout(number))
-        self.n.calls[number] = Call(number, p, purpose, because, behind)
-        return number
+        self.n.calls[number] = Call(number, p, purpose)
+        return self.n.calls[number]
 
     def send_again(self, call: Call) -> None:
         """Sends a call again: the request is made of what the node knows, and the call moves to the end."""
