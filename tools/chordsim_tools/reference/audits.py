@@ -1,6 +1,7 @@
 """The audits (docs/rules.md, section 10)."""
 
 from collections import Counter
+from itertools import pairwise
 
 from chordsim_tools.known import known
 from chordsim_tools.reference.state import Node, Status
@@ -39,10 +40,8 @@ def passed_over(world: World, nodes: list[Node], members: set[int]) -> set[int]:
     idents = world.idents
     places = sorted(idents[n] for n in members)
     passed: set[int] = set()
-    for n in members:
-        sequence = [n, *nodes[n].succ]
-        for a, b in zip(sequence, sequence[1:]):
-            passed.update(world.circle.all_between(idents[a], idents[b], places))
+    for a, b in (pair for n in members for pair in pairwise([n, *nodes[n].succ])):
+        passed.update(world.circle.all_between(idents[a], idents[b], places))
     return passed
 
 

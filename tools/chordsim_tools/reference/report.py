@@ -1,6 +1,7 @@
 """The report (docs/rules.md, section 11): its numbers, counted from the lines of the trace."""
 
 from collections import Counter
+from collections.abc import Iterable
 from statistics import median_low
 
 LINES = (
@@ -47,9 +48,7 @@ class Report:
 
     def numbers(self, events: int) -> dict[str, int]:
         """The 24 numbers, in their order; in the second profile a 25th, in the extended one also the 26th to 31st."""
-        numbers = {"events": events}
-        for word, kind in LINES:
-            numbers[word] = self.lines[kind]
+        numbers = {"events": events, **self.counts(LINES)}
         numbers["unfinished"] = max(0, numbers["lookups"] - numbers["found"] - numbers["lost"])
         numbers["hops-sum"] = sum(self.hops)
         numbers["hops-greatest"] = max(self.hops, default=0)
@@ -57,15 +56,17 @@ class Report:
         numbers["us-least"] = min(self.times, default=0)
         numbers["us-median"] = median_low(self.times or [0])
         numbers["us-greatest"] = max(self.times, default=0)
-        for word in ("audits", "ringless", "unordered", "insufficient"):
-            numbers[word] = self.audits[word]
+        numbers |= {word: self.audits[word] for word in ("audits", "ringless", "unordered", "insufficient")}
         if self.profile >= 2:
             numbers["losses"] = self.lines["lose"]
         if self.profile == 4:
-            for word, kind in EXTENDED_LINES:
-                numbers[word] = self.lines[kind]
+            numbers |= self.counts(EXTENDED_LINES)
             numbers["timeouts-sum"] = sum(self.timeouts)
         return numbers
+
+    def counts(self, kinds: Iterable[tuple[str, str]]) -> dict[str, int]:
+        """How many lines there are of each of these kinds, by the words of the report."""
+        return {word: self.lines[kind] for word, kind in kinds}
 
     def text(self, events: int) -> str:
         """The report as it is printed."""

@@ -39,12 +39,15 @@ class Simulation:
         self.messages: Counter[str] = Counter()
         for place, command in enumerate(scenario.commands, start=1):
             heapq.heappush(self.pending, Event(command.at_us, 1, place, command.node, body_of(command)))
-        for node in self.nodes:
-            if node.status == Status.MEMBER:
-                procedures = Procedures(self.world, node, 0)
-                procedures.arm()
-                procedures.draw_next_finger()
-                self.add(procedures.events)
+        self.arm_members()
+
+    def arm_members(self) -> None:
+        """Arms the timers of the initial nodes."""
+        for node in (one for one in self.nodes if one.status == Status.MEMBER):
+            procedures = Procedures(self.world, node, 0)
+            procedures.arm()
+            procedures.draw_next_finger()
+            self.add(procedures.events)
 
     def add(self, events: list[Event]) -> None:
         """Makes events pending."""
@@ -56,9 +59,13 @@ class Simulation:
     def lines(self) -> Iterator[str]:
         """Runs to the end, and gives the lines of the trace. An audit's line stands ahead of all lines of its time."""
         for time in audit_times(self.scenario.audit_us, self.scenario.duration_us):
-            while self.pending and self.pending[0].time < time:
-                yield from self.take(heapq.heappop(self.pending))
+            yield from self.lines_before(time)
             yield audit_line(self.world, self.nodes, time)
+
+    def lines_before(self, time: int) -> Iterator[str]:
+        """Runs to a time, and gives the lines before it."""
+        while self.pending and self.pending[0].time < time:
+            yield from self.take(heapq.heappop(self.pending))
 
     def take(self, event: Event) -> list[str]:
         """Takes an event: its target acts on it. Gives its lines."""
