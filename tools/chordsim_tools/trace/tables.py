@@ -1,5 +1,6 @@
 """Tables of a run: by steps of time, by node, and the worst lookups."""
 
+from collections.abc import Collection
 from typing import Any
 
 from chordsim_tools.cli import Failure
@@ -13,6 +14,10 @@ Rows = list[dict[str, Any]]
 MOST_STEPS = 100_000
 STEP_WORDS = ("begun", "found", "right", "lost", "timeouts", "members", "crashes", "joined")
 """The counts of each step that a table always has."""
+KINDS_OF: dict[str, Collection[int]] = {
+    "timeouts": [TIMEOUT], "crashes": [CRASH], "joined": COMES_IN, "leaves": [LEAVE],
+}
+"""The kinds of the lines that are counted in each step."""
 CUT_OFF = {"crash": "cut off by a crash", "leave": "cut off by a leave", "end": "cut off by the end"}
 PERCENTILES = {"p50_us": (50, 1), "p99_us": (99, 100), "p999_us": (99.9, 1000)}
 """The percentiles of a step, and of how many lookups each is one."""
@@ -28,22 +33,32 @@ def step_rows(run: Run, width: int) -> Rows:
         raise Failure(2, f"--over-time: {count} steps of {time_text(width)}; {MOST_STEPS} at most")
     words = (*STEP_WORDS, "leaves")
     rows: Rows = [{"from_us": at * width, **dict.fromkeys(words, 0)} for at in range(count)]
+    count_lookups(rows, run, width)
+    count_lines(rows, run, width)
+    members = run.history.members
+    for row, times in zip(rows, step_times(run, width, count), strict=True):
+        row["members"] = members.count_before(min(row["from_us"] + width, end))
+        row |= {
+            word: times.percentile(of) if times.count() >= least else None for word, (of, least) in PERCENTILES.items()
+        }
+    return rows
+
+
+def count_lookups(rows: Rows, run: Run, width: int) -> None:
+    """Counts the lookups that begin and end in each step."""
     for one in run.history.lines.lookups:
         rows[one.begin // width]["begun"] += 1
         if one.end is not None and one.outcome in ("found", "lost"):
             row = rows[one.end // width]
             row[one.outcome] += 1
             row["right"] += one.is_right
+
+
+def count_lines(rows: Rows, run: Run, width: int) -> None:
+    """Counts the other lines of each step."""
     lines = run.history.lines
-    for word, kinds in (("timeouts", [TIMEOUT]), ("crashes", [CRASH]), ("joined", COMES_IN), ("leaves", [LEAVE])):
-        for time in lines.of_kind(*kinds):
-            rows[time // width][word] += 1
-    members = run.history.members
-    for row, times in zip(rows, step_times(run, width, count), strict=True):
-        row["members"] = members.count_before(min(row["from_us"] + width, end))
-        for word, (of, least) in PERCENTILES.items():
-            row[word] = times.percentile(of) if times.count() >= least else None
-    return rows
+    for word, time in ((word, time) for word, kinds in KINDS_OF.items() for time in lines.of_kind(*kinds)):
+        rows[time // width][word] += 1
 
 
 def step_times(run: Run, width: int, count: int) -> list[Times]:
@@ -85,7 +100,14 @@ def node_rows(run: Run) -> Rows:
         up = sum((run.reached if life.end is None else life.end) - life.begin for life in lives)
         row = dict.fromkeys(("lookups", "found", "right", "lost", "named", "timeouts_met", "timeouts_on_it"), 0)
         rows.append({"node": name, **row, "lives": len(lives), "up_us": up})
-    for one in history.lines.lookups:
+    count_lookups_of_nodes(rows, run)
+    count_timeouts_of_nodes(rows, run)
+    return rows
+
+
+def count_lookups_of_nodes(rows: Rows, run: Run) -> None:
+    """Counts the lookups of each node, and the answers that name it."""
+    for one in run.history.lines.lookups:
         row = rows[one.node]
         row["lookups"] += 1
         row["found"] += one.outcome == "found"
@@ -93,12 +115,15 @@ def node_rows(run: Run) -> Rows:
         row["right"] += one.is_right
         if one.owner != NOBODY:
             rows[one.owner]["named"] += 1
-    lines = history.lines
+
+
+def count_timeouts_of_nodes(rows: Rows, run: Run) -> None:
+    """Counts the timeouts of each node's calls, and those of calls to it."""
+    lines = run.history.lines
     for node, kind, other in zip(lines.nodes, lines.kinds, lines.others, strict=True):
         if kind == TIMEOUT:
             rows[node]["timeouts_met"] += 1
             rows[other]["timeouts_on_it"] += 1
-    return rows
 
 
 def node_table(rows: Rows) -> list[str]:
