@@ -106,11 +106,7 @@ def swapped(args: Namespace, fault: Refused) -> str:
 
 def work(args: Namespace) -> None:
     """Reads the run, and prints or writes what the arguments ask for."""
-    for option, file in (("--html", args.html), ("--lookups", args.lookups)):
-        check_output(option, file, (args.trace, args.scenario, args.latency, args.report, args.groups))
-    check_apart("--lookups", args.lookups, "--html", args.html)
-    if args.groups is not None and args.html is None:
-        raise Failure(2, "--groups: only with --html")
+    check_files(args)
     scenario = scenario_of(args)
     if wants_lookups_alone(args) and write_judged(args, scenario):
         return
@@ -118,9 +114,7 @@ def work(args: Namespace) -> None:
     if args.report is not None:
         read_report(args.report, one)
     warn(doubts(one))
-    for option, name in (("node", args.node), ("removed", args.removed)):
-        if name is not None and name not in one.history.numbers:
-            raise Failure(2, f"--{option}: the scenario has no node {name!r}")
+    check_nodes(args, one)
     if args.html is not None:
         groups = None if args.groups is None else read_groups(args.groups, one.history.names)
         write_page(args.html, one, args.scenario, groups)
@@ -131,6 +125,22 @@ def work(args: Namespace) -> None:
         show([json.dumps(in_json(one, args), indent=2)])
     elif asked or (args.html is None and args.lookups is None):
         show(in_text(one, args))
+
+
+def check_files(args: Namespace) -> None:
+    """Refuses files to write that are read or written otherwise, and groups without a page."""
+    for option, file in (("--html", args.html), ("--lookups", args.lookups)):
+        check_output(option, file, (args.trace, args.scenario, args.latency, args.report, args.groups))
+    check_apart("--lookups", args.lookups, "--html", args.html)
+    if args.groups is not None and args.html is None:
+        raise Failure(2, "--groups: only with --html")
+
+
+def check_nodes(args: Namespace, one: Run) -> None:
+    """Refuses nodes that the scenario does not have."""
+    for option, name in (("node", args.node), ("removed", args.removed)):
+        if name is not None and name not in one.history.numbers:
+            raise Failure(2, f"--{option}: the scenario has no node {name!r}")
 
 
 def wants_lookups_alone(args: Namespace) -> bool:
