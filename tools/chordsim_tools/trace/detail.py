@@ -28,9 +28,9 @@ SENDS = frozenset(CODES[f"send {kind}"] for kind in REPLIES.values())
 def marked_lines(run: Run, own: Sequence[int], calls: Sequence[Call]) -> Iterator[str]:
     """A node's own lines and those of its calls; with | those of nodes asked, with ? those that may be of a call."""
     marks = dict.fromkeys([*own, *(at for call in calls for at in call.places())], "  ")
-    for handled in (one.handled for call in calls for one in call.sendings):
-        for at in handled:
-            marks.setdefault(at, "| " if len(handled) == 1 else "? ")
+    handled = (one.handled for call in calls for one in call.sendings)
+    for at, mark in ((at, "| " if len(places) == 1 else "? ") for places in handled for at in places):
+        marks.setdefault(at, mark)
     yield from (marks[at] + timed(run.history.lines.text(at)) for at in sorted(marks))
 
 

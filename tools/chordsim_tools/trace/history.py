@@ -2,6 +2,7 @@
 
 from bisect import bisect_left
 from dataclasses import dataclass
+from itertools import chain
 
 from chordsim_tools.members import Members
 from chordsim_tools.scenario.reading import Scenario
@@ -190,9 +191,8 @@ class History:
 
     def asker_goes(self, time: int, node: int, outcome: str) -> None:
         """The lookups of a node are cut off, by a crash or a leave."""
-        for waiting in self.open[node].values():
-            for one in waiting:
-                one.end, one.outcome = time, outcome
+        for one in chain.from_iterable(self.open[node].values()):
+            one.end, one.outcome = time, outcome
         self.open[node].clear()
 
     def lookup(self, time: int, node: int, fields: list[str]) -> None:

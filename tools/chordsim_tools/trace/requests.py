@@ -139,13 +139,19 @@ def in_order(calls: list[Call]) -> Iterator[tuple[Call, Sending]]:
 
 def find_timeouts(run: Run, node: int, calls: list[Call]) -> None:
     """Finds the lines `timeout`: a timeout after the last sending. Of two calls of one time one had no reply."""
-    lines = run.history.lines
-    timeouts: dict[tuple[int, int], list[int]] = defaultdict(list)
-    for at, (one, kind) in enumerate(zip(lines.nodes, lines.kinds, strict=True)):
-        if one == node and kind == TIMEOUT:
-            timeouts[lines.times[at], lines.others[at]].append(at)
+    timeouts = timeouts_of(run, node)
     for call in sorted(calls, key=lambda call: call.may_be_answered(run)):
         deadline = call.sendings[-1].time + run.history.scenario.timeout_us
         there = timeouts[deadline, call.asked]
         if there:
             call.timeout = there.pop(0)
+
+
+def timeouts_of(run: Run, node: int) -> dict[tuple[int, int], list[int]]:
+    """The places of a node's lines `timeout`, by their time and the node called."""
+    lines = run.history.lines
+    timeouts: dict[tuple[int, int], list[int]] = defaultdict(list)
+    for at, (one, kind) in enumerate(zip(lines.nodes, lines.kinds, strict=True)):
+        if one == node and kind == TIMEOUT:
+            timeouts[lines.times[at], lines.others[at]].append(at)
+    return timeouts
