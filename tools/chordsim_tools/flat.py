@@ -6,9 +6,11 @@ from dataclasses import astuple
 from chordsim_tools.cli import Parser, run
 from chordsim_tools.files import check_output, put, read_input
 from chordsim_tools.known import known
-from chordsim_tools.scenario.reading import Command, Scenario, read_scenario
+from chordsim_tools.scenario.coordinates import Coordinates
+from chordsim_tools.scenario.reading import Command, NodeSpec, Scenario, read_scenario
 from chordsim_tools.scenario.tables import GREATEST_SIZE
 
+Line = list[int | str]
 PROG = "examples/plain/flatten"
 HELP = """\
 Writes the flat form of a scenario: its values one after the other, each between blanks or line ends. The program of
@@ -49,7 +51,7 @@ def flat_form(scenario: Scenario) -> str:
     return "".join(" ".join(map(str, values)) + "\n" for values in lines_of(scenario))
 
 
-def lines_of(scenario: Scenario) -> Iterator[list[int | str]]:
+def lines_of(scenario: Scenario) -> Iterator[Line]:
     """The values of each line."""
     s = scenario
     yield [s.profile, s.loss_ppm, s.spread_us, s.retries, s.join_pause_us, int(s.join_forever), s.check_us,
@@ -62,22 +64,34 @@ def lines_of(scenario: Scenario) -> Iterator[list[int | str]]:
     yield [0] if c is None else [1, c.life_min_us, c.life_max_us, c.down_min_us, c.down_max_us, c.leave_ppm]
     yield [0] if s.lookups is None else [1, s.lookups.gap_min_us, s.lookups.gap_max_us]
     yield [len(s.nodes)]
-    for node in s.nodes:
-        yield [node.name, node.ident, int(node.initial), int(node.churn), int(node.bootstrap)]
+    yield from map(node_line, s.nodes)
     # Each pair is there in both orders.
-    rows: list[list[int | str]] = [[a, b, micros] for (a, b), micros in s.latencies.items() if a < b]
+    rows: list[Line] = [[a, b, micros] for (a, b), micros in s.latencies.items() if a < b]
     yield [len(rows)]
     yield from rows
     places = [node.coordinates for node in s.nodes if node.coordinates is not None]
     yield [int(bool(places))]
-    for place in places:
-        yield [place.x_us, place.y_us, place.height_us]
+    yield from map(place_line, places)
     yield [len(s.commands)]
-    for command in s.commands:
-        yield [command.at_us, command.node, *action_of(command)]
+    yield from map(command_line, s.commands)
 
 
-def action_of(command: Command) -> list[int | str]:
+def node_line(node: NodeSpec) -> Line:
+    """The values of a node, without its coordinates."""
+    return [node.name, node.ident, int(node.initial), int(node.churn), int(node.bootstrap)]
+
+
+def place_line(place: Coordinates) -> Line:
+    """The values of a node's coordinates."""
+    return [place.x_us, place.y_us, place.height_us]
+
+
+def command_line(command: Command) -> Line:
+    """The values of a command."""
+    return [command.at_us, command.node, *action_of(command)]
+
+
+def action_of(command: Command) -> Line:
     """What a command does, with the value that it needs for it."""
     match command.do:
         case "join":
