@@ -162,13 +162,14 @@ def nodes_of(options: Options) -> list[str]:
 def plane(side: int, floor: int, count: int, draws: Draws) -> Latencies:
     """Latencies of hosts at random places of a square. More hosts leave the places of the first ones as they are."""
     places = [(draws.between(0, side), draws.between(0, side)) for _ in range(count)]
-    micros = []
-    for b, (x, y) in enumerate(places):
-        for a, (left, low) in enumerate(places[:b]):
-            square = (x - left) ** 2 + (y - low) ** 2
-            way = math.isqrt(square - 1) + 1 if square else 0
-            micros.append((a, b, floor + way))
-    return Latencies(sorted(micros), 0)
+    pairs = combinations(range(count), 2)
+    return Latencies([(a, b, floor + distance(places[a], places[b])) for a, b in pairs], 0)
+
+
+def distance(one: tuple[int, int], other: tuple[int, int]) -> int:
+    """The distance of two places, rounded up."""
+    square = (one[0] - other[0]) ** 2 + (one[1] - other[1]) ** 2
+    return math.isqrt(square - 1) + 1 if square else 0
 
 
 def between_regions(file: str, names: list[str]) -> Latencies:

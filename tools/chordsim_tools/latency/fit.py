@@ -48,10 +48,7 @@ class Spring:
 
 def fitted(pairs: Sequence[Pair], count: int, least: int, draws: Draws) -> list[Coordinates]:
     """Coordinates of the nodes below `count`, each of which is in a pair. No height is below the least one."""
-    others: list[list[tuple[int, int]]] = [[] for _ in range(count)]
-    for a, b, micros in pairs:
-        others[a].append((b, micros))
-        others[b].append((a, micros))
+    others = others_of(pairs, count)
     # All begin at nearly one place, since a spring of no length has no direction; and with some height, since a push
     # changes a height in proportion to it.
     height = max(float(least), median_low(micros for *_, micros in pairs) / 4)
@@ -59,11 +56,27 @@ def fitted(pairs: Sequence[Pair], count: int, least: int, draws: Draws) -> list[
     with Progress(f"looks of {count} nodes", LOOKS) as progress:
         for turn in range(LOOKS):
             pace = TUNING * min(1.0, 2 * (LOOKS - turn) / LOOKS)
-            for node, seen in zip(nodes, others, strict=True):
-                other, micros = seen[draws.below(len(seen))]
-                node.look(nodes[other], micros, pace, least)
+            look_once(nodes, others, pace, least, draws)
             progress.one_more()
     return whole(nodes)
+
+
+def others_of(pairs: Sequence[Pair], count: int) -> list[list[tuple[int, int]]]:
+    """Of each node the others that it is in a pair with, and how far off they are."""
+    others: list[list[tuple[int, int]]] = [[] for _ in range(count)]
+    for a, b, micros in pairs:
+        others[a].append((b, micros))
+        others[b].append((a, micros))
+    return others
+
+
+def look_once(
+    nodes: list[Spring], others: list[list[tuple[int, int]]], pace: float, least: int, draws: Draws
+) -> None:
+    """Each node looks at another one, which is drawn."""
+    for node, seen in zip(nodes, others, strict=True):
+        other, micros = seen[draws.below(len(seen))]
+        node.look(nodes[other], micros, pace, least)
 
 
 def whole(nodes: list[Spring]) -> list[Coordinates]:

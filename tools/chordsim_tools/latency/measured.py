@@ -6,6 +6,7 @@ from array import array
 from collections.abc import Iterator
 from dataclasses import dataclass
 from decimal import Decimal
+from itertools import combinations
 from statistics import median_low
 
 from chordsim_tools.cli import Progress, Refused
@@ -94,15 +95,7 @@ def check_hosts(file: str, count: int) -> None:
 
 def read_lines(file: str, unit: int) -> RoundTrips:
     """Lines `i j us`. Hosts are called by their numbers, in the order of these."""
-    trips: dict[tuple[int, int], int] = {}
-    for number, values in lines_of(file):
-        place = f"{file}: line {number}"
-        if len(values) != 3 or not all(re.fullmatch(r"[0-9]{1,9}", host) for host in values[:2]):
-            raise Refused(f"{place}: not two numbers of hosts and a round trip")
-        pair = int(values[0]), int(values[1])
-        if pair in trips:
-            raise Refused(f"{place}: the round trip from {pair[0]} to {pair[1]} stands there twice")
-        trips[pair] = trips_of(values[2:], unit, place)[0]
+    trips = trips_of_lines(file, unit)
     if not trips:
         raise Refused(f"{file}: there is no round trip")
     hosts = sorted({host for pair in trips for host in pair})
@@ -114,15 +107,28 @@ def read_lines(file: str, unit: int) -> RoundTrips:
     return RoundTrips(file, [str(host) for host in hosts], rows)
 
 
+def trips_of_lines(file: str, unit: int) -> dict[tuple[int, int], int]:
+    """The round trips of lines `i j us`, by the numbers of their hosts."""
+    trips: dict[tuple[int, int], int] = {}
+    for number, values in lines_of(file):
+        place = f"{file}: line {number}"
+        if len(values) != 3 or not all(re.fullmatch(r"[0-9]{1,9}", host) for host in values[:2]):
+            raise Refused(f"{place}: not two numbers of hosts and a round trip")
+        pair = int(values[0]), int(values[1])
+        if pair in trips:
+            raise Refused(f"{place}: the round trip from {pair[0]} to {pair[1]} stands there twice")
+        trips[pair] = trips_of(values[2:], unit, place)[0]
+    return trips
+
+
 def gaps_of(trips: RoundTrips) -> list[int]:
     """For each host the number of others with which no round trip was measured in either direction."""
-    count = len(trips.hosts)
+    count, rows = len(trips.hosts), trips.rows
     gaps = [0] * count
-    for a, row in enumerate(trips.rows):
-        for b in range(a + 1, count):
-            if not row[b] and not trips.rows[b][a]:
-                gaps[a] += 1
-                gaps[b] += 1
+    for a, b in combinations(range(count), 2):
+        if not rows[a][b] and not rows[b][a]:
+            gaps[a] += 1
+            gaps[b] += 1
     return gaps
 
 
@@ -154,19 +160,18 @@ def latencies_of(trips: RoundTrips, count: int, fill: bool, draws: Draws) -> Lat
         raise Refused(f"{trips.file}: {told}, fewer than the {count} nodes")
     hosts = choose(gaps_of(trips), count, draws)
     sums = [[trips.doubled(a, b) for b in hosts] for a in hosts]
-    gaps = [(a, b) for a in range(count) for b in range(a + 1, count) if sums[a][b] == 0]
+    gaps = [(a, b) for a, b in combinations(range(count), 2) if sums[a][b] == 0]
     if gaps and not fill:
         a, b = gaps[0]
         names = f"{trips.hosts[hosts[a]]} and {trips.hosts[hosts[b]]}"
         raise Refused(f"{trips.file}: gaps among the chosen hosts: {len(gaps)}, the first between the hosts {names}")
     measured = [[sums[a][b] for b in range(count) if b != a and sums[a][b]] for a in range(count)]
     medians = [median_low(known or [0]) for known in measured]
-    for a, b in gaps:
-        for host in (a, b):
-            if medians[host] == 0:
-                raise Refused(f"{trips.file}: host {trips.hosts[hosts[host]]} has no round trip with a chosen host")
+    lone = next((host for pair in gaps for host in pair if medians[host] == 0), None)
+    if lone is not None:
+        raise Refused(f"{trips.file}: host {trips.hosts[hosts[lone]]} has no round trip with a chosen host")
     micros = [
         (a, b, -(-sums[a][b] // 4000) or -(-(medians[a] + medians[b]) // 8000))
-        for a in range(count) for b in range(a + 1, count)
+        for a, b in combinations(range(count), 2)
     ]
     return Latencies(micros, len(gaps), len(trips.hosts))
