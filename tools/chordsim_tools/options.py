@@ -1,7 +1,7 @@
 """The values of options: what argparse reads them with, and their ranges where these depend on other options."""
 
 from argparse import ArgumentTypeError, Namespace
-from collections.abc import Callable
+from collections.abc import Callable, Iterable
 from dataclasses import dataclass
 from typing import Generic, NoReturn, TypeVar
 
@@ -154,6 +154,11 @@ class Options:
         """Refuses an option that would change nothing."""
         if self.has(name) and not fits:
             self.refuse(name, f"only with {others}")
+
+    def all_only_with(self, names: Iterable[str], fits: bool, others: str) -> None:
+        """Refuses the first of some options that was given and would change nothing."""
+        for name in names:
+            self.only_with(name, fits, others)
 
     def refuse(self, name: str, text: str) -> NoReturn:
         """Ends with status 2 and a line that names the option."""

@@ -67,10 +67,8 @@ def top_of(
 
 def network_of(options: Options, profile: int) -> dict[str, int]:
     """The keys of loss and spread, which profiles 2 and 4 have, and those that profile 4 alone has."""
-    for name in ("loss", "spread"):
-        options.only_with(name, profile >= 2, "--profile 2 or 4")
-    for name in ("retries", *dict(PATIENCE), *dict(WAYS)):
-        options.only_with(name, profile == 4, "--profile 4")
+    options.all_only_with(("loss", "spread"), profile >= 2, "--profile 2 or 4")
+    options.all_only_with(("retries", *dict(PATIENCE), *dict(WAYS)), profile == 4, "--profile 4")
     if options.has("join-forever") and options.has("no-join-forever"):
         options.refuse("no-join-forever", "not with --join-forever")
     if profile == 1:

@@ -125,8 +125,7 @@ def check(args: Namespace, parser: Parser) -> Options:
         parser.error("give exactly one of MEASURED, --plane, --regions, --fit and --king")
     options.only_with("floor", args.measured is None and args.regions is None, "--plane, --fit or --king")
     options.only_with("nodes", args.fit is None, "a file MEASURED, --plane or --king")
-    for name in ("form", "unit", "gaps"):
-        options.only_with(name, args.measured is not None, "a file MEASURED")
+    options.all_only_with(("form", "unit", "gaps"), args.measured is not None, "a file MEASURED")
     if args.names is None:
         options.whole("nodes", 64, 2, MOST_NODES)
     return options
