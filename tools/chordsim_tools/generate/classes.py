@@ -47,13 +47,19 @@ def kind_of(plan: Plan, node: int, is_initial: bool) -> Kind:
     return plan.hosts[node].group, is_initial, churns(plan, node), node < plan.bootstraps, place
 
 
+def nodes_by_kind(plan: Plan, initial: set[int]) -> dict[Kind, list[int]]:
+    """The nodes of each kind."""
+    kinds: dict[Kind, list[int]] = {}
+    for node in range(plan.nodes):
+        kinds.setdefault(kind_of(plan, node, node in initial), []).append(node)
+    return kinds
+
+
 def classes_of(plan: Plan, initial: set[int]) -> list[NodeClass]:
     """The nodes of each kind, in the order of their first nodes. If a plan has no classes there are none."""
     if not plan.is_classed:
         return []
-    kinds: dict[Kind, list[int]] = {}
-    for node in range(plan.nodes):
-        kinds.setdefault(kind_of(plan, node, node in initial), []).append(node)
+    kinds = nodes_by_kind(plan, initial)
     if len(kinds) > MOST_CLASSES:
         told = f"the nodes are of {len(kinds)} kinds, and a scenario has at most {MOST_CLASSES} classes"
         raise Failure(2, f"--nodes: {told}; fewer groups make fewer")
@@ -118,9 +124,8 @@ def prefix_of(plan: Plan, group: str, letter: str) -> str:
 def names_of(plan: Plan, classes: Iterable[NodeClass]) -> list[str]:
     """The name of each node."""
     names = [host.name for host in plan.hosts]
-    for one in classes:
-        for place, node in enumerate(one.nodes):
-            names[node] = one.name(place)
+    for one, place, node in ((one, place, node) for one in classes for place, node in enumerate(one.nodes)):
+        names[node] = one.name(place)
     return names
 
 

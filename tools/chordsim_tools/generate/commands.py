@@ -3,7 +3,7 @@
 from bisect import bisect_left, bisect_right
 from collections.abc import Iterable, Iterator
 from decimal import Decimal
-from itertools import takewhile
+from itertools import islice, takewhile
 from typing import NamedTuple
 
 from chordsim_tools.cli import Failure, Progress
@@ -221,15 +221,21 @@ def drawn_lookups(
     lookups: list[Command] = []
     with Progress("nodes whose lookups are drawn", plan.nodes) as progress:
         for node, spans in enumerate(lives):
-            begins = [life.begin for life in spans]
-            for at_us, key in lookups_of_node(plan, rate, keys, streams.lookups[node]):
-                place = bisect_right(begins, at_us) - 1
-                if place >= 0 and at_us < spans[place].end:
-                    lookups.append(Command(at_us, LOOKUP, node, key))
-                if len(lookups) > most:
-                    raise too_many("--lookups")
+            drawn = lookups_of_node(plan, rate, keys, streams.lookups[node])
+            lookups += islice(lookups_while_up(drawn, node, spans), most + 1 - len(lookups))
+            if len(lookups) > most:
+                raise too_many("--lookups")
             progress.one_more()
     return lookups
+
+
+def lookups_while_up(drawn: Iterable[tuple[int, int]], node: int, lives: list[Life]) -> Iterator[Command]:
+    """Those of the lookups that are drawn for a node that begin while it is up."""
+    begins = [life.begin for life in lives]
+    for at_us, key in drawn:
+        place = bisect_right(begins, at_us) - 1
+        if place >= 0 and at_us < lives[place].end:
+            yield Command(at_us, LOOKUP, node, key)
 
 
 def lookups_of_node(plan: Plan, rate: Decimal, keys: Keys, draws: Draws) -> Iterator[tuple[int, int]]:

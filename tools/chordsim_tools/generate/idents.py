@@ -2,6 +2,7 @@
 
 import hashlib
 from collections.abc import Sequence
+from itertools import count
 
 from chordsim_tools.draws import Draws
 from chordsim_tools.reference.circle import Circle
@@ -11,10 +12,8 @@ def seeded(names: Sequence[str], seed: int, bits: int) -> dict[int, int]:
     """For each node the leading bits of the SHA-256 digest of its name, the seed and the least number that is free."""
     taken: dict[int, int] = {}
     for node, name in enumerate(names):
-        number = 0
-        while (ident := leading(f"{name} {seed} {number}", bits)) in taken:
-            number += 1
-        taken[ident] = node
+        idents = (leading(f"{name} {seed} {number}", bits) for number in count())
+        taken[next(ident for ident in idents if ident not in taken)] = node
     return {node: ident for ident, node in taken.items()}
 
 
@@ -30,7 +29,14 @@ def of_names(names: Sequence[str], bits: int, draws: Draws) -> dict[int, int]:
     taken: set[int] = set()
     for node, name in enumerate(names):
         ident = circle.identifier_of_name(name)
-        while ident in taken:
-            drawn[node] = ident = draws.key(bits)
+        if ident in taken:
+            drawn[node] = ident = free_ident(taken, bits, draws)
         taken.add(ident)
     return drawn
+
+
+def free_ident(taken: set[int], bits: int, draws: Draws) -> int:
+    """The first identifier that is drawn and not taken."""
+    while (ident := draws.key(bits)) in taken:
+        pass
+    return ident

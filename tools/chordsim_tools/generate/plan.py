@@ -170,12 +170,17 @@ def is_stationary(options: Options) -> bool:
     for name in ("initial", "arrive"):
         if options.has(name):
             options.refuse(name, "not with --stationary, which draws who is up at the start")
+    check_means(options)
+    return True
+
+
+def check_means(options: Options) -> None:
+    """Refuses laws that have no mean."""
     laws: list[tuple[str, Distribution | None]] = [(name, options.get(name, None)) for name in ("lifetime", "down")]
     laws += [("group", law) for group in groups_of(options) for law in (group.lifetime, group.down)]
     for name, law in laws:
         if law is not None and mean_of(law) is None:
             options.refuse(name, "with --stationary ALPHA is above 1: a law without a mean has no equilibrium")
-    return True
 
 
 def coordinates_of(options: Options, hosts: tuple[Host, ...]) -> tuple[Coordinates, ...]:
