@@ -170,18 +170,21 @@ def in_text(findings: Findings) -> Iterator[str]:
     if total > 1:
         yield f"{total} faults:"
     for number, one in enumerate(findings.faults, start=1):
-        yield ""
-        where = "" if one.line is None else f", {'near line' if one.near else 'line'} {one.line}"
-        where += "" if one.column is None else f", column {one.column}"
-        yield f"{number}. {one.fault}"
-        yield f"   {one.file}{where}: {one.what}"
-        yield f"   there:   {one.found}"
-        yield f"   allowed: {one.allowed}"
-        for hint in one.hints:
-            yield f"   hint:    {hint}"
-    for kind, number in findings.left_out.items():
-        yield ""
-        yield f"and {number} more of {kind}"
+        yield from fault_text(number, one)
+    left_out = (f"and {number} more of {kind}" for kind, number in findings.left_out.items())
+    yield from (part for told in left_out for part in ("", told))
+
+
+def fault_text(number: int, one: Explanation) -> Iterator[str]:
+    """The lines of a fault."""
+    where = "" if one.line is None else f", {'near line' if one.near else 'line'} {one.line}"
+    where += "" if one.column is None else f", column {one.column}"
+    yield ""
+    yield f"{number}. {one.fault}"
+    yield f"   {one.file}{where}: {one.what}"
+    yield f"   there:   {one.found}"
+    yield f"   allowed: {one.allowed}"
+    yield from (f"   hint:    {hint}" for hint in one.hints)
 
 
 def unexplained(findings: Findings) -> Iterator[str]:

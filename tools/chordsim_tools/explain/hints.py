@@ -73,13 +73,16 @@ def of_other_table(name: str, owners: list[str]) -> str:
 
 def later_keys(profile: Profile) -> dict[str, tuple[int, str]]:
     """The keys that this profile does not have: the number of the first one that has them, and their table's kind."""
+    present = {kind: {key.name for key in keys} for kind, keys in profile.tables.items()}
+    of_all = (
+        (number, kind, key.name)
+        for number, other in PROFILES.items() for kind, keys in other.tables.items() for key in keys
+    )
     later: dict[str, tuple[int, str]] = {}
-    for number, other in PROFILES.items():
-        for kind, keys in other.tables.items():
-            # A class has mostly keys of a node.
-            present = {key.name for key in profile.tables.get(kind, profile.tables["node"])}
-            for name in (key.name for key in keys if key.name not in present):
-                later.setdefault(name, (number, kind))
+    for number, kind, name in of_all:
+        # A class has mostly keys of a node.
+        if name not in present.get(kind, present["node"]):
+            later.setdefault(name, (number, kind))
     return later
 
 

@@ -147,8 +147,7 @@ def second_ring_traps(top: dict[str, Any]) -> list[str]:
         if makers and len(up.union(makers)) > 1:
             told = f"commands: {makers[-1]} joins through itself at {time_text(time)}, while others are up"
             return [f"{told}: it makes a second ring, and two rings never meet"]
-        for command in commands:
-            move(up, command)
+        move_all(up, commands)
     return []
 
 
@@ -199,6 +198,12 @@ def move(up: set[Any], command: dict[str, Any]) -> None:
         up.discard(command["node"])
     elif command["do"] == "join":
         up.add(command["node"])
+
+
+def move_all(up: set[Any], commands: list[dict[str, Any]]) -> None:
+    """Does to the nodes that are up what these commands say, one after the other."""
+    for command in commands:
+        move(up, command)
 
 
 def empty_from(top: dict[str, Any]) -> int | None:
