@@ -72,10 +72,8 @@ class Members:
         first, last = self.numbers(begin, end)
         start, places = self.nearest(first)
         way = Way(key, self.idents[name], places)
-        for place, sign in reversed(self.changes[first:start]):
-            way.change(place, -sign)
-        for place, sign in self.changes[start:first]:
-            way.change(place, sign)
+        way.change_all((place, -sign) for place, sign in reversed(self.changes[first:start]))
+        way.change_all(self.changes[start:first])
         return way.leads_there() or any(way.after(change) for change in self.changes[first:last])
 
     def owners(self, key: int, begin: int, end: int) -> list[tuple[int, str | None]]:
@@ -152,6 +150,11 @@ class Way:
             self.is_there = sign > 0
         elif (self.key <= place) + (place < self.place) + (self.place < self.key) == 2:
             self.before += sign
+
+    def change_all(self, changes: Iterable[tuple[int, int]]) -> None:
+        """Members come or go, one after the other."""
+        for place, sign in changes:
+            self.change(place, sign)
 
     def leads_there(self) -> bool:
         """Whether the node is the first member on the way."""

@@ -276,15 +276,12 @@ def great_integer(value: Any) -> int | None:
 def places_of(top: dict[str, Any]) -> list[Place]:
     """All tables of the document, in the order top, churn, lookups, nodes, classes of nodes, commands."""
     tables = profile_of(top).tables
-    places = [Place("top", top, tables["top"])]
-    for name in ("churn", "lookups"):
-        if isinstance(top.get(name), dict):
-            places.append(Place(name, top[name], tables[name]))
-    for name in ("node", "nodes", "command"):
-        items = top.get(name) if name in tables else None
-        for number, item in enumerate(items if isinstance(items, list) else [], start=1):
-            if isinstance(item, dict):
-                places.append(Place(f"{name} {number}", item, tables[name]))
+    single = [name for name in ("churn", "lookups") if isinstance(top.get(name), dict)]
+    places = [Place("top", top, tables["top"]), *(Place(name, top[name], tables[name]) for name in single)]
+    for name in (one for one in ("node", "nodes", "command") if one in tables):
+        items = top[name] if isinstance(top.get(name), list) else []
+        numbered = ((number, item) for number, item in enumerate(items, start=1) if isinstance(item, dict))
+        places += (Place(f"{name} {number}", item, tables[name]) for number, item in numbered)
     return places
 
 
