@@ -176,14 +176,19 @@ def fish_completions(tools: list[Command]) -> str:
         if all(argument.names for argument in tool.arguments) and not tool.commands:
             lines.append(f"complete -c {tool.name} -f")
         lines += [fish_option(tool.name, option) for option in options_of(tool)]
-        for part in tool.commands:
-            name = last_name(part)
-            lines.append(f"complete -c {tool.name} -n __fish_use_subcommand -f -a {name} -d {quoted(part.short)}")
-            lines += [
-                fish_option(f"{tool.name} -n '__fish_seen_subcommand_from {name}'", option)
-                for option in options_of(part) if "--help" not in option.names
-            ]
+        lines += [line for part in tool.commands for line in fish_command(tool, part)]
     return "\n".join(lines) + "\n"
+
+
+def fish_command(tool: Command, part: Command) -> list[str]:
+    """The lines of a command of a tool, and of its options."""
+    name = last_name(part)
+    seen = f"{tool.name} -n '__fish_seen_subcommand_from {name}'"
+    options = [option for option in options_of(part) if "--help" not in option.names]
+    return [
+        f"complete -c {tool.name} -n __fish_use_subcommand -f -a {name} -d {quoted(part.short)}",
+        *(fish_option(seen, option) for option in options),
+    ]
 
 
 def fish_option(command: str, option: Argument) -> str:
