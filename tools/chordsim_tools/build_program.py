@@ -115,15 +115,17 @@ def folder_of(name: str) -> Path:
 def sources_of(name: str) -> list[Source]:
     """The code, definitions and proofs of a crate, by their names."""
     top = folder_of(name)
-    found = []
+    found: list[Source] = []
     for folder, folders, files in os.walk(top):
         folders[:] = [below for below in folders if below not in LEFT_OUT]
-        for file in files:
-            if file.endswith((".rt", ".antt")):
-                path = Path(folder, file)
-                status = path.stat()
-                found.append(Source(str(path.relative_to(top)), status.st_ino, status.st_ctime_ns))
+        found += [source_of(Path(folder, file), top) for file in files if file.endswith((".rt", ".antt"))]
     return sorted(found)
+
+
+def source_of(path: Path, top: Path) -> Source:
+    """A file of a crate, whose folder is given."""
+    status = path.stat()
+    return Source(str(path.relative_to(top)), status.st_ino, status.st_ctime_ns)
 
 
 def read_crates(kit_id: str) -> list[Crate]:
@@ -296,14 +298,22 @@ class Build:
             while self.stopped is None and (self.running or not (self.failed or len(self.built) == len(self.own))):
                 self.start_ready(jobs)
                 time.sleep(PAUSE)
-                for job in [job for job in self.running if job.process.poll() is not None]:
-                    self.finish(job)
+                self.finish_ended()
         finally:
-            for job in self.running:
-                with contextlib.suppress(ProcessLookupError):
-                    os.killpg(job.process.pid, signal.SIGKILL)
-                job.process.wait()
-                remove(self.result(job.crate.name))
+            self.end_all()
+
+    def finish_ended(self) -> None:
+        """Takes the ends of the commands that have ended."""
+        for job in [job for job in self.running if job.process.poll() is not None]:
+            self.finish(job)
+
+    def end_all(self) -> None:
+        """Ends the commands that run."""
+        for job in self.running:
+            with contextlib.suppress(ProcessLookupError):
+                os.killpg(job.process.pid, signal.SIGKILL)
+            job.process.wait()
+            remove(self.result(job.crate.name))
 
     def report(self) -> None:
         """Fails if a crate is not built, and prints what rattle printed of it."""
