@@ -2,7 +2,7 @@
 
 import functools
 import tempfile
-from collections.abc import Callable
+from collections.abc import Callable, Iterator
 from pathlib import Path
 from typing import Any
 
@@ -47,17 +47,21 @@ def run_by_dask(wanted: list[Wanted], address: str, program_sum: str, progress: 
 def gather(package: Any, client: Any, wanted: list[Wanted], program_sum: str, progress: RunProgress) -> None:
     """Waits for all tasks. The first one that fails ends the work; what was done before is kept."""
     takers = {client.submit(answer_of, task, program_sum, pure=False): (task, take) for task, take in wanted}
-    left = set(takers)
+    for future in as_they_end(package, set(takers), progress):
+        task, take = takers.pop(future)
+        take(checked(package, future, task))
+        progress.one_more(task.name.rpartition(SEED)[0])
+
+
+def as_they_end(package: Any, left: set[Any], progress: RunProgress) -> Iterator[Any]:
+    """These tasks, each when it has ended."""
     while left:
         try:
             done = package.wait(left, timeout=1, return_when="FIRST_COMPLETED").done
         except TimeoutError:
             done = set()
-        for future in done:
-            left.discard(future)
-            task, take = takers.pop(future)
-            take(checked(package, future, task))
-            progress.one_more(task.name.rpartition(SEED)[0])
+        left -= done
+        yield from done
         progress.tick()
 
 

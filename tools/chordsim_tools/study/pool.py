@@ -30,18 +30,33 @@ def work_all(works: list[Work], jobs: int, progress: RunProgress) -> None:
     try:
         waiting = list(reversed(works))
         while waiting or going:
-            while waiting and len(going) < jobs:
-                start(waiting.pop(), going)
-            for sentinel in [place for place in connection.wait(list(going), 1) if isinstance(place, int)]:
-                process, pipe, name, begun = going.pop(sentinel)
-                finish(process, pipe, name)
-                progress.one_more(name.rpartition(SEED)[0], time.monotonic() - begun)
+            start_some(waiting, going, jobs)
+            finish_some(going, progress)
             progress.tick()
     finally:
-        for process, *_ in going.values():
-            process.terminate()
-        for process, *_ in going.values():
-            process.join()
+        end_all([process for process, *_ in going.values()])
+
+
+def start_some(waiting: list[Work], going: Going, jobs: int) -> None:
+    """Starts the pieces of work for which there is room, the last ones first."""
+    while waiting and len(going) < jobs:
+        start(waiting.pop(), going)
+
+
+def finish_some(going: Going, progress: RunProgress) -> None:
+    """Takes the ends of the pieces of work that end within a second."""
+    for sentinel in [place for place in connection.wait(list(going), 1) if isinstance(place, int)]:
+        process, pipe, name, begun = going.pop(sentinel)
+        finish(process, pipe, name)
+        progress.one_more(name.rpartition(SEED)[0], time.monotonic() - begun)
+
+
+def end_all(processes: list[BaseProcess]) -> None:
+    """Ends processes: first all are told, then all are waited for."""
+    for process in processes:
+        process.terminate()
+    for process in processes:
+        process.join()
 
 
 def in_process(work: Callable[[], None], pipe: connection.Connection) -> None:
