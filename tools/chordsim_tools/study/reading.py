@@ -2,6 +2,7 @@
 
 from collections.abc import Callable, Iterable
 from functools import cached_property
+from itertools import chain
 
 Taker = Callable[[int, list[str]], None]
 """Takes a line: its time and its fields."""
@@ -30,9 +31,8 @@ class Readers:
     def __init__(self, *readers: LineReader) -> None:
         """What each of them wants."""
         self.takers: dict[str, list[Taker]] = {}
-        for reader in readers:
-            for word, take in reader.takers():
-                self.takers.setdefault(word, []).append(take)
+        for word, take in chain.from_iterable(reader.takers() for reader in readers):
+            self.takers.setdefault(word, []).append(take)
 
     def read(self, lines: Iterable[str]) -> list[str]:
         """Takes lines; gives those that have no time."""

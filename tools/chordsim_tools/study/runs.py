@@ -5,6 +5,7 @@ import json
 import tomllib
 from dataclasses import dataclass
 from functools import partial
+from itertools import product
 from pathlib import Path
 from typing import Any
 
@@ -210,26 +211,28 @@ def whole_result(run: Run) -> dict[str, Any]:
 
 def remove_parts(runs: list[Run]) -> None:
     """Removes what a process that was ended had begun to write. Another machine's files are left alone."""
-    for run in runs:
-        for ending in ("toml", "csv", "json"):
-            with contextlib.suppress(OSError):
-                run.stem.with_name(f"{run.stem.name}.{ending}.part").unlink()
+    for run, ending in product(runs, ("toml", "csv", "json")):
+        with contextlib.suppress(OSError):
+            run.stem.with_name(f"{run.stem.name}.{ending}.part").unlink()
 
 
 def runs_of(study: Study, done: Path, program_sum: str) -> list[Run]:
     """All runs, settings first and then seeds."""
     runs = []
-    for setting in study.settings():
-        for seed in study.seeds:
-            text, latency = files_of(study, setting, seed)
-            latency_sum = None if latency is None else sum_of(latency)
-            spans = tuple((name, *ends) for name, ends in study.spans.items())
-            made_of = json.dumps([text, latency_sum, program_sum, *study.times(), *spans, READING])
-            name = f"{label(setting)}, seed={seed}"
-            task = Task(name, text, latency, *study.times(), sum_of(made_of), spans)
-            stem = file_stem(",".join(f"{key}={value}" for key, value in (*setting, ("seed", seed))))
-            runs.append(Run(study, setting, seed, done / stem, task))
+    for setting, seed in product(study.settings(), study.seeds):
+        stem = file_stem(",".join(f"{key}={value}" for key, value in (*setting, ("seed", seed))))
+        runs.append(Run(study, setting, seed, done / stem, task_of(study, setting, seed, program_sum)))
     return runs
+
+
+def task_of(study: Study, setting: Setting, seed: int, program_sum: str) -> Task:
+    """The task of a run: its files, and the sum of what its result depends on."""
+    text, latency = files_of(study, setting, seed)
+    latency_sum = None if latency is None else sum_of(latency)
+    spans = tuple((name, *ends) for name, ends in study.spans.items())
+    made_of = json.dumps([text, latency_sum, program_sum, *study.times(), *spans, READING])
+    name = f"{label(setting)}, seed={seed}"
+    return Task(name, text, latency, *study.times(), sum_of(made_of), spans)
 
 
 def files_of(study: Study, setting: Setting, seed: int) -> tuple[str, bytes | None]:

@@ -95,11 +95,10 @@ class Search:
 
     def beside(self, place: Place) -> list[Place]:
         """The places one step away on one axis."""
-        found = []
+        found: list[Place] = []
         for number, axis in enumerate(self.axes):
-            for to in (place[number] - self.step(axis), place[number] + self.step(axis)):
-                if 0 <= to <= axis.steps:
-                    found.append((*place[:number], to, *place[number + 1 :]))
+            steps = (place[number] - self.step(axis), place[number] + self.step(axis))
+            found += [(*place[:number], to, *place[number + 1 :]) for to in steps if 0 <= to <= axis.steps]
         return found
 
     def begun(self) -> list[Group]:
