@@ -17,20 +17,31 @@ Settings = list[tuple[Task, dict[str, Any]]]
 def tell_traps(tasks: Iterable[Task], program: Path, told: set[str]) -> None:
     """A line for each kind of trap, which begins with its key; those in `told` were told before."""
     settings = [(task, tomllib.loads(task.scenario)) for task in tasks]
-    found: dict[str, list[str]] = {}
-    for task, top in settings:
-        for trap in traps_of(top, greatest_latency(top, task.latency or b"")):
-            found.setdefault(trap.partition(" ")[0], []).append(f"{task.name}: {trap}")
+    found = traps_by_key(settings)
     if settings and "max_events" not in told:
         beyond = settings_beyond(settings, program)
         found |= {"max_events": beyond} if beyond else {}
-    lines = []
-    for kind, traps in found.items():
-        if kind not in told:
-            others = len(traps) - 1
-            lines.append(traps[0] + (f" (and in {others} more setting{'' if others == 1 else 's'})" if others else ""))
+    lines = [first_told(traps) for kind, traps in found.items() if kind not in told]
     told |= set(found)
     warn(lines)
+
+
+def traps_by_key(settings: Settings) -> dict[str, list[str]]:
+    """The traps of settings, each with the name of its setting, by their keys."""
+    found: dict[str, list[str]] = {}
+    traps = (
+        (task, trap)
+        for task, top in settings for trap in traps_of(top, greatest_latency(top, task.latency or b""))
+    )
+    for task, trap in traps:
+        found.setdefault(trap.partition(" ")[0], []).append(f"{task.name}: {trap}")
+    return found
+
+
+def first_told(traps: list[str]) -> str:
+    """The first of these traps, and in how many more settings the others are."""
+    others = len(traps) - 1
+    return traps[0] + (f" (and in {others} more setting{'' if others == 1 else 's'})" if others else "")
 
 
 def settings_beyond(settings: Settings, program: Path) -> list[str]:

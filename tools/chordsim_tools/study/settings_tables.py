@@ -2,6 +2,7 @@
 
 from collections.abc import Callable
 from functools import partial
+from itertools import count
 from typing import Any
 
 from chordsim_tools.quantities import time_text
@@ -105,12 +106,14 @@ def table_text(tables: Tables, found: list[Summary], columns: list[Column]) -> s
     worlds = of_each_world(tables, found)
     is_divided = 1 < len(worlds) < len(found)
     lines = [["no.", "setting", *(name for name, _ in columns)], ["---"] * (2 + len(columns))]
-    count = 0
+    numbers = count(1)
     for world, settings in worlds.items():
         lines += [["", f"**{world}**", *[""] * len(columns)]] if is_divided else []
-        for count, one in enumerate(settings, start=count + 1):
-            label = choice_label(tables, one) if is_divided else one.label
-            lines.append([str(count), label, *(cell(one) for _, cell in columns)])
+        labels = [choice_label(tables, one) if is_divided else one.label for one in settings]
+        lines += [
+            [str(next(numbers)), label, *(cell(one) for _, cell in columns)]
+            for one, label in zip(settings, labels, strict=True)
+        ]
     return "".join("| " + " | ".join(cells) + " |\n" for cells in lines)
 
 

@@ -54,11 +54,10 @@ def runs_text(rows: list[Row], sizes: Sizes | None = None) -> str:
     lines: list[list[Any]] = []
     later = [word for word in LATER if any(word in result["report"] for _, _, result in rows)]
     for setting, seed, result in rows:
-        report = dict(result["report"])
-        for word in later:
-            report.setdefault(word, 0)
+        report = result["report"]
+        missing = {word: 0 for word in later if word not in report}
         varied: dict[str, Any] = dict(setting)
-        numbers = {**varied, "seed": seed, **report, **result["numbers"]}
+        numbers = {**varied, "seed": seed, **report, **missing, **result["numbers"]}
         if sizes:
             numbers["bytes"] = bytes_of(sizes, result["numbers"])
         if not lines:
@@ -73,9 +72,8 @@ def series_text(study: Study, rows: list[Row]) -> str:
     """One line a run and step of time."""
     lines: list[list[Any]] = [[*study.vary, "seed", "from_us", *SERIES]]
     for setting, seed, result in rows:
-        values = [value for _, value in setting]
-        for number, step in enumerate(result["series"]):
-            lines.append([*values, seed, number * study.window_us, *step])
+        head = [*(value for _, value in setting), seed]
+        lines += [[*head, number * study.window_us, *step] for number, step in enumerate(result["series"])]
     return csv_text(lines)
 
 

@@ -41,12 +41,10 @@ class View:
             "judged-lookups": len(table), "judged-found": len(table.answered), "judged-lost": len(table.lost),
             "right": right, "wrong": len(table.answered) - right,
         }
-        for word, values in (("us", judged.times.ended), ("hops", judged.hops)):
-            for share in PERCENTILES:
-                numbers[f"{word}-p{share}"] = ranked(values, share)
-        for part, time in judged.times.percentiles((*PERCENTILES, 99.9)).items():
-            numbers[f"all-us-p{part}"] = time
-        return numbers | {
+        numbers |= {f"us-p{share}": ranked(judged.times.ended, share) for share in PERCENTILES}
+        numbers |= {f"hops-p{share}": ranked(judged.hops, share) for share in PERCENTILES}
+        times = judged.times.percentiles((*PERCENTILES, 99.9))
+        return numbers | {f"all-us-p{share}": time for share, time in times.items()} | {
             **{f"ended-{word}": table.sum_of(word) for word in ("us", "hops", "timeouts")},
             "right-defensible": judged.defensible(),
             "wrong-down": judged.names_down, "wrong-newcomer": judged.misses_newcomer,
