@@ -7,6 +7,7 @@ else is whole numbers and decimals with 20 digits, rounded as decimals are, so t
 import math
 from array import array
 from bisect import bisect_right
+from collections.abc import Iterable
 from dataclasses import dataclass
 from decimal import ROUND_HALF_EVEN, Context, Decimal
 from itertools import accumulate
@@ -43,6 +44,14 @@ class Draws:
         """A number below 2^bits, from two words, or four if there are more than 64 bits."""
         wide = self.half_words(2) if bits <= 64 else self.half_words(4)
         return wide >> (-bits % 64)
+
+    def choose(self, numbers: Iterable[int], count: int) -> list[int]:
+        """So many of these numbers, in ascending order. Each choice is equally likely."""
+        pool = list(numbers)
+        for place in range(count):
+            other = self.between(place, len(pool) - 1)
+            pool[place], pool[other] = pool[other], pool[place]
+        return sorted(pool[:count])
 
     def half_words(self, count: int) -> int:
         """The number that `count` times 32 bits write, the first ones the highest."""

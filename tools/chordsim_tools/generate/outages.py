@@ -90,12 +90,7 @@ def is_up(lives: Sequence[Life], time: int) -> bool:
 
 def chosen(nodes: list[int], share: Decimal, draws: Draws) -> list[int]:
     """A share of the nodes, rounded, in their order. Each choice is equally likely."""
-    pool = list(nodes)
-    count = int((share * len(pool) + 50) // 100)
-    for place in range(count):
-        other = draws.between(place, len(pool) - 1)
-        pool[place], pool[other] = pool[other], pool[place]
-    return sorted(pool[:count])
+    return draws.choose(nodes, int((share * len(nodes) + 50) // 100))
 
 
 def without(lives: list[Life], begin: int, end: int | None) -> list[Life]:

@@ -135,11 +135,7 @@ def gaps_of(trips: RoundTrips) -> list[int]:
 def choose(gaps: list[int], count: int, draws: Draws) -> list[int]:
     """`count` hosts, drawn among those that have at most g gaps, for the least g by which they are enough."""
     limit = sorted(gaps)[count - 1]
-    pool = [host for host, number in enumerate(gaps) if number <= limit]
-    for place in range(count):
-        other = draws.between(place, len(pool) - 1)
-        pool[place], pool[other] = pool[other], pool[place]
-    return sorted(pool[:count])
+    return draws.choose((host for host, number in enumerate(gaps) if number <= limit), count)
 
 
 @dataclass
