@@ -172,6 +172,12 @@ class ToolParser(Parser):
         self.add_argument("--version", action=Version, nargs=0, default=argparse.SUPPRESS, help=meaning)
 
 
+def add_files(parser: argparse.ArgumentParser) -> None:
+    """The arguments for a scenario and its latency file."""
+    parser.add_argument("scenario", metavar="SCENARIO", help="the scenario file (TOML)")
+    parser.add_argument("latency", metavar="LATENCY", nargs="?", help="the latency file (CSV)")
+
+
 class Progress:
     """A line on standard error, if that is a terminal, on work that takes longer than two seconds."""
 

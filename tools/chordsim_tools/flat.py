@@ -3,7 +3,7 @@
 from collections.abc import Iterator
 from dataclasses import astuple
 
-from chordsim_tools.cli import Parser, run
+from chordsim_tools.cli import Parser, add_files, run
 from chordsim_tools.files import check_output, put, read_input
 from chordsim_tools.known import known
 from chordsim_tools.scenario.coordinates import Coordinates
@@ -40,8 +40,7 @@ interrupted. A file is whole or not there."""
 def parser_of() -> Parser:
     """The parser of the arguments."""
     parser = Parser(PROG, HELP, EPILOG, strict=True)
-    parser.add_argument("scenario", metavar="SCENARIO", help="the scenario file (TOML)")
-    parser.add_argument("latency", metavar="LATENCY", nargs="?", help="the latency file (CSV)")
+    add_files(parser)
     parser.add_argument("-o", dest="file", metavar="FILE", help="write to this file, not to standard output")
     return parser
 

@@ -6,7 +6,7 @@ from collections import Counter
 from collections.abc import Iterator
 from dataclasses import asdict, dataclass
 
-from chordsim_tools.cli import Progress, ToolParser, run
+from chordsim_tools.cli import Progress, ToolParser, add_files, run
 from chordsim_tools.explain.files import Explanation, Files
 from chordsim_tools.explain.positions import Positions
 from chordsim_tools.explain.program import answer_of
@@ -84,8 +84,7 @@ class Findings:
 def parser_of() -> ToolParser:
     """The parser of the arguments."""
     parser = ToolParser(PROG, HELP, EXAMPLES)
-    parser.add_argument("scenario", metavar="SCENARIO", help="the scenario file (TOML)")
-    parser.add_argument("latency", metavar="LATENCY", nargs="?", help="the latency file (CSV)")
+    add_files(parser)
     parser.add_argument("--json", action="store_true", help="print one JSON object, for other programs")
     parser.add_argument("--most", metavar="N", type=count, help="print at most N faults of each kind (default: all)")
     parser.add_argument("--alone", action="store_true", help="do not ask the program")

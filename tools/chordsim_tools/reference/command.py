@@ -6,7 +6,7 @@ from collections.abc import Iterable, Iterator
 from itertools import zip_longest
 from typing import TextIO
 
-from chordsim_tools.cli import Failure, Refused, ToolParser, close_quietly, run, write_out
+from chordsim_tools.cli import Failure, Refused, ToolParser, add_files, close_quietly, run, write_out
 from chordsim_tools.files import check_output, read_input
 from chordsim_tools.place import tool
 from chordsim_tools.reference.report import Report
@@ -36,8 +36,7 @@ status: 0 all was done; 1 a file is refused, or the traces differ; 2 the argumen
 def parser_of() -> ToolParser:
     """The parser of the arguments."""
     parser = ToolParser(PROG, HELP, EXAMPLES)
-    parser.add_argument("scenario", metavar="SCENARIO", help="the scenario file (TOML)")
-    parser.add_argument("latency", metavar="LATENCY", nargs="?", help="the latency file (CSV)")
+    add_files(parser)
     where = parser.add_mutually_exclusive_group()
     where.add_argument("--trace", metavar="FILE", help="write the trace to this file, not to standard output")
     where.add_argument("--report", action="store_true", help="print no trace")
