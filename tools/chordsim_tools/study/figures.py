@@ -2,7 +2,7 @@
 
 import io
 import textwrap
-from collections.abc import Iterable
+from collections.abc import Iterable, Sequence
 from dataclasses import dataclass
 from typing import Any
 
@@ -56,6 +56,17 @@ def hide(places: Iterable[Any]) -> None:
     """Hides axes that nothing is drawn in."""
     for axes in places:
         axes.set_axis_off()
+
+
+def ends_of(places: Sequence[Any]) -> tuple[float, float]:
+    """The lowest and the highest end of some axes."""
+    return min(axes.get_ylim()[0] for axes in places), max(axes.get_ylim()[1] for axes in places)
+
+
+def set_ends(places: Sequence[Any], low: float, high: float) -> None:
+    """Gives some axes the same ends."""
+    for axes in places:
+        axes.set_ylim(low, high)
 
 
 @dataclass(frozen=True)

@@ -7,7 +7,7 @@ from typing import Any
 
 from chordsim_tools.known import known
 from chordsim_tools.study.columns import Column, ring_lost
-from chordsim_tools.study.figures import Plotter, grid, hide
+from chordsim_tools.study.figures import Plotter, ends_of, grid, hide, set_ends
 from chordsim_tools.study.interval import LEAST_SEEDS, Interval
 from chordsim_tools.study.limits import draw_across, handle, limits_of
 from chordsim_tools.study.looks import Axis, Layout, Look, Values, setting_words
@@ -180,11 +180,9 @@ def same_limits(block: Any, column: Column, values: list[float]) -> None:
     if column.is_wide(values):
         for axes in block:
             axes.set_yscale("log")
-    low = min(axes.get_ylim()[0] for axes in block)
-    high = max(axes.get_ylim()[1] for axes in block)
+    low, high = ends_of(block)
     if column.is_share:
         low, high = max(low, 0), min(high, 100)
     elif block[0].get_yscale() != "log":
         low, high = 0, high * 1.04
-    for axes in block:
-        axes.set_ylim(low, known(high))
+    set_ends(block, low, high)

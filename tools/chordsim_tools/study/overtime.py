@@ -6,7 +6,7 @@ from itertools import groupby
 from typing import Any
 
 from chordsim_tools.study.columns import ring_lost
-from chordsim_tools.study.figures import Plotter
+from chordsim_tools.study.figures import Plotter, ends_of, set_ends
 from chordsim_tools.study.interval import LEAST_SEEDS, interval
 from chordsim_tools.study.limits import draw_across, draw_in_spans, handle, limits_of, span_limits
 from chordsim_tools.study.looks import FEW, Layout, Look, Values
@@ -245,8 +245,6 @@ def limit_rows(plots: list[SmallPlot], quantities: Sequence[Quantity]) -> None:
 
 def row_limits(rows: list[Any], most: float) -> None:
     """The same scale for a quantity in all rows, from 0; shares keep to where they are, up to 100%."""
-    low = 0.0 if most != 100 else max(0.0, min(axes.get_ylim()[0] for axes in rows))
-    high = max(axes.get_ylim()[1] for axes in rows)
-    high = high if most != 100 else 100.0
-    for axes in rows:
-        axes.set_ylim(low, max(high, low + 1))
+    low, high = ends_of(rows)
+    low, high = (max(0.0, low), 100.0) if most == 100 else (0.0, high)
+    set_ends(rows, low, max(high, low + 1))
