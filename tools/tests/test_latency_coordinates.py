@@ -127,7 +127,8 @@ class FitTest(Folder):
         ):
             name = self.file("links.csv", text)
             assert ended(main, "--fit", name) == (1, "", f"refused: {name}: {reason}\n")
-        assert ended(main, "--fit", "/nowhere/x") == (1, "", "refused: cannot read /nowhere/x: No such file or directory\n")
+        refused = "refused: cannot read /nowhere/x: No such file or directory\n"
+        assert ended(main, "--fit", "/nowhere/x") == (1, "", refused)
 
 
 class KingTest(Folder):

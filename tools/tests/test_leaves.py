@@ -111,7 +111,7 @@ class NeighbourTest(TestCase):
         assert self.told(1, Leave(0, [2, 0])) == ([], 2, [2, 0], {2: 2, 3: 0})
 
     def test_predecessor(self) -> None:
-        """n3 is also the second successor. n1 takes its place as predecessor and as finger, and n0 itself in the list."""
+        """n3 is also the second successor. n1 takes its place as predecessor and finger, and n0 itself in the list."""
         assert self.told(2, Leave(1, [0, 1])) == ([], 1, [1, 0], {2: 1, 3: 0})
 
     def test_no_other_predecessor(self) -> None:

@@ -43,7 +43,14 @@ create_alone = true
 churn = { life_min_us = 1, life_max_us = 2, down_min_us = 3, down_max_us = 4, leave_ppm = 5 }
 lookups = { gap_min_us = 5, gap_max_us = 6 }
 command = [{ at_us = 7, do = "join", node = "n1", via = "n1" }, { at_us = 8, do = "lookup", node = "n0", key = "f" }]
-""" + IN_THE_PLANE + 'churn = true\nbootstrap = true\n[[node]]\nname = "n\\u0034"\nid = "ff"\nx_us = 1\ny_us = 0x10\n' + """\
+""" + IN_THE_PLANE + """\
+churn = true
+bootstrap = true
+[[node]]
+name = "n\\u0034"
+id = "ff"
+x_us = 1
+y_us = 0x10
 [[nodes]]
 count = 2
 prefix = "m"

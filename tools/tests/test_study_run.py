@@ -496,7 +496,8 @@ class StudyRunTest(TestCase):
                    "or --coordinates of `generate`"),
         ):
             with study_folder('question = "How?"\nseeds = 1\n' + text) as folder:
-                assert (answer := call(folder, chordsim=program())) == (1, f"refused: {folder}/study.toml: {told}"), answer
+                answer = call(folder, chordsim=program())
+                assert answer == (1, f"refused: {folder}/study.toml: {told}"), answer
 
     def test_same_bytes_by_any_number_of_jobs(self) -> None:
         """The tables and the manifest."""

@@ -81,7 +81,8 @@ def duration_traps(top: dict[str, Any]) -> list[str]:
     periods = [(key, key, top.get(key, 0), what) for key, what in PERIODS]
     waits = [(f"{table}.{key}", key, top.get(table, {}).get(key, 0), what) for table, key, what in WAITS]
     short = [
-        f"{name} = {value} ({drawn.get(key, what)})" for name, key, value, what in (*periods, *waits) if duration < value
+        f"{name} = {value} ({drawn.get(key, what)})"
+        for name, key, value, what in (*periods, *waits) if duration < value
     ]
     if not short:
         return []

@@ -95,7 +95,7 @@ def hosts_of(common: Group, groups: Sequence[Group]) -> list[Host]:
 def arriving(common: Group, groups: Sequence[Group], seed: int, duration: int) -> Iterator[Host]:
     """The nodes that arrive, in the order of their times. Each group has a stream of its own.
 
-    A time is drawn when its node is asked for: there may be far more of them than nodes that a scenario has room for."""
+    A time is drawn when its node is asked for: there may be far more of them than a scenario has room for."""
     kinds = (common, *groups)
     streams = Draws(seed).split(STREAM)[-1].split(len(kinds))
     times = [

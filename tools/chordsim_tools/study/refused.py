@@ -19,11 +19,13 @@ def refusal(study: Study, setting: Setting, task: Task, fault: Failure) -> Failu
 
 def coordinates_of(study: Study) -> str:
     """Where a study has its coordinates."""
-    return "--coordinates of `generate`" if study.generate is not None else "x_us, y_us, height_us and side_us of the base"
+    if study.generate is not None:
+        return "--coordinates of `generate`"
+    return "x_us, y_us, height_us and side_us of the base"
 
 
 def explained(task: Task) -> str:
-    """The first fault of a scenario and what was likely meant, as tools/explain words them; nothing if it finds none."""
+    """The first fault of a scenario and what was likely meant, as tools/explain words them; else nothing."""
     _, found = explanations(task.scenario.encode(), task.latency or b"", ("the scenario", "the latency file"))
     first = next(iter(found), None)
     if first is None:

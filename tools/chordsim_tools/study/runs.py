@@ -205,7 +205,8 @@ def whole_result(run: Run) -> dict[str, Any]:
     """The result of a run that was done."""
     result = run.read_result()
     if result is None:
-        raise Failure(3, f"{run.result()} is not there any more: does another study use this folder? -o takes another one")
+        other = "does another study use this folder? -o takes another one"
+        raise Failure(3, f"{run.result()} is not there any more: {other}")
     return result
 
 

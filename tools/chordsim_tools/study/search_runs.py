@@ -47,7 +47,8 @@ def run_search(study: Study, folder: Path, jobs: int) -> None:
         write_report(folder)
         why = "nothing beside the best one costs less" if is_decided(search, best) else ""
         new = search.next(best.setting())
-        why = why or ("" if new else "the step is small") or ("that is most_rounds" if count == search.most_rounds else "")
+        why = why or ("" if new else "the step is small")
+        why = why or ("that is most_rounds" if count == search.most_rounds else "")
     rounds = f"{count} round{'' if count == 1 else 's'}"
     last = [*at_an_end(search, best), *no_answer(study, best)]
     write_out(f"done after {rounds}: {why}; page: {folder / 'report.md'}\n{''.join(last)}")
