@@ -1,4 +1,5 @@
 pub mod Counting
+pub mod Digesting
 pub mod InOrder
 pub mod InProgress
 pub mod Judgements

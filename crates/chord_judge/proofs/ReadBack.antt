@@ -52,7 +52,7 @@ pub name_word : (sc : Setup) (node : ℕ) → HasPlainNames sc → node < node_c
 name_word sc node plain within = recursion_from_All (λ byte. is_break byte ≡ false) (name_of sc node) (plain.words node within)
 
 -- a literal is a word, by a computed test
-literal : (text : List ℕ) → list_all (λ byte. not (is_break byte)) text ≡ true → IsWord text
+pub literal : (text : List ℕ) → list_all (λ byte. not (is_break byte)) text ≡ true → IsWord text
 literal [] h = tt
 literal (byte ∷ text) h =
     let parts = and_parts (not (is_break byte)) (list_all (λ b. not (is_break b)) text) h in (plain (is_break byte) parts.0, literal text parts.1)

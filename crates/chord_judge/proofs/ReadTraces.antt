@@ -31,23 +31,23 @@ use Rattle.chord_trace.specs.declared.piece.Piece.{Piece}
 use Rattle.chord_trace.specs.declared.piece.Piece.TheVariants as piece
 
 -- texts without line feeds
-word_feedless : (word : List ℕ) → IsWord word → HasNoFeed word
+pub word_feedless : (word : List ℕ) → IsWord word → HasNoFeed word
 word_feedless [] h = tt
 word_feedless (byte ∷ word) h = (no_feed byte h.0, word_feedless word h.1)
 
-number : (n : ℕ) → HasNoFeed (decimal n)
+pub number : (n : ℕ) → HasNoFeed (decimal n)
 number n = word_feedless (decimal n) (decimal_word n)
 
-literal : (text : List ℕ) → list_all (λ byte. not (byte == 10)) text ≡ true → HasNoFeed text
-literal [] h = tt
-literal (byte ∷ text) h =
-    let parts = and_parts (not (byte == 10)) (list_all (λ b. not (b == 10)) text) h in (plain (byte == 10) parts.0, literal text parts.1)
+pub feedless : (text : List ℕ) → list_all (λ byte. not (byte == 10)) text ≡ true → HasNoFeed text
+feedless [] h = tt
+feedless (byte ∷ text) h =
+    let parts = and_parts (not (byte == 10)) (list_all (λ b. not (b == 10)) text) h in (plain (byte == 10) parts.0, feedless text parts.1)
   where
     plain : (b : Bool) → not b ≡ true → b ≡ false
     plain false e = refl
     plain true e = absurd (cc)
 
-joined : (a b : List ℕ) → HasNoFeed a → HasNoFeed b → HasNoFeed (a ++ b)
+pub joined : (a b : List ℕ) → HasNoFeed a → HasNoFeed b → HasNoFeed (a ++ b)
 joined [] b p q = q
 joined (x ∷ a) b p q = (p.0, joined a b p.1 q)
 
@@ -65,26 +65,26 @@ concat_feedless [] q = tt
 concat_feedless (text ∷ texts) q = joined text (concat texts) q.0 (concat_feedless texts q.1)
 
 message_feedless : (kind : MessageKind) → HasNoFeed (message_text kind)
-message_feedless message.Step = literal (codes "step") refl
-message_feedless message.GetState = literal (codes "get-state") refl
-message_feedless message.GetList = literal (codes "get-list") refl
-message_feedless message.Ping = literal (codes "ping") refl
-message_feedless message.Notify = literal (codes "notify") refl
-message_feedless message.Leave = literal (codes "leave") refl
-message_feedless message.StepReply = literal (codes "step-reply") refl
-message_feedless message.StateReply = literal (codes "state-reply") refl
-message_feedless message.ListReply = literal (codes "list-reply") refl
-message_feedless message.Pong = literal (codes "pong") refl
+message_feedless message.Step = feedless (codes "step") refl
+message_feedless message.GetState = feedless (codes "get-state") refl
+message_feedless message.GetList = feedless (codes "get-list") refl
+message_feedless message.Ping = feedless (codes "ping") refl
+message_feedless message.Notify = feedless (codes "notify") refl
+message_feedless message.Leave = feedless (codes "leave") refl
+message_feedless message.StepReply = feedless (codes "step-reply") refl
+message_feedless message.StateReply = feedless (codes "state-reply") refl
+message_feedless message.ListReply = feedless (codes "list-reply") refl
+message_feedless message.Pong = feedless (codes "pong") refl
 
 command_feedless : (kind : CommandKind) → HasNoFeed (command_text kind)
-command_feedless command.Join = literal (codes "join") refl
-command_feedless command.Crash = literal (codes "crash") refl
-command_feedless command.Leave = literal (codes "leave") refl
-command_feedless command.Lookup = literal (codes "lookup") refl
+command_feedless command.Join = feedless (codes "join") refl
+command_feedless command.Crash = feedless (codes "crash") refl
+command_feedless command.Leave = feedless (codes "leave") refl
+command_feedless command.Lookup = feedless (codes "lookup") refl
 
 truth_feedless : (b : Bool) → HasNoFeed (yes_or_no b)
-truth_feedless true = literal (codes "yes") refl
-truth_feedless false = literal (codes "no") refl
+truth_feedless true = feedless (codes "yes") refl
+truth_feedless false = feedless (codes "no") refl
 
 name_feedless : (sc : Setup) (node : ℕ) → HasPlainNames sc → All (λ n. n < node_count sc) (node ∷ []) → HasNoFeed (name_of sc node)
 name_feedless sc node plain named = word_feedless (name_of sc node) (name_word sc node plain (All-head (λ n. n < node_count sc) node [] named))
@@ -96,47 +96,47 @@ of_message : (sc : Setup) (word : List ℕ) (kind : MessageKind) (node : ℕ) �
     → HasNoFeed (message_words sc word kind node)
 of_message sc word kind node plain w named =
     all_feedless word (codes " " ∷ message_text kind ∷ codes " " ∷ name_of sc node ∷ []) w
-    (literal (codes " ") refl, (message_feedless kind, (literal (codes " ") refl, (name_feedless sc node plain named, tt))))
+    (feedless (codes " ") refl, (message_feedless kind, (feedless (codes " ") refl, (name_feedless sc node plain named, tt))))
 
 words_feedless : (sc : Setup) (l : Line) → HasPlainNames sc → IsLineOf sc l → HasNoFeed (line_words sc l)
-words_feedless sc (line.Join via) plain named = then_name sc (codes "join ") via plain (literal (codes "join ") refl) named
-words_feedless sc (line.Member p) plain named = then_name sc (codes "member ") p plain (literal (codes "member ") refl) named
-words_feedless sc line.JoinFailed plain named = literal (codes "join-failed") refl
-words_feedless sc line.Crash plain named = literal (codes "crash") refl
-words_feedless sc line.Leave plain named = literal (codes "leave") refl
-words_feedless sc (line.Stranded via) plain named = then_name sc (codes "stranded ") via plain (literal (codes "stranded ") refl) named
-words_feedless sc (line.Drop k o) plain named = of_message sc (codes "drop") k o plain (literal (codes "drop") refl) named
-words_feedless sc (line.Late k o) plain named = of_message sc (codes "late") k o plain (literal (codes "late") refl) named
-words_feedless sc (line.Timeout n) plain named = then_name sc (codes "timeout ") n plain (literal (codes "timeout ") refl) named
-words_feedless sc (line.Lose k o) plain named = of_message sc (codes "lose") k o plain (literal (codes "lose") refl) named
-words_feedless sc (line.Again k o) plain named = of_message sc (codes "again") k o plain (literal (codes "again") refl) named
-words_feedless sc (line.Forget n) plain named = then_name sc (codes "forget ") n plain (literal (codes "forget ") refl) named
-words_feedless sc (line.Rescue n) plain named = then_name sc (codes "rescue ") n plain (literal (codes "rescue ") refl) named
-words_feedless sc line.Create plain named = literal (codes "create") refl
+words_feedless sc (line.Join via) plain named = then_name sc (codes "join ") via plain (feedless (codes "join ") refl) named
+words_feedless sc (line.Member p) plain named = then_name sc (codes "member ") p plain (feedless (codes "member ") refl) named
+words_feedless sc line.JoinFailed plain named = feedless (codes "join-failed") refl
+words_feedless sc line.Crash plain named = feedless (codes "crash") refl
+words_feedless sc line.Leave plain named = feedless (codes "leave") refl
+words_feedless sc (line.Stranded via) plain named = then_name sc (codes "stranded ") via plain (feedless (codes "stranded ") refl) named
+words_feedless sc (line.Drop k o) plain named = of_message sc (codes "drop") k o plain (feedless (codes "drop") refl) named
+words_feedless sc (line.Late k o) plain named = of_message sc (codes "late") k o plain (feedless (codes "late") refl) named
+words_feedless sc (line.Timeout n) plain named = then_name sc (codes "timeout ") n plain (feedless (codes "timeout ") refl) named
+words_feedless sc (line.Lose k o) plain named = of_message sc (codes "lose") k o plain (feedless (codes "lose") refl) named
+words_feedless sc (line.Again k o) plain named = of_message sc (codes "again") k o plain (feedless (codes "again") refl) named
+words_feedless sc (line.Forget n) plain named = then_name sc (codes "forget ") n plain (feedless (codes "forget ") refl) named
+words_feedless sc (line.Rescue n) plain named = then_name sc (codes "rescue ") n plain (feedless (codes "rescue ") refl) named
+words_feedless sc line.Create plain named = feedless (codes "create") refl
 words_feedless sc (line.Ask k o call) plain named =
-    all_feedless (message_words sc (codes "ask") k o) (codes " call=" ∷ decimal call ∷ []) (of_message sc (codes "ask") k o plain (literal (codes "ask") refl) named)
-    (literal (codes " call=") refl, (number call, tt))
+    all_feedless (message_words sc (codes "ask") k o) (codes " call=" ∷ decimal call ∷ []) (of_message sc (codes "ask") k o plain (feedless (codes "ask") refl) named)
+    (feedless (codes " call=") refl, (number call, tt))
 words_feedless sc (line.Seek k o call key since) plain named =
     all_feedless (message_words sc (codes "ask") k o)
     (codes " call=" ∷ decimal call ∷ codes " key=" ∷ decimal key ∷ codes " since=" ∷ decimal since ∷ [])
-    (of_message sc (codes "ask") k o plain (literal (codes "ask") refl) named)
-    (literal (codes " call=") refl, (number call, (literal (codes " key=") refl, (number key, (literal (codes " since=") refl, (number since, tt))))))
-words_feedless sc (line.Send k o) plain named = of_message sc (codes "send") k o plain (literal (codes "send") refl) named
-words_feedless sc (line.Lookup key) plain named = joined (codes "lookup ") (decimal key) (literal (codes "lookup ") refl) (number key)
+    (of_message sc (codes "ask") k o plain (feedless (codes "ask") refl) named)
+    (feedless (codes " call=") refl, (number call, (feedless (codes " key=") refl, (number key, (feedless (codes " since=") refl, (number since, tt))))))
+words_feedless sc (line.Send k o) plain named = of_message sc (codes "send") k o plain (feedless (codes "send") refl) named
+words_feedless sc (line.Lookup key) plain named = joined (codes "lookup ") (decimal key) (feedless (codes "lookup ") refl) (number key)
 words_feedless sc (line.Found key owner hops timeouts us) plain named =
     all_feedless (codes "found ")
     (decimal key ∷ codes " " ∷ name_of sc owner ∷ codes " hops=" ∷ decimal hops ∷ codes " timeouts=" ∷ decimal timeouts ∷ codes " us=" ∷ decimal us ∷ [])
-    (literal (codes "found ") refl) (
+    (feedless (codes "found ") refl) (
       number key,
       (
-        literal (codes " ") refl,
+        feedless (codes " ") refl,
         (
           name_feedless sc owner plain named,
           (
-            literal (codes " hops=") refl,
+            feedless (codes " hops=") refl,
             (
               number hops,
-              (literal (codes " timeouts=") refl, (number timeouts, (literal (codes " us=") refl, (number us, tt)))),
+              (feedless (codes " timeouts=") refl, (number timeouts, (feedless (codes " us=") refl, (number us, tt)))),
             ),
           ),
         ),
@@ -145,11 +145,11 @@ words_feedless sc (line.Found key owner hops timeouts us) plain named =
 words_feedless sc (line.Lost key hops timeouts us) plain named =
     all_feedless (codes "lost ")
     (decimal key ∷ codes " hops=" ∷ decimal hops ∷ codes " timeouts=" ∷ decimal timeouts ∷ codes " us=" ∷ decimal us ∷ [])
-    (literal (codes "lost ") refl)
-    (number key, (literal (codes " hops=") refl, (number hops, (literal (codes " timeouts=") refl, (number timeouts, (literal (codes " us=") refl, (number us, tt)))))))
-words_feedless sc (line.Busy key) plain named = joined (codes "busy ") (decimal key) (literal (codes "busy ") refl) (number key)
+    (feedless (codes "lost ") refl)
+    (number key, (feedless (codes " hops=") refl, (number hops, (feedless (codes " timeouts=") refl, (number timeouts, (feedless (codes " us=") refl, (number us, tt)))))))
+words_feedless sc (line.Busy key) plain named = joined (codes "busy ") (decimal key) (feedless (codes "busy ") refl) (number key)
 words_feedless sc (line.Ignored command) plain named =
-    joined (codes "ignored ") (command_text command) (literal (codes "ignored ") refl) (command_feedless command)
+    joined (codes "ignored ") (command_text command) (feedless (codes "ignored ") refl) (command_feedless command)
 
 line_feedless : (sc : Setup) (time node : ℕ) (l : Line) → HasPlainNames sc → IsWritable sc time node l → HasNoFeed (words_text sc time node l)
 line_feedless sc time node l plain fits =
@@ -175,7 +175,7 @@ whole_then sc a b xs ys p q = record {
   rest = rest_append [] a b ∙ ap (λ (r : List ℕ). rest_from r b) p.rest ∙ q.rest;
 }
 
-one_line : (text : List ℕ) → HasNoFeed text → lines_from [] (text ++ 10 ∷ []) ≡ text ∷ []
+pub one_line : (text : List ℕ) → HasNoFeed text → lines_from [] (text ++ 10 ∷ []) ≡ text ∷ []
 one_line text plain =
     lines_append [] text (10 ∷ []) ∙ ap (λ (ls : List (List ℕ)). ls ++ rest_from [] text ∷ []) (lines_none [] text plain)
     ∙ ap (λ (l : List ℕ). l ∷ []) (rest_grows [] text plain)
@@ -240,27 +240,27 @@ audit_whole sc audit =
     let plain : HasNoFeed text = concat_feedless (audit_parts audit) (
       number audit.time,
       (
-        literal (codes " audit members=") refl,
+        feedless (codes " audit members=") refl,
         (
           number audit.members,
           (
-            literal (codes " dead=") refl,
+            feedless (codes " dead=") refl,
             (
               number audit.dead,
               (
-                literal (codes " ring=") refl,
+                feedless (codes " ring=") refl,
                 (
                   number audit.ring,
                   (
-                    literal (codes " ordered=") refl,
+                    feedless (codes " ordered=") refl,
                     (
                       truth_feedless audit.ordered,
                       (
-                        literal (codes " principals=") refl,
+                        feedless (codes " principals=") refl,
                         (
                           number audit.principals,
                           (
-                            literal (codes " sufficient=") refl,
+                            feedless (codes " sufficient=") refl,
                             (truth_feedless audit.sufficient, tt),
                           ),
                         ),

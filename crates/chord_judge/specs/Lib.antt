@@ -1,6 +1,8 @@
+pub mod Digests
 pub mod Faults
 pub mod Inside
 pub mod Judged
+pub mod Kept
 pub mod Lines
 pub mod Members
 pub mod Open

@@ -1,40 +1,24 @@
 //! What the table of lookups leaves out of a trace: how many messages there were, and the lines of nodes and audits.
-ghost use Rattle.std.specs.Prelude.{◌≡◌, ◌<◌, ◌++◌, [], ◌∷◌, IfSome, OnOk, length};
+ghost use Rattle.std.specs.Prelude.{◌≡◌, ◌++◌, [], ◌∷◌, OnOk, codes, take, true};
+ghost use Rattle.std.specs.Str.{bytes_eq};
+ghost use Rattle.chord_judge.specs.Kept.{is_kept_word, is_part_of_line, keeps};
 
-use crate::words::{count_after, first_word, number_after, place_in, time_in};
+use crate::askers::Askers;
+use crate::counts::{Counts, Fate};
+use crate::words::{
+    after_words, count_after, first_word, number_after, place_in, push_line, time_in,
+};
 use chord_event::Memory;
 use std::alloc::Global;
-use std::collections::BTreeMap;
 use std::mem;
-
-/// How many lines say the same of messages of one kind.
-#[derive(Drop)]
-struct Tally {
-    /// What became of the messages: `ask`, `send` or `drop`.
-    word: Vec<u8>,
-    /// The kind of the messages.
-    kind: Vec<u8>,
-    count: u64,
-}
-
-/// The calls of a lookup in progress. A request that is sent again is of the same call.
-#[derive(Drop)]
-struct Asked {
-    /// The key, as lines write it.
-    key: Vec<u8>,
-    begun: u64,
-    calls: u64,
-    /// The number of the newest call.
-    newest: Option<u64>,
-}
 
 /// What a digest does with a line.
 #[derive(Clone, Copy, Drop)]
 enum Part {
     /// A request of this node: counts it, and if it is one of a lookup, for the lookup too.
     Asks,
-    /// Counts a message.
-    Counts,
+    /// Counts a message of this fate.
+    Counts(Fate),
     Begins,
     Finds,
     Loses,
@@ -65,31 +49,33 @@ pub struct Digest {
     edges: Vec<u64>,
     /// How many of the edges have passed.
     passed: usize,
-    /// The time from which on lines are counted.
+    /// The time from which on messages are counted.
     since: u64,
-    tallies: Vec<Tally>,
-    /// The lookups in progress of each node, by its name.
-    lookups: BTreeMap<Vec<u8>, Vec<Asked>>,
-    /// The newest line of each node by which it asked a successor for its state, by the node's name.
-    stabilized: BTreeMap<Vec<u8>, Vec<u8>>,
+    counts: Counts,
+    askers: Askers,
     /// The beginning of a line that has not ended yet.
-    line: Vec<u8>,
-    text: Vec<u8>,
+    pub(crate) line: Vec<u8>,
+    pub(crate) text: Vec<u8>,
+    ghost begun: { is_part_of_line line.items ≡ true },
 }
 
 impl Digest {
-    ghost use Rattle.std.specs.Prelude.{◌≡◌, ◌++◌, [], ◌∷◌, OnOk};
+    ghost use Rattle.std.specs.Prelude.{◌≡◌, ◌++◌, [], ◌∷◌, ℕ, List, OnOk, cond, true};
+    ghost use Rattle.std.specs.List.{filter};
+    ghost use Rattle.chord_judge.specs.Digests.{IsDigestOf};
+    ghost use Rattle.chord_judge.specs.Kept.{Adds, IsUnkept, is_kept, is_part_of_line};
 
     /// A digest of no text yet.
-    pub fn new(alloc: Global, edges: Vec<u64>) -> Digest {
+    pub fn new(alloc: Global, edges: Vec<u64>) -> Digest
+        ensures { IsDigestOf [] [] result }
+    {
         Digest {
             alloc,
             edges,
             passed: 0,
             since: 0,
-            tallies: Vec::new(alloc),
-            lookups: BTreeMap::new(alloc),
-            stabilized: BTreeMap::new(alloc),
+            counts: Counts::new(),
+            askers: Askers::new(alloc),
             line: Vec::new(alloc),
             text: Vec::new(alloc),
         }
@@ -104,33 +90,45 @@ impl Digest {
 
     /// Drops the text so far, which was written.
     pub fn clear(&mut self)
-        ensures { self.new.text.items ≡ [] }
+        ensures empty { self.new.text.items ≡ [] }
+        ensures digest { (text written : List ℕ) → IsDigestOf text written self.old → IsDigestOf text (written ++ self.old.text.items) self.new }
     {
         self.text.clear();
     }
 
     /// Takes a piece of a trace.
-    pub fn take(&mut self, piece: &[u8]) -> Result<(), Memory> {
+    pub fn take(&mut self, piece: &[u8]) -> Result<(), Memory>
+        ensures { OnOk result ((text written : List ℕ) → IsDigestOf text written self.old → IsDigestOf (text ++ piece.now) written self.new) }
+    {
         let mut start = 0;
         while start < piece.len() {
             let rest = &piece[start..];
             let length = place_in(rest, b'\n');
-            self.line.extend_from_slice(&rest[..length])?;
-            if length < rest.len() {
-                self.end_line()?;
-            }
+            self.take_line(&rest[..length], length < rest.len())?;
             start += length + 1;
         }
         Ok(())
     }
 
     /// Takes the end of the trace.
-    pub fn finish(&mut self) -> Result<(), Memory> {
-        self.push_counts()
+    pub fn finish(&mut self) -> Result<(), Memory>
+        ensures { OnOk result ((text written : List ℕ) → IsDigestOf text written self.old → IsDigestOf text written self.new) }
+    {
+        self.counts.push_to(&mut self.text, self.since)
     }
 
-    /// Takes the line feed that ends a line.
-    fn end_line(&mut self) -> Result<(), Memory> {
+    /// Takes a part of a line, and the line feed behind it if the line ends there.
+    fn take_line(&mut self, part: &[u8], ends: bool) -> Result<(), Memory>
+        requires { is_part_of_line part.now ≡ true }
+        ensures { OnOk result ((text written : List ℕ) → IsDigestOf text written self.old → IsDigestOf (text ++ part.now ++ cond ends (10 ∷ []) []) written self.new) }
+    {
+        if ends && self.line.is_empty() {
+            return self.read(part);
+        }
+        self.line.extend_from_slice(part)?;
+        if !ends {
+            return Ok(());
+        }
         let mut line = mem::replace(&mut self.line, Vec::new(self.alloc));
         let outcome = self.read(line.as_slice());
         line.clear();
@@ -139,7 +137,11 @@ impl Digest {
     }
 
     /// Takes a line.
-    fn read(&mut self, line: &[u8]) -> Result<(), Memory> {
+    fn read(&mut self, line: &[u8]) -> Result<(), Memory>
+        requires { is_part_of_line line.now ≡ true }
+        ensures line { self.new.line ≡ self.old.line }
+        ensures adds { OnOk result (Adds (filter is_kept (line.now ∷ [])) self.old.text.items self.new.text.items) }
+    {
         let (time, rest) = first_word(line);
         let Some(time) = time_in(time) else {
             return self.keep(line);
@@ -148,13 +150,16 @@ impl Digest {
         let (name, rest) = first_word(rest);
         let (word, rest) = first_word(rest);
         match part_of(word) {
-            Part::Asks => self.ask(line, name, word, rest),
-            Part::Counts => self.count(word, first_word(rest).0, 1),
-            Part::Begins => self.begin(time, name, rest),
+            Part::Asks => self.ask(line, name, rest),
+            Part::Counts(fate) => {
+                self.counts.add(fate, first_word(rest).0);
+                Ok(())
+            }
+            Part::Begins => self.askers.begin(name, time, rest),
             Part::Finds => self.end(time, name, first_word(rest).0, after_words(rest, 2)),
             Part::Loses => self.end(time, name, first_word(rest).0, after_words(rest, 1)),
             Part::Stops => {
-                let _ = self.lookups.remove(name);
+                self.askers.stop(name);
                 self.keep(line)
             }
             Part::TimesOut => {
@@ -168,13 +173,17 @@ impl Digest {
 
     /// Keeps a line.
     fn keep(&mut self, line: &[u8]) -> Result<(), Memory>
-        ensures { OnOk result (self.new.text.items ≡ self.old.text.items ++ line.now ++ 10 ∷ []) }
+        ensures line { self.new.line ≡ self.old.line }
+        ensures text { OnOk result (self.new.text.items ≡ self.old.text.items ++ line.now ++ 10 ∷ []) }
     {
         push_line(&mut self.text, line)
     }
 
     /// Passes the edges up to a time.
-    fn pass_edges(&mut self, time: u64) -> Result<(), Memory> {
+    fn pass_edges(&mut self, time: u64) -> Result<(), Memory>
+        ensures line { self.new.line ≡ self.old.line }
+        ensures adds { OnOk result (Adds [] self.old.text.items self.new.text.items) }
+    {
         for _ in 0..self.edges.len() {
             let Some(edge) = self.edges.get(self.passed).copied() else {
                 return Ok(());
@@ -182,116 +191,54 @@ impl Digest {
             if time < edge {
                 return Ok(());
             }
-            self.push_counts()?;
+            self.counts.push_to(&mut self.text, self.since)?;
             self.since = edge;
             self.passed = self.passed.saturating_add(1);
         }
         Ok(())
     }
 
-    /// Adds the lines of the counts, which begin anew.
-    fn push_counts(&mut self) -> Result<(), Memory> {
-        for tally in self.tallies.iter_mut() {
-            if tally.count > 0 {
-                push_tally(self.alloc, &mut self.text, self.since, tally)?;
-                tally.count = 0;
-            }
-        }
-        Ok(())
-    }
-
-    /// Counts so many more messages of a kind.
-    fn count(&mut self, word: &[u8], kind: &[u8], more: u64) -> Result<(), Memory> {
-        for tally in self.tallies.iter_mut() {
-            if tally.kind.as_slice() == kind && tally.word.as_slice() == word {
-                tally.count = tally.count.saturating_add(more);
-                return Ok(());
-            }
-        }
-        self.tallies.push(Tally {
-            word: copy_of(self.alloc, word)?,
-            kind: copy_of(self.alloc, kind)?,
-            count: more,
-        })?;
-        Ok(())
-    }
-
     /// A node asks another one: `KIND NODE call=NUMBER`, and `key=KEY since=TIME` if it is for a lookup.
-    fn ask(&mut self, line: &[u8], name: &[u8], word: &[u8], rest: &[u8]) -> Result<(), Memory> {
+    fn ask(&mut self, line: &[u8], name: &[u8], rest: &[u8]) -> Result<(), Memory>
+        requires { IsUnkept line.now }
+        ensures line { self.new.line ≡ self.old.line }
+        ensures text { self.new.text ≡ self.old.text }
+    {
         let (kind, rest) = first_word(rest);
-        self.count(word, kind, 1)?;
+        self.counts.add(Fate::Asked, kind);
         let (call, rest) = first_word(after_words(rest, 1));
-        if rest.is_empty() {
-            return self.stabilize(line, name, kind);
-        }
-        let (key, since) = first_word(rest);
-        match (number_after(b"call=", call), number_after(b"since=", since)) {
-            (Some(call), Some(since)) => self.ask_for(name, key, since, call),
-            _ => Ok(()),
-        }
-    }
-
-    /// A node asks for something else than a lookup. The line is kept for later if it asks for a state.
-    fn stabilize(&mut self, line: &[u8], name: &[u8], kind: &[u8]) -> Result<(), Memory> {
-        if kind != b"get-state".as_slice() {
+        if !rest.is_empty() {
+            let (key, since) = first_word(rest);
+            if self.askers.ask(name, call, key, since) {
+                self.counts.add_of_lookups(1);
+            }
             return Ok(());
         }
-        if let Some(newest) = self.stabilized.get_mut(name) {
-            newest.clear();
-            newest.extend_from_slice(line)?;
-            return Ok(());
+        if kind == b"get-state".as_slice() {
+            return self.askers.stabilize(name, line);
         }
-        self.stabilized
-            .insert(copy_of(self.alloc, name)?, copy_of(self.alloc, line)?)?;
         Ok(())
     }
 
     /// Keeps the line by which a node asked a successor for its state, if it asked this node.
-    fn keep_stabilization(&mut self, name: &[u8], silent: &[u8]) -> Result<(), Memory> {
-        let Some(line) = self.stabilized.get(name) else {
+    fn keep_stabilization(&mut self, name: &[u8], silent: &[u8]) -> Result<(), Memory>
+        ensures line { self.new.line ≡ self.old.line }
+        ensures adds { OnOk result (Adds [] self.old.text.items self.new.text.items) }
+    {
+        let Some(line) = self.askers.stabilization(name) else {
             return Ok(());
         };
-        if first_word(after_words(line.as_slice(), 4)).0 == silent {
-            push_line(&mut self.text, line.as_slice())?;
+        if first_word(after_words(line, 4)).0 == silent {
+            push_line(&mut self.text, line)?;
         }
-        Ok(())
-    }
-
-    /// A node asks for a lookup of this `key=KEY`. The lookup may be one of a finger, which no line begins.
-    fn ask_for(&mut self, name: &[u8], key: &[u8], since: u64, call: u64) -> Result<(), Memory> {
-        let Some(lookups) = self.lookups.get_mut(name) else {
-            return Ok(());
-        };
-        let Some(lookup) = lookup_in(lookups, key, since) else {
-            return Ok(());
-        };
-        if !is_number(lookup.newest, call) {
-            lookup.calls = lookup.calls.saturating_add(1);
-            lookup.newest = Some(call);
-        }
-        self.count(b"lookups", b"all", 1)
-    }
-
-    /// A lookup of a user begins.
-    fn begin(&mut self, begun: u64, name: &[u8], key: &[u8]) -> Result<(), Memory> {
-        let lookup = Asked {
-            key: key_word(self.alloc, key)?,
-            begun,
-            calls: 0,
-            newest: None,
-        };
-        if let Some(lookups) = self.lookups.get_mut(name) {
-            lookups.push(lookup)?;
-            return Ok(());
-        }
-        let mut lookups = Vec::new(self.alloc);
-        lookups.push(lookup)?;
-        self.lookups.insert(copy_of(self.alloc, name)?, lookups)?;
         Ok(())
     }
 
     /// A lookup of a user ends: `hops=HOPS timeouts=TIMEOUTS us=DURATION`.
-    fn end(&mut self, time: u64, name: &[u8], key: &[u8], rest: &[u8]) -> Result<(), Memory> {
+    fn end(&mut self, time: u64, name: &[u8], key: &[u8], rest: &[u8]) -> Result<(), Memory>
+        ensures line { self.new.line ≡ self.old.line }
+        ensures text { self.new.text ≡ self.old.text }
+    {
         let (timeouts, us) = first_word(after_words(rest, 1));
         let (Some(timeouts), Some(us)) = (
             count_after(b"timeouts=", timeouts),
@@ -299,26 +246,23 @@ impl Digest {
         ) else {
             return Ok(());
         };
-        let key = key_word(self.alloc, key)?;
-        let Some(lookups) = self.lookups.get_mut(name) else {
-            return Ok(());
-        };
-        let Some(place) = place_of(lookups.as_slice(), key.as_slice(), time.saturating_sub(us))
-        else {
-            return Ok(());
-        };
-        let lookup = lookups.remove(place);
-        let replies = lookup.calls.saturating_sub(u64::from(timeouts));
-        self.count(b"lookups", b"all", replies)
+        let begun = time.saturating_sub(us);
+        let replies = self.askers.end(name, begun, key, timeouts)?;
+        self.counts.add_of_lookups(replies);
+        Ok(())
     }
 }
 
 /// What a digest does with the lines that have this word.
-fn part_of(word: &[u8]) -> Part {
-    if word == b"ask".as_slice() {
+fn part_of(word: &[u8]) -> Part
+    ensures { is_kept_word word.now ≡ keeps result }
+{
+    if word == b"send".as_slice() {
+        Part::Counts(Fate::Sent)
+    } else if word == b"ask".as_slice() {
         Part::Asks
-    } else if word == b"send".as_slice() || word == b"drop".as_slice() {
-        Part::Counts
+    } else if word == b"drop".as_slice() {
+        Part::Counts(Fate::Dropped)
     } else if word == b"lookup".as_slice() {
         Part::Begins
     } else if word == b"found".as_slice() {
@@ -329,94 +273,37 @@ fn part_of(word: &[u8]) -> Part {
         Part::Stops
     } else if word == b"timeout".as_slice() {
         Part::TimesOut
-    } else if is_kept(word) {
+    } else if is_kept_word(word) {
         Part::Keeps
     } else {
         Part::Skips
     }
 }
 
-/// Whether lines with this word are kept, and say nothing of lookups in progress. The third word of an audit is its
-/// number of members.
-fn is_kept(word: &[u8]) -> bool {
+/// Whether lines with this word are kept. The third word of an audit is its number of members.
+fn is_kept_word(word: &[u8]) -> bool
+    ensures { result ≡ is_kept_word word.now }
+{
     word == b"join".as_slice()
         || word == b"member".as_slice()
         || word == b"create".as_slice()
+        || word == b"crash".as_slice()
+        || word == b"leave".as_slice()
         || word == b"stranded".as_slice()
         || word == b"join-failed".as_slice()
         || word == b"ignored".as_slice()
         || word == b"busy".as_slice()
+        || word == b"timeout".as_slice()
         || word == b"lose".as_slice()
         || word == b"again".as_slice()
-        || word.starts_with(b"members=")
+        || is_of_audit(word)
 }
 
-/// What follows so many words of a text.
-fn after_words(text: &[u8], count: u32) -> &[u8] {
-    let mut rest = text;
-    for _ in 0..count {
-        rest = first_word(rest).1;
-    }
-    rest
-}
-
-/// Whether it is this number.
-fn is_number(found: Option<u64>, number: u64) -> bool {
-    match found {
-        Some(other) => other == number,
-        None => false,
-    }
-}
-
-/// A copy of a text.
-fn copy_of(alloc: Global, text: &[u8]) -> Result<Vec<u8>, Memory> {
-    let mut copy = Vec::new(alloc);
-    copy.extend_from_slice(text)?;
-    Ok(copy)
-}
-
-/// The word by which a request names this key.
-fn key_word(alloc: Global, key: &[u8]) -> Result<Vec<u8>, Memory> {
-    let mut word = copy_of(alloc, b"key=")?;
-    word.extend_from_slice(key)?;
-    Ok(word)
-}
-
-/// The first of the lookups of this key that began at this time.
-fn lookup_in<'a>(lookups: &'a mut Vec<Asked>, key: &[u8], begun: u64) -> Option<&'a mut Asked> {
-    let place = place_of(lookups.as_slice(), key, begun)?;
-    lookups.get_mut(place)
-}
-
-/// The place of the first of the lookups of this key that began at this time.
-fn place_of(lookups: &[Asked], key: &[u8], begun: u64) -> Option<usize>
-    ensures { IfSome result (λ place. place < length lookups.now) }
+/// Whether a third word is that of an audit.
+fn is_of_audit(word: &[u8]) -> bool
+    ensures { result ≡ bytes_eq (take 8 word.now) (codes "members=") }
 {
-    for (place, lookup) in lookups.iter().enumerate() {
-        if lookup.begun == begun && lookup.key.as_slice() == key {
-            return Some(place);
-        }
-    }
-    None
-}
-
-/// Adds a line, and the line feed that ends it.
-fn push_line(text: &mut Vec<u8>, line: &[u8]) -> Result<(), Memory>
-    ensures { OnOk result (text.new.items ≡ text.old.items ++ line.now ++ 10 ∷ []) }
-{
-    text.extend_from_slice(line)?;
-    text.push(b'\n')?;
-    Ok(())
-}
-
-/// Adds the line of a count since a time.
-fn push_tally(alloc: Global, text: &mut Vec<u8>, since: u64, tally: &Tally) -> Result<(), Memory> {
-    text.extend_from_slice(format!(in alloc; "{since} messages ")?.as_bytes())?;
-    text.extend_from_slice(tally.word.as_slice())?;
-    text.push(b' ')?;
-    text.extend_from_slice(tally.kind.as_slice())?;
-    text.extend_from_slice(format!(in alloc; " {}\n", tally.count)?.as_bytes())?;
-    Ok(())
+    word.len() >= 8 && &word[..8] == b"members=".as_slice()
 }
 
 /// The times that a text gives, in microseconds and with commas between them. Returns nothing unless they are in their

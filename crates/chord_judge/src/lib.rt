@@ -1,6 +1,8 @@
 //! The judge of lookups: what became of each lookup of a run, by the lines of its trace.
 #![tactic(auto)]
 
+mod askers;
+mod counts;
 mod digest;
 mod digested;
 mod judge;

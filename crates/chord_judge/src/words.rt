@@ -1,20 +1,22 @@
 //! Words and numbers of a line.
-ghost use Rattle.std.specs.Prelude.{◌≡◌, ◌==◌, ◌+◌, ◌*◌, ◌^◌, ◌≤◌, ◌&&◌, length, nat_lt, Some, None, if◌then◌else◌};
+ghost use Rattle.std.specs.Prelude.{◌≡◌, ◌==◌, ◌+◌, ◌*◌, ◌^◌, ◌≤◌, ◌&&◌, ◌++◌, [], ◌∷◌, length, nat_lt, IfOk, OnOk, Some, None, if◌then◌else◌};
 ghost use Rattle.std.specs.Char.{digit_value, is_ascii_digit};
 ghost use Rattle.std.specs.List.{position_or_len};
 ghost use Rattle.chord_judge.specs.Words.{after_word, first_word, number_after, number_below};
+
+use chord_event::Memory;
+use memchr::memchr;
+use std::alloc::Global;
 
 /// The first place of a byte in a text, and the length of a text that does not have it.
 pub(crate) fn place_in(text: &[u8], wanted: u8) -> usize
     ensures place { result ≡ position_or_len (λ byte. byte == wanted) text.now }
     ensures within { result ≤ length text.now }
 {
-    for (place, byte) in text.iter().enumerate() {
-        if *byte == wanted {
-            return place;
-        }
+    match memchr(wanted, text) {
+        Some(place) => place,
+        None => text.len(),
     }
-    text.len()
 }
 
 /// The first word of a text, and what follows the space after it.
@@ -97,4 +99,31 @@ pub(crate) fn number_after(name: &[u8], text: &[u8]) -> Option<u64>
         return None;
     }
     time_in(&text[length..])
+}
+
+/// What follows so many words of a text.
+pub(crate) fn after_words(text: &[u8], count: u32) -> &[u8] {
+    let mut rest = text;
+    for _ in 0..count {
+        rest = first_word(rest).1;
+    }
+    rest
+}
+
+/// A copy of a text.
+pub(crate) fn copy_of(alloc: Global, text: &[u8]) -> Result<Vec<u8>, Memory>
+    ensures { IfOk result (λ copy. copy.items ≡ text.now) }
+{
+    let mut copy = Vec::new(alloc);
+    copy.extend_from_slice(text)?;
+    Ok(copy)
+}
+
+/// Adds a line, and the line feed that ends it.
+pub(crate) fn push_line(text: &mut Vec<u8>, line: &[u8]) -> Result<(), Memory>
+    ensures { OnOk result (text.new.items ≡ text.old.items ++ line.now ++ 10 ∷ []) }
+{
+    text.extend_from_slice(line)?;
+    text.push(b'\n')?;
+    Ok(())
 }
