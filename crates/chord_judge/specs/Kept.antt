@@ -18,11 +18,12 @@ kept_words =
 abbrev pub is_kept_word : List ℕ → Bool
 is_kept_word word = list_any (bytes_eq word) kept_words || bytes_eq (take 8 word) (codes "members=")
 
--- a line is kept if it has such a word, or begins with no time
+-- a line with this third word is kept, if it begins with this time, or with none
 abbrev pub is_kept_at : (time : Option ℕ) → (word : List ℕ) → Bool
 is_kept_at None word = true
 is_kept_at (Some time) word = is_kept_word word
 
+-- a line is kept: it begins with no time, or its third word is kept
 abbrev pub is_kept : List ℕ → Bool
 is_kept line = is_kept_at (number_below (2 ^ 64) (first_word line)) (first_word (after_word (after_word line)))
 
@@ -38,7 +39,7 @@ is_part_of_line = list_all (λ byte. not (byte == 10))
 abbrev pub IsUnkept : List ℕ → Type 0
 IsUnkept line = (is_part_of_line line ≡ true) × (is_kept line ≡ false)
 
--- a digest keeps a line with which it does this
+-- a digest keeps a line if it does this with it
 abbrev pub keeps : Part → Bool
 keeps part.Stops = true
 keeps part.TimesOut = true

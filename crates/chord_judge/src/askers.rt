@@ -29,7 +29,7 @@ struct Stabilization {
 #[derive(Drop)]
 struct Asker {
     lookups: Vec<Asked>,
-    /// The newest one.
+    /// The newest stabilization.
     stabilization: Option<Stabilization>,
 }
 
@@ -52,8 +52,8 @@ impl Askers {
         }
     }
 
-    /// Whether a request is one of a user's lookup: `call=NUMBER key=KEY since=TIME`. It may be one for a finger, which no
-    /// line begins.
+    /// Counts a request for a lookup, `call=NUMBER key=KEY since=TIME`. Returns whether the lookup is a user's: it may be one
+    /// for a finger, which no line begins.
     pub fn ask(&mut self, name: &[u8], call: &[u8], key: &[u8], since: &[u8]) -> bool {
         let Some(asker) = self.by_name.get_mut(name) else {
             return false;

@@ -54,8 +54,8 @@ pub struct Digest {
     counts: Counts,
     askers: Askers,
     /// The beginning of a line that has not ended yet.
-    pub(crate) line: Vec<u8>,
-    pub(crate) text: Vec<u8>,
+    line: Vec<u8>,
+    text: Vec<u8>,
     ghost begun: { is_part_of_line line.items ≡ true },
 }
 
