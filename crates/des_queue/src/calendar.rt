@@ -94,7 +94,7 @@ impl<B: Drop> Calendar<B> {
         let waiting = self.due.pop()?;
         // The event is taken last, so that no call comes between it and the caller.
         refill(&mut self.due, &mut self.days);
-        Some(self.days.events.remove(waiting.place))
+        Some(self.days.events.remove(waiting.place).into_event())
     }
 
     /// Moves on to the day of a time, if there are no events.

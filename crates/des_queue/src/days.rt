@@ -6,6 +6,7 @@ ghost use Rattle.slab.specs.Slab.{ContainsKey, get};
 ghost use Rattle.des_queue.specs.Days.{AreDays, HasSame, HasTaken, HaveNone, IsOpened, MayTake, entries_in};
 ghost use Rattle.des_queue.specs.Places.{entry_at};
 
+use crate::packed::Packed;
 use crate::waiting::Waiting;
 use des_event::{Event, Memory};
 use slab::Slab;
@@ -35,7 +36,7 @@ pub struct Days<B> {
     /// No event in the lists has a later day.
     pub latest: u64,
     /// The events of the lists and of the opened days.
-    pub events: Slab<Event<B>>,
+    pub events: Slab<Packed<B>>,
 }
 
 impl<B: Drop> Days<B> {
@@ -101,7 +102,7 @@ impl<B: Drop> Days<B> {
         ensures taken { HasTaken self.old event self.new }
     {
         let day = event.key.time / DAY;
-        let place = self.events.insert_reserved(event);
+        let place = self.events.insert_reserved(Packed::of(event));
         self.lists[at].push_reserved(place);
         self.latest = self.latest.max(day);
     }
@@ -193,7 +194,7 @@ fn empty_list(places: &mut Vec<usize>)
 
 /// Adds the entries of the events at some places.
 fn add_entries<B: Drop>(
-    events: &Slab<Event<B>>,
+    events: &Slab<Packed<B>>,
     places: &Vec<usize>,
     entries: &mut Vec<Waiting<usize>>,
 )
@@ -204,7 +205,7 @@ fn add_entries<B: Drop>(
 {
     for place in places {
         let place = *place;
-        let key = Reverse(events[place].key);
+        let key = Reverse(events[place].key());
         match entries.push(Waiting { key, place }) {
             Ok(()) => {}
             Err(_) => unreachable!(),

@@ -4,6 +4,7 @@
 mod calendar;
 mod days;
 mod event_heap;
+mod packed;
 mod pending;
 mod waiting;
 mod window_queue;
