@@ -1,4 +1,6 @@
 //! Chord as a machine whose events have bodies as rules name them.
+ghost use Rattle.std.specs.Prelude.{◌≡◌};
+
 use crate::ring::ChordRing;
 use chord_event::{Body, Event, Memory};
 use chord_node::NodeState;
