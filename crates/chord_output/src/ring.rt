@@ -94,6 +94,32 @@ impl<'s> Machine for ChordRing<'s> {
         Ok(Piece::OfEvent { block })
     }
 
+    #[inline(always)]
+    fn fetch_state(&self, state: &NodeState) -> u64 {
+        // A state has four cache lines. These numbers lie in three of them.
+        let calls = state.calls.as_slice().len() as u64;
+        state.epoch.wrapping_add(calls).wrapping_add(state.count)
+    }
+
+    #[inline(always)]
+    fn fetch_lists(&self, state: &NodeState) -> u64 {
+        let successor = state.succ.as_slice().first().copied().unwrap_or(0);
+        let finger = match state.fingers.runs().first() {
+            Some(run) => run.node,
+            None => 0,
+        };
+        let call = match state.calls.as_slice().first() {
+            Some(call) => call.number,
+            None => 0,
+        };
+        let lookup = match state.lookups.as_slice().first() {
+            Some(lookup) => lookup.call,
+            None => 0,
+        };
+        let nodes = u64::from(successor).wrapping_add(u64::from(finger));
+        nodes.wrapping_add(call).wrapping_add(lookup)
+    }
+
     fn audit_times(&self, alloc: Global) -> Result<Vec<u64>, Memory> {
         audit_times(alloc, self.scenario)
     }

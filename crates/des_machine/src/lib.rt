@@ -2,12 +2,14 @@
 //! write their audits by a journal.
 #![tactic(auto)]
 
+mod ahead;
 mod audit_clock;
 mod journal;
 mod machine;
 mod scribe;
 mod states;
 
+pub use ahead::{Ahead, fetch};
 pub use audit_clock::AuditClock;
 pub use journal::Journal;
 pub use machine::Machine;

@@ -87,6 +87,17 @@ pub trait Machine {
         ensures piece { IfOk result (λ piece. piece ≡ ((model self.now).effect state.old event.now).piece) }
         ensures known { IfOk result (Known self.now) };
 
+    /// Reads a number or two of a state, since an event comes to its node soon: its memory is in a cache
+    /// by then. What it returns has no meaning. Every machine may leave it out.
+    fn fetch_state(&self, _state: &Self::State) -> u64 {
+        0
+    }
+
+    /// As `fetch_state`, of what a state refers to, such as its lists. It is called one event later.
+    fn fetch_lists(&self, _state: &Self::State) -> u64 {
+        0
+    }
+
     /// The times of the audits, in order. A machine without audits has none.
     fn audit_times(&self, alloc: Global) -> Result<Vec<u64>, Memory>
         ensures { IfOk result (λ times. times.items ≡ (model self.now).audit_times) };

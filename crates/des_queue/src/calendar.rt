@@ -17,6 +17,9 @@ use std::marker::Model;
 /// there than lists would.
 const FEW: usize = 256;
 
+/// From how many pending events on their memory is hardly in a near cache.
+const MANY: usize = 8192;
+
 /// Events by day, which contracts see as their list in the order of their keys.
 ///
 /// The lists have places in a slab and not events: a slab gives out again first the place that was
@@ -84,6 +87,21 @@ impl<B: Drop> Calendar<B> {
     {
         let waiting = self.due.last()?;
         Some(waiting.key.0)
+    }
+
+    /// Whether many events are pending.
+    #[inline(always)]
+    pub fn has_many(&self) -> bool {
+        self.days.events.len() >= MANY
+    }
+
+    /// The node to which the event comes that is `later` events after the first, if its day is open.
+    #[inline(always)]
+    pub fn target_ahead(&self, later: usize) -> Option<u32> {
+        let index = self.due.len().checked_sub(later)?.checked_sub(1)?;
+        let waiting = self.due.get(index)?;
+        let event = self.days.events.get(waiting.place)?;
+        Some(event.target())
     }
 
     /// Takes the first event.

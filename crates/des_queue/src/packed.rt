@@ -51,6 +51,11 @@ impl<B> Packed<B> {
     }
 
     #[inline(always)]
+    pub fn target(&self) -> u32 {
+        self.target
+    }
+
+    #[inline(always)]
     pub fn key(&self) -> Key
         ensures { result ≡ self.now.key }
     {

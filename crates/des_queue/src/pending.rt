@@ -128,6 +128,19 @@ impl<B: Drop> Pending<B> {
         Some(other.time)
     }
 
+    /// Whether so many events are pending that what they need is hardly in a near cache.
+    #[inline(always)]
+    pub fn has_many(&self) -> bool {
+        self.calendar.has_many()
+    }
+
+    /// The node to which the event comes that is `later` events after the first. Events of the heap are
+    /// passed over, and it may be unknown: it is a hint of what to fetch, and no contract speaks of it.
+    #[inline(always)]
+    pub fn target_ahead(&self, later: usize) -> Option<u32> {
+        self.calendar.target_ahead(later)
+    }
+
     /// Takes the first event.
     #[inline(always)]
     pub fn pop_first(&mut self) -> Option<Event<B>>

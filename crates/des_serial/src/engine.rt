@@ -11,7 +11,7 @@ ghost use Rattle.des_queue.specs.EventKey.{event_key};
 ghost use Rattle.des_serial.specs.SerialEngine.{HasTaken, IsAt};
 
 use des_event::{Event, RunError};
-use des_machine::{AuditClock, Journal, Machine, Scribe};
+use des_machine::{Ahead, AuditClock, Journal, Machine, Scribe, fetch};
 use des_output::Watched;
 use des_queue::Pending;
 use std::alloc::Global;
@@ -97,12 +97,34 @@ impl<M: Machine, S: Scribe<M> + Drop> SerialEngine<M, S> {
             event.key.time,
             writer,
         )?;
+        self.look_ahead(alloc, machine);
         let node = event.target as usize;
         let piece = machine.act(alloc, &mut self.states[node], event, &mut self.made)?;
         self.pending.insert_from(&mut self.made)?;
         self.journal.scribe.put(alloc, machine, &piece, writer)?;
         self.count += 1;
         Ok(())
+    }
+
+    /// Reads a little of what the next events need, if many events are pending.
+    #[inline(always)]
+    fn look_ahead(&self, alloc: Global, machine: &M) {
+        if !self.pending.has_many() {
+            return;
+        }
+        let ahead = Ahead {
+            first: self.state_ahead(0),
+            second: self.state_ahead(1),
+            third: self.pending.target_ahead(2),
+        };
+        fetch(alloc, machine, ahead);
+    }
+
+    /// The state of the node to which the event comes that is `later` events after the next one.
+    #[inline(always)]
+    fn state_ahead(&self, later: usize) -> Option<&M::State> {
+        let node = self.pending.target_ahead(later)?;
+        self.states.get(node as usize)
     }
 
     /// Writes the remaining audits, and makes the report.

@@ -14,7 +14,7 @@ use crate::layout::Layout;
 use crate::mail::{Inbox, Outbox};
 use crate::output::Output;
 use des_event::{Event, Memory, RunError};
-use des_machine::{Machine, Scribe};
+use des_machine::{Ahead, Machine, Scribe, fetch};
 use des_queue::Pending;
 use des_window::sooner;
 use std::alloc::Global;
@@ -143,12 +143,35 @@ impl<M: Machine, S: Scribe<M> + Drop> OwnedPart<M, S> {
     {
         machine.recall();
         let slot = layout.slots[event.target as usize] as usize;
+        self.look_ahead(alloc, machine, layout);
         let mut made = mem::replace(&mut self.made, Vec::new(alloc));
         let piece = machine.act(alloc, &mut self.states[slot], event, &mut made)?;
         let soonest = self.send(layout, &mut made)?;
         output.put(alloc, machine, event.key, &piece, &mut self.scribe)?;
         self.made = made;
         Ok(soonest)
+    }
+
+    /// Reads a little of what the next events need, if many events are pending.
+    #[inline(always)]
+    fn look_ahead(&self, alloc: Global, machine: &M, layout: &Layout) {
+        if !self.pending.has_many() {
+            return;
+        }
+        let ahead = Ahead {
+            first: self.state_ahead(layout, 0),
+            second: self.state_ahead(layout, 1),
+            third: self.pending.target_ahead(2),
+        };
+        fetch(alloc, machine, ahead);
+    }
+
+    /// The state of the node to which the event comes that is `later` events after the next one.
+    #[inline(always)]
+    fn state_ahead(&self, layout: &Layout, later: usize) -> Option<&M::State> {
+        let node = self.pending.target_ahead(later)?;
+        let slot = *layout.slots.get(node as usize)?;
+        self.states.get(slot as usize)
     }
 
     /// Runs the events of a window, the least first. Returns how many it ran, and the time of the

@@ -110,6 +110,10 @@ impl Machine for Phold {
         send_on(&self.settings(), node, event, made)
     }
 
+    fn fetch_state(&self, node: &Node) -> u64 {
+        node.made
+    }
+
     fn audit_times(&self, alloc: Global) -> Result<Vec<u64>, Memory> {
         Ok(Vec::new(alloc))
     }
