@@ -3,26 +3,27 @@ ghost use Rattle.std.specs.Prelude.{◌≡◌, IfOk};
 ghost use Rattle.chord_event.specs.Opened.{opened_body};
 
 use crate::body::{Answer, Body};
-use des_event::{Event, Memory};
+use chord_circle::Ident;
+use des_event::{Event, Listed, Memory};
 use std::alloc::Global;
 use std::marker::Model;
 
-/// An event in 48 bytes, as engines hold those that are pending. Contracts see it as the event.
+/// An event in 64 bytes, as engines hold those that are pending. Contracts see it as the event.
 pub type CompactEvent = Event<CompactBody>;
 
-/// A body in 16 bytes, which contracts see as the body. Most pending events are timers and timeouts,
-/// which have one number to tell.
+/// A body in 32 bytes, which contracts see as the body.
 #[derive(Drop)]
 pub struct CompactBody {
     form: Form,
 }
 
-/// What a compact body holds: what tells at most two numbers, or else the body in a box.
+/// What a compact body holds: the body in a box if it has a list with nodes, or else what it tells.
 #[derive(Drop)]
 enum Form {
     CmdJoin { via: u32 },
     CmdCrash,
     CmdLeave,
+    CmdLookup { key: Ident },
     StabilizeTick { epoch: u64 },
     FingerTick { epoch: u64 },
     TrafficTick { epoch: u64 },
@@ -31,15 +32,12 @@ enum Form {
     CheckTick { epoch: u64 },
     Rejoin { epoch: u64 },
     Timeout { call: u64 },
+    Step { call: u64, key: Ident },
     GetState { call: u64 },
     GetList { call: u64 },
     Ping { call: u64 },
     Notify,
-    // Three forms of one reply. A form with an `Answer`, or with the node after the call, would have 24
-    // bytes.
-    OwnerReply { owner: u32, call: u64 },
-    NextReply { next: u32, call: u64 },
-    StuckReply { call: u64 },
+    StepReply { call: u64, answer: Answer },
     Pong { call: u64 },
     Boxed(Box<Body>),
 }
@@ -63,7 +61,6 @@ impl Model for CompactBody {
 
 impl CompactBody {
     /// The compact form of a body.
-    #[inline(always)]
     pub fn of(alloc: Global, body: Body) -> Result<CompactBody, Memory>
         ensures { IfOk result (λ compact. compact ≡ body) }
     {
@@ -71,6 +68,7 @@ impl CompactBody {
             Body::CmdJoin { via } => Form::CmdJoin { via },
             Body::CmdCrash => Form::CmdCrash,
             Body::CmdLeave => Form::CmdLeave,
+            Body::CmdLookup { key } => Form::CmdLookup { key },
             Body::StabilizeTick { epoch } => Form::StabilizeTick { epoch },
             Body::FingerTick { epoch } => Form::FingerTick { epoch },
             Body::TrafficTick { epoch } => Form::TrafficTick { epoch },
@@ -79,30 +77,33 @@ impl CompactBody {
             Body::CheckTick { epoch } => Form::CheckTick { epoch },
             Body::Rejoin { epoch } => Form::Rejoin { epoch },
             Body::Timeout { call } => Form::Timeout { call },
+            Body::Step { call, key, avoid } => {
+                if avoid.as_slice().is_empty() {
+                    Form::Step { call, key }
+                } else {
+                    Form::Boxed(Box::new(alloc, Body::Step { call, key, avoid })?)
+                }
+            }
             Body::GetState { call } => Form::GetState { call },
             Body::GetList { call } => Form::GetList { call },
             Body::Ping { call } => Form::Ping { call },
             Body::Notify => Form::Notify,
-            Body::StepReply { call, answer } => match answer {
-                Answer::Owner(owner) => Form::OwnerReply { owner, call },
-                Answer::Next(next) => Form::NextReply { next, call },
-                Answer::Stuck => Form::StuckReply { call },
-            },
+            Body::StepReply { call, answer } => Form::StepReply { call, answer },
             Body::Pong { call } => Form::Pong { call },
-            long => Form::Boxed(Box::new(alloc, long)?),
+            with_list => Form::Boxed(Box::new(alloc, with_list)?),
         };
         Ok(CompactBody { form })
     }
 
-    /// The body, to be read.
-    #[inline(always)]
-    pub fn open(&self) -> Opened<'_>
+    /// The body, to be read. A list that has no nodes is made anew, by the allocator.
+    pub fn open(&self, alloc: Global) -> Opened<'_>
         ensures { opened_body result ≡ self.now }
     {
         let body = match &self.form {
             Form::CmdJoin { via } => Body::CmdJoin { via: *via },
             Form::CmdCrash => Body::CmdCrash,
             Form::CmdLeave => Body::CmdLeave,
+            Form::CmdLookup { key } => Body::CmdLookup { key: *key },
             Form::StabilizeTick { epoch } => Body::StabilizeTick { epoch: *epoch },
             Form::FingerTick { epoch } => Body::FingerTick { epoch: *epoch },
             Form::TrafficTick { epoch } => Body::TrafficTick { epoch: *epoch },
@@ -111,21 +112,18 @@ impl CompactBody {
             Form::CheckTick { epoch } => Body::CheckTick { epoch: *epoch },
             Form::Rejoin { epoch } => Body::Rejoin { epoch: *epoch },
             Form::Timeout { call } => Body::Timeout { call: *call },
+            Form::Step { call, key } => Body::Step {
+                call: *call,
+                key: *key,
+                avoid: Listed::new(alloc),
+            },
             Form::GetState { call } => Body::GetState { call: *call },
             Form::GetList { call } => Body::GetList { call: *call },
             Form::Ping { call } => Body::Ping { call: *call },
             Form::Notify => Body::Notify,
-            Form::OwnerReply { owner, call } => Body::StepReply {
+            Form::StepReply { call, answer } => Body::StepReply {
                 call: *call,
-                answer: Answer::Owner(*owner),
-            },
-            Form::NextReply { next, call } => Body::StepReply {
-                call: *call,
-                answer: Answer::Next(*next),
-            },
-            Form::StuckReply { call } => Body::StepReply {
-                call: *call,
-                answer: Answer::Stuck,
+                answer: *answer,
             },
             Form::Pong { call } => Body::Pong { call: *call },
             Form::Boxed(body) => return Opened::Kept(&**body),
@@ -136,7 +134,6 @@ impl CompactBody {
 
 impl<'b> Opened<'b> {
     /// The body.
-    #[inline(always)]
     pub fn body(&self) -> &Body
         ensures { result.now ≡ opened_body self.now }
     {
@@ -167,7 +164,7 @@ pub fn plain_copies(alloc: Global, events: &[CompactEvent]) -> Result<Vec<Event<
         copies.push(Event {
             key: event.key,
             target: event.target,
-            body: event.body.open().body().try_clone()?,
+            body: event.body.open(alloc).body().try_clone()?,
         })?;
     }
     Ok(copies)

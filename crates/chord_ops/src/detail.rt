@@ -83,10 +83,8 @@ fn push_message_lines(
     ensures { OnOk result (lines.new ≡ lines.old ++ message_lines state.now events.now) }
 {
     for event in events {
-        push_some(
-            lines,
-            line_for(state, event.target, event.body.open().body()),
-        )?;
+        let opened = event.body.open(lines.allocator());
+        push_some(lines, line_for(state, event.target, opened.body()))?;
     }
     Ok(())
 }

@@ -96,6 +96,6 @@ fn a_compact_copy_of_each_event(rt: HostRuntime) {
 /// No clause says how long an event is.
 #[test]
 fn a_compact_event_is_short(rt: HostRuntime) {
-    assert_eq!(rt; size_of::<CompactEvent>(), 48);
+    assert_eq!(rt; size_of::<CompactEvent>(), 64);
     assert_eq!(rt; size_of::<Event>(), 88);
 }
