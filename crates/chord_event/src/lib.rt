@@ -4,12 +4,10 @@
 
 mod block;
 mod body;
-mod compact;
 mod line;
 
 pub use block::Block;
 pub use body::{Answer, Body};
-pub use compact::{CompactBody, CompactEvent, Opened, compact_copy, plain_copies};
 pub use des_event::{Copied, Key, Listed, Memory, RunError};
 pub use line::{CommandKind, Line, MessageKind};
 

@@ -5,7 +5,7 @@ ghost use Rattle.chord_ops.specs.Detail.{detailed, line_for, message_lines, requ
 use crate::calls::find_call;
 use crate::joins::push_some;
 use crate::turn::Turn;
-use chord_event::{Body, CompactEvent, Line, Listed, Memory, MessageKind};
+use chord_event::{Body, Event, Line, Listed, Memory, MessageKind};
 use chord_node::{Call, NodeState, Purpose};
 use chord_scenario::Scenario;
 
@@ -78,13 +78,12 @@ fn line_for(state: &NodeState, target: u32, body: &Body) -> Option<Line>
 fn push_message_lines(
     lines: &mut Listed<Line>,
     state: &NodeState,
-    events: &[CompactEvent],
+    events: &[Event],
 ) -> Result<(), Memory>
     ensures { OnOk result (lines.new ≡ lines.old ++ message_lines state.now events.now) }
 {
     for event in events {
-        let opened = event.body.open(lines.allocator());
-        push_some(lines, line_for(state, event.target, opened.body()))?;
+        push_some(lines, line_for(state, event.target, &event.body))?;
     }
     Ok(())
 }

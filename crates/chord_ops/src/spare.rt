@@ -1,14 +1,14 @@
 //! Lists that are used again, from one event to the next.
 ghost use Rattle.std.specs.Prelude.{◌≡◌, []};
 
-use chord_event::{CompactEvent, Line, Listed};
+use chord_event::{Event, Line, Listed};
 use std::alloc::Global;
 
 /// Room for what an event makes: lists without items. They keep their memory from one event to the
 /// next.
 #[derive(Drop)]
 pub struct Spare {
-    events: Listed<CompactEvent>,
+    events: Listed<Event>,
     lines: Listed<Line>,
     ghost no_events: { events ≡ [] },
     ghost no_lines: { lines ≡ [] },
@@ -24,7 +24,7 @@ impl Spare {
     }
 
     /// The room of lists whose items are no longer needed. They are emptied, and keep their memory.
-    pub fn of(events: Vec<CompactEvent>, lines: Listed<Line>) -> Spare {
+    pub fn of(events: Vec<Event>, lines: Listed<Line>) -> Spare {
         let mut events = Listed::from_vec(events);
         events.clear();
         let mut lines = lines;
@@ -33,7 +33,7 @@ impl Spare {
     }
 
     /// The two lists, for an event to fill.
-    pub(crate) fn into_lists(self) -> (Listed<CompactEvent>, Listed<Line>)
+    pub(crate) fn into_lists(self) -> (Listed<Event>, Listed<Line>)
         ensures events { result.0 ≡ [] }
         ensures lines { result.1 ≡ [] }
     {

@@ -3,9 +3,7 @@
 #![tactic(auto)]
 
 mod chord_scribe;
-mod plain_ring;
 mod ring;
 
 pub use chord_scribe::ChordScribe;
-pub use plain_ring::PlainRing;
 pub use ring::ChordRing;

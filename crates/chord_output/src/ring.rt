@@ -1,9 +1,9 @@
 //! Chord as a machine of the simulation kernel.
 use chord_audit::audit_states;
-use chord_event::{CompactBody, CompactEvent, Memory};
+use chord_event::{Body, Event, Memory};
 use chord_machine::audit_times;
 use chord_node::{NodeState, initial_ring};
-use chord_ops::{CompactEffect, Spare, act_with};
+use chord_ops::{Effect, Spare, act_with};
 use chord_scenario::Scenario;
 use chord_trace::Piece;
 use des_event::Listed;
@@ -30,7 +30,7 @@ impl<'s> Machine for ChordRing<'s> {
 
     type State = NodeState;
 
-    type Body = CompactBody;
+    type Body = Body;
 
     type Piece = Piece;
 
@@ -72,9 +72,9 @@ impl<'s> Machine for ChordRing<'s> {
         Ok(states)
     }
 
-    fn start_events(&self, alloc: Global) -> Result<Vec<CompactEvent>, Memory> {
+    fn start_events(&self, alloc: Global) -> Result<Vec<Event>, Memory> {
         self.scenario.recall_range();
-        self.scenario.compact_start_events(alloc)
+        self.scenario.start_events(alloc)
     }
 
     #[inline(always)]
@@ -82,13 +82,13 @@ impl<'s> Machine for ChordRing<'s> {
         &self,
         alloc: Global,
         state: &mut NodeState,
-        event: &CompactEvent,
-        made: &mut Vec<CompactEvent>,
+        event: &Event,
+        made: &mut Vec<Event>,
     ) -> Result<Piece, Memory> {
         self.scenario.recall_range();
         let room = mem::replace(made, Vec::new(alloc));
         let spare = Spare::of(room, Listed::new(alloc));
-        let CompactEffect { events, block } = act_with(alloc, self.scenario, state, event, spare)?;
+        let Effect { events, block } = act_with(alloc, self.scenario, state, event, spare)?;
         // What stood in its place has no memory to free.
         mem::forget(mem::replace(made, events.into_vec()));
         Ok(Piece::OfEvent { block })

@@ -8,7 +8,7 @@ ghost use Rattle.chord_scenario.specs.World.{node_count};
 use crate::draw::Drawer;
 use crate::scenario::Scenario;
 use crate::setting::{Action, Command, Span};
-use chord_event::{Body, CompactBody, CompactEvent, Event, Key, Memory, plain_copies};
+use chord_event::{Body, Event, Key, Memory};
 use std::alloc::Global;
 
 /// What a command asks of its node, as the body of an event.
@@ -24,18 +24,18 @@ fn command_body(action: Action) -> Body
 }
 
 /// The command of this number as an event.
-fn command_event(alloc: Global, number: u64, command: &Command) -> Result<CompactEvent, Memory>
-    ensures { IfOk result (λ event. event ≡ command_event number command.now) }
+fn command_event(number: u64, command: &Command) -> Event
+    ensures { result ≡ command_event number command.now }
 {
-    Ok(CompactEvent {
+    Event {
         key: Key {
             time: command.at,
             origin: 1,
             number,
         },
         target: command.node,
-        body: CompactBody::of(alloc, command_body(command.action))?,
-    })
+        body: command_body(command.action),
+    }
 }
 
 /// A span from a period to the period plus a jitter, in microseconds.
@@ -51,12 +51,11 @@ fn jittered(period: u64, jitter: u64) -> Span
 }
 
 /// Adds the commands, numbered from 1.
-fn push_commands(events: &mut Vec<CompactEvent>, commands: &[Command]) -> Result<(), Memory>
+fn push_commands(events: &mut Vec<Event>, commands: &[Command]) -> Result<(), Memory>
     ensures { OnOk result (events.new.items ≡ events.old.items ++ map (λ p. command_event p.0 p.1) (enumerate_from 1 commands.now)) }
 {
     for (i, command) in commands.iter().enumerate() {
-        let event = command_event(*events.allocator(), i as u64 + 1, command)?;
-        events.push(event)?;
+        events.push(command_event(i as u64 + 1, command))?;
     }
     Ok(())
 }
@@ -113,7 +112,7 @@ impl Scenario {
     /// Adds the timer at a place, from 0, among the first ones of a node.
     fn push_timer(
         &self,
-        events: &mut Vec<CompactEvent>,
+        events: &mut Vec<Event>,
         node: u32,
         place: u64,
         span: Span,
@@ -131,17 +130,17 @@ impl Scenario {
             time: 0,
         };
         let time = self.delay(drawer, span, &body);
-        events.push(CompactEvent {
+        events.push(Event {
             key: Key::next_of(time, node, place),
             target: node,
-            body: CompactBody::of(*events.allocator(), body)?,
+            body,
         })?;
         Ok(())
     }
 
     /// Adds the first timers of a node.
     #[tactic(auto, unfolding(crate::specs::Start::first_timers, crate::specs::Start::timers))]
-    fn push_first_timers(&self, events: &mut Vec<CompactEvent>, node: u32) -> Result<(), Memory>
+    fn push_first_timers(&self, events: &mut Vec<Event>, node: u32) -> Result<(), Memory>
         requires { node < node_count self.now }
         ensures { OnOk result (events.new.items ≡ events.old.items ++ first_timers self.now node) }
     {
@@ -170,18 +169,10 @@ impl Scenario {
     }
 
     /// The events that a run starts with: the commands, numbered from 1 in the order of the file,
-    /// and then the first timers of each node that is a member at the start.
-    pub fn start_events(&self, alloc: Global) -> Result<Vec<Event>, Memory>
-        ensures { IfOk result (λ events. events.items ≡ start_events self.now) }
-    {
-        let events = self.compact_start_events(alloc)?;
-        plain_copies(alloc, events.as_slice())
-    }
-
-    /// The events that a run starts with, in their compact form. The list is a plain `Vec`, since an
-    /// engine takes it apart at once.
+    /// and then the first timers of each node that is a member at the start. The list is a plain
+    /// `Vec`, since an engine takes it apart at once.
     #[tactic(auto, unfolding(crate::specs::Start::start_events, crate::specs::Start::command_events))]
-    pub fn compact_start_events(&self, alloc: Global) -> Result<Vec<CompactEvent>, Memory>
+    pub fn start_events(&self, alloc: Global) -> Result<Vec<Event>, Memory>
         ensures { IfOk result (λ events. events.items ≡ start_events self.now) }
     {
         let mut events = Vec::new(alloc);

@@ -10,7 +10,7 @@ use crate::part_done::{Done, blocks_of};
 use crate::world::World;
 use chord_event::{Block, Body, Memory, RunError};
 use chord_node::NodeState;
-use chord_output::PlainRing;
+use chord_output::ChordRing;
 use chord_scenario::Scenario;
 use chord_trace::Piece;
 use des_parts::Entry;
@@ -39,7 +39,7 @@ pub fn exchange(
     ensures over { result ≡ Err RunError.TooManyEvents → HasTooManyEvents scenario.now }
     ensures only { IfErr result (λ e. (e ≡ RunError.Memory) ⊎ (e ≡ RunError.TooManyEvents)) }
 {
-    let ring = PlainRing { scenario };
+    let ring = ChordRing { scenario };
     let kernels = into_kernels(alloc, dones)?;
     let lists = des_parts::exchange(alloc, &ring, &mut world.kernel, kernels)?;
     Ok(lists_of_blocks(alloc, lists)?)

@@ -7,7 +7,7 @@ ghost use Rattle.des_parts.specs.PartRuns.{IsFresh};
 use crate::part_done::Done;
 use crate::window::Window;
 use chord_event::RunError;
-use chord_output::PlainRing;
+use chord_output::ChordRing;
 use chord_queue::WindowQueue;
 
 /// Runs the events of a part of a window, the least first. It leaves the world as it was and the
@@ -33,7 +33,7 @@ pub fn run_part(window: &Window<'_>, part: u32, queue: &mut WindowQueue) -> Resu
         horizon,
     } = window;
     scenario.recall_range();
-    let ring = PlainRing { scenario };
+    let ring = ChordRing { scenario };
     let window = des_parts::Window {
         alloc,
         machine: &ring,

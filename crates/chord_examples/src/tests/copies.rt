@@ -1,10 +1,8 @@
-//! Copies of events. An allocation may fail for each kind of body, and no clause could say that it does not fail
+//! Copies of events' bodies. An allocation may fail for each kind of body, and no clause could say that it does not fail
 //! without need: so each kind is copied once.
 use crate::tests::steps::value_of;
 use chord_circle::{Circle, Ident};
-use chord_event::{Answer, Body, CompactEvent, Event, Key, Listed, compact_copy, plain_copies};
-use std::mem::size_of;
-use std::process::Abort;
+use chord_event::{Answer, Body, Listed};
 
 /// The body of each kind from 0 to 21, with two nodes in each list.
 fn body_of(kind: u32, key: Ident, list: Listed<u32>) -> Body {
@@ -55,47 +53,15 @@ fn body_with(kind: u32, key: Ident, list: Listed<u32>) -> Body {
     }
 }
 
-/// An event with the body of a kind.
-fn event_of<T: Abort + AllocGlobal>(rt: &T, kind: u32) -> Event {
-    let key = Circle::new(3).and_then(|circle| circle.ident(5));
-    let key = value_of(rt, key.ok_or("no key"));
-    let mut list = Listed::new(rt.alloc());
-    value_of(rt, list.push(1));
-    value_of(rt, list.push(2));
-    Event {
-        key: Key {
-            time: 1,
-            origin: 2,
-            number: 3,
-        },
-        target: 4,
-        body: body_of(kind, key, list),
-    }
-}
-
 #[test]
 fn a_copy_of_each_body(rt: HostRuntime) {
+    let key = Circle::new(3).and_then(|circle| circle.ident(5));
+    let key = value_of(&rt, key.ok_or("no key"));
     for kind in 0..22 {
-        value_of(&rt, event_of(&rt, kind).body.try_clone());
+        let mut list = Listed::new(rt.alloc());
+        value_of(&rt, list.push(1));
+        value_of(&rt, list.push(2));
+        let body = body_of(kind, key, list);
+        value_of(&rt, body.try_clone());
     }
-}
-
-#[test]
-fn a_compact_copy_of_each_event(rt: HostRuntime) {
-    let mut copies = Listed::new(rt.alloc());
-    for kind in 0..22 {
-        let event = event_of(&rt, kind);
-        value_of(
-            &rt,
-            copies.push(value_of(&rt, compact_copy(rt.alloc(), &event))),
-        );
-    }
-    value_of(&rt, plain_copies(rt.alloc(), copies.as_slice()));
-}
-
-/// No clause says how long an event is.
-#[test]
-fn a_compact_event_is_short(rt: HostRuntime) {
-    assert_eq!(rt; size_of::<CompactEvent>(), 64);
-    assert_eq!(rt; size_of::<Event>(), 88);
 }

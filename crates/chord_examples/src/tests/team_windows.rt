@@ -12,14 +12,13 @@ use crate::tests::comparisons::{are_same_events, is_same_state};
 use crate::tests::random_texts::{Dice, RandomTexts, random_texts};
 use crate::tests::steps::{holds, value_of};
 use crate::tests::windows::horizon_of;
-use chord_event::{Block, CompactBody, CompactEvent, Event, Key, Listed, plain_copies};
+use chord_event::{Block, Event, Key};
 use chord_node::NodeState;
 use chord_output::{ChordRing, ChordScribe};
 use chord_queue::WindowQueue;
 use chord_scenario::{Scenario, read_scenario};
 use chord_trace::{Watched, write_block};
 use chord_window::{Division, Done, Window, World, run_part};
-use des_queue::Pending;
 use des_team::{Course, Done as TeamDone, Layout, OwnedPart, Parcel, Team};
 use std::process::Abort;
 
@@ -113,7 +112,7 @@ fn by_run_part<T: Abort + AllocGlobal>(rt: &T, window: &Window<'_>, part: u32) -
 }
 
 /// Asserts that what a team's part made for the others lies in their lists.
-fn lies_apart(rt: &impl Abort, layout: &Layout, outbox: &[Vec<CompactEvent>]) {
+fn lies_apart(rt: &impl Abort, layout: &Layout, outbox: &[Vec<Event>]) {
     for (part, list) in outbox.iter().enumerate() {
         for event in list {
             let known = (event.target as usize) < layout.division.nodes();
@@ -124,16 +123,6 @@ fn lies_apart(rt: &impl Abort, layout: &Layout, outbox: &[Vec<CompactEvent>]) {
             );
         }
     }
-}
-
-/// All pending events.
-fn all_pending<T: Abort + AllocGlobal>(rt: &T, pending: Pending<CompactBody>) -> Vec<Event> {
-    let mut pending = pending;
-    let mut events = Listed::new(rt.alloc());
-    while let Some(event) = pending.pop_first() {
-        value_of(rt, events.push(event));
-    }
-    value_of(rt, plain_copies(rt.alloc(), events.as_slice()))
 }
 
 /// What a team's worker leaves of a part.
@@ -158,12 +147,11 @@ fn by_worker<'a, T: Abort + AllocGlobal>(
         outbox,
         ..
     } = Box::into_inner(part);
-    let lists = outbox.into_lists();
+    let mut lists = outbox.into_lists();
     lies_apart(rt, course.layout, lists.as_slice());
-    let mut coming = all_pending(rt, pending);
-    for list in lists.iter() {
-        let mut mail = value_of(rt, plain_copies(rt.alloc(), list.as_slice()));
-        value_of(rt, coming.append(&mut mail));
+    let mut coming = value_of(rt, pending.up_to(u64::MAX));
+    for list in lists.iter_mut() {
+        value_of(rt, coming.append(list));
     }
     coming.sort_unstable_by_key(|event| event.key);
     let mut ends = Vec::new(rt.alloc());

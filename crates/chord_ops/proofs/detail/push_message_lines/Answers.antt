@@ -8,8 +8,6 @@ loop-event-preserved c =
     rw (
       c.in_ok-push_some.ensures,
       c.line_for.ensures,
-      c.body.ensures,
-      c.open-opened.ensures,
       c.loop-event.invariant,
       filter_map-more (λ e. line_for c.args.state.now e.target e.body) c.args.events.now c.loop-event.event-index c.event-item.result c.loop-event-test.true,
       ← c.event-item.is,

@@ -9,8 +9,8 @@ loop-i-preserved c =
     let commands = c.args.commands.now in
     let all = c.args.events.now.items ++ map (λ p. command_event p.0 p.1) (enumerate_from 1 commands) in
     rw c.in_ok-push.ensures.items
-    (numbered-more (λ p. command_event p.0 p.1) commands c.loop-i.i c.loop-i.events.items all c.index-commands-i.result c.in_ok-event.event
-    c.loop-i-test.true c.index-commands-i.is c.in_ok-event.ensures c.loop-i.invariant)
+    (numbered-more (λ p. command_event p.0 p.1) commands c.loop-i.i c.loop-i.events.items all c.index-commands-i.result c.command_event.result
+    c.loop-i-test.true c.index-commands-i.is c.command_event.ensures c.loop-i.invariant)
 
 pub returns : goal.returns
 returns c =

@@ -6,8 +6,8 @@ use Rattle.chord_scenario.specs.Setup.{Setup}
 use Rattle.chord_scenario.specs.Start.{command_event, command_events, first_timers, initial_nodes, start_events}
 use Rattle.chord_scenario.specs.World.{node_count, is_initial}
 use Rattle.chord_scenario.proofs.Starts.{pass, pass_over}
-use Rattle.chord_scenario.proofs.scenario.Scenario.compact_start_events.Goals as goal
-use Rattle.chord_scenario.proofs.scenario.Scenario.compact_start_events.Goals.{then-initial+in_ok-push_first_timers, else-initial}
+use Rattle.chord_scenario.proofs.scenario.Scenario.start_events.Goals as goal
+use Rattle.chord_scenario.proofs.scenario.Scenario.start_events.Goals.{then-initial+in_ok-push_first_timers, else-initial}
 
 pub loop-node-init : goal.loop-node-init
 unfolding start_events command_events initial_nodes

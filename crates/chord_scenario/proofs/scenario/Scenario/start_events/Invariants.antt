@@ -2,7 +2,7 @@ use Rattle.std.proofs.Common.{◌≡◌, ◌-◌, ◌++◌, filter}
 use Rattle.std.specs.List.{flat_map, range_with_len}
 use Rattle.chord_scenario.specs.Start.{first_timers, start_events}
 use Rattle.chord_scenario.specs.World.{node_count, is_initial}
-use Rattle.chord_scenario.proofs.scenario.Scenario.compact_start_events.Given as goal
+use Rattle.chord_scenario.proofs.scenario.Scenario.start_events.Given as goal
 
 -- the events so far, followed by the timers of the nodes left, are all
 abbrev pub invariant-loop-node : goal.invariant-loop-node

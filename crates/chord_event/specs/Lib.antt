@@ -1,2 +1,0 @@
-pub mod Compact
-pub mod Opened
