@@ -101,7 +101,7 @@ impl<B: Drop> Calendar<B> {
         let index = self.due.len().checked_sub(later)?.checked_sub(1)?;
         let waiting = self.due.get(index)?;
         let event = self.days.events.get(waiting.place)?;
-        Some(event.target())
+        Some(event.target)
     }
 
     /// Takes the first event.
@@ -112,7 +112,7 @@ impl<B: Drop> Calendar<B> {
         let waiting = self.due.pop()?;
         // The event is taken last, so that no call comes between it and the caller.
         refill(&mut self.due, &mut self.days);
-        Some(self.days.events.remove(waiting.place).into_event())
+        Some(self.days.events.remove(waiting.place))
     }
 
     /// Moves on to the day of a time, if there are no events.

@@ -6,7 +6,6 @@ ghost use Rattle.slab.specs.Slab.{ContainsKey, get};
 ghost use Rattle.des_queue.specs.Days.{AreDays, HasSame, HasTaken, HaveNone, IsOpened, MayTake, entries_in};
 ghost use Rattle.des_queue.specs.Places.{entry_at};
 
-use crate::packed::Packed;
 use crate::waiting::Waiting;
 use des_event::{Event, Memory};
 use slab::Slab;
@@ -36,7 +35,7 @@ pub struct Days<B> {
     /// No event in the lists has a later day.
     pub latest: u64,
     /// The events of the lists and of the opened days.
-    pub events: Slab<Packed<B>>,
+    pub events: Slab<Event<B>>,
 }
 
 impl<B: Drop> Days<B> {
@@ -102,7 +101,7 @@ impl<B: Drop> Days<B> {
         ensures taken { HasTaken self.old event self.new }
     {
         let day = event.key.time / DAY;
-        let place = self.events.insert_reserved(Packed::of(event));
+        let place = self.events.insert_reserved(event);
         self.lists[at].push_reserved(place);
         self.latest = self.latest.max(day);
     }
@@ -194,7 +193,7 @@ fn empty_list(places: &mut Vec<usize>)
 
 /// Adds the entries of the events at some places.
 fn add_entries<B: Drop>(
-    events: &Slab<Packed<B>>,
+    events: &Slab<Event<B>>,
     places: &Vec<usize>,
     entries: &mut Vec<Waiting<usize>>,
 )
@@ -205,7 +204,7 @@ fn add_entries<B: Drop>(
 {
     for place in places {
         let place = *place;
-        let key = Reverse(events[place].key());
+        let key = Reverse(events[place].key);
         match entries.push(Waiting { key, place }) {
             Ok(()) => {}
             Err(_) => unreachable!(),

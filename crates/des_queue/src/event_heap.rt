@@ -3,7 +3,6 @@ ghost use Rattle.std.specs.Prelude.{◌≡◌, [], ◌∷◌, slice_get, option_
 ghost use Rattle.des_event.specs.KeyOrder.{InKeyOrder, IsNewKey, put_in_order, before};
 ghost use Rattle.des_queue.specs.EventKey.{event_key};
 
-use crate::packed::Packed;
 use crate::waiting::{Waiting, copies_before};
 use des_event::{Copied, Event, Key, Memory};
 use slab::Slab;
@@ -17,7 +16,7 @@ use std::marker::Model;
 pub struct EventHeap<B> {
     // Keys in a heap and events in a slab, so that an insertion moves keys and not events.
     heap: BinaryHeap<Waiting<usize>>,
-    events: Slab<Packed<B>>,
+    events: Slab<Event<B>>,
     alloc: Global,
 }
 
@@ -67,7 +66,7 @@ impl<B: Drop> EventHeap<B> {
             return Err(event);
         }
         let key = Reverse(event.key);
-        let place = self.events.insert_reserved(Packed::of(event));
+        let place = self.events.insert_reserved(event);
         match self.heap.push(Waiting { key, place }) {
             Ok(()) => Ok(()),
             Err(_) => unreachable!(),
@@ -88,7 +87,7 @@ impl<B: Drop> EventHeap<B> {
         ensures { MatchOption result ((self.old ≡ []) × (self.new ≡ [])) (λ first. self.old ≡ first ∷ self.new) }
     {
         let waiting = self.heap.pop()?;
-        Some(self.events.remove(waiting.place).into_event())
+        Some(self.events.remove(waiting.place))
     }
 }
 

@@ -4,7 +4,6 @@
 mod calendar;
 mod days;
 mod event_heap;
-mod packed;
 mod pending;
 mod waiting;
 mod window_queue;

@@ -7,7 +7,6 @@ ghost use Rattle.des_event.specs.KeyOrder.{before};
 ghost use Rattle.des_queue.specs.EventKey.{event_key};
 ghost use Rattle.des_queue.specs.Places.{Held, waiting_cmp, is_due, events_at, in_key_order};
 
-use crate::packed::Packed;
 use des_event::{Copied, Event, Key, Memory};
 use slab::Slab;
 use std::alloc::Global;
@@ -24,7 +23,7 @@ pub struct Waiting<P> {
 /// Copies of the events before a time in microseconds.
 pub fn copies_before<B: Copied + Drop>(
     alloc: Global,
-    events: &Slab<Packed<B>>,
+    events: &Slab<Event<B>>,
     entries: &[Waiting<usize>],
     horizon: u64,
 ) -> Result<Vec<Event<B>>, Memory>

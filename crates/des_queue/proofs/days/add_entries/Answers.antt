@@ -8,10 +8,9 @@ pub loop-place-preserved : goal.loop-place-preserved
 loop-place-preserved g c =
     let s = get c.args.events.now in let ps = c.args.places.now.items in let i = c.loop-place.place-index in let es = c.loop-place.entries.items in
     let rest = map (entry_at s) (drop (i + 1) ps) in let p = get_or c.deref-place-items.result.now i 0 in
-    let w : Entry = record { key = record { 0 = c.key.result }; place = p } in
+    let w : Entry = record { key = record { 0 = c.index.result.now.key }; place = p } in
     let here : entry_at s (get_or ps i 0) ≡ w = ap (λ (l : List ℕ). entry_at s (get_or l i 0)) (sym c.deref-place-items.ensures.value)
-    ∙ (λ j. record { key = record { 0 = key_there (c.index.ensures j) }; place = p })
-    ∙ (λ j. record { key = record { 0 = sym c.key.ensures j }; place = p }) in
+    ∙ (λ j. record { key = record { 0 = key_there (c.index.ensures j) }; place = p }) in
     let below : i < length ps = omega (arith, c.loop-place-test.true, c.deref-place-items.ensures.len, c.args.places.now.ok.0) in
     let next : map (entry_at s) (drop i ps) ≡ w ∷ rest = rw (add-one, drop-cons ps i 0) (ap (λ v. v ∷ map (entry_at s) (drop (suc i) ps)) here) in record {
       added = ap (λ l. l ++ rest) c.in-Ok.ensures.items ∙ append_assoc es (w ∷ []) rest ∙ ap (λ l. es ++ l) (sym next) ∙ c.loop-place.invariant.added;

@@ -13,18 +13,18 @@ refill-requires g c =
     let q = c.self.inside in let out = c.in_ok-waiting in
     (taken_due q.due c.pop.new.self q.days out.waiting c.self.invariant.orderly out.ensures.items out.ensures.capacity).rest
 
-taken : (g : _) (c : goal.After-into_event g) → IsTaken c.self.inside.due c.pop.new.self c.self.inside.days c.in_ok-waiting.waiting
+taken : (g : _) (c : goal.After-remove g) → IsTaken c.self.inside.due c.pop.new.self c.self.inside.days c.in_ok-waiting.waiting
 taken g c =
     let q = c.self.inside in let out = c.in_ok-waiting in
     taken_due q.due c.pop.new.self q.days out.waiting c.self.invariant.orderly out.ensures.items out.ensures.capacity
 
 -- the event that was taken is that of the entry
-same : (g : _) (c : goal.After-into_event g) → c.remove.result ≡ (taken g c).event
+same : (g : _) (c : goal.After-remove g) → c.remove.result ≡ (taken g c).event
 same g c =
     let there = (taken g c).there in let value = c.remove.ensures.value in
     let kept = ap (λ (s : Slab (Event _)). get s c.in_ok-waiting.waiting.place) c.refill.ensures.kept in cc
 
-freed : (g : _) (c : goal.After-into_event g) → let due = c.refill.new.due in let d = c.refill.new.days in
+freed : (g : _) (c : goal.After-remove g) → let due = c.refill.new.due in let d = c.refill.new.days in
     let new : Days _ = record d { events = c.remove.new.self } in
     AreOrderly due new × (events_of due.items new ≡ events_of due.items d)
 freed g c =
@@ -40,4 +40,4 @@ invariant_of-self-2 g c = record { orderly = (freed g c).0; whole = c.refill.ens
 pub returns : goal.returns
 returns g c =
     sym c.self.view_is ∙ (taken g c).first
-    ∙ (λ i. (sym (same g c) ∙ sym c.into_event.ensures) i ∷ (sym c.refill.ensures.same ∙ sym (freed g c).1) i)
+    ∙ (λ i. sym (same g c) i ∷ (sym c.refill.ensures.same ∙ sym (freed g c).1) i)

@@ -1,7 +1,6 @@
-use Rattle.std.proofs.Common.{◌≡◌, ◌∙◌, Some, refl, sym, ap, subst, arith, rules}
+use Rattle.std.proofs.Common.{◌≡◌, ◌∙◌, refl, sym, ap, subst, arith, rules}
 use Rattle.std.specs.BinaryHeap.{IsHeap, heap_items}
-use Rattle.slab.specs.Slab.{Updates, get, slab_len}
-use Rattle.des_event.specs.declared.event.Event.{Event}
+use Rattle.slab.specs.Slab.{get, slab_len}
 use Rattle.des_event.specs.KeyOrder.{put_in_order}
 use Rattle.des_queue.specs.EventKey.{event_key}
 use Rattle.des_queue.specs.Places.{Held, waiting_cmp, events_at, in_key_order}
@@ -11,12 +10,11 @@ use Rattle.des_queue.proofs.event_heap.EventHeap.insert.Goals as goal
 after : (g : _) (c : goal.In-Ok g) → let t = get c.insert_reserved-place.new.self in let more = heap_items c.push.new.self in
     Held t more × (in_key_order (events_at t more) ≡ put_in_order event_key c.args.event c.args.self.now)
 after g c =
-    let s = c.reserve-else-is_err.new.self in let t = c.insert_reserved-place.new.self in let ws = heap_items c.reserve.new.self in
-    let at = c.insert_reserved-place.result in let place = c.insert_reserved-place.ensures in
-    let updates = subst (λ (e : Event _). Updates s t at (Some e)) c.of.ensures place.updates in
+    let s = c.reserve-else-is_err.new.self in let ws = heap_items c.reserve.new.self in let place = c.insert_reserved-place.ensures in
     let kept = kept_by c.self.inside s ws c.self.invariant c.reserve.ensures.items (λ i. (c.reserve-else-is_err.ensures.rest_kept i).slots) in
-    inserted (get s) (get t) ws (heap_items c.push.new.self) c.args.self.now _ c.args.event kept.0
-    (kept.1 ∙ c.self.view_is) c.requires refl place.was_vacant (changes_by s t _ _ updates) c.in-Ok.ensures.permutation
+    inserted (get s) (get c.insert_reserved-place.new.self) ws (heap_items c.push.new.self) c.args.self.now _ c.args.event kept.0
+    (kept.1 ∙ c.self.view_is) c.requires refl
+    place.was_vacant (changes_by s c.insert_reserved-place.new.self _ _ place.updates) c.in-Ok.ensures.permutation
 
 pub invariant_of-self-2 : goal.invariant_of-self-2
 invariant_of-self-2 g c =

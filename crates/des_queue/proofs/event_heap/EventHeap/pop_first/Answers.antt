@@ -5,7 +5,7 @@ use Rattle.des_queue.specs.Places.{Held, heap_events, events_at, in_key_order}
 use Rattle.des_queue.proofs.Places.{changes_by, held_by, placed_by, popped}
 use Rattle.des_queue.proofs.event_heap.EventHeap.pop_first.Goals as goal
 
-after : (g : _) (c : goal.After-into_event g) → let t = get c.remove.new.self in let rest = heap_items c.pop.new.self in
+after : (g : _) (c : goal.After-remove g) → let t = get c.remove.new.self in let rest = heap_items c.pop.new.self in
     Held t rest × (heap_events c.self.inside ≡ c.remove.result ∷ in_key_order (events_at t rest))
 after g c =
     let p = c.self.inside in let out = c.in_ok-waiting.ensures in
@@ -24,6 +24,4 @@ invariant_of-self-2 g c =
     (omega (arith, c.remove.ensures.len, out.len, c.self.invariant.counted))
 
 pub returns : goal.returns
-returns g c =
-    let rest = in_key_order (events_at (get c.remove.new.self) (heap_items c.pop.new.self)) in
-    sym c.self.view_is ∙ (after g c).1 ∙ (λ i. sym c.into_event.ensures i ∷ rest)
+returns g c = sym c.self.view_is ∙ (after g c).1
