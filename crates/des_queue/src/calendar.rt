@@ -89,7 +89,7 @@ impl<B: Drop> Calendar<B> {
         Some(waiting.key.0)
     }
 
-    /// Whether many events are pending.
+    /// Whether the calendar has many events.
     #[inline(always)]
     pub fn has_many(&self) -> bool {
         self.days.events.len() >= MANY

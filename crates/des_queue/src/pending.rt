@@ -128,7 +128,8 @@ impl<B: Drop> Pending<B> {
         Some(other.time)
     }
 
-    /// Whether so many events are pending that what they need is hardly in a near cache.
+    /// Whether so many events are pending that what they need is hardly in a near cache. Events of the
+    /// heap do not count.
     #[inline(always)]
     pub fn has_many(&self) -> bool {
         self.calendar.has_many()
