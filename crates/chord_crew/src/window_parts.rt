@@ -2,10 +2,10 @@
 ghost use Rattle.std.specs.Prelude.{◌≡◌, []};
 ghost use Rattle.chord_crew.specs.Shifts.{IsShift, IsWindowOf};
 
-use chord_event::RunError;
-use chord_queue::WindowQueue;
+use chord_event::{Body, RunError};
 use chord_window::{Done, Window, run_part};
 use des_crew::{Draws, Gate, PartRunner, Seat, work_by};
+use des_queue::WindowQueue;
 use std::alloc::Global;
 
 /// The result of a worker: its seat, what each of the parts that it drew leaves, and why it stopped
@@ -25,7 +25,7 @@ impl<'a> PartRunner for WindowParts<'a> {
 
     type Done = Done;
 
-    type Tools = WindowQueue;
+    type Tools = WindowQueue<Body>;
 
     ghost IsOpen = { λ parts. IsNextWindow parts.window.scenario.now parts.window.world.now parts.window.horizon };
 
@@ -43,11 +43,11 @@ impl<'a> PartRunner for WindowParts<'a> {
         division.parts()
     }
 
-    fn tools(&self, alloc: Global) -> WindowQueue {
+    fn tools(&self, alloc: Global) -> WindowQueue<Body> {
         WindowQueue::new(alloc)
     }
 
-    fn run(&self, part: u32, tools: &mut WindowQueue) -> Result<Done, RunError> {
+    fn run(&self, part: u32, tools: &mut WindowQueue<Body>) -> Result<Done, RunError> {
         run_part(&self.window, part, tools)
     }
 }

@@ -7,7 +7,7 @@ ghost use Rattle.chord_scenario.specs.Range.{IsSpanUpTo};
 use crate::scenario::{EXTENDED_PROFILE, Scenario};
 use crate::setting::Span;
 use chord_event::Body;
-use chord_stream::Stream;
+use des_stream::Stream;
 
 /// The purpose of the words from which a random key is made, in the extended profile.
 pub const KEY_PURPOSE: u32 = 6;

@@ -13,7 +13,7 @@ use crate::section::PlacedTable;
 use crate::setting::{Coordinates, Node};
 use crate::value::{identifier_of, number_at, truth_at, value_at};
 use chord_circle::{Circle, Ident, Raw};
-use chord_stream::Stream;
+use des_stream::Stream;
 use std::alloc::{AllocError, Global};
 use toml::Table;
 

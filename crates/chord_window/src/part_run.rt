@@ -6,9 +6,9 @@ ghost use Rattle.des_parts.specs.PartRuns.{IsFresh};
 
 use crate::part_done::Done;
 use crate::window::Window;
-use chord_event::RunError;
+use chord_event::{Body, RunError};
 use chord_output::ChordRing;
-use chord_queue::WindowQueue;
+use des_queue::WindowQueue;
 
 /// Runs the events of a part of a window, the least first. It leaves the world as it was and the
 /// queue empty, after an error too.
@@ -17,7 +17,11 @@ use chord_queue::WindowQueue;
 ///
 /// `TooManyEvents`, if this part alone shows that the run has more events than the scenario allows;
 /// `Memory`.
-pub fn run_part(window: &Window<'_>, part: u32, queue: &mut WindowQueue) -> Result<Done, RunError>
+pub fn run_part(
+    window: &Window<'_>,
+    part: u32,
+    queue: &mut WindowQueue<Body>,
+) -> Result<Done, RunError>
     requires window { IsNextWindow window.now.scenario.now window.now.world.now window.now.horizon }
     requires part { part < window.now.world.now.kernel.division.parts }
     requires queue { IsFresh queue.old }
