@@ -34,8 +34,9 @@ def explained(fault: Fault, files: Files) -> Explanation:
 
 def explanation(fault: Fault, file: str, position: Position, parts: Parts) -> Explanation:
     """The parts of an explanation together."""
-    where = position.line, position.column, position.near
-    return Explanation(fault.text, file, *where, fault.place, fault.key, *parts)
+    what, found, allowed, likely = parts
+    line, column, near = position.line, position.column, position.near
+    return Explanation(fault.text, file, line, column, near, fault.place, fault.key, what, found, allowed, likely)
 
 
 def value_and_key(fault: Fault, files: Files) -> tuple[Any, Key, str, str]:
