@@ -172,8 +172,10 @@ class BuildProgramTest(TestCase):
     def test_interrupt(self) -> None:
         """A signal ends what runs. Nothing is left of the crate, and those that were built are kept.
 
-        What still ran would hold the lock, and the next build would be refused."""
-        for number in (signal.SIGINT, signal.SIGTERM, signal.SIGHUP):
+        What still ran would hold the lock, and the next build would be refused. A build ignores what is ignored where
+        it starts, as SIGHUP under nohup."""
+        numbers = [signal.SIGINT, signal.SIGTERM, signal.SIGHUP]
+        for number in [number for number in numbers if signal.getsignal(number) is not signal.SIG_IGN]:
             with self.subTest(number=number), self.begun(2, WAITING="left") as build:
                 self.wait_for("begin left")
                 self.wait_until(lambda: "right" in self.sums())
