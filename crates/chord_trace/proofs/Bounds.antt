@@ -10,6 +10,7 @@ use Rattle.std.proofs.Common.{
   true,
   false,
   cond,
+  nat_le,
   nat_lt,
   List,
   [],
@@ -133,3 +134,13 @@ same_least (x ∷ xs) (y ∷ ys) len same =
     let one = le-least x xs (least (y ∷ ys)) (same (least (y ∷ ys)) ∙ least-le y ys (least (y ∷ ys)) (omega arith)) in
     let other = le-least y ys (least (x ∷ xs)) (sym (same (least (x ∷ xs))) ∙ least-le x xs (least (x ∷ xs)) (omega arith)) in
     omega (arith, one, other)
+
+-- no number is past a bound of the greatest
+pub all_up_to : (k : ℕ) (ns : List ℕ) → greatest ns ≤ k → count_by (λ n. nat_le n k) ns ≡ length ns
+all_up_to k [] le = refl
+all_up_to k (n ∷ ns) le =
+    let both = max-fold (max 0 n) ns in
+    let up_to : n ≤ k = omega (arith, both, le) in
+    let is_le : nat_le n k ≡ true = grind (arith, nat_tests) in
+    let rest = all_up_to k ns (omega (arith, both, le)) in
+    omega (arith, sum_by-cons (λ m. cond (nat_le m k) 1 0) n ns, ap {B = ℕ} (λ b. cond b 1 0) is_le, rest)

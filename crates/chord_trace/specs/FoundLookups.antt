@@ -1,6 +1,7 @@
 -- What a tally has of the lookups that were found.
 use Rattle.std.specs.Prelude.{◌≡◌, ℕ, Bool, List, count_by, length, sum}
-use Rattle.chord_trace.specs.Numbers.{greatest, least, counted, hops_of, timeouts_of, times_of}
+use Rattle.chord_trace.specs.LookupTimes.{timed}
+use Rattle.chord_trace.specs.Numbers.{greatest, least, hops_of, timeouts_of, times_of}
 use Rattle.chord_trace.specs.declared.found_lookups.FoundLookups.{FoundLookups}
 use Rattle.chord_trace.specs.declared.found_lookups.Found.{Found}
 
@@ -17,4 +18,4 @@ pub record HasFound (seen : List Found) (f : FoundLookups) : Type 0 where
   pub us_sum : f.us_sum ≡ sum (times_of seen)
   pub us_least : f.us_least ≡ least (times_of seen)
   pub us_greatest : f.us_greatest ≡ greatest (times_of seen)
-  pub counts : (test : ℕ → Bool) → counted test f.counts.entries ≡ count_by test (times_of seen)
+  pub times : (test : ℕ → Bool) → timed test f.times ≡ count_by test (times_of seen)

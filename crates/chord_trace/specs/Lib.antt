@@ -3,6 +3,7 @@ pub mod Counts
 pub mod FoundLookups
 pub mod Heads
 pub mod Kinds
+pub mod LookupTimes
 pub mod Merging
 pub mod Numbers
 pub mod Pieces

@@ -1,5 +1,5 @@
 -- Hops and times of lookups.
-use Rattle.std.specs.Prelude.{◌≡◌, ℕ, ◌+◌, ◌/◌, ◌<◌, ◌≤◌, Bool, cond, nat_le, nat_lt, List, [], ◌∷◌, count_by, fold, length, map, max, min, sum_by}
+use Rattle.std.specs.Prelude.{◌≡◌, ℕ, ◌+◌, ◌/◌, ◌<◌, ◌≤◌, nat_le, nat_lt, List, [], ◌∷◌, count_by, fold, length, map, max, min}
 use Rattle.chord_trace.specs.declared.found_lookups.Found.{Found}
 
 -- the greatest number, and 0 if there is none
@@ -22,10 +22,6 @@ timeouts_of = map (λ found. found.timeouts)
 -- the time that each found lookup took from its start, in microseconds
 abbrev pub times_of : List Found → List ℕ
 times_of = map (λ found. found.us)
-
--- the counts of the times that pass a test, together
-abbrev pub counted : (ℕ → Bool) → List (ℕ × ℕ) → ℕ
-counted test = sum_by (λ entry. cond (test entry.0) entry.1 0)
 
 -- half of a number, rounded up
 abbrev pub half_of : ℕ → ℕ

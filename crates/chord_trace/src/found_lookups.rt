@@ -1,11 +1,11 @@
 //! Sums and counts of the lookups that were found.
-ghost use Rattle.std.specs.Prelude.{◌≡◌, ℕ, ◌+◌, ◌*◌, ◌^◌, ◌<◌, ◌≤◌, Bool, true, cond, nat_le, nat_lt, OnOk, OnErr};
+ghost use Rattle.std.specs.Prelude.{◌≡◌, ◌*◌, ◌^◌, ◌≤◌, true};
 ghost use Rattle.chord_trace.specs.Kinds.{found_in};
-ghost use Rattle.chord_trace.specs.Numbers.{counted};
+ghost use Rattle.chord_trace.specs.LookupTimes.{timed};
 
+use crate::lookup_times::LookupTimes;
 use chord_event::Line;
 use std::alloc::{AllocError, Global};
-use std::collections::BTreeMap;
 
 /// A lookup that was found: how many of its requests other nodes answered (a node that was asked
 /// again counts once), how many timed out, and how long it took in microseconds.
@@ -16,8 +16,7 @@ pub(crate) struct Found {
     pub us: u64,
 }
 
-/// The lookups that were found: their hops, their timeouts, their times in microseconds, and how
-/// many took each time.
+/// The lookups that were found: their hops, their timeouts and their times in microseconds.
 #[derive(Drop)]
 pub struct FoundLookups {
     pub len: u64,
@@ -27,11 +26,11 @@ pub struct FoundLookups {
     pub us_sum: u128,
     pub us_least: u64,
     pub us_greatest: u64,
-    pub counts: BTreeMap<u64, u64>,
+    pub times: LookupTimes,
     ghost hops_fit: { hops_sum ≤ len * 2 ^ 32 },
     ghost timeouts_fit: { timeouts_sum ≤ len * 2 ^ 32 },
     ghost times_fit: { us_sum ≤ len * 2 ^ 64 },
-    ghost counts_fit: { counted (λ _. true) counts.entries ≡ len },
+    ghost times_are_all: { timed (λ _. true) times ≡ len },
 }
 
 impl FoundLookups {
@@ -53,7 +52,7 @@ impl FoundLookups {
             us_sum: 0,
             us_least: 0,
             us_greatest: 0,
-            counts: BTreeMap::new(alloc),
+            times: LookupTimes::new(alloc),
         }
     }
 
@@ -78,7 +77,7 @@ impl FoundLookups {
         ensures at_most { found_len self.new ≤ found_len self.old + 1 }
     {
         let Found { hops, timeouts, us } = found;
-        count_more(&mut self.counts, us, 1)?;
+        self.times.add(us)?;
         self.us_least = if self.len == 0 {
             us
         } else {
@@ -99,8 +98,8 @@ impl FoundLookups {
         ensures has { IfOk result (λ joined. (seen more : List AFound) → HasFound seen self → HasFound more other → HasFound (seen ++ more) joined) }
         ensures len { IfOk result (λ joined. found_len joined ≡ found_len self + found_len other) }
     {
-        let mut counts = self.counts;
-        add_counts(&mut counts, &other.counts)?;
+        let mut times = self.times;
+        times.join(&other.times)?;
         let us_least = if self.len == 0 {
             other.us_least
         } else if other.len == 0 {
@@ -116,7 +115,7 @@ impl FoundLookups {
             us_sum: self.us_sum + other.us_sum,
             us_least,
             us_greatest: self.us_greatest.max(other.us_greatest),
-            counts,
+            times,
         })
     }
 
@@ -128,7 +127,7 @@ impl FoundLookups {
         if self.len == 0 {
             return 0;
         }
-        nth_least(&self.counts, self.len.div_ceil(2))
+        self.times.nth_least(self.len.div_ceil(2), self.us_greatest)
     }
 }
 
@@ -145,48 +144,4 @@ fn found_in(line: Line) -> Option<Found>
         } => Some(Found { hops, timeouts, us }),
         _ => None,
     }
-}
-
-/// Adds to the count of a time.
-fn count_more(counts: &mut BTreeMap<u64, u64>, us: u64, count: u64) -> Result<(), AllocError>
-    requires { counted (λ _. true) counts.old.entries + count ≤ 2 ^ 47 }
-    ensures more { OnOk result ((test : ℕ → Bool) → counted test counts.new.entries ≡ counted test counts.old.entries + cond (test us) count 0) }
-    ensures same { OnErr result (counts.new.entries ≡ counts.old.entries) }
-{
-    let before = counts.get(&us).copied().unwrap_or(0);
-    counts.insert(us, before + count)?;
-    Ok(())
-}
-
-/// Adds other counts, time by time.
-fn add_counts(
-    counts: &mut BTreeMap<u64, u64>,
-    others: &BTreeMap<u64, u64>,
-) -> Result<(), AllocError>
-    requires { counted (λ _. true) counts.old.entries + counted (λ _. true) others.now.entries ≤ 2 ^ 47 }
-    ensures { OnOk result ((test : ℕ → Bool) → counted test counts.new.entries ≡ counted test counts.old.entries + counted test others.now.entries) }
-{
-    for (us, count) in others {
-        count_more(counts, *us, *count)?;
-    }
-    Ok(())
-}
-
-/// The n-th least of the times counted.
-fn nth_least(counts: &BTreeMap<u64, u64>, n: u64) -> u64
-    requires first { 0 < n }
-    requires last { n ≤ counted (λ _. true) counts.now.entries }
-    requires fits { counted (λ _. true) counts.now.entries < 2 ^ 64 }
-    ensures below { counted (λ time. nat_lt time result) counts.now.entries < n }
-    ensures up_to { n ≤ counted (λ time. nat_le time result) counts.now.entries }
-{
-    let mut passed = 0;
-    for (us, count) in counts {
-        passed += *count;
-        if n <= passed {
-            return *us;
-        }
-    }
-    // Not reached: n is at most the number of times.
-    0
 }

@@ -6,6 +6,7 @@ mod audit_text;
 mod block_text;
 mod found_lookups;
 mod line_counts;
+mod lookup_times;
 mod merging;
 mod piece;
 mod report;

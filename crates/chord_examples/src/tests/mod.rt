@@ -16,6 +16,7 @@ mod first_ring;
 mod gates;
 mod later_profiles;
 mod left;
+mod medians;
 mod paces;
 mod queues;
 mod random_texts;

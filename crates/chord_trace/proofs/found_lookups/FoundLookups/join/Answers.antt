@@ -37,11 +37,11 @@ returns-clause-has c seen more s t =
       us_sum = omega (arith, s.us_sum, t.us_sum, ap sum times, sum_by-append (λ n. n) (times_of seen) (times_of more));
       us_least = least_time ∙ ap least (sym times);
       us_greatest = omega (arith, c.max-2.ensures, s.us_greatest, t.us_greatest, ap greatest times, greatest-append (times_of seen) (times_of more));
-      counts = λ test. omega (
+      times = λ test. omega (
         arith,
-        c.in_ok-add_counts.ensures test,
-        s.counts test,
-        t.counts test,
+        c.in_ok-join.ensures test,
+        s.times test,
+        t.times test,
         ap (count_by test) times,
         count_by-append test
             (times_of seen) (times_of more),
