@@ -12,10 +12,30 @@ const VERSION: &str = "0.2.0";
 /// The whole command line, which writes the texts for `--help` and `--version`, and refuses arguments that name
 /// no command.
 pub fn whole_command<'a>(alloc: Global) -> Result<Command<'a>, AllocError> {
-    let whole = with_command(described(alloc), check_command(alloc))?;
-    let whole = with_command(whole, ids_command(alloc))?;
-    let whole = with_command(whole, judge_command(alloc))?;
-    with_command(whole, run_command(alloc))
+    let mut whole = described(alloc);
+    for command in commands(alloc)? {
+        whole = whole.subcommand(command)?;
+    }
+    Ok(whole)
+}
+
+/// The commands of the program.
+fn commands<'a>(alloc: Global) -> Result<Vec<Command<'a>>, AllocError> {
+    let mut commands = Vec::new(alloc);
+    push_built(&mut commands, check_command(alloc))?;
+    push_built(&mut commands, ids_command(alloc))?;
+    push_built(&mut commands, judge_command(alloc))?;
+    push_built(&mut commands, run_command(alloc))?;
+    Ok(commands)
+}
+
+/// Adds a command, if its allocations succeeded.
+fn push_built<'a>(
+    commands: &mut Vec<Command<'a>>,
+    command: Result<Command<'a>, AllocError>,
+) -> Result<(), AllocError> {
+    commands.push(command?)?;
+    Ok(())
 }
 
 /// The program's name, version and help, with no command yet.
@@ -29,21 +49,6 @@ fn described<'a>(alloc: Global) -> Command<'a> {
             "All times are in microseconds. Exit status: 0 on success, 1 if a file is refused, 2 if the arguments are refused, 3 if a run fails.",
         )
         .subcommand_required(true)
-}
-
-/// The command line with one more command, if its allocations succeeded.
-fn with_command<'a>(
-    whole: Command<'a>,
-    command: Result<Command<'a>, AllocError>,
-) -> Result<Command<'a>, AllocError> {
-    match command {
-        Ok(command) => whole.subcommand(command),
-        Err(error) => {
-            // By one call: at the end of a function a struct is dropped field by field.
-            drop(whole);
-            Err(error)
-        }
-    }
 }
 
 /// The command `check`.
