@@ -2,7 +2,7 @@
 ghost use Rattle.std.specs.Prelude.{◌≤◌};
 
 /// How nodes are dealt to parts.
-#[derive(Clone, Copy, Debug, PartialEq, Eq, Drop)]
+#[derive(Clone, Copy, Debug, Drop)]
 pub enum Split {
     /// One node to each part in turn, and so on.
     RoundRobin,
@@ -11,7 +11,7 @@ pub enum Split {
 }
 
 /// What carries out a run.
-#[derive(Clone, Copy, Debug, PartialEq, Eq, Drop)]
+#[derive(Clone, Copy, Debug, Drop)]
 pub enum Engine {
     /// One event at a time, on one thread.
     Serial,
@@ -23,7 +23,7 @@ pub enum Engine {
 
 /// How a run is carried out: by which engine, and by workers, 1 to 64 of them, with the nodes in 1
 /// to 512 parts. The serial engine has neither workers nor parts.
-#[derive(Clone, Copy, Debug, PartialEq, Eq, Drop)]
+#[derive(Clone, Copy, Debug, Drop)]
 pub struct Plan {
     pub engine: Engine,
     pub workers: u32,
