@@ -6,7 +6,7 @@ ghost use Rattle.chord_judge.specs.Kept.{is_kept_word, is_part_of_line, keeps};
 use crate::askers::Askers;
 use crate::counts::{Counts, Fate};
 use crate::words::{
-    after_words, count_after, first_word, number_after, place_in, push_line, time_in,
+    after_words, count_after, first_word, is_text, number_after, place_in, push_line, time_in,
 };
 use chord_event::Memory;
 use std::alloc::Global;
@@ -214,7 +214,7 @@ impl Digest {
             }
             return Ok(());
         }
-        if kind == b"get-state".as_slice() {
+        if is_text(kind, "get-state") {
             return self.askers.stabilize(name, line);
         }
         Ok(())
@@ -257,21 +257,21 @@ impl Digest {
 fn part_of(word: &[u8]) -> Part
     ensures { is_kept_word word.now ≡ keeps result }
 {
-    if word == b"send".as_slice() {
+    if is_text(word, "send") {
         Part::Counts(Fate::Sent)
-    } else if word == b"ask".as_slice() {
+    } else if is_text(word, "ask") {
         Part::Asks
-    } else if word == b"drop".as_slice() {
+    } else if is_text(word, "drop") {
         Part::Counts(Fate::Dropped)
-    } else if word == b"lookup".as_slice() {
+    } else if is_text(word, "lookup") {
         Part::Begins
-    } else if word == b"found".as_slice() {
+    } else if is_text(word, "found") {
         Part::Finds
-    } else if word == b"lost".as_slice() {
+    } else if is_text(word, "lost") {
         Part::Loses
-    } else if word == b"crash".as_slice() || word == b"leave".as_slice() {
+    } else if is_text(word, "crash") || is_text(word, "leave") {
         Part::Stops
-    } else if word == b"timeout".as_slice() {
+    } else if is_text(word, "timeout") {
         Part::TimesOut
     } else if is_kept_word(word) {
         Part::Keeps
@@ -284,18 +284,18 @@ fn part_of(word: &[u8]) -> Part
 fn is_kept_word(word: &[u8]) -> bool
     ensures { result ≡ is_kept_word word.now }
 {
-    word == b"join".as_slice()
-        || word == b"member".as_slice()
-        || word == b"create".as_slice()
-        || word == b"crash".as_slice()
-        || word == b"leave".as_slice()
-        || word == b"stranded".as_slice()
-        || word == b"join-failed".as_slice()
-        || word == b"ignored".as_slice()
-        || word == b"busy".as_slice()
-        || word == b"timeout".as_slice()
-        || word == b"lose".as_slice()
-        || word == b"again".as_slice()
+    is_text(word, "join")
+        || is_text(word, "member")
+        || is_text(word, "create")
+        || is_text(word, "crash")
+        || is_text(word, "leave")
+        || is_text(word, "stranded")
+        || is_text(word, "join-failed")
+        || is_text(word, "ignored")
+        || is_text(word, "busy")
+        || is_text(word, "timeout")
+        || is_text(word, "lose")
+        || is_text(word, "again")
         || is_of_audit(word)
 }
 
@@ -303,7 +303,7 @@ fn is_kept_word(word: &[u8]) -> bool
 fn is_of_audit(word: &[u8]) -> bool
     ensures { result ≡ bytes_eq (take 8 word.now) (codes "members=") }
 {
-    word.len() >= 8 && &word[..8] == b"members=".as_slice()
+    word.len() >= 8 && is_text(&word[..8], "members=")
 }
 
 /// The times that a text gives, in microseconds and with commas between them. Returns nothing unless they are in their

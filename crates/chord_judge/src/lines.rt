@@ -5,7 +5,7 @@ ghost use Rattle.chord_scenario.specs.Index.{Indexes};
 
 use crate::names::names_of;
 use crate::told::Told;
-use crate::words::{count_after, first_word, number_after, number_in, time_in};
+use crate::words::{count_after, first_word, is_text, number_after, number_in, time_in};
 use chord_circle::Ident;
 use chord_event::{Line, Memory};
 use chord_scenario::Scenario;
@@ -168,21 +168,21 @@ fn line_alone(line: Line, text: &[u8]) -> Option<Line>
 fn kind_named(word: &[u8]) -> Option<Kind>
     ensures { result ≡ kind_named word.now }
 {
-    let kind = if word == b"member".as_slice() {
+    let kind = if is_text(word, "member") {
         Kind::Member
-    } else if word == b"create".as_slice() {
+    } else if is_text(word, "create") {
         Kind::Create
-    } else if word == b"crash".as_slice() {
+    } else if is_text(word, "crash") {
         Kind::Crash
-    } else if word == b"leave".as_slice() {
+    } else if is_text(word, "leave") {
         Kind::Leave
-    } else if word == b"stranded".as_slice() {
+    } else if is_text(word, "stranded") {
         Kind::Stranded
-    } else if word == b"lookup".as_slice() {
+    } else if is_text(word, "lookup") {
         Kind::Lookup
-    } else if word == b"found".as_slice() {
+    } else if is_text(word, "found") {
         Kind::Found
-    } else if word == b"lost".as_slice() {
+    } else if is_text(word, "lost") {
         Kind::Lost
     } else {
         return None;

@@ -2,6 +2,7 @@
 ghost use Rattle.std.specs.Prelude.{◌≡◌, ◌==◌, ◌+◌, ◌*◌, ◌^◌, ◌≤◌, ◌&&◌, ◌++◌, [], ◌∷◌, length, nat_lt, IfOk, OnOk, Some, None, if◌then◌else◌};
 ghost use Rattle.std.specs.Char.{digit_value, is_ascii_digit};
 ghost use Rattle.std.specs.List.{position_or_len};
+ghost use Rattle.std.specs.Str.{bytes_eq};
 ghost use Rattle.chord_judge.specs.Words.{after_word, first_word, number_after, number_below};
 
 use chord_event::Memory;
@@ -17,6 +18,13 @@ pub(crate) fn place_in(text: &[u8], wanted: u8) -> usize
         Some(place) => place,
         None => text.len(),
     }
+}
+
+/// Whether a word is this one.
+pub(crate) fn is_text(word: &[u8], wanted: &str) -> bool
+    ensures { result ≡ bytes_eq word.now wanted.now }
+{
+    word == wanted.as_bytes()
 }
 
 /// The first word of a text, and what follows the space after it.
