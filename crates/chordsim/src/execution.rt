@@ -28,10 +28,23 @@ pub fn carry_out<T: FileSystem + AllocGlobal + Input + Threads + Wait + Sync, C:
 ) -> ExitCode
     ensures { (exit_status result ≡ 0) ⊎ (exit_status result ≡ 1) ⊎ (exit_status result ≡ 2) ⊎ (exit_status result ≡ 3) }
 {
-    let _held = hold_standard_streams(rt);
-    if let Some(overwritten) = overwritten_by(rt, order) {
-        return refuse_output(console, overwritten);
-    }
+    let held = hold_standard_streams(rt);
+    let status = match overwritten_by(rt, order) {
+        Some(overwritten) => refuse_output(console, overwritten),
+        None => obey(rt, console, order),
+    };
+    drop(held);
+    status
+}
+
+/// Carries out an order that overwrites no input file.
+fn obey<T: FileSystem + AllocGlobal + Input + Threads + Wait + Sync, C: Print + Eprint>(
+    rt: &T,
+    console: &C,
+    order: &Order,
+) -> ExitCode
+    ensures { (exit_status result ≡ 0) ⊎ (exit_status result ≡ 1) ⊎ (exit_status result ≡ 2) ⊎ (exit_status result ≡ 3) }
+{
     let files = order.files();
     match order {
         Order::Check(_) => {

@@ -62,8 +62,7 @@ pub fn judge<T: FileSystem + AllocGlobal + Input, C: Print>(
     judging: &Judging,
 ) -> Result<(), JudgeFailure> {
     let digest = digest_of(rt.alloc(), judging)?;
-    let (mut scenario, mut latency) = open(rt, files)?;
-    let scenario = load(rt.alloc(), &mut scenario, &mut latency)?;
+    let scenario = scenario_of(rt, files)?;
     match &judging.trace {
         Some(name) => match fs::open(rt, name.as_str()) {
             Ok(file) => judge_from(rt, console, &scenario, file, digest),
@@ -71,6 +70,12 @@ pub fn judge<T: FileSystem + AllocGlobal + Input, C: Print>(
         },
         None => judge_from(rt, console, &scenario, rt.reader(), digest),
     }
+}
+
+/// Opens the files, and reads their scenario.
+fn scenario_of<T: FileSystem + AllocGlobal>(rt: &T, files: &Files) -> Result<Scenario, PlayFault> {
+    let (mut scenario, mut latency) = open(rt, files)?;
+    load(rt.alloc(), &mut scenario, &mut latency)
 }
 
 /// The digest that is asked for. Edges are read without one too.
