@@ -6,6 +6,7 @@ ghost use Rattle.slab.specs.Slab.{ContainsKey, get};
 ghost use Rattle.des_queue.specs.Days.{AreDays, HasSame, HasTaken, HaveNone, IsOpened, MayTake, entries_in};
 ghost use Rattle.des_queue.specs.Places.{entry_at};
 
+use crate::room::make_room;
 use crate::waiting::Waiting;
 use des_event::{Event, Memory};
 use slab::Slab;
@@ -85,7 +86,7 @@ impl<B: Drop> Days<B> {
         if self.lists[at].len() >= room {
             return None;
         }
-        if let Err(_refused) = self.events.reserve(1) {
+        if let Err(_refused) = make_room(&mut self.events) {
             return None;
         }
         if let Err(_refused) = self.lists[at].reserve(1) {

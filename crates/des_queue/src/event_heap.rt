@@ -3,6 +3,7 @@ ghost use Rattle.std.specs.Prelude.{◌≡◌, [], ◌∷◌, slice_get, option_
 ghost use Rattle.des_event.specs.KeyOrder.{InKeyOrder, IsNewKey, put_in_order, before};
 ghost use Rattle.des_queue.specs.EventKey.{event_key};
 
+use crate::room::make_room;
 use crate::waiting::{Waiting, copies_before};
 use des_event::{Copied, Event, Key, Memory};
 use slab::Slab;
@@ -62,7 +63,7 @@ impl<B: Drop> EventHeap<B> {
         ensures ok { OnOk result (self.new ≡ put_in_order event_key event self.old) }
         ensures err { IfErr result (λ back. (back ≡ event) × (self.new ≡ self.old)) }
     {
-        if self.heap.reserve(1).is_err() || self.events.reserve(1).is_err() {
+        if self.heap.reserve(1).is_err() || make_room(&mut self.events).is_err() {
             return Err(event);
         }
         let key = Reverse(event.key);
