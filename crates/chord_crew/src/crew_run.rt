@@ -10,8 +10,9 @@ use chord_event::RunError;
 use chord_output::{ChordRing, ChordScribe};
 use chord_scenario::Scenario;
 use chord_trace::{Report, Watched};
-use chord_window::Division;
-use des_crew::{AllStart, Crew, Dealer, Gate, Hands, MOST_SEATS, Starter};
+use des_crew::{AllStart, Crew, Gate, Hands, MOST_SEATS, Starter};
+use des_dealt::Dealer;
+use des_window::Division;
 use std::alloc::Global;
 use std::io::Write;
 use std::marker::Sync;
@@ -104,7 +105,7 @@ pub fn run_crew_dealt<R: Threads + Wait + Sync, D: Dealer, G: Gate + Sync, W: Wr
 {
     let ring = ChordRing { scenario };
     let hands = Hands { workers, gate };
-    des_crew::run_crew_dealt::<ChordRing<'_>, ChordScribe, D, G, R, W>(
+    des_dealt::run_crew_dealt::<ChordRing<'_>, ChordScribe, D, G, R, W>(
         rt, alloc, &ring, dealer, hands, writer,
     )
 }

@@ -6,9 +6,8 @@ mod crew_run;
 mod window_parts;
 
 pub use crew_run::{run_crew, run_crew_dealt, run_crew_started};
-pub use des_crew::{
-    AllStart, Balanced, Crew, Dealer, Draws, Gate, MOST_SEATS, OpenGate, Seat, Starter,
-};
+pub use des_crew::{AllStart, Crew, Draws, Gate, MOST_SEATS, OpenGate, Seat, Starter};
+pub use des_dealt::{Balanced, Dealer};
 pub use window_parts::{Shift, work};
 // For a test of the order in which a worker passes gates and runs parts.
 #[doc(hidden)]

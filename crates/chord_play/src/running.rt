@@ -5,14 +5,15 @@ ghost use Rattle.chord_play.specs.Plans.{planned};
 ghost use Rattle.des_output.specs.Watched.{wrapped, has_failed};
 ghost use Rattle.des_output.specs.Writing.{is_write};
 
-use chord_crew::{Crew, Gate, Starter, run_crew_started};
 use chord_event::{Memory, RunError};
+use chord_output::{ChordRing, ChordScribe};
 use chord_plan::{Engine, Plan, Split};
 use chord_scenario::Scenario;
-use chord_serial::run_serial;
-use chord_team::run_team;
 use chord_trace::{Report, Watched};
-use chord_window::Division;
+use des_crew::{Crew, Gate, Starter, run_crew_started};
+use des_serial::run_serial;
+use des_team::run_team;
+use des_window::Division;
 use std::alloc::Global;
 use std::io::Write;
 use std::sync::Wait;
@@ -47,8 +48,9 @@ pub fn run_planned<T: Threads + Wait + Sync, S: Starter, G: Gate + Sync, W: Writ
     ensures only { IfErr result (λ e. (e ≡ RunError.Memory) ⊎ (e ≡ RunError.Worker) ⊎ (e ≡ RunError.TooManyEvents) ⊎ (e ≡ RunError.Write)) }
 {
     scenario.recall_range();
+    let ring = ChordRing { scenario };
     match plan.engine {
-        Engine::Serial => run_serial(alloc, scenario, writer),
+        Engine::Serial => run_serial::<ChordRing<'_>, ChordScribe, W>(alloc, &ring, writer),
         Engine::Crew => {
             let division = divide(alloc, plan, scenario.nodes())?;
             let crew = Crew {
@@ -56,11 +58,20 @@ pub fn run_planned<T: Threads + Wait + Sync, S: Starter, G: Gate + Sync, W: Writ
                 workers: plan.workers,
                 gate,
             };
-            run_crew_started(rt, alloc, scenario, &crew, starter, writer)
+            run_crew_started::<ChordRing<'_>, ChordScribe, S, G, T, W>(
+                rt, alloc, &ring, &crew, starter, writer,
+            )
         }
         Engine::Team => {
             let division = divide(alloc, plan, scenario.nodes())?;
-            run_team(rt, alloc, scenario, &division, plan.workers, writer)
+            run_team::<ChordRing<'_>, ChordScribe, T, W>(
+                rt,
+                alloc,
+                &ring,
+                &division,
+                plan.workers,
+                writer,
+            )
         }
     }
 }

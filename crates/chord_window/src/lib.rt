@@ -9,7 +9,7 @@ mod picked_run;
 mod window;
 mod world;
 
-pub use des_parts::{Step, Taken};
+pub use des_picks::{Step, Taken};
 pub use des_window::{Division, DivisionFault, MOST_PARTS};
 pub use exchanging::exchange;
 pub use part_done::Done;

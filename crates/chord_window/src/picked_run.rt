@@ -3,7 +3,7 @@ ghost use Rattle.std.specs.Prelude.{◌≡◌, ◌≢◌, ◌⊎◌, ◌<◌, �
 ghost use Rattle.chord_output.specs.Runs.{IsRun};
 ghost use Rattle.chord_scenario.specs.World.{node_count};
 ghost use Rattle.chord_window.specs.PickedRuns.{AreStepsOf};
-ghost use Rattle.des_parts.specs.PickedRuns.{report_in};
+ghost use Rattle.des_picks.specs.PickedRuns.{report_in};
 ghost use Rattle.des_output.specs.Watched.{wrapped, has_failed};
 ghost use Rattle.des_output.specs.Writing.{is_write};
 
@@ -11,7 +11,7 @@ use chord_event::RunError;
 use chord_output::{ChordRing, ChordScribe};
 use chord_scenario::Scenario;
 use chord_trace::{Report, Watched};
-use des_parts::{Taken, Turns};
+use des_picks::{Taken, Turns};
 use des_window::Division;
 use std::alloc::Global;
 use std::io::Write;
@@ -45,5 +45,5 @@ pub fn run_picked<W: Write>(
 {
     let ring = ChordRing { scenario };
     let turns = Turns { workers, picks };
-    des_parts::run_picked::<ChordRing<'_>, ChordScribe, W>(alloc, &ring, division, turns, writer)
+    des_picks::run_picked::<ChordRing<'_>, ChordScribe, W>(alloc, &ring, division, turns, writer)
 }

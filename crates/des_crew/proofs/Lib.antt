@@ -5,4 +5,3 @@ pub mod Knowledge
 pub mod Results
 pub mod Gathering
 pub mod WindowResults
-pub mod EventCounts

@@ -4,4 +4,3 @@ pub mod Inside
 pub mod Shifts
 pub mod Windows
 pub mod Worlds
-pub mod Loads

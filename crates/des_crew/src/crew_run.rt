@@ -35,12 +35,7 @@ pub struct Crew<'a, G> {
 
 /// Lets a crew run the parts of the world's next window. Returns what the parts leave, in the order
 /// of the parts. Of several faults it returns `Worker`, else `Memory`, else `TooManyEvents`.
-pub(crate) fn run_parts<
-    M: CopiesStates + Sync,
-    A: Starter,
-    G: Gate + Sync,
-    R: Threads + Wait + Sync,
->(
+pub fn run_parts<M: CopiesStates + Sync, A: Starter, G: Gate + Sync, R: Threads + Wait + Sync>(
     rt: &R,
     window: &Window<'_, M>,
     hands: &Hands<'_, G>,

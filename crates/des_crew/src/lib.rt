@@ -3,15 +3,12 @@
 #![tactic(auto)]
 
 mod all_parts;
-mod balanced;
 mod course;
 mod crew_run;
-mod dealt_run;
 mod draw_rule;
 mod draws;
 mod hooks;
 mod joined_shift;
-mod loads;
 mod part_runner;
 mod seat;
 mod shared;
@@ -20,12 +17,15 @@ mod window_parts;
 mod workers;
 
 pub use all_parts::Hands;
-pub use balanced::Balanced;
 pub use crew_run::{Crew, run_crew, run_crew_started};
-pub use dealt_run::run_crew_dealt;
 pub use draws::{Draws, MOST_SEATS};
-pub use hooks::{AllStart, Dealer, Gate, OpenGate, Starter};
+pub use hooks::{AllStart, Gate, OpenGate, Starter};
 pub use part_runner::PartRunner;
 pub use seat::Seat;
 pub use shift::{Shift, work_by};
 pub use window_parts::work;
+// Other runs by crews, such as those whose nodes are dealt again, go by these.
+#[doc(hidden)]
+pub use course::Course;
+#[doc(hidden)]
+pub use crew_run::run_parts;

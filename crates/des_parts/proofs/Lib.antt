@@ -16,9 +16,4 @@ pub mod NextWorld
 pub mod WindowOutput
 pub mod EngineCourse
 pub mod Endings
-pub mod WorkerSteps
-pub mod PickedSteps
-pub mod PickedTurns
-pub mod PickedWindows
 pub mod Orders
-pub mod PickedCourse

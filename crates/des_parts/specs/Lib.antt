@@ -1,12 +1,9 @@
 pub mod Copies
 pub mod PartRuns
-pub mod Workers
 pub mod Slots
-pub mod Picked
 pub mod Worlds
 pub mod Delivery
 pub mod Exchanges
 pub mod Entries
 pub mod WindowEngine
 pub mod Ordering
-pub mod PickedRuns

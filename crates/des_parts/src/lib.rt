@@ -8,11 +8,7 @@ mod entries;
 mod exchanging;
 mod part_order;
 mod part_run;
-mod picked_run;
-mod picked_window;
-mod step;
 mod window;
-mod worker;
 mod world;
 
 pub use copies::{CopiesStates, Touched};
@@ -20,8 +16,6 @@ pub use entries::Entry;
 pub use exchanging::exchange;
 pub use part_order::in_part_order;
 pub use part_run::{Done, run_part};
-pub use picked_run::{Turns, run_picked};
-pub use step::{Step, Taken};
 pub use window::Window;
 pub use world::World;
 // Other ways to run windows, such as a crew, go by these. Contracts name the types of the engine's
@@ -31,10 +25,8 @@ pub use copies::Copies;
 #[doc(hidden)]
 pub use engine::WindowEngine;
 #[doc(hidden)]
+pub use part_order::{empty_slots, take_out};
+#[doc(hidden)]
 pub use part_run::PartRun;
-#[doc(hidden)]
-pub use picked_window::PickedWindow;
-#[doc(hidden)]
-pub use worker::{Progress, Worker};
 #[doc(hidden)]
 pub use world::PartEvents;

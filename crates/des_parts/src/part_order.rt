@@ -9,7 +9,7 @@ use des_event::Memory;
 use std::alloc::Global;
 
 /// `parts` empty places.
-pub(crate) fn empty_slots<T: Drop, B: Drop, P: Drop>(
+pub fn empty_slots<T: Drop, B: Drop, P: Drop>(
     alloc: Global,
     parts: u32,
 ) -> Result<Vec<Option<Done<T, B, P>>>, Memory>
@@ -24,7 +24,7 @@ pub(crate) fn empty_slots<T: Drop, B: Drop, P: Drop>(
 }
 
 /// What the places hold.
-pub(crate) fn take_out<T: Drop, B: Drop, P: Drop>(
+pub fn take_out<T: Drop, B: Drop, P: Drop>(
     alloc: Global,
     slots: Vec<Option<Done<T, B, P>>>,
 ) -> Result<Vec<Done<T, B, P>>, Memory>

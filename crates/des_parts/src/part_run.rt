@@ -85,7 +85,7 @@ impl<T: Drop, B: Drop, P: Drop> PartRun<T, B, P> {
     }
 
     /// The run of a part, before its first event.
-    pub(crate) fn start<M: Machine<State = T, Body = B, Piece = P>>(
+    pub fn start<M: Machine<State = T, Body = B, Piece = P>>(
         window: &Window<'_, M>,
         part: u32,
     ) -> PartRun<T, B, P>
@@ -115,7 +115,7 @@ impl<T: Drop, B: Drop, P: Drop> PartRun<T, B, P> {
     }
 
     /// What a finished run leaves.
-    pub(crate) fn finish(self) -> Done<T, B, P>
+    pub fn finish(self) -> Done<T, B, P>
         ensures { HasLeft self result }
     {
         let events = self.entries.len() as u64;
@@ -142,7 +142,7 @@ impl<T: Drop, B: Drop, P: Drop> PartRun<T, B, P> {
 
     /// Runs the least event that waits at the part, and returns its key, or `None` if no event is
     /// left. Returns `TooManyEvents` if an event is left but the run may have no more.
-    pub(crate) fn step<M: CopiesStates<State = T, Body = B, Piece = P>>(
+    pub fn step<M: CopiesStates<State = T, Body = B, Piece = P>>(
         &mut self,
         window: &Window<'_, M>,
         due: &[Event<B>],

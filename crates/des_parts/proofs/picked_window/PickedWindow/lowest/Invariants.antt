@@ -1,6 +1,0 @@
-use Rattle.std.proofs.Common.{◌≡◌, None}
-use Rattle.des_parts.specs.Picked.{can_go, lowest_by}
-use Rattle.des_parts.proofs.picked_window.PickedWindow.lowest.Given as goal
-
-abbrev pub invariant-loop-worker : goal.invariant-loop-worker
-invariant-loop-worker g l = lowest_by (can_go l.self) l.worker ≡ None

@@ -1,0 +1,5 @@
+pub mod WorkerSteps
+pub mod PickedSteps
+pub mod PickedTurns
+pub mod PickedWindows
+pub mod PickedCourse

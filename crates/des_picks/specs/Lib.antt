@@ -1,0 +1,3 @@
+pub mod Workers
+pub mod Picked
+pub mod PickedRuns
