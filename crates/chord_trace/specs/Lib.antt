@@ -1,7 +1,6 @@
 pub mod AuditCounts
 pub mod Counts
 pub mod FoundLookups
-pub mod Heads
 pub mod Kinds
 pub mod LookupTimes
 pub mod Merging
